@@ -38,7 +38,7 @@ pub encoded_long : (i : Inst) (n : ℕ) (bytes : List ℕ) → IsEncodedIn i n b
 encoded_long i n bytes (inl (e, w)) = ap length w ∙ little_long 4 (word (form i)) ∙ sym e
 encoded_long i n bytes (inr (e, (q, short, w))) = ap length w ∙ little_long 2 q ∙ sym e
 
-encoded_two_or_four : (i : Inst) (n : ℕ) (bytes : List ℕ) → IsEncodedIn i n bytes → (n ≡ 2) ⊎ (n ≡ 4)
+pub encoded_two_or_four : (i : Inst) (n : ℕ) (bytes : List ℕ) → IsEncodedIn i n bytes → (n ≡ 2) ⊎ (n ≡ 4)
 encoded_two_or_four i n bytes (inl (e, w)) = inr e
 encoded_two_or_four i n bytes (inr (e, rest)) = inl e
 

@@ -4,15 +4,18 @@
 use Rattle.std.proofs.Common.{◌≡◌, ℕ, ◌+◌, ◌-◌, ◌%◌, ◌<◌, Bool, true, false, List, [], ◌∷◌, length, refl, sym, ap, ◌∙◌, subst, Option, inl, inr}
 use Rattle.std.specs.Prelude.{if◌then◌else◌, flat_map, map}
 use Rattle.std.specs.List.{AllByRecursion}
-use Rattle.rv_statement.specs.Statement.{StatementKind, Label, Numbered, Instruction, Directs, Aligns_to_power, Aligns_to_bytes, Values, Strings, Zeros, Enters, Opens, Globl, Local, Sets, Chooses, Ignored}
+use Rattle.rv_statement.specs.Statement.{StatementKind, Expression, Label, Numbered, Instruction, Directs, Aligns_to_power, Aligns_to_bytes, Values, Strings, Zeros, Enters, Opens, Globl, Local, Sets, Chooses, Ignored}
+use Rattle.rv_text_laws.specs.Values.{Value}
+use Rattle.rv_unit_laws.specs.Contributions.{contribution}
 use Rattle.rv_unit_laws.specs.Sections.{Section as SourceSection}
 use Rattle.rv_unit_laws.specs.Tables.{Tables, alignment_of}
 use Rattle.rv_source_laws.specs.Sizes.{code_padding}
-use Rattle.rv_source_laws.specs.Sized.{statement_size}
+use Rattle.rv_chain_laws.specs.Sized.{directive_size}
 use Rattle.rv_object_laws.specs.Moves.{Move, new_offset}
 use Rattle.rv_assemble_laws.specs.Templates.{Coded, align_field, padding_templates}
 use Rattle.rv_object.specs.Padding.{no_operations}
-use Rattle.rv_assemble_laws.specs.Sites.{Site, form, part_of, part_bytes, parts_of, templates, Tile, HasSize, IsPaddedIn}
+use Rattle.rv_assemble_laws.specs.Sites.{Site, form, part_of, part_bytes, HasSize, IsPaddedIn}
+use Rattle.rv_boundary_laws.proofs.Assembled.{parts_of, templates, Tile}
 use Rattle.rv_assemble_laws.specs.IsObjectOf.{Numbering}
 use Rattle.rv_boundary_laws.proofs.Settled.{IsBare, IsSiteIn}
 use Rattle.rv_boundary_laws.proofs.Fielded.{IsPlain, data_each, sized_each, plain_part}
@@ -30,9 +33,14 @@ StaysBy t ms z kind = AllByRecursion IsPlain (templates t z kind) → bytes_with
 abbrev pub Stays : Tables → List Move → Site → Type 0
 Stays t ms z = StaysBy t ms z z.located.kind
 
+-- the size of a statement by what is left of it: an alignment in code has all its padding
+abbrev pub size_before : Bool → (Expression → Value) → StatementKind → ℕ → ℕ
+size_before executable v (Directs d) bytes = directive_size executable v d (contribution d) bytes
+size_before executable v _ bytes = bytes
+
 -- what it counts
 abbrev pub Size : Tables → List Move → Site → StatementKind → Type 0
-Size t ms z kind = z.bytes ≡ statement_size z.located.home.executable (form t z.located) kind (bytes_with ms z)
+Size t ms z kind = z.bytes ≡ size_before z.located.home.executable (form t z.located) kind (bytes_with ms z)
 
 pub record IsCounted (t : Tables) (ms : List Move) (z : Site) : Type 0 where
   pub placed : z.located.placed ≡ true → Size t ms z z.located.kind

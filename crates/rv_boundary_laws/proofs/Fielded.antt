@@ -21,7 +21,8 @@ use Rattle.rv_unit_laws.specs.Tables.{Tables, Definition, definition}
 use Rattle.rv_source_laws.specs.Located.{Located}
 use Rattle.rv_source_laws.specs.Lines.{operand_of, is_low_part}
 use Rattle.rv_object.specs.Valid.{is_align}
-use Rattle.rv_assemble_laws.specs.CodeFields.{symbol_field, low_field_at, label_field, field_of, relax_fields, part_fields}
+use Rattle.rv_assemble_laws.specs.CodeFields.{symbol_field, low_field_at, label_field, field_of, relax_fields}
+use Rattle.rv_boundary_laws.proofs.Marked.{is_marked, part_fields, marked_all}
 use Rattle.rv_assemble_laws.specs.Coded.{IsCodedPart, AreCodedParts}
 use Rattle.rv_assemble_laws.specs.Templates.{Template, Fixed, Datum, Coded, Open}
 use Rattle.rv_assemble_laws.specs.Sites.{Site, form, coded_templates}
@@ -85,7 +86,10 @@ pub part_kinds : (P : Kind → Type 0) (t : Tables) (v : Expression → Value) (
     → ((k : Kind) (i : Inst) → p ≡ Open_part k i → P k) → ((k : Kind) (i j : Inst) → p ≡ Joined k i j → P k) → P kind.Relax
     → AllByRecursion (λ (f : Open). P f.kind) (part_fields t v s p)
 part_kinds P t v s (Closed i) f g r = tt
-part_kinds P t v s (Open_part k i) f g r = by_kind P k (field_of t v s.ordinal (operand_of s.kind) k) (f k i refl) (field_kind t v s.ordinal (operand_of s.kind) k)
+part_kinds P t v s (Open_part k i) f g r =
+    let own = by_kind P k (field_of t v s.ordinal (operand_of s.kind) k) (f k i refl) (field_kind t v s.ordinal (operand_of s.kind) k) in
+    marked_all (λ (f : Open). P f.kind) (is_marked k s) s (field_of t v s.ordinal (operand_of s.kind) k) own
+    (joined_all (λ (f : Open). P f.kind) (field_of t v s.ordinal (operand_of s.kind) k) (relax_fields s.options.relax s.ordinal) own (relaxing P s.options.relax s.ordinal r))
 part_kinds P t v s (Joined k i j) f g r =
     joined_all (λ (f : Open). P f.kind) (field_of t v s.ordinal (operand_of s.kind) k) (relax_fields s.options.relax s.ordinal)
     (by_kind P k (field_of t v s.ordinal (operand_of s.kind) k) (g k i j refl) (field_kind t v s.ordinal (operand_of s.kind) k))
@@ -157,8 +161,11 @@ width_low k = omega arith
 room_part : (t : Tables) (v : Expression → Value) (s : Located) (c : Bool) (p : CodePart) (bytes : List ℕ) → IsCodedPart c p bytes → HasRoom (Coded bytes (part_fields t v s p))
 room_part t v s c (Closed i) bytes h = tt
 room_part t v s c (Open_part k i) bytes h =
-    by_kind (λ k. width_of k ≤ length bytes) k (field_of t v s.ordinal (operand_of s.kind) k)
-    (let long : length bytes ≡ width_of k = encoded_long i (width_of k) bytes h.1 in omega (arith, long)) (field_kind t v s.ordinal (operand_of s.kind) k)
+    let own = by_kind (λ k. width_of k ≤ length bytes) k (field_of t v s.ordinal (operand_of s.kind) k)
+    (let long : length bytes ≡ width_of k = encoded_long i (width_of k) bytes h.1 in omega (arith, long)) (field_kind t v s.ordinal (operand_of s.kind) k) in
+    marked_all (λ (f : Open). width_of f.kind ≤ length bytes) (is_marked k s) s (field_of t v s.ordinal (operand_of s.kind) k) own
+    (joined_all (λ (f : Open). width_of f.kind ≤ length bytes) (field_of t v s.ordinal (operand_of s.kind) k) (relax_fields s.options.relax s.ordinal) own
+    (relaxing (λ k. width_of k ≤ length bytes) s.options.relax s.ordinal (omega arith)))
 room_part t v s c (Joined k i j) bytes (fits, also, (first, (second, x, y, is))) =
     let long : length bytes ≡ 8 = joined_long i j bytes first second x y is in
     let low = width_low k in
@@ -178,7 +185,10 @@ IsPlain (Coded bytes fields) = AllByRecursion (λ (f : Open). is_align f.kind �
 pub plain_part : (t : Tables) (v : Expression → Value) (s : Located) (c : Bool) (p : CodePart) (bytes : List ℕ) → IsCodedPart c p bytes → IsPlain (Coded bytes (part_fields t v s p))
 plain_part t v s c (Closed i) bytes h = tt
 plain_part t v s c (Open_part k i) bytes h =
-    by_kind (λ k. is_align k ≡ false) k (field_of t v s.ordinal (operand_of s.kind) k) (fills_plain (format_of i) k h.0.1) (field_kind t v s.ordinal (operand_of s.kind) k)
+    let own = by_kind (λ k. is_align k ≡ false) k (field_of t v s.ordinal (operand_of s.kind) k) (fills_plain (format_of i) k h.0.1) (field_kind t v s.ordinal (operand_of s.kind) k) in
+    marked_all (λ (f : Open). is_align f.kind ≡ false) (is_marked k s) s (field_of t v s.ordinal (operand_of s.kind) k) own
+    (joined_all (λ (f : Open). is_align f.kind ≡ false) (field_of t v s.ordinal (operand_of s.kind) k) (relax_fields s.options.relax s.ordinal) own
+    (relaxing (λ k. is_align k ≡ false) s.options.relax s.ordinal refl))
 plain_part t v s c (Joined k i j) bytes (fits, also, rest) =
     joined_all (λ (f : Open). is_align f.kind ≡ false) (field_of t v s.ordinal (operand_of s.kind) k) (relax_fields s.options.relax s.ordinal)
     (by_kind (λ k. is_align k ≡ false) k (field_of t v s.ordinal (operand_of s.kind) k) (fills_plain (format_of i) k fits.1) (field_kind t v s.ordinal (operand_of s.kind) k))

@@ -28,7 +28,8 @@ use Rattle.rv_object.specs.Object.{Section, Object}
 use Rattle.rv_object_laws.specs.Moves.{alignments_of}
 use Rattle.rv_object_laws.specs.Inputs.{Starts}
 use Rattle.rv_object_laws.specs.Values.{value, is_low, IsRelocated}
-use Rattle.rv_assemble_laws.specs.CodeFields.{symbol_field, low_field, low_field_at, label_field, field_of, relax_fields, part_fields}
+use Rattle.rv_assemble_laws.specs.CodeFields.{symbol_field, low_field, low_field_at, label_field, field_of, relax_fields}
+use Rattle.rv_boundary_laws.proofs.Marked.{marks, marked, is_marked, part_fields, relaxes, marks_relax, marked_one, low_marked}
 use Rattle.rv_assemble_laws.specs.Coded.{constants, AreCodedParts, IsCode}
 use Rattle.rv_assemble_laws.specs.InstructionFaults.{is_label}
 use Rattle.rv_assemble_laws.specs.Templates.{Open, open_at}
@@ -281,11 +282,12 @@ module _ (p : Program) (os : List Object) (starts : Starts) (file : ℕ) (sites 
         one_part : (k : Kind) (i : Inst) → c.ps ≡ Open_part k i ∷ [] → field_of T V ordinal (Some oper) k ≡ symbol_field k ordinal (V ex) → is_low k ≡ false
             → ((at_q : ℕ) → meant_in p file ordinal q ≡ Some at_q → (a : ℕ) → value_of k at_q (int_wrap w64 (pos plus)) a ≡ taken k a) → Result
         one_part k i ps_are field_as plain_kind as' =
-            let fields_are : fields (Open_part k i) ≡ open_at k ordinal (Some q) plus ∷ [] =
-            ap (λ l. field_of T V ordinal l k) (operand_as p os starts file sites number o sections low are settled all_worths whole plain address index section x is at none loaded relocated z h mnemonic os' e c oper f) ∙ field_as ∙ symbol_as k in
+            let fields_are : fields (Open_part k i) ≡ open_at k ordinal (Some q) plus ∷ marks (is_marked k z.located) z.located =
+            marked_one (is_marked k z.located) z.located (open_at k ordinal (Some q) plus) (field_of T V ordinal (operand_of z.located.kind) k)
+            (ap (λ l. field_of T V ordinal l k) (operand_as p os starts file sites number o sections low are settled all_worths whole plain address index section x is at none loaded relocated z h mnemonic os' e c oper f) ∙ field_as ∙ symbol_as k) in
             let known = (subst (λ l. Knows l) fields_are (first (Open_part k i) [] ps_are).known_first).0 in
             made (valued_one ex (ap in_maybe f ∙ one) (value_some ex q meaning plus known.at symbolic known.is)) (subst (IsPaired p s) (sym f) paired)
-            (subst (λ ps. AllByRecursion Fills ps) (sym ps_are) ((λ n a at_n r k' u. field_filled k [] (fields (Open_part k i)) q plus fields_are tt plain_kind as' n a at_n r k'), tt))
+            (subst (λ ps. AllByRecursion Fills ps) (sym ps_are) ((λ n a at_n r k' u. field_filled k (marks (is_marked k z.located) z.located) (fields (Open_part k i)) q plus fields_are (marks_relax (is_marked k z.located) z.located) plain_kind as' n a at_n r k'), tt))
 
         -- the address itself
         absolute_part : (k : Kind) (i : Inst) → c.ps ≡ Open_part k i ∷ [] → field_of T V ordinal (Some oper) k ≡ symbol_field k ordinal (V ex) → is_low k ≡ false → is_low_part k ≡ false
@@ -313,9 +315,9 @@ module _ (p : Program) (os : List Object) (starts : Starts) (file : ℕ) (sites 
         far_taken k far at_q known a =
             distance_value k far at_q plus a ∙ ap (distance a) (sym (number_is ex q meaning plus at_q symbolic known)) ∙ sym (taken_as k (Target ex) a f (distance_plain k far).1)
 
-        relaxes : (b : Bool) → AllByRecursion (λ (f : Open). f.kind ≡ kind.Relax) (relax_fields b ordinal)
-        relaxes true = (refl, tt)
-        relaxes false = tt
+        own_field : (k : Kind) (i : Inst) → is_low_part k ≡ false → fields (Open_part k i) ≡ open_at k ordinal (Some q) plus ∷ marks (is_marked k z.located) z.located
+        own_field k i plain_part =
+            marked_one (is_marked k z.located) z.located (open_at k ordinal (Some q) plus) (field_of T V ordinal (operand_of z.located.kind) k) (target_field k plain_part)
 
         joined_field : (k : Kind) (i j : Inst) → is_distance k ≡ true → fields (Joined k i j) ≡ open_at k ordinal (Some q) plus ∷ relax_fields z.located.options.relax ordinal
         joined_field k i j far = ap (λ l. l ++ relax_fields z.located.options.relax ordinal) (target_field k (distance_plain k far).1)
@@ -324,14 +326,15 @@ module _ (p : Program) (os : List Object) (starts : Starts) (file : ℕ) (sites 
         far_fills [] h' = tt
         far_fills (Closed i ∷ ps) (h', hs) = ((λ n a at_n r k u. refl), far_fills ps hs)
         far_fills (Open_part k i ∷ ps) (h', hs) = (
-          (λ n a at_n r k' u. field_filled k [] (fields (Open_part k i)) q plus (target_field k (distance_plain k h').1) tt (distance_plain k h').0 (far_taken k h') n a at_n r k'),
+          (λ n a at_n r k' u. field_filled k (marks (is_marked k z.located) z.located) (fields (Open_part k i)) q plus (own_field k i (distance_plain k h').1)
+              (marks_relax (is_marked k z.located) z.located) (distance_plain k h').0 (far_taken k h') n a at_n r k'),
           far_fills ps hs,
         )
         far_fills (Joined k i j ∷ ps) (h', hs) = (
           (λ n a at_n r k' u. (
             h'.1,
             field_filled k (relax_fields z.located.options.relax ordinal) (fields (Joined k i j)) q plus (joined_field k i j h'.0)
-                (relaxes z.located.options.relax) (distance_plain k h'.0).0 (far_taken k h'.0) n a at_n r k',
+                (relaxes z.located.options.relax ordinal) (distance_plain k h'.0).0 (far_taken k h'.0) n a at_n r k',
           )),
           far_fills ps hs,
         )
@@ -343,7 +346,7 @@ module _ (p : Program) (os : List Object) (starts : Starts) (file : ℕ) (sites 
         far_known (q' ∷ ps) [] a h' open_one k = absurd a
         far_known (Closed i ∷ ps) (bytes ∷ coded) (a, as') (h', hs) open_one (k, ks) = far_known ps coded as' hs open_one ks
         far_known (Open_part k i ∷ ps) (bytes ∷ coded) a (h', hs) open_one (k', ks) =
-            let known = (subst (λ l. Knows l) (target_field k (distance_plain k h').1) k').0 in value_some ex q meaning plus known.at symbolic known.is
+            let known = (subst (λ l. Knows l) (own_field k i (distance_plain k h').1) k').0 in value_some ex q meaning plus known.at symbolic known.is
         far_known (Joined k i j ∷ ps) (bytes ∷ coded) a (h', hs) open_one (k', ks) =
             let known = (subst (λ l. Knows l) (joined_field k i j h'.0) k').0 in value_some ex q meaning plus known.at symbolic known.is
 
@@ -362,7 +365,8 @@ module _ (p : Program) (os : List Object) (starts : Starts) (file : ℕ) (sites 
         lower_fills : (k : Kind) (j : Inst) → is_low_part k ≡ true → HasUpper p os starts file sites number o sections low are settled all_worths whole plain address index section x is at none loaded relocated z → Fills (Open_part k j)
         lower_fills k j low_part upper n a at_n r known u =
             let fields_are : fields (Open_part k j) ≡ open_at k ordinal (Some Here) 0 ∷ [] =
-            ap (λ l. field_of T V ordinal l k) (operand_as p os starts file sites number o sections low are settled all_worths whole plain address index section x is at none loaded relocated z h mnemonic os' e c (Target ex) f) ∙ ap (λ b. if b then low_field k ordinal 0 else symbol_field k ordinal (V ex)) low_part in
+            low_marked k z.located (field_of T V ordinal (operand_of z.located.kind) k) low_part
+            ∙ ap (λ l. field_of T V ordinal l k) (operand_as p os starts file sites number o sections low are settled all_worths whole plain address index section x is at none loaded relocated z h mnemonic os' e c (Target ex) f) ∙ ap (λ b. if b then low_field k ordinal 0 else symbol_field k ordinal (V ex)) low_part in
             let stands = (subst (λ l. Uses l) fields_are u).0 in
             let worth_as : worth n (open_at k ordinal (Some Here) 0) ≡ taken k a =
             ap (λ v. unwrap_or v (pos 0)) (own_low p os starts file sites number o sections low are settled all_worths whole plain address index section x is at none loaded relocated there z h shown upper own k (low_same k low_part).0 n stands)
@@ -390,7 +394,8 @@ module _ (p : Program) (os : List Object) (starts : Starts) (file : ℕ) (sites 
 
         label_fields : fields (Open_part k i) ≡ field ∷ []
         label_fields =
-            ap (λ l. field_of T V ordinal l k) (operand_as p os starts file sites number o sections low are settled all_worths whole plain address index section x is at none loaded relocated z h mnemonic os' e c (Applied PcrelLo ex) f)
+            low_marked k z.located (field_of T V ordinal (operand_of z.located.kind) k) low_part
+            ∙ ap (λ l. field_of T V ordinal l k) (operand_as p os starts file sites number o sections low are settled all_worths whole plain address index section x is at none loaded relocated z h mnemonic os' e c (Applied PcrelLo ex) f)
             ∙ ap (label_field T k ordinal) symbolic ∙ ap (λ l. low_field_at k l plus) defined
 
         abbrev worth_option : ℕ → Option ℤ

@@ -17,7 +17,8 @@ use Rattle.rv_source_laws.specs.Program.{Mapped, Program, program}
 use Rattle.rv_source_laws.specs.Fits as source
 use Rattle.rv_source_laws.specs.Fits.{SizeFits}
 use Rattle.rv_source_laws.specs.Resolves.{Resolves}
-use Rattle.rv_source_laws.specs.Sized.{Sized}
+use Rattle.rv_chain_laws.specs.Sized.{Sized}
+use Rattle.rv_chain_laws.specs.Shortened.{Shortened}
 use Rattle.rv_source_laws.specs.Start.{spelled}
 use Rattle.rv_image.specs.Linked.{Linked}
 use Rattle.rv_chain_laws.specs.Contents.{IsWritten, IsLinked, contents as source_contents}
@@ -330,10 +331,11 @@ module _ (sources : List (List Statement)) (os : List Object) (text_start : ℕ)
   }
 
   -- where the names resolve
-  pub linked : Sized sources l.map → Resolves sources l.map → IsLinked sources text_start l
-  linked sized resolves = record {
+  pub linked : (relax : Bool) → Sized sources l.map → Shortened relax sources l.map → Resolves sources l.map → IsLinked sources text_start relax l
+  linked relax sized shortened resolves = record {
     fits = fits;
     sized = sized;
+    shortened = shortened;
     resolves = resolves;
     code = bytes_of;
     written = written_by p.mapped at_home in_text;

@@ -13,7 +13,8 @@ use Rattle.rv_source_laws.specs.Fits.{is_low}
 use Rattle.rv_chain_laws.proofs.Held.{IsHeld}
 use Rattle.rv_object.specs.Padding.{no_operations, operations_in}
 use Rattle.rv_assemble_laws.specs.Templates.{Fixed, Coded, zeros, align_field, padding_templates}
-use Rattle.rv_assemble_laws.specs.Sites.{Site, form, part_of, part_bytes, templates, parts_of, IsMultiple, IsPaddedIn, HasSize}
+use Rattle.rv_assemble_laws.specs.Sites.{Site, form, part_of, part_bytes, IsMultiple, IsPaddedIn, HasSize}
+use Rattle.rv_boundary_laws.proofs.Assembled.{templates, parts_of}
 use Rattle.rv_boundary_laws.proofs.Shrunk as shrunk
 use Rattle.rv_boundary_laws.proofs.Settled.{IsBare, IsSiteIn}
 use Rattle.rv_boundary_laws.proofs.Fielded.{IsPlain, data_each, sized_each, plain_part}
@@ -40,7 +41,7 @@ by_power P p2 p3 p4 p5 p6 p7 p8 p9 p10 p11 p12 a (inr (inr (inr (inr (inr (inr (
 by_power P p2 p3 p4 p5 p6 p7 p8 p9 p10 p11 p12 a (inr (inr (inr (inr (inr (inr (inr (inr (inr (inr e)))))))))) = subst P (sym e) p12
 
 -- which can be had
-abbrev IsValidAlignment : Option ℕ → Type 0
+abbrev pub IsValidAlignment : Option ℕ → Type 0
 IsValidAlignment None = ⊤
 IsValidAlignment (Some a) = (a ≤ 2) ⊎ IsPower a
 
@@ -60,7 +61,7 @@ of_exponent (suc (suc (suc (suc (suc (suc (suc (suc (suc (suc (suc zero)))))))))
 of_exponent (suc (suc (suc (suc (suc (suc (suc (suc (suc (suc (suc (suc zero)))))))))))) h a e = inr (inr (inr (inr (inr (inr (inr (inr (inr (inr (inr e))))))))))
 of_exponent (suc (suc (suc (suc (suc (suc (suc (suc (suc (suc (suc (suc (suc j))))))))))))) h a e = absurd (omega (arith, h))
 
-power_valid : (v : Value) → IsValidAlignment (power_alignment v)
+pub power_valid : (v : Value) → IsValidAlignment (power_alignment v)
 power_valid (Constant k) = go (nat_lt k 13) refl
   where
     go : (b : Bool) → nat_lt k 13 ≡ b → IsValidAlignment (if b then Some (2 ^ k) else None)
@@ -78,7 +79,7 @@ exponent_of (suc k) n e = go (n == 2 ^ k) refl e (exponent_of k n)
     go true f e later = (k, eqb-true n (2 ^ k) f)
     go false f e later = later e
 
-byte_valid : (v : Value) → IsValidAlignment (byte_alignment v)
+pub byte_valid : (v : Value) → IsValidAlignment (byte_alignment v)
 byte_valid (Constant n) = go (is_power_below 63 n && nat_le n 4096) refl
   where
     by : (j : ℕ) → n ≡ 2 ^ j → n ≤ 4096 → (b : Bool) → nat_lt j 13 ≡ b → (n ≤ 2) ⊎ IsPower n
@@ -132,7 +133,7 @@ high a h =
     by_power (λ a. (is_low (Some a) ≡ false) × (0 < a - 2)) (refl, omega arith) (refl, omega arith) (refl, omega arith) (refl, omega arith) (refl, omega arith) (refl, omega arith)
     (refl, omega arith) (refl, omega arith) (refl, omega arith) (refl, omega arith) (refl, omega arith) a h
 
-bare_before : (kind : StatementKind) → ((all : Tables) (z : Site) → shrunk.templates all z kind ≡ []) → (all : Tables) (z : Site) → templates all z kind ≡ []
+pub bare_before : (kind : StatementKind) → ((all : Tables) (z : Site) → shrunk.templates all z kind ≡ []) → (all : Tables) (z : Site) → templates all z kind ≡ []
 bare_before (Label name) h all z = refl
 bare_before (Numbered number) h all z = refl
 bare_before (Instruction m os) h all z = h all z

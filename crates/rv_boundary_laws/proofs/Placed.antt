@@ -19,7 +19,7 @@ use Rattle.rv_object.specs.Object.{Section, Object}
 use Rattle.rv_object_laws.specs.Moves.{alignments_of, moves, plan, kept}
 use Rattle.rv_object_laws.specs.Inputs.{Starts, InputSection}
 use Rattle.rv_object_laws.specs.Values.{initial_bytes, applied, linked_bytes, IsRelocated}
-use Rattle.rv_assemble_laws.specs.CodeFields.{part_fields}
+use Rattle.rv_boundary_laws.proofs.Marked.{part_fields}
 use Rattle.rv_assemble_laws.specs.Templates.{Template, Open, IsTemplate, template_fields}
 use Rattle.rv_assemble_laws.specs.Sites.{Site, Part, form, part_of, part_bytes, sites_in, IsMultiple}
 use Rattle.rv_assemble_laws.specs.Symbols.{site_at}

@@ -18,7 +18,7 @@ use Rattle.rv_source_laws.specs.Start.{spelled_said}
 use Rattle.rv_chain_laws.proofs.Held.{IsHeld}
 use Rattle.rv_object.specs.Object.{Relocation}
 use Rattle.rv_object_laws.specs.Inputs.{Starts}
-use Rattle.rv_assemble_laws.specs.CodeFields.{part_fields}
+use Rattle.rv_boundary_laws.proofs.Marked.{part_fields}
 use Rattle.rv_assemble_laws.specs.Templates.{Datum, Open, IsTemplate, HasField, template_fields, value_fields, zeros}
 use Rattle.rv_assemble_laws.specs.Coded.{constants}
 use Rattle.rv_assemble_laws.specs.Sites.{Site, Part, form, part_of, part_bytes, coded_templates, IsMultiple}

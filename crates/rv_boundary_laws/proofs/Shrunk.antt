@@ -16,10 +16,10 @@ use Rattle.rv_object.specs.Padding.{no_operations, operations_in}
 use Rattle.rv_object_laws.specs.Moves.{alignments_of}
 use Rattle.rv_object_laws.specs.Names.{exported}
 use Rattle.rv_assemble_laws.specs.Coded.{is_constant, constants, IsCode}
-use Rattle.rv_assemble_laws.specs.CodeFields.{part_fields}
 use Rattle.rv_assemble_laws.specs.Refusals.{statements_fault}
 use Rattle.rv_assemble_laws.specs.Symbols.{exports}
 use Rattle.rv_assemble_laws.specs.Templates.{Template, Fixed, IsTemplate, zeros, contents_templates}
+use Rattle.rv_boundary_laws.proofs.Marked.{part_fields}
 pub use Rattle.rv_assemble_laws.specs.Sites.{Site, Part, form, part_of, part_bytes, coded_templates, sites_in, end_of, IsMultiple}
 pub use Rattle.rv_assemble_laws.specs.IsObjectOf.{Numbering, row_of, rows_at, relocation_at, relocations_from, contents_of, IsNumbered, ArePartsNumbered, IsInData, StandsInData}
 

@@ -15,10 +15,10 @@ use Rattle.rv_object_laws.specs.Moves.{Move, alignments_of, by_place, dropped, n
 use Rattle.rv_object_laws.specs.Inputs.{goes_to_text, raised, begins_at, zeros}
 use Rattle.rv_object_laws.specs.Values.{initial_bytes}
 use Rattle.rv_assemble_laws.specs.Templates.{Template, Fixed, Coded, Open, IsTemplate, padding_templates}
-use Rattle.rv_assemble_laws.specs.Sites.{Site, Part, form, part_of, part_bytes, parts_of, parts, templates, sites_in, Tile, end_of, HasSize}
+use Rattle.rv_assemble_laws.specs.Sites.{Site, Part, form, part_of, part_bytes, sites_in, end_of, HasSize}
 use Rattle.rv_assemble_laws.specs.Symbols.{references_in}
-use Rattle.rv_assemble_laws.specs.IsObjectOf.{Numbering, IsNumbered, ArePartsNumbered, contents_of, relocations_from, IsSectionOf}
-use Rattle.rv_assemble_laws.proofs.Filled.{filled as filled_before}
+use Rattle.rv_assemble_laws.specs.IsObjectOf.{Numbering, IsNumbered, ArePartsNumbered, contents_of, relocations_from}
+use Rattle.rv_boundary_laws.proofs.Assembled.{parts_of, parts, templates, Tile, IsSectionOf, filled as filled_before}
 use Rattle.rv_boundary_laws.proofs.Settled.{IsSiteIn, bytes_append, filled as filled_after}
 use Rattle.rv_boundary_laws.proofs.Sections.{split, join, multiple_from}
 use Rattle.rv_boundary_laws.proofs.Shrunk as shrunk

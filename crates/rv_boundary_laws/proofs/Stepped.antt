@@ -11,7 +11,8 @@ use Rattle.rv_object.specs.Padding.{no_operations}
 use Rattle.rv_object_laws.specs.Moves.{Move, new_offset, kept, aligned, has_padding, alignment_of, plan}
 use Rattle.rv_object_laws.specs.Inputs.{raised}
 use Rattle.rv_assemble_laws.specs.Templates.{Fixed, Open, template_fields}
-use Rattle.rv_assemble_laws.specs.Sites.{Site, Part, form, part_of, part_bytes, parts_of, parts, templates, end_of}
+use Rattle.rv_assemble_laws.specs.Sites.{Site, Part, form, part_of, part_bytes, end_of}
+use Rattle.rv_boundary_laws.proofs.Assembled.{parts_of, parts, templates}
 use Rattle.rv_assemble_laws.specs.IsObjectOf.{Numbering, relocation_at, relocations_from}
 use Rattle.rv_boundary_laws.proofs.Patches.{append_nil}
 use Rattle.rv_boundary_laws.proofs.Settled.{bytes_append}
@@ -33,7 +34,7 @@ padding_said : (o b : ℕ) → flat_map part_bytes (map (part_of o) (shrunk.padd
 padding_said o zero = refl
 padding_said o (suc n) = append_nil (no_operations (suc n))
 
-drop_whole : (own rest : List ℕ) → drop (length own) (own ++ rest) ≡ rest
+pub drop_whole : (own rest : List ℕ) → drop (length own) (own ++ rest) ≡ rest
 drop_whole [] [] = refl
 drop_whole [] (x ∷ rest) = refl
 drop_whole (x ∷ own) rest = drop_whole own rest

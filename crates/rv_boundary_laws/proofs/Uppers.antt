@@ -26,7 +26,8 @@ use Rattle.rv_object.specs.Object.{Relocation, Section, Object}
 use Rattle.rv_object_laws.specs.Moves.{alignments_of}
 use Rattle.rv_object_laws.specs.Inputs.{Starts}
 use Rattle.rv_object_laws.specs.Values.{is_high, own_value, IsRelocated}
-use Rattle.rv_assemble_laws.specs.CodeFields.{symbol_field, field_of, part_fields}
+use Rattle.rv_assemble_laws.specs.CodeFields.{symbol_field, field_of}
+use Rattle.rv_boundary_laws.proofs.Marked.{part_fields}
 use Rattle.rv_assemble_laws.specs.Coded.{constants, AreCodedParts, IsCode, part_instructions, instructions_in}
 use Rattle.rv_assemble_laws.specs.InstructionFaults.{instruction_faults, operand_faults, scratch_faults, own_faults, else_unplaced, has_row as has_operands_row, is_label}
 use Rattle.rv_assemble_laws.specs.Templates.{Template, Fixed, Datum, Coded, Open, open_at, value_fields, template_fields}
@@ -47,7 +48,7 @@ use Rattle.rv_boundary_laws.proofs.Shrunk.{parts_of, parts, templates, Tile, Has
 
 -- ---- faults
 
-none_of_its_own : (placed : Bool) (faults : List ℕ) → else_unplaced placed faults ≡ [] → faults ≡ []
+pub none_of_its_own : (placed : Bool) (faults : List ℕ) → else_unplaced placed faults ≡ [] → faults ≡ []
 none_of_its_own placed [] e = refl
 none_of_its_own placed (code ∷ codes) e = absurd (cc)
 

@@ -15,8 +15,9 @@ use Rattle.rv_object.specs.Padding.{no_operations, operations_in}
 use Rattle.rv_object.specs.Valid.{is_align}
 use Rattle.rv_object_laws.specs.Moves.{Move, dropped, new_offset, kept, aligned, full_padding, has_padding, alignment_of, inserted, by_place, plan, lost, lost_in}
 use Rattle.rv_assemble_laws.specs.Templates.{Template, Fixed, Datum, Coded, Open, value_fields, template_fields, absolute_kind, add_kind, subtract_kind, align_field}
-pub use Rattle.rv_assemble_laws.specs.Sites.{Tile}
-use Rattle.rv_assemble_laws.specs.Sites.{Site, Part, part_of, part_bytes, parts_of, parts, templates}
+use Rattle.rv_assemble_laws.specs.Sites.{Site, Part, part_of, part_bytes}
+use Rattle.rv_boundary_laws.proofs.Assembled.{parts_of, parts, templates}
+pub use Rattle.rv_boundary_laws.proofs.Assembled.{Tile}
 use Rattle.rv_assemble_laws.specs.IsObjectOf.{Numbering, relocation_at, relocations_from}
 use Rattle.rv_boundary_laws.proofs.Patches.{append_assoc}
 use Rattle.rv_boundary_laws.proofs.Fielded.{IsPlain}
@@ -52,7 +53,7 @@ value_plain ordinal width (Symbolic q at plus) = (absolute_plain width, tt)
 value_plain ordinal width (Difference q r plus) = (add_plain width, (subtract_plain width, tt))
 value_plain ordinal width (Faulty code) = tt
 
-template_plain : (ordinal : ℕ) (q : Template) → IsPlain q → ArePlain (template_fields ordinal q)
+pub template_plain : (ordinal : ℕ) (q : Template) → IsPlain q → ArePlain (template_fields ordinal q)
 template_plain ordinal (Fixed bytes) h = tt
 template_plain ordinal (Datum width v) h = value_plain ordinal width v
 template_plain ordinal (Coded bytes fields) h = h
@@ -90,7 +91,7 @@ plan_ahead p base gone (r ∷ rs) (h, hs) =
     let stands = base + (r.place - gone) in
     let least = aligned (alignment_of r) stands - stands in (h, plan_ahead p base (gone + (full_padding r - least)) rs hs)
 
-dropped_none : (p old : ℕ) (ms : List Move) → Ahead p ms → old ≤ p → dropped ms old ≡ 0
+pub dropped_none : (p old : ℕ) (ms : List Move) → Ahead p ms → old ≤ p → dropped ms old ≡ 0
 dropped_none p old [] h low = refl
 dropped_none p old (m ∷ ms) (h, hs) low =
     let ih = dropped_none p old ms hs low in
@@ -98,7 +99,7 @@ dropped_none p old (m ∷ ms) (h, hs) low =
     let e : old - (m.place + length m.text) ≡ 0 = omega (arith, past, low) in
     ap (λ n. min (m.full - length m.text) n + dropped ms old) e ∙ ap (λ n. min (m.full - length m.text) 0 + n) ih ∙ (let k = m.full - length m.text in let f : min k 0 + 0 ≡ 0 = omega arith in f)
 
-lost_none : (p offset bytes : ℕ) (ms : List Move) → Ahead p ms → offset + bytes ≤ p → lost ms offset bytes ≡ 0
+pub lost_none : (p offset bytes : ℕ) (ms : List Move) → Ahead p ms → offset + bytes ≤ p → lost ms offset bytes ≡ 0
 lost_none p offset bytes [] h low = refl
 lost_none p offset bytes (m ∷ ms) (h, hs) low =
     let past = h.0 in
@@ -114,7 +115,7 @@ lost_none p offset bytes (m ∷ ms) (h, hs) low =
     go false = refl
 
 -- those that lie before an offset lose nothing behind it
-lost_before : (m : Move) (offset bytes : ℕ) → m.place < offset → lost_in offset bytes m ≡ 0
+pub lost_before : (m : Move) (offset bytes : ℕ) → m.place < offset → lost_in offset bytes m ≡ 0
 lost_before m offset bytes h =
     ap (λ b. if b && nat_le (m.place + m.full) (offset + bytes) then operations_in m.full - operations_in (length m.text) else 0) (lt-leb offset m.place h)
 
@@ -202,7 +203,7 @@ module _ (t : Tables) (number : Numbering) where
   of_ordinal ordinal [] h = tt
   of_ordinal ordinal (q ∷ ts) (h, hs) = (h, of_ordinal ordinal ts hs)
 
-  abbrev From : ℕ → List Relocation → Type 0
+  abbrev pub From : ℕ → List Relocation → Type 0
   From o rs = AllByRecursion (λ (r : Relocation). o ≤ r.place) rs
 
   from_join : (o : ℕ) (xs ys : List Relocation) → From o xs → From o ys → From o (xs ++ ys)
@@ -217,7 +218,7 @@ module _ (t : Tables) (number : Numbering) where
   fields_from o [] = tt
   fields_from o (f ∷ fs) = (omega arith, fields_from o fs)
 
-  parts_from : (o : ℕ) (ps : List Part) → From o (relocations_from number o ps)
+  pub parts_from : (o : ℕ) (ps : List Part) → From o (relocations_from number o ps)
   parts_from o [] = tt
   parts_from o (p ∷ ps) =
       from_join o (map (relocation_at number o) (template_fields p.ordinal p.template)) (relocations_from number (o + length (part_bytes p)) ps)

@@ -291,7 +291,7 @@ seated_all P (e ∷ es) h = go e.row refl h (λ hs. seated_all P es hs)
 
 -- ---- a linked program
 
-module _ (sources : List (List Statement)) (a : ℕ) (l : Linked) (h : IsLinked sources a l) where
+module _ (sources : List (List Statement)) (a : ℕ) (relax : Bool) (l : Linked) (h : IsLinked sources a relax l) where
   abbrev p : Program
   p = program sources l.map
 
@@ -680,6 +680,6 @@ module _ (sources : List (List Statement)) (a : ℕ) (l : Linked) (h : IsLinked 
         omega arith
 
 -- a linked program runs as its sources do, for every input and every limit
-pub linked_agrees : (a : ℕ) (sources : List (List Statement)) (l : Linked) → IsLinked sources a l → RunsAgree sources l.map (linked_image l)
-linked_agrees a sources l h reader input bytes n =
-    agreement_of_image sources l.map (mem_of (linked_image l)) l.map.entry (λ r. realizes_linked sources a l h r) refl (entry_low sources a l h reader) h.resolves.even reader input n
+pub linked_agrees : (a : ℕ) (sources : List (List Statement)) (relax : Bool) (l : Linked) → IsLinked sources a relax l → RunsAgree sources l.map (linked_image l)
+linked_agrees a sources relax l h reader input bytes n =
+    agreement_of_image sources l.map (mem_of (linked_image l)) l.map.entry (λ r. realizes_linked sources a relax l h r) refl (entry_low sources a relax l h reader) h.resolves.even reader input n

@@ -16,8 +16,9 @@ use Rattle.rv_source_laws.specs.Lines.{parts, Line, AreLines}
 use Rattle.rv_unit_laws.specs.Tables.{aligned}
 use Rattle.rv_source_laws.specs.Fits.{Fits, InputSection, rows_of, input_sections, size}
 use Rattle.rv_source_laws.specs.Resolves.{Resolves}
-use Rattle.rv_source_laws.specs.Sized.{Sized}
 use Rattle.rv_source_laws.specs.Start.{spelled}
+use Rattle.rv_chain_laws.specs.Sized.{Sized}
+use Rattle.rv_chain_laws.specs.Shortened.{Shortened}
 
 -- ---- instructions as they lie in memory
 
@@ -83,11 +84,13 @@ contents bytes stop (b ∷ bs) =
     zeros (start - stop)
     ++ (flat_map bytes b.mapped ++ contents bytes (start + size (rows_of b)) bs)
 
--- the linked program of sources: its map fits them with the least sizes, and each region has the
--- bytes of its sections, bss zeros
-pub record IsLinked (sources : List (List Statement)) (text_start : ℕ) (l : Linked) : Type 0 where
+-- the linked program of sources, relaxed or not: its map fits them with the least sizes, calls as
+-- short as they can be where it is relaxed, and each region has the bytes of its sections, bss zeros
+pub record IsLinked (sources : List (List Statement)) (text_start : ℕ) (relax : Bool)
+    (l : Linked) : Type 0 where
   pub fits : Fits sources l.map text_start
   pub sized : Sized sources l.map
+  pub shortened : Shortened relax sources l.map
   pub resolves : Resolves sources l.map
   -- the bytes of each statement of code
   pub code : Mapped → List ℕ

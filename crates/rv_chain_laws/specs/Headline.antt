@@ -22,8 +22,9 @@ use Rattle.rv_source_laws.specs.Program.{Mapped, program}
 use Rattle.rv_source_laws.specs.SourceRun.{source_run}
 use Rattle.rv_source_laws.specs.Fits.{Fits}
 use Rattle.rv_source_laws.specs.Resolves.{Resolves}
-use Rattle.rv_source_laws.specs.Sized.{Sized}
 use Rattle.rv_chain_laws.specs.Agrees.{Agrees}
+use Rattle.rv_chain_laws.specs.Sized.{Sized}
+use Rattle.rv_chain_laws.specs.Shortened.{Shortened}
 use Rattle.rv_chain_laws.specs.Contents.{IsCodeWritten}
 
 -- each text reads as its list of statements
@@ -49,9 +50,9 @@ RunsAgree sources map image =
 abbrev pub rvc_flag : Bool → ℕ
 rvc_flag is_set = if is_set then 1 else 0
 
--- what the texts of the sources, the text's start, the bytes of the executable and those of the map
--- have to do with one another
-pub record TheHeadline (texts : List (List ℕ)) (text_start : ℕ)
+-- what the texts of the sources, the text's start, whether calls are shortened, the bytes of the
+-- executable and those of the map have to do with one another
+pub record TheHeadline (texts : List (List ℕ)) (text_start : ℕ) (relax : Bool)
     (executable map_bytes : List ℕ) : Type 0 where
   pub sources : List (List Statement)
   pub read : AllRead texts sources
@@ -62,6 +63,8 @@ pub record TheHeadline (texts : List (List ℕ)) (text_start : ℕ)
   pub readable : IsMap map
   pub fits : Fits sources map text_start
   pub sized : Sized sources map
+  -- its calls are as short as they can be where they are shortened, and else whole
+  pub shortened : Shortened relax sources map
   pub resolves : Resolves sources map
   -- each statement of code is its instructions, each in its least bytes where it may be compressed
   pub code : Mapped → List ℕ

@@ -1,7 +1,7 @@
 //! The law: whenever memory holds a program, the machine's run over it agrees with the run of its
 //! statements.
 
-ghost use Rattle.std.specs.Prelude.{◌≡◌, ℕ, ◌^◌, ◌%◌, ◌<◌, List};
+ghost use Rattle.std.specs.Prelude.{◌≡◌, ℕ, ◌^◌, ◌%◌, ◌<◌, Bool, List};
 ghost use Rattle.rv_isa_laws.specs.Memory.{Mem};
 ghost use Rattle.rv_statement.specs.Statement.{Statement};
 ghost use Rattle.rv_map.specs.Map.{Map};
@@ -37,6 +37,6 @@ pub fn runs_agree()
 /// Where the regions of a linked program hold the sections of its sources, code and data, the image
 /// of the program runs as their statements do, for every input and every limit.
 pub fn linked_runs_agree()
-    ensures { (start : ℕ) (sources : List (List Statement)) (l : Linked)
-        → IsLinked sources start l → RunsAgree sources l.map (linked_image l) }
+    ensures { (start : ℕ) (sources : List (List Statement)) (relax : Bool) (l : Linked)
+        → IsLinked sources start relax l → RunsAgree sources l.map (linked_image l) }
 {}

@@ -6,3 +6,4 @@ pub mod Links
 pub mod Steps
 pub mod Turns
 pub mod Unlinked
+pub mod Left

@@ -10,7 +10,21 @@ use Rattle.rv_link.specs.declared.fault.LinkFault.{LinkFault}
 use Rattle.rv_link.specs.declared.fault.LinkFault.TheVariants.{Overflow, OddTarget, DanglingPcrel, AlignmentShort, Undefined, Duplicate, EntryMissing, ImageTooLarge, BadTextStart, TooManyFiles, OutOfMemory}
 use Rattle.rv_link.specs.Filled.{IsTaken}
 use Rattle.rv_link.specs.Untaken.{IsFirst, IsUntaken, AreTaken, AreUntaken, IsFirstUntaken, AreUnfilled}
-use Rattle.rv_link.specs.Refusals.{ComesToPlaces, IsUnlinked}
+use Rattle.rv_link.specs.Refusals.{AreDoubled, AreUnnamed, ComesToPlaces, IsUnlinked}
+
+-- a name with two definitions is a fault of names
+pub doubled_unnamed : (os : List Object) (fault : LinkFault) → AreDoubled os fault → AreUnnamed os fault
+doubled_unnamed os (Duplicate name) h = h
+doubled_unnamed os OutOfMemory h = tt
+doubled_unnamed os TooManyFiles h = absurd h
+doubled_unnamed os BadTextStart h = absurd h
+doubled_unnamed os (Undefined name) h = absurd h
+doubled_unnamed os EntryMissing h = absurd h
+doubled_unnamed os AlignmentShort h = absurd h
+doubled_unnamed os ImageTooLarge h = absurd h
+doubled_unnamed os Overflow h = absurd h
+doubled_unnamed os OddTarget h = absurd h
+doubled_unnamed os DanglingPcrel h = absurd h
 
 -- what nothing can be, is first of no list
 none_first : {X : Type 0} (Passes Fails : X → Type 0) → ((x : X) → Fails x → ⊥) → (xs : List X) → IsFirst Passes Fails xs → ⊥

@@ -1,12 +1,13 @@
 -- Why objects cannot be linked, in the order in which that is tested (this project's linker; GNU
 -- ld's diagnostics are of the same kinds).
 
-use Rattle.std.specs.Prelude.{◌≡◌, ◌⊎◌, ⊤, ℕ, ◌%◌, ◌<◌, ◌≤◌, true, false, List, length, Some, None}
+use Rattle.std.specs.Prelude.{◌≡◌, ◌⊎◌, ⊤, ℕ, ◌%◌, ◌<◌, ◌≤◌, Bool, true, false, List, length, Some, None}
 use Rattle.rv_isa_laws.specs.Platform.{stack_start}
 use Rattle.rv_object.specs.Object.{Object}
 use Rattle.rv_object_laws.specs.Inputs.{Starts, goes_to_text, inputs, Stand}
 use Rattle.rv_object_laws.specs.Names.{global_names, AreDistinct, entry_of}
 use Rattle.rv_object_laws.specs.IsLinkOf.{most_files, is_loaded}
+use Rattle.rv_object_laws.specs.Shortened.{Relaxes}
 use Rattle.rv_placement.specs.declared.placement.Placement.{Placement}
 use Rattle.rv_placement.specs.Placement.{starts_of, are_roomy, IsPlacement, AreRoomy, IsTooLarge, AreRoomyBelow}
 use Rattle.rv_resolve.specs.Entry.{has_entry}
@@ -34,7 +35,13 @@ ArePast files start _ = ⊥
 
 -- ---- names
 
--- a name that has two definitions, and then one that has none
+-- a name that has two definitions
+abbrev pub AreDoubled : List Object → LinkFault → Type 0
+AreDoubled os (Duplicate name) = first_duplicate os ≡ Some name.items
+AreDoubled os OutOfMemory = ⊤
+AreDoubled os _ = ⊥
+
+-- and then one that has none
 abbrev pub AreUnnamed : List Object → LinkFault → Type 0
 AreUnnamed os (Duplicate name) = first_duplicate os ≡ Some name.items
 AreUnnamed os (Undefined name) =
@@ -100,3 +107,9 @@ IsUnlinked os start Overflow = IsUnapplied os start Overflow
 IsUnlinked os start OddTarget = IsUnapplied os start OddTarget
 IsUnlinked os start DanglingPcrel = IsUnapplied os start DanglingPcrel
 IsUnlinked os start OutOfMemory = ⊤
+
+-- objects have no program, as what relaxation leaves of them cannot be linked
+pub record HasNoProgram (os : List Object) (start : ℕ) (relax : Bool) (fault : LinkFault) : Type 0 where
+  pub left : List Object
+  pub relaxed : Relaxes relax os left
+  pub unlinked : IsUnlinked left start fault

@@ -43,13 +43,13 @@ pub(crate) struct Input<'o> {
 
 /// Objects whose sections and names have their addresses.
 #[derive(Drop)]
-pub(crate) struct Fixed<'o> {
+pub(crate) struct Fixed<'o, 'n> {
     pub(crate) objects: &'o [Object],
     pub(crate) placement: &'o Placement,
-    pub(crate) values: &'o Values<'o, 'o>,
+    pub(crate) values: &'o Values<'o, 'n>,
 }
 
-impl<'o> Fixed<'o> {
+impl<'o, 'n> Fixed<'o, 'n> {
     /// The section at an index of an object, both from 0.
     pub(crate) fn input(&self, file: usize, index: usize) -> Input<'o>
         requires fixed { IsFixed self.now }

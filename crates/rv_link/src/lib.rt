@@ -3,27 +3,33 @@
 //! It takes objects (`rv_object`), whoever made them, and the address at which their text starts, and gives a linked program
 //! (`rv_image`): the bytes of its regions with each relocation applied, and its map. Nothing here knows of statements.
 //!
-//! Main contract: [`link`] answers only a program that `IsLinkOf` the objects (`rv_object_laws`). The work is that of the
-//! crates below, pass by pass: names (`rv_resolve`), places (`rv_placement`), values (`rv_values`), fields (`rv_reloc`).
+//! Main contract: [`link`] answers only a program that `IsProgramOf` the objects (`rv_object_laws`): the link of what relaxation
+//! leaves of them, where it is on. First, calls become short: which may (`rv_calls`), which do (`rv_relax`), and what is left
+//! of the objects then (`rv_shorten`). No size changes after that, and the work is that of the crates below, pass by pass:
+//! names (`rv_resolve`), places (`rv_placement`), values (`rv_values`), fields (`rv_reloc`).
 //!
 //! ```text
-//! let options = LinkOptions { text_start: 0x1_0000, relax: false };
+//! let options = LinkOptions { text_start: 0x1_0000, relax: true };
 //! let linked = link(alloc, objects.as_slice(), options)?;
 //! let first = linked.entry();
 //! let file = write_exec(alloc, &linked)?;
 //! let fault = link(alloc, &[], options);                      // Err(EntryMissing)
 //! ```
 //!
-//! Source: System V gABI, "Sections", "Symbol Table", "Relocation"; RISC-V ELF psABI, "Relocations"; GNU ld.
+//! Source: System V gABI, "Sections", "Symbol Table", "Relocation"; RISC-V ELF psABI, "Relocations", "Linker Relaxation"; GNU ld.
 #![tactic(auto)]
 
+mod copies;
 mod fault;
 mod fields;
 mod fixed;
 mod options;
 mod passes;
+mod programs;
 mod regions;
+mod relaxation;
 
 pub use fault::LinkFault;
 pub use options::LinkOptions;
-pub use passes::{MOST_FILES, link, within_limits};
+pub use passes::{MOST_FILES, within_limits};
+pub use programs::{link, link_all};

@@ -5,6 +5,6 @@
 pub struct LinkOptions {
     /// The address at which the text starts: a multiple of 4096 below the stack.
     pub text_start: u64,
-    /// Whether calls may become shorter; so far none does.
+    /// Whether calls become short that can be.
     pub relax: bool,
 }

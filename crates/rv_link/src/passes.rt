@@ -1,4 +1,4 @@
-//! The passes of a link.
+//! The passes of a link of objects whose calls are as long as they will be.
 
 ghost use Rattle.std.specs.Prelude.{◌≡◌, ◌%◌, ◌<◌, [], List, Some, map, IfOk, IfErr, OnOk};
 ghost use Rattle.std.specs.List.{list_any};
@@ -16,12 +16,11 @@ ghost use Rattle.rv_resolve.specs.Exports.{first_duplicate};
 ghost use Rattle.rv_resolve.specs.Undefined.{first_undefined};
 ghost use Rattle.rv_link.specs.declared.fault.LinkFault.TheVariants.{EntryMissing, OutOfMemory};
 ghost use Rattle.rv_link.specs.Untaken.{AreUnfilled};
-ghost use Rattle.rv_link.specs.Refusals.{AreWithin, ArePast, AreUnnamed, AreUnplaced, IsOddEntry, IsUnlinked};
+ghost use Rattle.rv_link.specs.Refusals.{AreDoubled, AreWithin, ArePast, AreUnnamed, AreUnplaced, IsOddEntry, IsUnlinked};
 ghost use Rattle.rv_link.specs.Regions.{AreGrown, IsNamed, IsReady, IsPlaced};
 
 use crate::fault::LinkFault;
 use crate::fixed::Fixed;
-use crate::options::LinkOptions;
 use crate::regions::Regions;
 use rv_image::{Linked, STACK_START};
 use rv_map::{Map, known};
@@ -34,19 +33,16 @@ use std::alloc::Global;
 /// The most files that are linked at once.
 pub const MOST_FILES: usize = 1024;
 
-/// Links objects into a program, whose text starts at an address.
-///
-/// # Errors
-///
-/// The first fault of the objects, in the order of the passes: too many of them, a bad start of the text, names that are defined
-/// twice or not at all, a missing entry, paddings without room, too much memory, and then fields that cannot hold their
-/// values, by file, section and relocation.
-pub fn link(alloc: Global, objects: &[Object], options: LinkOptions) -> Result<Linked, LinkFault>
+/// Links objects with their calls as they are into a program, whose text starts at an address.
+pub(crate) fn link_as_they_are(
+    alloc: Global,
+    objects: &[Object],
+    start: u64,
+) -> Result<Linked, LinkFault>
     ensures links { IfOk result
-        (λ l. IsLinkOf (map object_of objects.now) options.text_start (linked_of l)) }
-    ensures refuses { IfErr result (IsUnlinked (map object_of objects.now) options.text_start) }
+        (λ l. IsLinkOf (map object_of objects.now) start (linked_of l)) }
+    ensures refuses { IfErr result (IsUnlinked (map object_of objects.now) start) }
 {
-    let start = options.text_start;
     within_limits(objects.len(), start)?;
     // the start of the text is fixed from here on
     let names = resolve(alloc, objects)?;
@@ -96,9 +92,9 @@ fn resolve<'o>(alloc: Global, objects: &'o [Object]) -> Result<Names<'o>, LinkFa
 }
 
 /// The fault of names.
-fn of_names(alloc: Global, fault: ResolveFault<'_>) -> LinkFault
+pub(crate) fn of_names(alloc: Global, fault: ResolveFault<'_>) -> LinkFault
     ensures { (os : List SaidObject) → IsDuplicate fault.entry (first_duplicate os)
-        → AreUnnamed os result }
+        → AreDoubled os result }
 {
     match fault {
         ResolveFault::Duplicate(name) => match Vec::from_slice(alloc, name) {

@@ -33,7 +33,7 @@ fn is_nobits(contents: &Contents) -> bool
 
 impl Regions {
     /// The bytes of the regions of objects, section by section in their order.
-    pub(crate) fn of(alloc: Global, fixed: &Fixed<'_>) -> Result<Regions, LinkFault>
+    pub(crate) fn of(alloc: Global, fixed: &Fixed<'_, '_>) -> Result<Regions, LinkFault>
         requires { IsFixed fixed.now }
         ensures grown { IfOk result
             (AreGrown (objects_of fixed.now) (fixed.now).placement.now (λ goes. [])) }
@@ -52,7 +52,12 @@ impl Regions {
     }
 
     /// Adds the sections of an object.
-    fn put_object(&mut self, alloc: Global, fixed: &Fixed<'_>, file: usize) -> Result<(), LinkFault>
+    fn put_object(
+        &mut self,
+        alloc: Global,
+        fixed: &Fixed<'_, '_>,
+        file: usize,
+    ) -> Result<(), LinkFault>
         requires fixed { IsFixed fixed.now }
         requires file { file < length (fixed.now).objects.now }
         requires grown { AreGrown (objects_of fixed.now) (fixed.now).placement.now
@@ -72,7 +77,7 @@ impl Regions {
     fn put_section(
         &mut self,
         alloc: Global,
-        fixed: &Fixed<'_>,
+        fixed: &Fixed<'_, '_>,
         file: usize,
         index: usize,
     ) -> Result<(), LinkFault>
@@ -90,7 +95,12 @@ impl Regions {
     }
 
     /// Adds a section to the region to which it goes.
-    fn put(&mut self, alloc: Global, fixed: &Fixed<'_>, input: &Input<'_>) -> Result<(), LinkFault>
+    fn put(
+        &mut self,
+        alloc: Global,
+        fixed: &Fixed<'_, '_>,
+        input: &Input<'_>,
+    ) -> Result<(), LinkFault>
         requires fixed { IsFixed fixed.now }
         requires input { IsInputOf fixed.now input.now }
         requires grown { AreGrown (objects_of fixed.now) (fixed.now).placement.now

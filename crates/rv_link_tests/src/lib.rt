@@ -5,8 +5,8 @@
 //!
 //! `scripts/link_table.py` made the table in `gnu`, with GNU Binutils 2.40: objects as the assembler writes them, with
 //! relaxation where they have paddings, and the linked program by a script that lays the sections out in the order of
-//! regions. The rows in `faults` and `shapes` stand by hand, from the psABI's formulas and ranges: GNU's linker
-//! names neither fault.
+//! regions. The rows in `faults`, `shapes` and `relaxed` stand by hand, from the psABI's formulas and ranges: GNU's linker
+//! names neither fault, and shortens otherwise.
 #![tactic(auto)]
 
 #[cfg(test)]
@@ -19,5 +19,7 @@ mod links;
 mod objects;
 #[cfg(test)]
 mod programs;
+#[cfg(test)]
+mod relaxed;
 #[cfg(test)]
 mod shapes;

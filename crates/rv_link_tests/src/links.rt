@@ -2,7 +2,7 @@
 
 use crate::objects::{ObjectRow, objects};
 use rv_image::Linked;
-use rv_link::{LinkFault, LinkOptions, link};
+use rv_link::{LinkFault, LinkOptions, link, link_all};
 use rv_object::Object;
 use std::alloc::{AllocError, Global};
 
@@ -32,7 +32,20 @@ pub(crate) fn link_objects(alloc: Global, objects: &[Object], text_start: u64) -
         text_start,
         relax: false,
     };
-    match link(alloc, objects, options) {
+    of_result(link(alloc, objects, options))
+}
+
+/// What the link of objects comes to at the usual start of the text, with their calls shortened or not.
+pub(crate) fn link_relaxed(alloc: Global, objects: Vec<Object>, relax: bool) -> Answer {
+    let options = LinkOptions {
+        text_start: 0x1_0000,
+        relax,
+    };
+    of_result(link_all(alloc, objects, options))
+}
+
+fn of_result(result: Result<Linked, LinkFault>) -> Answer {
+    match result {
         Ok(linked) => Answer::Linked(linked),
         Err(fault) => of_fault(&fault),
     }

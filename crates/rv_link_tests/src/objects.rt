@@ -343,7 +343,10 @@ pub(crate) type SymbolRow = (&'static [u8], Binding, Definition);
 /// Its sections and symbols.
 pub(crate) type ObjectRow = (&'static [SectionRow], &'static [SymbolRow]);
 
-fn relocations(alloc: Global, rows: &[RelocationRow]) -> Result<Vec<Relocation>, AllocError> {
+pub(crate) fn relocations(
+    alloc: Global,
+    rows: &[RelocationRow],
+) -> Result<Vec<Relocation>, AllocError> {
     let mut relocations = Vec::new(alloc);
     for (place, kind, symbol, addend) in rows {
         relocations.push(Relocation {
@@ -364,7 +367,7 @@ fn contents(alloc: Global, bytes: &[u8], zeros: Option<u64>) -> Result<Contents,
 }
 
 /// The section with these parts; none where no file has such a one.
-fn section_with(
+pub(crate) fn section_with(
     name: Vec<u8>,
     flags: u8,
     contents: Contents,
@@ -427,7 +430,10 @@ fn sections(alloc: Global, rows: &[SectionRow]) -> Result<Option<Vec<Section>>, 
     Ok(Some(sections))
 }
 
-fn symbols(alloc: Global, rows: &[SymbolRow]) -> Result<Option<Vec<Symbol>>, AllocError> {
+pub(crate) fn symbols(
+    alloc: Global,
+    rows: &[SymbolRow],
+) -> Result<Option<Vec<Symbol>>, AllocError> {
     let mut symbols = Vec::new(alloc);
     for row in rows {
         match symbol(alloc, row)? {
@@ -439,7 +445,12 @@ fn symbols(alloc: Global, rows: &[SymbolRow]) -> Result<Option<Vec<Symbol>>, All
 }
 
 /// The object with these parts; none where no file has such a one.
-fn object_with(sections: Vec<Section>, symbols: Vec<Symbol>, rows: Vec<Row>) -> Option<Object> {
+pub(crate) fn object_with(
+    sections: Vec<Section>,
+    symbols: Vec<Symbol>,
+    rows: Vec<Row>,
+    rvc: bool,
+) -> Option<Object> {
     if !are_all_named(&symbols, &sections)
         || !are_all_standing(&symbols, &sections)
         || !are_all_lying(&rows, &sections)
@@ -450,7 +461,7 @@ fn object_with(sections: Vec<Section>, symbols: Vec<Symbol>, rows: Vec<Row>) -> 
         sections,
         symbols,
         rows,
-        rvc: false,
+        rvc,
     })
 }
 
@@ -468,7 +479,7 @@ pub(crate) fn object(
         return Ok(None);
     };
     let rows = Vec::from_slice(alloc, statements)?;
-    Ok(object_with(sections, symbols, rows))
+    Ok(object_with(sections, symbols, rows, false))
 }
 
 /// The objects of rows; none where one of them is none.

@@ -1,6 +1,6 @@
 //! The law: the listing of a linked program's image is that of its sources at the map.
 
-ghost use Rattle.std.specs.Prelude.{◌≡◌, ◌↔◌, ℕ, List};
+ghost use Rattle.std.specs.Prelude.{◌≡◌, ◌↔◌, ℕ, Bool, List};
 ghost use Rattle.rv_encode.specs.Word.{Spells};
 ghost use Rattle.rv_compress.specs.Parcel.{StandsFor};
 ghost use Rattle.rv_isa_laws.specs.Reader.{Reader};
@@ -15,8 +15,8 @@ ghost use Rattle.rv_listing_laws.specs.SourceListing.{IsSourceListing};
 /// Where a linked program is that of sources, the listing of its image with its map, by whatever reading of words and
 /// parcels, is the sources' own listing at that map: a text is the one where it is the other.
 pub fn listing_is_the_sources()
-    ensures { (start : ℕ) (sources : List (List Statement)) (l : Linked)
-        → IsLinked sources start l → (reader : Reader Spells StandsFor) (text : List ℕ)
+    ensures { (start : ℕ) (sources : List (List Statement)) (relax : Bool) (l : Linked)
+        → IsLinked sources start relax l → (reader : Reader Spells StandsFor) (text : List ℕ)
         → IsListing reader (linked_image l) l.map text
         ↔ IsSourceListing (program sources l.map) text }
 {}

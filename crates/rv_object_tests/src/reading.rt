@@ -65,3 +65,31 @@ fn damaged_files(rt: HostRuntime) -> Result<(), Fail> {
     }
     Ok(())
 }
+
+/// The header of a file with section headers behind it, and no names; their count stands at 60.
+const HEADER: [u8; 64] = *b"\x7fELF\x02\x01\x01\0\0\0\0\0\0\0\0\0\x01\0\xf3\0\x01\0\0\0\
+\0\0\0\0\0\0\0\0\0\0\0\0\0\0\0\0\x40\0\0\0\0\0\0\0\0\0\0\0\x40\0\0\0\0\0\x40\0\0\0\0\0";
+
+/// The header of a section whose bytes are the first 1,408 of the file.
+const SECTION: [u8; 64] = *b"\0\0\0\0\x01\0\0\0\0\0\0\0\0\0\0\0\0\0\0\0\0\0\0\0\0\0\0\0\0\0\0\0\
+\x80\x05\0\0\0\0\0\0\0\0\0\0\0\0\0\0\x01\0\0\0\0\0\0\0\0\0\0\0\0\0\0\0";
+
+/// A file with so many sections that lie over each other.
+fn overlaid(alloc: Global, sections: u8) -> Result<Vec<u8>, AllocError> {
+    let mut file = Vec::from_slice(alloc, HEADER.as_slice())?;
+    set(&mut file, 60, sections.saturating_add(1));
+    file.resize(128, 0)?;
+    for _ in 0..sections {
+        file.extend_from_slice(SECTION.as_slice())?;
+    }
+    Ok(file)
+}
+
+/// What is copied of a file is at most four times the file and 64 KiB: here 28,160 bytes, and then 84,480 of 81,408.
+#[test]
+fn overlaid_sections(rt: HostRuntime) -> Result<(), Fail> {
+    let alloc = rt.alloc();
+    assert!(rt; read(alloc, &overlaid(alloc, 20)?)?.sections.len() == 20);
+    assert!(rt; read(alloc, &overlaid(alloc, 60)?) == Err(FileFault::OutOfMemory));
+    Ok(())
+}

@@ -15,3 +15,6 @@ pub mod Placed
 pub mod Multiples
 pub mod Evens
 pub mod Below
+pub mod Left
+pub mod LeftSound
+pub mod Whole

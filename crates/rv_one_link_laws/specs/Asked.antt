@@ -1,11 +1,12 @@
 -- What the laws ask of objects.
 
-use Rattle.std.specs.Prelude.{◌≡◌, ℕ, ◌%◌, ◌<◌, ◌≤◌, ◌^◌, true, IsTrue, List, length, Some}
+use Rattle.std.specs.Prelude.{◌≡◌, ℕ, ◌%◌, ◌<◌, ◌≤◌, ◌^◌, Bool, true, IsTrue, List, length, Some}
 use Rattle.std.specs.List.{AllByRecursion, slice_get}
 use Rattle.rv_object.specs.Object.{Object, size_of}
-use Rattle.rv_object.specs.Valid.{is_alignment, are_paddings, are_rows}
+use Rattle.rv_object.specs.Valid.{is_alignment, fit_inside, are_paddings, are_rows}
 use Rattle.rv_object_laws.specs.Inputs.{Starts, goes_to_text, inputs, start_of, Stand}
 use Rattle.rv_object_laws.specs.Names.{entry_of}
+use Rattle.rv_object_laws.specs.Shortened.{Relaxes}
 use Rattle.rv_placement.specs.Placement.{farthest}
 use Rattle.rv_resolve.specs.Undefined.{is_loaded_at}
 use Rattle.rv_link.specs.Refusals.{AreWithin}
@@ -33,11 +34,20 @@ StartBelow os start =
     → (starts : Starts) → Stand starts start (inputs goes_to_text os)
     → AllByRecursion (λ i. start_of starts i < farthest) (inputs goes_to_text os)
 
+-- ---- of what relaxation leaves
+
+abbrev pub LeavesEven : List Object → ℕ → Bool → Type 0
+LeavesEven os start relax = (left : List Object) → Relaxes relax os left → BeginsEven left start
+
+abbrev pub LeavesBelow : List Object → ℕ → Bool → Type 0
+LeavesBelow os start relax = (left : List Object) → Relaxes relax os left → StartBelow left start
+
 -- ---- objects that have it
 
 -- what each object of the code keeps
 pub record IsSound (o : Object) : Type 0 where
   pub alignments : AllByRecursion (λ s. IsTrue (is_alignment s.alignment)) o.sections
+  pub inside : AllByRecursion (λ s. IsTrue (fit_inside s.contents s.relocations)) o.sections
   pub paddings : AllByRecursion
       (λ s. IsTrue (are_paddings s.executable s.contents s.relocations)) o.sections
   pub rows : IsTrue (are_rows o.sections o.rows)

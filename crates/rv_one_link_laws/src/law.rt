@@ -1,19 +1,19 @@
-//! Laws of links and of refusals.
+//! Laws of programs and of refusals.
 
-ghost use Rattle.rv_one_link_laws.specs.Same.{OneLinked, RefusedForMemory, RefusedForOne, RowsArePlaced, RunsBeginEven, TextsStartBelow};
+ghost use Rattle.rv_one_link_laws.specs.Same.{OneProgram, RefusedForMemory, RefusedForOne, RowsArePlaced, RunsBeginEven, TextsStartBelow};
 
-/// Objects whose rows have addresses have one linked program: two that are links of them are equal.
-pub fn one_linked_program()
-    ensures { OneLinked }
+/// Objects whose rows have addresses have one program: two that are programs of them are equal, with relaxation and without.
+pub fn one_program()
+    ensures { OneProgram }
 {}
 
-/// Objects that have a linked program are refused for want of memory alone.
-pub fn refused_is_not_linked()
+/// Objects that have a program are refused for want of memory alone.
+pub fn refused_has_no_program()
     ensures { RefusedForMemory }
 {}
 
-/// But for want of memory, objects are refused for one reason, where a run of them begins at an even address and each
-/// section of their text starts at an address that is looked at.
+/// But for want of memory, objects are refused for one reason, where a run of what relaxation leaves of them begins at an even
+/// address and each section of its text starts at an address that is looked at.
 pub fn refused_for_one_reason()
     ensures { RefusedForOne }
 {}

@@ -1,13 +1,15 @@
 -- One name more that a map shows.
 
 use Rattle.std.proofs.Common.{◌≡◌, ◌<◌, ◌+◌, ℕ, suc, Bool, Option, Some, None, List, [], ◌∷◌, ◌++◌, length, map, take, drop, get_or, is_some, refl, sym, ap, ◌∙◌, append_assoc, arith}
-use Rattle.std.specs.Prelude.{filter, flat_map, bytes_eq}
+use Rattle.std.specs.Prelude.{filter, flat_map}
 use Rattle.std.specs.Borrow.{Bor}
 use Rattle.std.specs.Option.{option_copied}
 use Rattle.std.proofs.lemmas.List.{map-append}
 use Rattle.std.proofs.lemmas.List.Elements.{filter-append}
 use Rattle.std.proofs.lemmas.Grind.{flat_map-append}
-use Rattle.indexmap.specs.IndexMap.{get_by}
+use Rattle.std.specs.BTreeMap.{get_by}
+use Rattle.std.specs.Cmp.Lexicographic.{slice_cmp}
+use Rattle.std.specs.Ordering.{nat_cmp}
 use Rattle.rv_map.specs.Map.{Global}
 use Rattle.rv_object.specs.Object.{Symbol, Object}
 use Rattle.rv_object_laws.specs.Inputs.{Starts}
@@ -29,7 +31,7 @@ copied_some (Some x) = refl
 
 -- a name that the table finds is one that an object defines
 pub is_taken : (os : List Object) (names : Names) (name : List ℕ) (f : Option (Bor Exported)) (b : Bool) → IsNames os names
-    → option_copied f ≡ get_by (λ (k : Bor (List ℕ)). bytes_eq name k.now) names.by_name → is_some f ≡ b → is_one_of (global_names os) name ≡ b
+    → option_copied f ≡ get_by (λ (k : Bor (List ℕ)). slice_cmp nat_cmp name k.now) names.by_name → is_some f ≡ b → is_one_of (global_names os) name ≡ b
 is_taken os names name f b h found is =
     one_of_exports os name ∙ sym (kept_some (export_of os name)) ∙ ap is_some (sym (h.answers name) ∙ sym found) ∙ copied_some f ∙ is
 

@@ -1,8 +1,10 @@
 -- The table of the code: what it answers.
 
-use Rattle.std.specs.Prelude.{◌≡◌, ◌+◌, ◌++◌, ⊤, ℕ, List, Option, Some, option_map, bytes_eq, if◌then◌else◌}
+use Rattle.std.specs.Prelude.{◌≡◌, ◌+◌, ◌++◌, ⊤, ℕ, List, Option, Some, option_map, if◌then◌else◌}
 use Rattle.std.specs.Borrow.{Bor}
-use Rattle.indexmap.specs.IndexMap.{get_by}
+use Rattle.std.specs.BTreeMap.{get_by}
+use Rattle.std.specs.Cmp.Lexicographic.{slice_cmp}
+use Rattle.std.specs.Ordering.{nat_cmp}
 use Rattle.rv_object.specs.Object.{Symbol, Object}
 use Rattle.rv_object_laws.specs.Names.{AreDistinct, global_names, is_defined, Place}
 use Rattle.rv_resolve.specs.declared.fault.ResolveFault.{ResolveFault}
@@ -19,7 +21,7 @@ kept_of e = record { file = e.file; definition = e.symbol.definition }
 abbrev pub Answers : List Export → Names → Type 0
 Answers es names =
     (name : List ℕ) →
-    get_by (λ (k : Bor (List ℕ)). bytes_eq name k.now) names.by_name
+    get_by (λ (k : Bor (List ℕ)). slice_cmp nat_cmp name k.now) names.by_name
     ≡ option_map kept_of (named es name)
 
 -- the name that is refused is this one; memory may run out whatever the names are

@@ -55,7 +55,7 @@ impl<'o> Names<'o> {
         ensures { IsNames (map object_of objects.now) self.now
             → result ≡ has_entry (map object_of objects.now) }
     {
-        match self.by_name.get(&b"_start".as_slice()).copied() {
+        match self.by_name.get(b"_start".as_slice()).copied() {
             Some(exported) => can_begin(objects, exported.file, exported.definition),
             None => false,
         }
@@ -67,7 +67,7 @@ impl<'o> Names<'o> {
             → IsPlacement (map object_of objects.now) start placement.now
             → result ≡ laws.entry_of (starts_of placement.now) 1 (map object_of objects.now) }
     {
-        match self.by_name.get(&b"_start".as_slice()).copied() {
+        match self.by_name.get(b"_start".as_slice()).copied() {
             Some(exported) => {
                 if can_begin(objects, exported.file, exported.definition) {
                     defined_address(objects, placement, exported.file, exported.definition)

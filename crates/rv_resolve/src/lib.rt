@@ -3,7 +3,7 @@
 //! It takes objects (`rv_object`), and where their sections stand (`rv_placement`). It gives [`Names`], the table of the global
 //! definitions: [`Names::of`] refuses a name that has two, and [`Names::undefined`] finds the first reference without a meaning.
 //! The main contract is that of [`Names::address`]: the address of a symbol is the one that `rv_object_laws` defines
-//! (`specs/Names`, `symbol_address`) by the names of [`Names::globals`], found without a search.
+//! (`specs/Names`, `symbol_address`) by the names of [`Names::globals`], found in the order of names.
 //!
 //! It knows neither bytes, values of relocations, nor how a section's place is found.
 //!

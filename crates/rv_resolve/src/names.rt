@@ -10,9 +10,9 @@ ghost use Rattle.rv_resolve.specs.Names.{Answers, AreAdded, IsRefused, IsNames, 
 
 use crate::fault::ResolveFault;
 use crate::symbol::is_exported;
-use indexmap::IndexMap;
 use rv_object::{Definition, Object, Symbol};
 use std::alloc::Global;
+use std::collections::BTreeMap;
 
 /// What is kept of a global definition: its file, from 0, and what it is.
 #[derive(Clone, Copy, Drop)]
@@ -21,10 +21,11 @@ pub(crate) struct Exported {
     pub definition: Definition,
 }
 
-/// The global definitions of objects, by name.
+/// The global definitions of objects, by name: in the order of the names, which costs the same whatever names a file has,
+/// while names of one hash can be made at will.
 #[derive(Drop)]
 pub struct Names<'o> {
-    pub(crate) by_name: IndexMap<&'o [u8], Exported>,
+    pub(crate) by_name: BTreeMap<&'o [u8], Exported>,
 }
 
 impl<'o> Names<'o> {
@@ -37,7 +38,7 @@ impl<'o> Names<'o> {
             (λ fault. IsDuplicate fault (first_duplicate (map object_of objects.now))) }
     {
         let mut names = Names {
-            by_name: IndexMap::new(alloc),
+            by_name: BTreeMap::new(alloc),
         };
         for file in 0..objects.len() {
             names.put_all(file, objects[file].symbols.as_slice())?;
@@ -86,7 +87,7 @@ impl<'o> Names<'o> {
             → result ≡ meant_by os file (symbol_of symbol.now) }
     {
         match symbol.definition {
-            Definition::Undefined => self.by_name.get(&symbol.name.as_slice()).copied(),
+            Definition::Undefined => self.by_name.get(symbol.name.as_slice()).copied(),
             definition => Some(Exported { file, definition }),
         }
     }

@@ -2,12 +2,38 @@
 
 use Rattle.std.proofs.Common.{◌≡◌, ℕ, ◌+◌, ◌-◌, ◌≤◌, Bool, true, false, cond, ◌&&◌, ◌==◌, List, [], ◌∷◌, ◌++◌, length, take, get_or, refl, sym, ap, ◌∙◌, arith, append_assoc, Option, Some, None, option_map}
 use Rattle.std.specs.Prelude.{if◌then◌else◌}
+use Rattle.std.specs.Ordering.{is_eq, nat_cmp, ordering_then}
+use Rattle.std.specs.declared.cmp.Ordering.{Ordering}
+use Rattle.std.specs.declared.cmp.Ordering.TheVariants.{Less, Equal, Greater}
+use Rattle.std.proofs.lemmas.Bool.Decides.{nat_tests}
 use Rattle.std.proofs.lemmas.List.{take_more, take_all}
 use Rattle.rv_object.specs.declared.relocation.Relocation.{Relocation as DeclaredRelocation}
 use Rattle.rv_object.specs.Object.{Relocation}
 use Rattle.rv_object.specs.Parts.{relocation_of}
 use Rattle.rv_object_laws.specs.Values.{is_high}
-use Rattle.rv_values.specs.Highs.{else_found, high_to}
+use Rattle.rv_values.specs.declared.high.HighPlace.{HighPlace}
+use Rattle.rv_values.specs.Highs.{else_found, high_to, place_cmp}
+
+-- ---- places
+
+same_number : (x y : ℕ) → is_eq (nat_cmp x y) ≡ (x == y)
+same_number x y = grind (arith, nat_tests)
+
+both_equal : (o p : Ordering) → is_eq (ordering_then o p) ≡ is_eq o && is_eq p
+both_equal Less p = refl
+both_equal Equal p = refl
+both_equal Greater p = refl
+
+-- places that compare alike are one
+pub same_place : (p q : HighPlace) → is_eq (place_cmp p q) ≡ ((p.file == q.file) && ((p.section == q.section) && (p.offset == q.offset)))
+same_place p q =
+    both_equal (nat_cmp p.file q.file) (ordering_then (nat_cmp p.section q.section) (nat_cmp p.offset q.offset))
+    ∙ ap (λ b. is_eq (nat_cmp p.file q.file) && b) (both_equal (nat_cmp p.section q.section) (nat_cmp p.offset q.offset))
+    ∙ ap (λ b. b && (is_eq (nat_cmp p.section q.section) && is_eq (nat_cmp p.offset q.offset))) (same_number p.file q.file)
+    ∙ ap (λ b. (p.file == q.file) && (b && is_eq (nat_cmp p.offset q.offset))) (same_number p.section q.section)
+    ∙ ap (λ b. (p.file == q.file) && ((p.section == q.section) && b)) (same_number p.offset q.offset)
+
+-- ---- one relocation
 
 -- one relocation, put where another may stand
 pub put_found : (h a b e : Bool) (r : DeclaredRelocation) (old : Option DeclaredRelocation) → true ≡ h

@@ -3,7 +3,9 @@
 
 use Rattle.std.specs.Prelude.{◌≡◌, ℕ, ◌==◌, ◌&&◌, List, Option, Some, None, option_map, if◌then◌else◌}
 use Rattle.std.specs.List.{find}
-use Rattle.indexmap.specs.IndexMap.{get_by}
+use Rattle.std.specs.BTreeMap.{get}
+use Rattle.std.specs.Ordering.{nat_cmp, ordering_then}
+use Rattle.std.specs.declared.cmp.Ordering.{Ordering}
 use Rattle.rv_object.specs.Object.{Relocation, Section, Object}
 use Rattle.rv_object.specs.Parts.{relocation_of}
 use Rattle.rv_object_laws.specs.Moves.{new_offset}
@@ -20,13 +22,17 @@ abbrev pub else_found : Option Relocation → Option Relocation → Option Reloc
 else_found None other = other
 else_found (Some r) other = Some r
 
+-- by file, section and offset
+abbrev pub place_cmp : HighPlace → HighPlace → Ordering
+place_cmp p q =
+    ordering_then (nat_cmp p.file q.file)
+    (ordering_then (nat_cmp p.section q.section) (nat_cmp p.offset q.offset))
+
 -- what the code has at an offset of a section, both counted from 0
 abbrev pub found : Highs → ℕ → ℕ → ℕ → Option Relocation
 found h file section offset =
     option_map relocation_of
-    (get_by
-    (λ (k : HighPlace). (file == k.file) && ((section == k.section) && (offset == k.offset)))
-    h.by_place)
+    (get place_cmp h.by_place (record { file = file; section = section; offset = offset }))
 
 -- the first PCREL_HI20 that has moved to an offset
 abbrev pub high_to : (ℕ → ℕ) → ℕ → List Relocation → Option Relocation

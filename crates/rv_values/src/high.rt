@@ -11,26 +11,26 @@ ghost use Rattle.rv_object_laws.specs.Values.{is_high};
 ghost use Rattle.rv_relax.specs.Plan.{moves_of};
 ghost use Rattle.rv_values.specs.Highs.{found, high_to, high_in, high_of, HasBefore, HasFileBefore};
 
-use indexmap::IndexMap;
 use rv_isa::Kind;
 use rv_object::{Object, Relocation, Section};
 use rv_placement::{PlacedSection, Placement};
 use rv_relax::SectionPlan;
 use std::alloc::{AllocError, Global};
+use std::collections::BTreeMap;
 
 /// Where a field stands: its file and its section there, both from 0, and its offset in what is kept
 /// of that section.
-#[derive(Clone, Copy, PartialEq, Eq, Hash, Drop)]
+#[derive(Clone, Copy, PartialEq, Eq, PartialOrd, Ord, Drop)]
 pub(crate) struct HighPlace {
     pub(crate) file: usize,
     pub(crate) section: usize,
     pub(crate) offset: u64,
 }
 
-/// The first PCREL_HI20 at each place.
+/// The first PCREL_HI20 at each place, in the order of places: a file can choose places of one hash.
 #[derive(Drop)]
 pub(crate) struct Highs {
-    pub(crate) by_place: IndexMap<HighPlace, Relocation>,
+    pub(crate) by_place: BTreeMap<HighPlace, Relocation>,
 }
 
 /// Whether a relocation is the high part of a distance.
@@ -51,7 +51,7 @@ impl Highs {
             ≡ high_of placement.now (map object_of objects.now) file section offset) }
     {
         let mut highs = Highs {
-            by_place: IndexMap::new(alloc),
+            by_place: BTreeMap::new(alloc),
         };
         for (file, object) in objects.iter().enumerate() {
             highs.add_object(file, object, placement)?;

@@ -1,7 +1,8 @@
 -- The worked program: what it is linked to, and its run by the machine.
 
-use Rattle.std.proofs.Common.{◌≡◌, [], ◌∷◌, refl, sym, ◌∙◌, lit<, arith, inl, inr, pos}
+use Rattle.std.proofs.Common.{◌≡◌, ℕ, zero, suc, Bool, true, false, List, [], ◌∷◌, refl, sym, ◌∙◌, lit<, arith, inl, inr, pos}
 use Rattle.std.proofs.lemmas.Int.{ints}
+use Rattle.std.specs.Prelude.{slice_index}
 use Rattle.rv_isa.specs.Ranges.{IsValid}
 use Rattle.rv_isa.specs.declared.instruction.Inst.{Inst}
 use Rattle.rv_isa.specs.declared.instruction.Inst.TheVariants.{Ecall}
@@ -20,10 +21,13 @@ use Rattle.rv_pseudo_laws.specs.Code.{Closed}
 use Rattle.rv_source_laws.specs.Fits.{Fits}
 use Rattle.rv_source_laws.specs.Resolves.{Resolves}
 use Rattle.rv_source_laws.specs.Located.{located_from}
-use Rattle.rv_source_laws.specs.Sized.{Sized}
+use Rattle.rv_chain_laws.specs.Sized.{Sized}
 use Rattle.rv_source_laws.proofs.Settling.{settled_least}
 use Rattle.rv_unit_laws.specs.Tables.{at_start}
+use Rattle.rv_chain_laws.specs.Shortened.{text_of, sites_of, size_at, HaveBytes, Shortened}
 use Rattle.rv_chain_laws.specs.Contents.{IsLinked}
+use Rattle.rv_layout_laws.specs.Calls.{Offers, site_at, MayShorten, IsClosed, Shortenings, Unchanged, LeadsOutside, IsText}
+use Rattle.rv_layout_laws.proofs.Shortening.{shortened_greatest}
 use Rattle.rv_source_laws.specs.SourceRun.{source_run}
 use Rattle.rv_chain_laws.proofs.Contents.{linked_agrees}
 
@@ -74,10 +78,41 @@ sized = (
   tt,
 )
 
-pub links : IsLinked (exit7 ∷ []) 0x10000 exit7_linked
-links = record {
+-- it has no call: what could change is the start of its text, which is kept
+closed : IsClosed (sites_of (exit7 ∷ []) exit7_map) (0 ∷ [])
+closed = record { family = record { same_length = refl; offered = offers }; closed = none }
+  where
+    offers : (i : ℕ) → Offers (site_at (sites_of (exit7 ∷ []) exit7_map) i).kind (slice_index (0 ∷ []) i)
+    offers zero = refl
+    offers (suc i) = refl
+
+    none : (i shorter : ℕ) → MayShorten (sites_of (exit7 ∷ []) exit7_map) (0 ∷ []) i shorter → ⊥
+    none zero shorter h = absurd h.reaching
+    none (suc i) shorter h = absurd h.reaching
+
+in_line : IsText (sites_of (exit7 ∷ []) exit7_map)
+in_line = record { in_order = (omega arith, tt); outside = outside }
+  where
+    outside : (i j : ℕ) → LeadsOutside (site_at (sites_of (exit7 ∷ []) exit7_map) i).kind (site_at (sites_of (exit7 ∷ []) exit7_map) j)
+    outside zero j = tt
+    outside (suc i) j = tt
+
+bytes : (size : ℕ → ℕ) → HaveBytes size (text_of (exit7 ∷ []) exit7_map)
+bytes size = ((λ c. absurd c), ((λ c. absurd c), ((λ c. absurd c), ((λ c. absurd c), tt))))
+
+shortened : (relax : Bool) → Shortened relax (exit7 ∷ []) exit7_map
+shortened false = bytes (λ offset. 8)
+shortened true = (
+  0 ∷ [],
+  shortened_greatest (sites_of (exit7 ∷ []) exit7_map) in_line (0 ∷ []) 0 Unchanged closed,
+  bytes (size_at (sites_of (exit7 ∷ []) exit7_map) (0 ∷ [])),
+)
+
+pub links : (relax : Bool) → IsLinked (exit7 ∷ []) 0x10000 relax exit7_linked
+links relax = record {
   fits = fits;
   sized = sized;
+  shortened = shortened relax;
   resolves = resolves;
   code = code_words exit7 exit7_map;
   written = (
@@ -123,7 +158,7 @@ links = record {
 pub executes : (reader : Reader Spells StandsFor) → machine_run reader (mem_of exit7_image) 0x10000 [] 1000000 ≡ exits 7
 executes reader =
     let run : source_run (exit7 ∷ []) exit7_map [] 1000000 ≡ exits 7 = refl in
-    elim (linked_agrees 0x10000 (exit7 ∷ []) exit7_linked links reader [] tt 1000000) [
+    elim (linked_agrees 0x10000 (exit7 ∷ []) true exit7_linked (links true) reader [] tt 1000000) [
       | inl same ↦ sym same ∙ run
       | inr (astray, front) ↦ absurd (let bad : Exited 7 ≡ Astray = astray in cc)
     ]

@@ -1,6 +1,6 @@
 //! Worked programs, as contracts that the check computes.
 
-ghost use Rattle.std.specs.Prelude.{◌≡◌, [], ◌∷◌, Some, None, length, map, codes};
+ghost use Rattle.std.specs.Prelude.{◌≡◌, Bool, [], ◌∷◌, Some, None, length, map, codes};
 ghost use Rattle.rv_isa_laws.specs.Hart.{Limit};
 ghost use Rattle.rv_worked.specs.Exit7.{exit7, exit7_map, exit7_text, exit7_listing, exit255, exit255_map, first_file, second_file, two_files_map, exits};
 ghost use Rattle.rv_worked.specs.Exit7Executable.{exit7_file, exit7_image, exit7_linked};
@@ -64,9 +64,9 @@ pub fn exit7_lists()
     ensures { IsSourceListing (program (exit7 ∷ []) exit7_map) exit7_listing }
 {}
 
-/// The program is linked with its 12 bytes of code at 10000h.
+/// The program is linked with its 12 bytes of code at 10000h; it has no call that could become shorter.
 pub fn exit7_links()
-    ensures { IsLinked (exit7 ∷ []) 0x10000 exit7_linked }
+    ensures { (relax : Bool) → IsLinked (exit7 ∷ []) 0x10000 relax exit7_linked }
 {}
 
 /// Its executable: 4108 bytes, the code at their end.

@@ -1,6 +1,8 @@
 use Rattle.std.proofs.Common.{◌≡◌, ◌<◌, ◌≤◌, ◌∙◌, ◌+◌, ◌++◌, [], List, ℕ, length, map, take, drop, get_or, rules, ap, sym, subst}
-use Rattle.std.specs.Prelude.{bytes_eq}
 use Rattle.std.specs.Borrow.{Bor}
+use Rattle.std.specs.BTreeMap.{is_at}
+use Rattle.std.specs.Cmp.Lexicographic.{slice_cmp}
+use Rattle.std.specs.Ordering.{nat_cmp}
 use Rattle.std.specs.Map.{lookup}
 use Rattle.std.proofs.lemmas.List.{length-map, take_all, at_drop_all}
 use Rattle.std.proofs.lemmas.Result.{err_from_is_err_and}
@@ -16,7 +18,7 @@ use Rattle.rv_resolve.proofs.names.Names.of.Goals as goal
 
 pub loop-file-init : goal.loop-file-init
 loop-file-init c = record {
-  answers = λ name. ap (λ es. lookup (λ (k : Bor (List ℕ)). bytes_eq name k.now) es) c.new.ensures.empty;
+  answers = λ name. ap (λ es. lookup (is_at (λ (k : Bor (List ℕ)). slice_cmp nat_cmp name k.now)) es) c.new.ensures.empty;
   apart = ap (first_again []) (sym (names_of_exports 0 (map object_of c.args.objects.now)));
 }
 

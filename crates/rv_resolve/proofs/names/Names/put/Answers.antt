@@ -1,4 +1,5 @@
 use Rattle.std.proofs.Common.{◌≡◌, true, Some, None, option_map, is_some, [], refl, sym, ap, ◌∙◌}
+use Rattle.std.proofs.lemmas.Map.Text.{btree_map_updates_str}
 use Rattle.rv_object.specs.Parts.{symbol_of}
 use Rattle.rv_object_laws.specs.Names.{is_exported}
 use Rattle.rv_resolve.specs.Exports.{named}
@@ -18,6 +19,6 @@ returns-in-None-clause-added c = λ o es answers.
     let s = symbol_of c.args.symbol.now in
     let exported : is_exported s ≡ true = sym c.is_exported.ensures ∙ c.if-not-is_exported.false in
     let free : named es s.name ≡ None = none_kept (named es s.name) (sym (sym c.in-None.is ∙ c.in_ok-insert.ensures.old ∙ answers c.as_slice.result.now ∙ ap (λ n. option_map kept_of (named es n)) c.as_slice.ensures.value)) in (
-      (λ name. answers_more c.args.file o s es [] exported name c.as_slice.result.now _ _ _ c.as_slice.ensures.value refl (c.in_ok-insert.ensures.updates.0 (record { ref_ptr = (0, 0); now = name })) free (answers name)),
+      (λ name. answers_more c.args.file o s es [] exported name c.as_slice.result.now _ _ _ c.as_slice.ensures.value refl (btree_map_updates_str c.as_slice.result.now c.args.self.now.by_name c.insert.new.self _ c.in_ok-insert.ensures.updates name) free (answers name)),
       (λ rest. apart c.args.file o s es rest exported free),
     )

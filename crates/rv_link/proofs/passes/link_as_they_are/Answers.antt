@@ -10,7 +10,7 @@ use Rattle.rv_placement.specs.Placement.{starts_of, AreRoomy}
 use Rattle.rv_link.specs.Refusals.{ComesToPlaces, IsUnlinked}
 use Rattle.rv_link.proofs.Unlinked.{unfilled}
 use Rattle.rv_link.proofs.Links.{is_link}
-use Rattle.rv_link.proofs.passes.link.Goals as goal
+use Rattle.rv_link.proofs.passes.link_as_they_are.Goals as goal
 
 pub returns-clause-links : goal.returns-clause-links
 returns-clause-links c =
@@ -21,8 +21,8 @@ returns-clause-links c =
     let e = c.in_ok-linked.ensures.made in
     let n : length (map object_of c.args.objects.now) ≡ length c.args.objects.now = length-map c.args.objects.now object_of in
     let w = c.in_ok-within_limits.ensures.within in
-    subst (λ x. IsLinkOf os c.args.options.text_start x) (sym e)
-    (is_link os c.args.options.text_start c.in_ok-names.names p c.in_ok-entry.entry r (omega (arith, w.0, n)) w.1.0 w.1.1 c.in_ok-names.ensures.named c.in_ok-placement.ensures.placed (search rules)
+    subst (λ x. IsLinkOf os c.args.start x) (sym e)
+    (is_link os c.args.start c.in_ok-names.names p c.in_ok-entry.entry r (omega (arith, w.0, n)) w.1.0 w.1.1 c.in_ok-names.ensures.named c.in_ok-placement.ensures.placed (search rules)
     c.in_ok-entry.ensures.entry c.in_ok-entry.ensures.even c.in_ok-regions.ensures.filled (subst (λ x. IsMap x.map) e c.in_ok-linked.ensures.readable))
 
 pub returns-in_err-entry-clause-refuses : goal.returns-in_err-entry-clause-refuses
@@ -33,10 +33,10 @@ returns-in_err-entry-clause-refuses c =
     let w = c.in_ok-within_limits.ensures.within in
     let named = c.in_ok-names.ensures.named in
     let begins : has_entry os ≡ true = sym (c.has_entry.ensures named.table) ∙ c.if-not-has_entry.false in
-    let so : ComesToPlaces os c.args.options.text_start = (((omega (arith, w.0, n), w.1), (named.once, named.meant)), begins) in
+    let so : ComesToPlaces os c.args.start = (((omega (arith, w.0, n), w.1), (named.once, named.meant)), begins) in
     let found = err_from_is_err_and c.from_residual-in_err-entry.result c.from_residual-in_err-entry.ensures.1 in
     let odd = c.in_err-entry.ensures.refuses in
-    rw (found.1, found.2) (subst (IsUnlinked os c.args.options.text_start) (sym odd.0) (so.0, inr (p, c.in_ok-placement.ensures.placed, odd.1)))
+    rw (found.1, found.2) (subst (IsUnlinked os c.args.start) (sym odd.0) (so.0, inr (p, c.in_ok-placement.ensures.placed, odd.1)))
 
 pub returns-then-not-is_roomy-clause-refuses : goal.returns-then-not-is_roomy-clause-refuses
 returns-then-not-is_roomy-clause-refuses c =
@@ -46,9 +46,9 @@ returns-then-not-is_roomy-clause-refuses c =
     let w = c.in_ok-within_limits.ensures.within in
     let named = c.in_ok-names.ensures.named in
     let begins : has_entry os ≡ true = sym (c.has_entry.ensures named.table) ∙ c.if-not-has_entry.false in
-    let so : ComesToPlaces os c.args.options.text_start = (((omega (arith, w.0, n), w.1), (named.once, named.meant)), begins) in
+    let so : ComesToPlaces os c.args.start = (((omega (arith, w.0, n), w.1), (named.once, named.meant)), begins) in
     let placed = c.in_ok-placement.ensures.placed in
-    let cramped : AreRoomy os (starts_of p) → ⊥ = λ roomy. (let room = (c.is_roomy.ensures.room os c.args.options.text_start placed).1 roomy in let no = c.if-not-is_roomy.true in absurd (cc)) in
+    let cramped : AreRoomy os (starts_of p) → ⊥ = λ roomy. (let room = (c.is_roomy.ensures.room os c.args.start placed).1 roomy in let no = c.if-not-is_roomy.true in absurd (cc)) in
     (so, (starts_of p, placed.text.1, cramped))
 
 pub returns-in_err-regions-clause-refuses : goal.returns-in_err-regions-clause-refuses
@@ -59,6 +59,6 @@ returns-in_err-regions-clause-refuses c =
     let w = c.in_ok-within_limits.ensures.within in
     let named = c.in_ok-names.ensures.named in
     let begins : has_entry os ≡ true = sym (c.has_entry.ensures named.table) ∙ c.if-not-has_entry.false in
-    let so : ComesToPlaces os c.args.options.text_start = (((omega (arith, w.0, n), w.1), (named.once, named.meant)), begins) in
+    let so : ComesToPlaces os c.args.start = (((omega (arith, w.0, n), w.1), (named.once, named.meant)), begins) in
     let found = err_from_is_err_and c.from_residual-in_err-regions.result c.from_residual-in_err-regions.ensures.1 in
-    rw (found.1, found.2) (unfilled os c.args.options.text_start p so c.in_ok-placement.ensures.placed (search rules) c.in_err-regions.field-0.0 c.in_err-regions.ensures.refuses)
+    rw (found.1, found.2) (unfilled os c.args.start p so c.in_ok-placement.ensures.placed (search rules) c.in_err-regions.field-0.0 c.in_err-regions.ensures.refuses)
