@@ -36,8 +36,8 @@ use Rattle.rv_object_laws.specs.Shortened.{short_call}
 use Rattle.rv_assemble_laws.specs.Coded.{IsCodedPart}
 use Rattle.rv_source_laws.specs.Lines.{other_operand}
 use Rattle.rv_source_laws.specs.Sizes.{target_in}
-use Rattle.rv_chain_laws.specs.Sized.{is_call}
-use Rattle.rv_chain_laws.specs.Shortened.{link_register}
+use Rattle.rv_source_laws.specs.Sized.{is_call}
+use Rattle.rv_source_laws.specs.Shortened.{link_register}
 
 -- ---- statements that are no calls
 

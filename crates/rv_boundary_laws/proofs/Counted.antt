@@ -10,7 +10,7 @@ use Rattle.rv_unit_laws.specs.Contributions.{contribution}
 use Rattle.rv_unit_laws.specs.Sections.{Section as SourceSection}
 use Rattle.rv_unit_laws.specs.Tables.{Tables, alignment_of}
 use Rattle.rv_source_laws.specs.Sizes.{code_padding}
-use Rattle.rv_chain_laws.specs.Sized.{directive_size}
+use Rattle.rv_source_laws.specs.Sized.{directive_size}
 use Rattle.rv_object_laws.specs.Moves.{Move, new_offset}
 use Rattle.rv_assemble_laws.specs.Templates.{Coded, align_field, padding_templates}
 use Rattle.rv_object.specs.Padding.{no_operations}

@@ -21,7 +21,7 @@ use Rattle.rv_object_laws.specs.Calls.{word_at, are_call_words, link_register as
 use Rattle.rv_object_laws.specs.Inputs.{goes_to_text}
 use Rattle.rv_object_laws.specs.Moves.{Move, dropped, new_offset, kept, lost}
 use Rattle.rv_object_laws.specs.Shortened.{Sizes, short_call, is_shortened, cut, cuts, shortened_relocation, shortened_contents, shortened_text}
-use Rattle.rv_chain_laws.specs.Shortened.{link_register}
+use Rattle.rv_source_laws.specs.Shortened.{link_register}
 use Rattle.rv_assemble_laws.specs.Sites.{Site, Part, form, part_of, part_bytes, end_of, sites_in, HasSize}
 use Rattle.rv_assemble_laws.specs.Symbols.{references_in}
 use Rattle.rv_assemble_laws.specs.Templates.{Open, Coded, IsTemplate}

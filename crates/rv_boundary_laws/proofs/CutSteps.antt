@@ -12,7 +12,7 @@ use Rattle.rv_object.specs.Object.{Relocation}
 use Rattle.rv_object.specs.Padding.{operations_in}
 use Rattle.rv_object_laws.specs.Moves.{Move, dropped, new_offset, kept, lost, lost_in}
 use Rattle.rv_object_laws.specs.Shortened.{Sizes, short_call, is_shortened, shortened_kind, shortened_relocation}
-use Rattle.rv_chain_laws.specs.Shortened.{calls, link_register}
+use Rattle.rv_source_laws.specs.Shortened.{calls, link_register}
 use Rattle.rv_assemble_laws.specs.CodeFields.{relax_fields}
 use Rattle.rv_assemble_laws.specs.Templates.{Open, open_at, Coded, template_fields}
 use Rattle.rv_assemble_laws.specs.Sites.{Site, Part, form, part_of, part_bytes, end_of, HasSize}

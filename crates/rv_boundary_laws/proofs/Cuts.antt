@@ -15,8 +15,8 @@ use Rattle.rv_pseudo_laws.specs.Code.{Part as CodePart, Closed, Open as Open_par
 use Rattle.rv_unit_laws.specs.Contributions.{Numbers, Texts, Contribution, Nothing, Bytes, Zero_bytes, Alignment, contribution}
 use Rattle.rv_unit_laws.specs.Sections.{Section as SourceSection}
 use Rattle.rv_unit_laws.specs.Tables.{Tables, alignment_of}
-use Rattle.rv_chain_laws.specs.Sized.{is_call}
-use Rattle.rv_chain_laws.specs.Shortened.{calls, link_register}
+use Rattle.rv_source_laws.specs.Sized.{is_call}
+use Rattle.rv_source_laws.specs.Shortened.{calls, link_register}
 use Rattle.rv_object.specs.Object.{Relocation}
 use Rattle.rv_object.specs.Padding.{operations_in}
 use Rattle.rv_object_laws.specs.Calls as objects

@@ -13,8 +13,8 @@ use Rattle.rv_object.specs.Object.{Section, Object}
 use Rattle.rv_object_laws.specs.Inputs.{Starts, inputs_from, inputs_of, goes_to_text}
 use Rattle.rv_object_laws.specs.Moves.{Move}
 use Rattle.rv_object_laws.specs.Shortened.{Sizes}
-use Rattle.rv_chain_laws.specs.Sized.{is_call, statement_size}
-use Rattle.rv_chain_laws.specs.Shortened.{calls}
+use Rattle.rv_source_laws.specs.Sized.{is_call, statement_size}
+use Rattle.rv_source_laws.specs.Shortened.{calls}
 use Rattle.rv_assemble_laws.specs.Sites.{Site, form}
 use Rattle.rv_assemble_laws.specs.IsObjectOf.{IsObjectOf}
 use Rattle.rv_boundary_laws.specs.Joins.{AreObjectsOf}

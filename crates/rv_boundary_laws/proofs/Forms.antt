@@ -12,8 +12,8 @@ use Rattle.rv_layout_laws.specs.declared.site.Site.{Site as Spot}
 use Rattle.rv_layout_laws.specs.declared.site.SiteKind.{SiteKind}
 use Rattle.rv_layout_laws.specs.declared.site.SiteKind.TheVariants as spots
 use Rattle.rv_layout_laws.specs.Calls.{Offers, site_at as spot_at, is_call as is_call_spot}
-use Rattle.rv_chain_laws.specs.Sized.{is_call}
-use Rattle.rv_chain_laws.specs.Shortened.{calls, link_register}
+use Rattle.rv_source_laws.specs.Sized.{is_call}
+use Rattle.rv_source_laws.specs.Shortened.{calls, link_register}
 use Rattle.rv_object.specs.Object.{Relocation, Section, Object, stored, size_of}
 use Rattle.rv_object.specs.Valid.{held}
 use Rattle.rv_object_laws.specs.Calls as objects

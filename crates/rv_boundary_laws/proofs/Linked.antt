@@ -17,8 +17,8 @@ use Rattle.rv_source_laws.specs.Program.{Mapped, Program, program}
 use Rattle.rv_source_laws.specs.Fits as source
 use Rattle.rv_source_laws.specs.Fits.{SizeFits}
 use Rattle.rv_source_laws.specs.Resolves.{Resolves}
-use Rattle.rv_chain_laws.specs.Sized.{Sized}
-use Rattle.rv_chain_laws.specs.Shortened.{Shortened}
+use Rattle.rv_source_laws.specs.Sized.{Sized}
+use Rattle.rv_source_laws.specs.Shortened.{Shortened}
 use Rattle.rv_source_laws.specs.Start.{spelled}
 use Rattle.rv_image.specs.Linked.{Linked}
 use Rattle.rv_chain_laws.specs.Contents.{IsWritten, IsLinked, contents as source_contents}

@@ -16,8 +16,8 @@ use Rattle.rv_pseudo_laws.specs.Filled.{are_closed}
 use Rattle.rv_patch_laws.specs.Encoded.{IsEncodedIn}
 use Rattle.rv_unit_laws.specs.Tables.{Tables}
 use Rattle.rv_source_laws.specs.Lines.{operand_of, is_low_part}
-use Rattle.rv_chain_laws.specs.Sized.{is_call}
-use Rattle.rv_chain_laws.specs.Shortened.{calls, link_register}
+use Rattle.rv_source_laws.specs.Sized.{is_call}
+use Rattle.rv_source_laws.specs.Shortened.{calls, link_register}
 use Rattle.rv_object_laws.specs.Shortened.{short_call}
 use Rattle.rv_assemble_laws.specs.CodeFields.{symbol_field, low_field, field_of, relax_fields}
 use Rattle.rv_assemble_laws.specs.Coded.{constants, AreCodedParts, joined, instructions_in}

@@ -11,7 +11,7 @@ use Rattle.rv_pseudo_laws.specs.Code.{Part as CodePart, Closed, Open as Open_par
 use Rattle.rv_unit_laws.specs.Tables.{Tables}
 use Rattle.rv_source_laws.specs.Located.{Located}
 use Rattle.rv_source_laws.specs.Lines.{operand_of, is_low_part}
-use Rattle.rv_chain_laws.specs.Shortened.{calls}
+use Rattle.rv_source_laws.specs.Shortened.{calls}
 use Rattle.rv_assemble_laws.specs.CodeFields.{field_of, relax_fields}
 use Rattle.rv_assemble_laws.specs.Templates.{Open}
 

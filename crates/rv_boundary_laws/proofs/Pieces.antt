@@ -13,9 +13,9 @@ use Rattle.rv_unit_laws.specs.Tables.{Tables, tables, opened_of}
 use Rattle.rv_source_laws.specs.Located.{Located, has_row}
 use Rattle.rv_source_laws.specs.Program.{Mapped, Program, tables_in, form as program_form}
 use Rattle.rv_source_laws.specs.Fits as source
-use Rattle.rv_chain_laws.specs.Sized.{statement_size}
-use Rattle.rv_chain_laws.specs.Shortened as line
-use Rattle.rv_chain_laws.specs.Shortened.{calls, Placed, full_size, full_length, placed_from, text_from, HaveBytes}
+use Rattle.rv_source_laws.specs.Sized.{statement_size}
+use Rattle.rv_source_laws.specs.Shortened as line
+use Rattle.rv_source_laws.specs.Shortened.{calls, Placed, full_size, full_length, placed_from, text_from, HaveBytes}
 use Rattle.rv_object.specs.Object.{Section, Object, size_of}
 use Rattle.rv_object_laws.specs.Calls.{start_padding, base_in}
 use Rattle.rv_object_laws.specs.Inputs.{Starts, InputSection, goes_to_text, inputs_from, inputs_of, begins_at}

@@ -9,8 +9,8 @@ use Rattle.rv_unit_laws.specs.Tables.{tables, at_start}
 use Rattle.rv_source_laws.specs.Program.{Program, program, tables_in}
 use Rattle.rv_source_laws.specs.Fits as source
 use Rattle.rv_image.specs.Linked.{Linked}
-use Rattle.rv_chain_laws.specs.Sized.{Sized}
-use Rattle.rv_chain_laws.specs.Shortened.{Shortened, HaveBytes, text_of}
+use Rattle.rv_source_laws.specs.Sized.{Sized}
+use Rattle.rv_source_laws.specs.Shortened.{Shortened, HaveBytes, text_of}
 use Rattle.rv_chain_laws.specs.Contents.{IsLinked}
 use Rattle.rv_object.specs.Object.{Object}
 use Rattle.rv_object_laws.specs.Calls.{base_in}

@@ -16,8 +16,8 @@ use Rattle.rv_source_laws.specs.Compressed.{is_compressed_code}
 use Rattle.rv_source_laws.specs.Program.{MaybeMapped, Program, program}
 use Rattle.rv_source_laws.specs.Fits as source
 use Rattle.rv_image.specs.Linked.{Linked}
-use Rattle.rv_chain_laws.specs.Shortened as line
-use Rattle.rv_chain_laws.specs.Shortened.{Placed, calls, Shortened, HaveBytes, text_of, full_length, placed_from, sites_at, has_compressed, aim_of, aim_offset}
+use Rattle.rv_source_laws.specs.Shortened as line
+use Rattle.rv_source_laws.specs.Shortened.{Placed, calls, Shortened, HaveBytes, text_of, full_length, placed_from, sites_at, has_compressed, aim_of, aim_offset}
 use Rattle.rv_chain_laws.specs.Contents.{IsLinked}
 use Rattle.rv_object.specs.Object.{Section, Symbol, Object, size_of, stored}
 use Rattle.rv_object_laws.specs.Calls.{base_in, start_padding, changes, site_of, sites_from, sites_of, is_entered, is_text_place, text_offset, is_short_text}

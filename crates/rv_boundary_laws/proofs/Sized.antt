@@ -9,7 +9,7 @@ use Rattle.rv_unit_laws.specs.Tables.{Tables, tables, at_start}
 use Rattle.rv_map.specs.declared.map.Row.{Row as MapRow}
 use Rattle.rv_source_laws.specs.Located.{Located, has_row}
 use Rattle.rv_source_laws.specs.Program.{MaybeMapped, Program, tables_in}
-use Rattle.rv_chain_laws.specs.Sized.{statement_size, HasSizeBy, HaveSizes, statements_in, AreFilesSized}
+use Rattle.rv_source_laws.specs.Sized.{statement_size, HasSizeBy, HaveSizes, statements_in, AreFilesSized}
 use Rattle.rv_object.specs.Object.{Object}
 use Rattle.rv_object_laws.specs.Inputs.{Starts}
 use Rattle.rv_object_laws.specs.Shortened.{Sizes}

@@ -15,7 +15,7 @@ use Rattle.rv_source_laws.specs.Located.{Located, has_row}
 use Rattle.rv_source_laws.specs.Program.{MaybeMapped, Program, tables_in}
 use Rattle.rv_source_laws.specs.Fits as source
 use Rattle.rv_source_laws.specs.Resolves.{defined_name, global_names_of, is_one_of}
-use Rattle.rv_chain_laws.specs.Shortened.{Placed, Aim, aim, assigned_aim, defined_aim, defines, global_aim, aim_by, aim_of, aim_offset}
+use Rattle.rv_source_laws.specs.Shortened.{Placed, Aim, aim, assigned_aim, defined_aim, defines, global_aim, aim_by, aim_of, aim_offset}
 use Rattle.rv_object.specs.declared.symbol.Definition.{Definition as Defined}
 use Rattle.rv_object.specs.declared.symbol.Definition.TheVariants.{Undefined, Absolute, InSection, Skipped}
 use Rattle.rv_object.specs.Object.{Section, Symbol, Object, size_of}

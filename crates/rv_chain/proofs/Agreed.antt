@@ -1,6 +1,6 @@
 -- That texts are built as the files of their objects are linked: from the laws of each part.
 
-use Rattle.std.proofs.Common.{◌≡◌, ℕ, suc, ◌<◌, ◌≤◌, ◌^◌, ◌⊎◌, inl, inr, true, ◌&&◌, List, [], ◌∷◌, ◌++◌, length, refl, sym, ap, subst, ◌∙◌, arith, Some, None}
+use Rattle.std.proofs.Common.{◌≡◌, ℕ, suc, Bool, ◌<◌, ◌≤◌, ◌^◌, ◌⊎◌, inl, inr, true, ◌&&◌, List, [], ◌∷◌, ◌++◌, length, refl, sym, ap, subst, ◌∙◌, arith, Some, None}
 use Rattle.std.specs.List.{AllByRecursion}
 use Rattle.rv_lexer.specs.declared.fault.SourceCode.{SourceCode}
 use Rattle.rv_lexer.specs.declared.fault.SourceFault.{SourceFault}
@@ -26,9 +26,12 @@ use Rattle.rv_assemble.specs.FirstFault.{IsFirstFault}
 use Rattle.rv_link.specs.declared.fault.LinkFault.{LinkFault}
 use Rattle.rv_link.specs.declared.fault.LinkFault.TheVariants as links
 use Rattle.rv_link.specs.Fault.{number_of}
-use Rattle.rv_link.specs.Refusals.{ArePast, IsUnlinked}
+use Rattle.rv_object_laws.specs.IsLinkOf.{most_files}
+use Rattle.rv_object_laws.specs.Shortened.{Relaxes}
+use Rattle.rv_link.specs.Refusals.{ArePast, HasNoProgram}
+use Rattle.rv_link.proofs.Left.{alike, past_unlinked}
 use Rattle.rv_one_link_laws.specs.Asked.{IsSound, IsSmall}
-use Rattle.rv_one_link_laws.specs.Same.{OneLinked, RefusedForMemory, IsSameFault, RefusedForOne, RowsArePlaced, RunsBeginEven, TextsStartBelow}
+use Rattle.rv_one_link_laws.specs.Same.{OneProgram, RefusedForMemory, name_in, IsSameFault, RefusedForOne, RowsArePlaced, RunsBeginEven, TextsStartBelow}
 use Rattle.rv_chain.specs.declared.fault.Fault.TheVariants.{Source, File, Link, Memory}
 use Rattle.rv_chain.specs.Objects.{IsObjectFrom, IsObjectIn, AreEach, AreObjectsFrom, AreObjectsIn}
 use Rattle.rv_chain.specs.Linking.{IsBuiltOf, AreBuilt, AreLinked}
@@ -83,6 +86,7 @@ are_from (text ∷ texts) (file ∷ files) (h, hs) = (h.made.1, are_from texts f
 is_sound : (o : Object) → IsObject o → IsSound o
 is_sound o h = record {
   alignments = weaken _ _ (λ s k. k.aligned) o.sections h.all_sections;
+  inside = weaken _ _ (λ s k. k.inside) o.sections h.all_sections;
   paddings = weaken _ _ (λ s k. k.paddings) o.sections h.all_sections;
   rows = h.lie;
 }
@@ -95,18 +99,47 @@ are_sound (text ∷ texts) (file ∷ files) (h, hs) = (is_sound h.made.0 h.made.
 
 -- ---- faults of the link
 
-past_is : (os : List Object) (start : ℕ) (fault : LinkFault) → ArePast (length os) start fault → IsUnlinked os start fault
-past_is os start links.TooManyFiles h = h
-past_is os start links.BadTextStart h = h
-past_is os start links.Overflow h = absurd h
-past_is os start links.OddTarget h = absurd h
-past_is os start links.DanglingPcrel h = absurd h
-past_is os start links.AlignmentShort h = absurd h
-past_is os start (links.Undefined name) h = absurd h
-past_is os start (links.Duplicate name) h = absurd h
-past_is os start links.EntryMissing h = absurd h
-past_is os start links.ImageTooLarge h = absurd h
-past_is os start links.OutOfMemory h = absurd h
+-- objects past the limits have no program, whatever relaxation leaves of them
+past_is : (os : List Object) (start : ℕ) (relax : Bool) (left : List Object) (fault : LinkFault) → Relaxes relax os left → ArePast (length os) start fault → HasNoProgram os start relax fault
+past_is os start relax left fault relaxed h = record {
+  left = left;
+  relaxed = relaxed;
+  unlinked = past_unlinked left start fault (subst (λ n. ArePast n start fault) (sym (alike relax os left relaxed).many) h);
+}
+
+-- why objects are refused: past the limits, or without a program
+abbrev IsRefusal : List Object → ℕ → Bool → LinkFault → Type 0
+IsRefusal os start relax fault = ArePast (length os) start fault ⊎ HasNoProgram os start relax fault
+
+told : (os : List Object) (start : ℕ) (relax : Bool) (left : List Object) (fault : LinkFault) → Relaxes relax os left → IsRefusal os start relax fault → HasNoProgram os start relax fault
+told os start relax left fault relaxed (inl past) = past_is os start relax left fault relaxed past
+told os start relax left fault relaxed (inr h) = h
+
+-- which limit it is
+abbrev IsPastBy : ℕ → LinkFault → Type 0
+IsPastBy n fault = ((fault ≡ links.TooManyFiles) × (most_files < n)) ⊎ ((fault ≡ links.BadTextStart) × (n ≤ most_files))
+
+past_by : (n start : ℕ) (fault : LinkFault) → ArePast n start fault → IsPastBy n fault
+past_by n start links.TooManyFiles h = inl (refl, h)
+past_by n start links.BadTextStart (few, h) = inr (refl, few)
+past_by n start links.Overflow h = absurd h
+past_by n start links.OddTarget h = absurd h
+past_by n start links.DanglingPcrel h = absurd h
+past_by n start links.AlignmentShort h = absurd h
+past_by n start (links.Undefined name) h = absurd h
+past_by n start (links.Duplicate name) h = absurd h
+past_by n start links.EntryMissing h = absurd h
+past_by n start links.ImageTooLarge h = absurd h
+past_by n start links.OutOfMemory h = absurd h
+
+same_fault : (f g : LinkFault) → f ≡ g → IsSameFault f g
+same_fault f g e = (ap number_of e, ap name_in e)
+
+one_past : (n : ℕ) (f g : LinkFault) → IsPastBy n f → IsPastBy n g → IsSameFault f g
+one_past n f g (inl (is, many)) (inl (was, more)) = same_fault f g (is ∙ sym was)
+one_past n f g (inl (is, many)) (inr (was, few)) = absurd (let over : most_files < n = many in let under : n ≤ most_files = few in omega (arith, over, under))
+one_past n f g (inr (is, few)) (inl (was, many)) = absurd (let over : most_files < n = many in let under : n ≤ most_files = few in omega (arith, over, under))
+one_past n f g (inr (is, few)) (inr (was, fewer)) = same_fault f g (is ∙ sym was)
 
 abbrev WantsOrNot : LinkFault → Type 0
 WantsOrNot fault = (fault ≡ links.OutOfMemory) ⊎ (fault ≡ links.OutOfMemory → ⊥)
@@ -141,7 +174,7 @@ pub record Laws : Type 0 where
   pub sound : (o : Object) → IsObject o → HasFile o → length (file_of o) < 2 ^ 64 → first_fault (file_of o) ≡ None
   pub held : (o : Object) → IsObject o → HasFile o → length (file_of o) < 2 ^ 64 → ObjectOf (file_of o) o
   pub one_held : (file : List ℕ) (o p : Object) → ObjectOf file o → ObjectOf file p → o ≡ p
-  pub one_linked : OneLinked
+  pub one_linked : OneProgram
   pub for_memory : RefusedForMemory
   pub for_one : RefusedForOne
   pub placed : RowsArePlaced
@@ -187,25 +220,23 @@ module _ (laws : Laws) where
 
   -- ---- what is built, linked and refused, of these objects
 
-  built_of : (texts : List (List ℕ)) (os : List Object) (start : ℕ) (exe map : List ℕ) → AreObjectsFrom texts os → AreBuilt texts start exe map → IsBuiltOf os start exe map
-  built_of texts os start exe map from (ps, were, is) = subst (λ l. IsBuiltOf l start exe map) (same_each IsObjectFrom one_from texts ps os were from) is
+  built_of : (texts : List (List ℕ)) (os : List Object) (start : ℕ) (relax : Bool) (exe map : List ℕ) → AreObjectsFrom texts os → AreBuilt texts start relax exe map → IsBuiltOf os start relax exe map
+  built_of texts os start relax exe map from (ps, were, is) = subst (λ l. IsBuiltOf l start relax exe map) (same_each IsObjectFrom one_from texts ps os were from) is
 
-  linked_of : (files : List (List ℕ)) (os : List Object) (start : ℕ) (exe map : List ℕ) → AreObjectsIn files os → AreLinked files start exe map → IsBuiltOf os start exe map
-  linked_of files os start exe map inside (within, (ps, were, is)) = subst (λ l. IsBuiltOf l start exe map) (same_each IsObjectIn one_in files ps os were inside) is
+  linked_of : (files : List (List ℕ)) (os : List Object) (start : ℕ) (relax : Bool) (exe map : List ℕ) → AreObjectsIn files os → AreLinked files start relax exe map → IsBuiltOf os start relax exe map
+  linked_of files os start relax exe map inside (within, (ps, were, is)) = subst (λ l. IsBuiltOf l start relax exe map) (same_each IsObjectIn one_in files ps os were inside) is
 
-  unlinked_from : (texts : List (List ℕ)) (os : List Object) (start : ℕ) (fault : LinkFault) → AreObjectsFrom texts os
-      → ArePast (length texts) start fault ⊎ AreUnlinked texts start fault → IsUnlinked os start fault
-  unlinked_from texts os start fault from (inl past) =
-      past_is os start fault (subst (λ n. ArePast n start fault) (count_each IsObjectFrom texts os from) past)
-  unlinked_from texts os start fault from (inr (ps, were, un)) =
-      subst (λ l. IsUnlinked l start fault) (same_each IsObjectFrom one_from texts ps os were from) un
+  refusal_from : (texts : List (List ℕ)) (os : List Object) (start : ℕ) (relax : Bool) (fault : LinkFault) → AreObjectsFrom texts os
+      → ArePast (length texts) start fault ⊎ AreUnlinked texts start relax fault → IsRefusal os start relax fault
+  refusal_from texts os start relax fault from (inl past) = inl (subst (λ n. ArePast n start fault) (count_each IsObjectFrom texts os from) past)
+  refusal_from texts os start relax fault from (inr (ps, were, un)) =
+      inr (subst (λ l. HasNoProgram l start relax fault) (same_each IsObjectFrom one_from texts ps os were from) un)
 
-  unlinked_in : (files : List (List ℕ)) (os : List Object) (start : ℕ) (fault : LinkFault) → AreObjectsIn files os
-      → ArePast (length files) start fault ⊎ AreReadUnlinked files start fault → IsUnlinked os start fault
-  unlinked_in files os start fault inside (inl past) =
-      past_is os start fault (subst (λ n. ArePast n start fault) (count_each IsObjectIn files os inside) past)
-  unlinked_in files os start fault inside (inr (ps, were, un)) =
-      subst (λ l. IsUnlinked l start fault) (same_each IsObjectIn one_in files ps os were inside) un
+  refusal_in : (files : List (List ℕ)) (os : List Object) (start : ℕ) (relax : Bool) (fault : LinkFault) → AreObjectsIn files os
+      → ArePast (length files) start fault ⊎ AreReadUnlinked files start relax fault → IsRefusal os start relax fault
+  refusal_in files os start relax fault inside (inl past) = inl (subst (λ n. ArePast n start fault) (count_each IsObjectIn files os inside) past)
+  refusal_in files os start relax fault inside (inr (ps, were, un)) =
+      inr (subst (λ l. HasNoProgram l start relax fault) (same_each IsObjectIn one_in files ps os were inside) un)
 
   -- no file is refused
   no_unread : (files : List (List ℕ)) (os : List Object) (number : ℕ) (fault : FileFault) → AreObjectsIn files os → IsFirstUnread files number fault → ⊥
@@ -230,57 +261,66 @@ module _ (laws : Laws) where
       let found = in_middle IsObjectFrom first.before first.text first.after os (subst (λ l. AreEach IsObjectFrom l os) first.whole from) in
       absurd (no_fault first.text found.0 code line found.1 first.refused)
 
-  reason_or_memory : (os : List Object) (start : ℕ) (fault other : LinkFault) → AllByRecursion IsSound os → AllByRecursion IsSmall os
-      → IsUnlinked os start fault → IsUnlinked os start other → WantsOrNot fault → WantsOrNot other
+  reason_or_memory : (os : List Object) (start : ℕ) (relax : Bool) (fault other : LinkFault) → AllByRecursion IsSound os → AllByRecursion IsSmall os
+      → HasNoProgram os start relax fault → HasNoProgram os start relax other → WantsOrNot fault → WantsOrNot other
       → (fault ≡ links.OutOfMemory) ⊎ ((other ≡ links.OutOfMemory) ⊎ IsSameFault fault other)
-  reason_or_memory os start fault other sound small h k (inl is) wants = inl is
-  reason_or_memory os start fault other sound small h k (inr not) (inl is) = inr (inl is)
-  reason_or_memory os start fault other sound small h k (inr not) (inr nor) = inr (inr (laws.for_one os start fault other (laws.even os start sound) (laws.below os start sound small) h not k nor))
+  reason_or_memory os start relax fault other sound small h k (inl is) wants = inl is
+  reason_or_memory os start relax fault other sound small h k (inr not) (inl is) = inr (inl is)
+  reason_or_memory os start relax fault other sound small h k (inr not) (inr nor) =
+      inr (inr (laws.for_one os start relax fault other (laws.even os start relax sound) (laws.below os start relax sound small) h not k nor))
+
+  one_reason : (os : List Object) (start : ℕ) (relax : Bool) (fault other : LinkFault) → AllByRecursion IsSound os → AllByRecursion IsSmall os
+      → IsRefusal os start relax fault → IsRefusal os start relax other → (fault ≡ links.OutOfMemory) ⊎ ((other ≡ links.OutOfMemory) ⊎ IsSameFault fault other)
+  one_reason os start relax fault other sound small (inl h) (inl k) = inr (inr (one_past (length os) fault other (past_by (length os) start fault h) (past_by (length os) start other k)))
+  one_reason os start relax fault other sound small (inl h) (inr k) =
+      reason_or_memory os start relax fault other sound small (past_is os start relax k.left fault k.relaxed h) k (wants_or_not fault) (wants_or_not other)
+  one_reason os start relax fault other sound small (inr h) k =
+      reason_or_memory os start relax fault other sound small h (told os start relax h.left other h.relaxed k) (wants_or_not fault) (wants_or_not other)
 
   -- ---- the law
 
   built_alike : AreBuiltAlike
-  built_alike texts files start exe other_exe map other_map h built linked =
+  built_alike texts files start relax exe other_exe map other_map h built linked =
       let os = objects_of texts files h in
-      let b : IsBuiltOf os start exe map = built_of texts os start exe map (are_from texts files h) built in
-      let c : IsBuiltOf os start other_exe other_map = linked_of files os start other_exe other_map (are_in texts files h) linked in
-      let same : b.linked ≡ c.linked = laws.one_linked os start b.linked c.linked (laws.placed os (are_sound texts files h)) b.links c.links in
+      let b : IsBuiltOf os start relax exe map = built_of texts os start relax exe map (are_from texts files h) built in
+      let c : IsBuiltOf os start relax other_exe other_map = linked_of files os start relax other_exe other_map (are_in texts files h) linked in
+      let same : b.linked ≡ c.linked = laws.one_linked os start relax b.linked c.linked (laws.placed os (are_sound texts files h)) b.links c.links in
       (b.written ∙ ap exe_of same ∙ sym c.written, b.shown ∙ ap (λ l. map_text l.map) same ∙ sym c.shown)
 
   not_unlinkable : AreNotUnlinkable
-  not_unlinkable texts files start exe map (Source number fault) h built un = absurd un
-  not_unlinkable texts files start exe map (File number fault) h built un = absurd (no_unread files (objects_of texts files h) number fault (are_in texts files h) un.1)
-  not_unlinkable texts files start exe map (Link fault) h built un =
+  not_unlinkable texts files start relax exe map (Source number fault) h built un = absurd un
+  not_unlinkable texts files start relax exe map (File number fault) h built un = absurd (no_unread files (objects_of texts files h) number fault (are_in texts files h) un.1)
+  not_unlinkable texts files start relax exe map (Link fault) h built un =
       let os = objects_of texts files h in
-      let b : IsBuiltOf os start exe map = built_of texts os start exe map (are_from texts files h) built in
-      laws.for_memory os start b.linked fault b.links (unlinked_in files os start fault (are_in texts files h) un)
-  not_unlinkable texts files start exe map Memory h built un = tt
+      let b : IsBuiltOf os start relax exe map = built_of texts os start relax exe map (are_from texts files h) built in
+      laws.for_memory os start relax b.linked fault b.links (told os start relax b.links.left fault b.links.relaxed (refusal_in files os start relax fault (are_in texts files h) un))
+  not_unlinkable texts files start relax exe map Memory h built un = tt
 
   not_refused : AreNotRefused
-  not_refused texts files start exe map (Source number fault) h linked refused =
+  not_refused texts files start relax exe map (Source number fault) h linked refused =
       of_source texts (objects_of texts files h) number fault (are_from texts files h) refused.1
-  not_refused texts files start exe map (File number fault) h linked refused = absurd refused
-  not_refused texts files start exe map (Link fault) h linked refused =
+  not_refused texts files start relax exe map (File number fault) h linked refused = absurd refused
+  not_refused texts files start relax exe map (Link fault) h linked refused =
       let os = objects_of texts files h in
-      let c : IsBuiltOf os start exe map = linked_of files os start exe map (are_in texts files h) linked in
-      laws.for_memory os start c.linked fault c.links (unlinked_from texts os start fault (are_from texts files h) refused)
-  not_refused texts files start exe map Memory h linked refused = tt
+      let c : IsBuiltOf os start relax exe map = linked_of files os start relax exe map (are_in texts files h) linked in
+      laws.for_memory os start relax c.linked fault c.links (told os start relax c.links.left fault c.links.relaxed (refusal_from texts os start relax fault (are_from texts files h) refused))
+  not_refused texts files start relax exe map Memory h linked refused = tt
 
-  both_links : (texts files : List (List ℕ)) (start : ℕ) (fault other : LinkFault) (h : AreFilesFor texts files) → IsRefusedFor texts start (Link fault) → AreUnlinkable files start (Link other)
+  both_links : (texts files : List (List ℕ)) (start : ℕ) (relax : Bool) (fault other : LinkFault) (h : AreFilesFor texts files) → IsRefusedFor texts start relax (Link fault) → AreUnlinkable files start relax (Link other)
       → IsMemory (Link fault) ⊎ (IsMemory (Link other) ⊎ IsSame (Link fault) (Link other))
-  both_links texts files start fault other h refused un =
+  both_links texts files start relax fault other h refused un =
       let os = objects_of texts files h in
-      reason_or_memory os start fault other (are_sound texts files h) (are_small texts files h)
-      (unlinked_from texts os start fault (are_from texts files h) refused) (unlinked_in files os start other (are_in texts files h) un) (wants_or_not fault) (wants_or_not other)
+      one_reason os start relax fault other (are_sound texts files h) (are_small texts files h)
+      (refusal_from texts os start relax fault (are_from texts files h) refused) (refusal_in files os start relax other (are_in texts files h) un)
 
   refused_alike : AreRefusedAlike
-  refused_alike texts files start (Source number fault) other h refused un = inl (of_source texts (objects_of texts files h) number fault (are_from texts files h) refused.1)
-  refused_alike texts files start (File number fault) other h refused un = absurd refused
-  refused_alike texts files start Memory other h refused un = inl tt
-  refused_alike texts files start (Link fault) (Source number other) h refused un = absurd un
-  refused_alike texts files start (Link fault) (File number other) h refused un = absurd (no_unread files (objects_of texts files h) number other (are_in texts files h) un.1)
-  refused_alike texts files start (Link fault) (Link other) h refused un = both_links texts files start fault other h refused un
-  refused_alike texts files start (Link fault) Memory h refused un = inr (inl tt)
+  refused_alike texts files start relax (Source number fault) other h refused un = inl (of_source texts (objects_of texts files h) number fault (are_from texts files h) refused.1)
+  refused_alike texts files start relax (File number fault) other h refused un = absurd refused
+  refused_alike texts files start relax Memory other h refused un = inl tt
+  refused_alike texts files start relax (Link fault) (Source number other) h refused un = absurd un
+  refused_alike texts files start relax (Link fault) (File number other) h refused un = absurd (no_unread files (objects_of texts files h) number other (are_in texts files h) un.1)
+  refused_alike texts files start relax (Link fault) (Link other) h refused un = both_links texts files start relax fault other h refused un
+  refused_alike texts files start relax (Link fault) Memory h refused un = inr (inl tt)
 
   pub agreed : BuildsAsItLinks
   agreed = record {

@@ -1,6 +1,6 @@
 -- The objects of texts, one after another, and the statements of all of them.
 
-use Rattle.std.proofs.Common.{◌≡◌, ℕ, zero, suc, ◌+◌, ◌<◌, List, [], ◌∷◌, ◌++◌, length, take, drop, map, get_or, sym, ap, subst, ◌∙◌, refl, inr, arith}
+use Rattle.std.proofs.Common.{◌≡◌, ℕ, Bool, zero, suc, ◌+◌, ◌<◌, List, [], ◌∷◌, ◌++◌, length, take, drop, map, get_or, sym, ap, subst, ◌∙◌, refl, inr, arith}
 use Rattle.std.specs.Prelude.{Result, Ok, Err, IfErr}
 use Rattle.std.specs.Result.{IsErrAnd}
 use Rattle.std.specs.Borrow.{Bor}
@@ -79,18 +79,18 @@ refused_there texts i os fault number h good is refused = record {
 }
 
 -- a refused link of assembled sources
-pub link_refused : (texts : List (List ℕ)) (start : ℕ) (fault : LinkFault) → AreUnlinked texts start fault → IsRefusedFor texts start (of_link fault)
-link_refused texts start faults.OutOfMemory h = tt
-link_refused texts start faults.Overflow h = inr h
-link_refused texts start faults.OddTarget h = inr h
-link_refused texts start faults.DanglingPcrel h = inr h
-link_refused texts start faults.AlignmentShort h = inr h
-link_refused texts start (faults.Undefined name) h = inr h
-link_refused texts start (faults.Duplicate name) h = inr h
-link_refused texts start faults.EntryMissing h = inr h
-link_refused texts start faults.ImageTooLarge h = inr h
-link_refused texts start faults.BadTextStart h = inr h
-link_refused texts start faults.TooManyFiles h = inr h
+pub link_refused : (texts : List (List ℕ)) (start : ℕ) (relax : Bool) (fault : LinkFault) → AreUnlinked texts start relax fault → IsRefusedFor texts start relax (of_link fault)
+link_refused texts start relax faults.OutOfMemory h = tt
+link_refused texts start relax faults.Overflow h = inr h
+link_refused texts start relax faults.OddTarget h = inr h
+link_refused texts start relax faults.DanglingPcrel h = inr h
+link_refused texts start relax faults.AlignmentShort h = inr h
+link_refused texts start relax (faults.Undefined name) h = inr h
+link_refused texts start relax (faults.Duplicate name) h = inr h
+link_refused texts start relax faults.EntryMissing h = inr h
+link_refused texts start relax faults.ImageTooLarge h = inr h
+link_refused texts start relax faults.BadTextStart h = inr h
+link_refused texts start relax faults.TooManyFiles h = inr h
 
 -- the text of a source at an index
 pub source_at : (sources : List (Bor (List ℕ))) (i : ℕ) (d : Bor (List ℕ)) → i < length sources → get_or (map now_of sources) i [] ≡ (get_or sources i d).now

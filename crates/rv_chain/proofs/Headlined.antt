@@ -1,6 +1,6 @@
 -- The executable of a linked program keeps the headline's promise.
 
-use Rattle.std.proofs.Common.{◌≡◌, ℕ, List, refl, ap, subst, sym, ◌∙◌}
+use Rattle.std.proofs.Common.{◌≡◌, ℕ, Bool, List, refl, ap, subst, sym, ◌∙◌}
 use Rattle.rv_map.specs.Limits.{IsMap}
 use Rattle.rv_map.specs.Text.{map_text}
 use Rattle.rv_image.specs.declared.linked.Linked.{Linked}
@@ -12,11 +12,11 @@ use Rattle.rv_image.specs.FirstFault.{first_fault}
 use Rattle.rv_image.proofs.LoadedAgain.{laid_out, reads, reload_image, reload_fault}
 use Rattle.rv_chain_laws.specs.Headline.{TheHeadline, rvc_flag}
 use Rattle.rv_chain_laws.proofs.Contents.{linked_agrees}
-use Rattle.rv_chain.specs.Building.{IsProgramOf}
+use Rattle.rv_chain.specs.Building.{IsProgramFrom}
 
-pub headlined : (texts : List (List ℕ)) (start : ℕ) (linked : Linked) (exe : List ℕ) → IsMap (linked_of linked).map → IsProgramOf texts start (linked_of linked)
-    → exe ≡ exe_of (linked_of linked) → TheHeadline texts start exe (map_text (linked_of linked).map)
-headlined texts start linked exe is_map program written =
+pub headlined : (texts : List (List ℕ)) (start : ℕ) (relax : Bool) (linked : Linked) (exe : List ℕ) → IsMap (linked_of linked).map → IsProgramFrom texts start relax (linked_of linked)
+    → exe ≡ exe_of (linked_of linked) → TheHeadline texts start relax exe (map_text (linked_of linked).map)
+headlined texts start relax linked exe is_map program written =
     let l = linked_of linked in
     let laid = laid_out linked is_map.entry in
     record {
@@ -27,6 +27,7 @@ headlined texts start linked exe is_map program written =
       readable = is_map;
       fits = program.linked.fits;
       sized = program.linked.sized;
+      shortened = program.linked.shortened;
       resolves = program.linked.resolves;
       code = program.linked.code;
       written = program.linked.written;
@@ -34,5 +35,5 @@ headlined texts start linked exe is_map program written =
       loads = subst (λ file. ImageOf file (linked_image l)) (sym written) (reload_image l laid);
       accepted = ap first_fault written ∙ reload_fault l laid;
       flagged = ap (number_in e_flags 0) written ∙ ap (λ h. h.e_flags) (reads l laid).fields ∙ ap rvc_flag program.flag;
-      agree = linked_agrees start program.sources l program.linked;
+      agree = linked_agrees start program.sources relax l program.linked;
     }

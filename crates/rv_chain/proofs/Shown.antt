@@ -1,6 +1,6 @@
 -- The listing of the executable of a linked program is that of its sources.
 
-use Rattle.std.proofs.Common.{◌≡◌, ℕ, List, subst, sym, ◌∙◌}
+use Rattle.std.proofs.Common.{◌≡◌, ℕ, Bool, List, subst, sym, ◌∙◌}
 use Rattle.std.specs.Prelude.{◌↔◌}
 use Rattle.rv_encode.specs.Word.{Spells}
 use Rattle.rv_compress.specs.Parcel.{StandsFor}
@@ -19,7 +19,7 @@ use Rattle.rv_source_laws.specs.Program.{program}
 use Rattle.rv_disasm.specs.Listing.{IsListing}
 use Rattle.rv_listing_laws.specs.SourceListing.{IsSourceListing}
 use Rattle.rv_listing_laws.proofs.Listed.{listed_is}
-use Rattle.rv_chain.specs.Building.{IsProgramOf}
+use Rattle.rv_chain.specs.Building.{IsProgramFrom}
 use Rattle.rv_chain.specs.Listed.{IsListedAs}
 
 -- a file has one image
@@ -29,9 +29,9 @@ one_image file image other a b =
     let segments : image.segments ≡ other.segments = a.segments ∙ sym b.segments in
     λ i. record { entry = entry i; segments = segments i }
 
-pub listed_as : (texts : List (List ℕ)) (start : ℕ) (linked : Linked) (exe map_bytes : List ℕ) → IsMap (linked_of linked).map → IsProgramOf texts start (linked_of linked)
+pub listed_as : (texts : List (List ℕ)) (start : ℕ) (relax : Bool) (linked : Linked) (exe map_bytes : List ℕ) → IsMap (linked_of linked).map → IsProgramFrom texts start relax (linked_of linked)
     → exe ≡ exe_of (linked_of linked) → map_bytes ≡ map_text (linked_of linked).map → IsListedAs texts exe map_bytes
-listed_as texts start linked exe map_bytes is_map program_of written shown = record { sources = program_of.sources; read = program_of.read; listed = listed }
+listed_as texts start relax linked exe map_bytes is_map program_of written shown = record { sources = program_of.sources; read = program_of.read; listed = listed }
   where
     listed : (image : Image) → ImageOf exe image → (m : Map) → IsMap m → map_bytes ≡ map_text m → (reader : Reader Spells StandsFor) (text : List ℕ)
         → IsListing reader image m text ↔ IsSourceListing (program program_of.sources m) text
@@ -41,4 +41,4 @@ listed_as texts start linked exe map_bytes is_map program_of written shown = rec
         let loaded : ImageOf exe (linked_image l) = subst (λ file. ImageOf file (linked_image l)) (sym written) (reload_image l (laid_out linked is_map.entry)) in
         let same_image : linked_image l ≡ image = one_image exe (linked_image l) image loaded loads in
         subst (λ n. IsListing reader image n text ↔ IsSourceListing (program program_of.sources n) text) same_map
-        (subst (λ im. IsListing reader im l.map text ↔ IsSourceListing (program program_of.sources l.map) text) same_image (listed_is start program_of.sources l program_of.linked reader text))
+        (subst (λ im. IsListing reader im l.map text ↔ IsSourceListing (program program_of.sources l.map) text) same_image (listed_is start program_of.sources relax l program_of.linked reader text))

@@ -1,6 +1,6 @@
 -- Files whose objects are read one after another, up to the first with a fault.
 
-use Rattle.std.proofs.Common.{◌≡◌, ℕ, ◌+◌, ◌<◌, List, [], ◌∷◌, length, take, drop, get_or, sym, ap, ◌∙◌, inr, Some, None}
+use Rattle.std.proofs.Common.{◌≡◌, ℕ, Bool, ◌+◌, ◌<◌, List, [], ◌∷◌, length, take, drop, get_or, sym, ap, ◌∙◌, inr, Some, None}
 use Rattle.std.specs.List.{AllByRecursion}
 use Rattle.rv_elf.specs.declared.fault.FileFault.{FileFault}
 use Rattle.rv_object.specs.Object.{Object}
@@ -40,15 +40,15 @@ unread_in files i os (cases.Link fault) h good refused = refused
 unread_in files i os cases.Memory h good refused = tt
 
 -- a refused link of the objects in files
-pub link_unlinkable : (files : List (List ℕ)) (start : ℕ) (fault : LinkFault) → AreReadUnlinked files start fault → AreUnlinkable files start (of_link fault)
-link_unlinkable files start faults.OutOfMemory h = tt
-link_unlinkable files start faults.Overflow h = inr h
-link_unlinkable files start faults.OddTarget h = inr h
-link_unlinkable files start faults.DanglingPcrel h = inr h
-link_unlinkable files start faults.AlignmentShort h = inr h
-link_unlinkable files start (faults.Undefined name) h = inr h
-link_unlinkable files start (faults.Duplicate name) h = inr h
-link_unlinkable files start faults.EntryMissing h = inr h
-link_unlinkable files start faults.ImageTooLarge h = inr h
-link_unlinkable files start faults.BadTextStart h = inr h
-link_unlinkable files start faults.TooManyFiles h = inr h
+pub link_unlinkable : (files : List (List ℕ)) (start : ℕ) (relax : Bool) (fault : LinkFault) → AreReadUnlinked files start relax fault → AreUnlinkable files start relax (of_link fault)
+link_unlinkable files start relax faults.OutOfMemory h = tt
+link_unlinkable files start relax faults.Overflow h = inr h
+link_unlinkable files start relax faults.OddTarget h = inr h
+link_unlinkable files start relax faults.DanglingPcrel h = inr h
+link_unlinkable files start relax faults.AlignmentShort h = inr h
+link_unlinkable files start relax (faults.Undefined name) h = inr h
+link_unlinkable files start relax (faults.Duplicate name) h = inr h
+link_unlinkable files start relax faults.EntryMissing h = inr h
+link_unlinkable files start relax faults.ImageTooLarge h = inr h
+link_unlinkable files start relax faults.BadTextStart h = inr h
+link_unlinkable files start relax faults.TooManyFiles h = inr h

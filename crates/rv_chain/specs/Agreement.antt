@@ -1,6 +1,6 @@
 -- That texts are built as the files of their objects are linked.
 
-use Rattle.std.specs.Prelude.{◌≡◌, ℕ, ◌<◌, ◌^◌, ◌⊎◌, ⊤, List, [], ◌∷◌, length}
+use Rattle.std.specs.Prelude.{◌≡◌, ℕ, ◌<◌, ◌^◌, Bool, ◌⊎◌, ⊤, List, [], ◌∷◌, length}
 use Rattle.rv_lexer.specs.declared.fault.SourceFault.TheVariants.{OutOfMemory as NoMemory}
 use Rattle.rv_elf.specs.declared.fault.FileFault.TheVariants as files
 use Rattle.rv_link.specs.declared.fault.LinkFault.TheVariants as links
@@ -46,29 +46,31 @@ IsSame fault other = ⊥
 -- what is built of texts and what is linked of their files is the same
 abbrev pub AreBuiltAlike : Type 0
 AreBuiltAlike =
-    (texts files : List (List ℕ)) (start : ℕ) (exe other_exe map other_map : List ℕ)
-    → AreFilesFor texts files → AreBuilt texts start exe map
-    → AreLinked files start other_exe other_map → (exe ≡ other_exe) × (map ≡ other_map)
+    (texts files : List (List ℕ)) (start : ℕ) (relax : Bool)
+    (exe other_exe map other_map : List ℕ)
+    → AreFilesFor texts files → AreBuilt texts start relax exe map
+    → AreLinked files start relax other_exe other_map → (exe ≡ other_exe) × (map ≡ other_map)
 
 -- where texts are built, only want of memory keeps their files from being linked
 abbrev pub AreNotUnlinkable : Type 0
 AreNotUnlinkable =
-    (texts files : List (List ℕ)) (start : ℕ) (exe map : List ℕ) (fault : Fault)
-    → AreFilesFor texts files → AreBuilt texts start exe map
-    → AreUnlinkable files start fault → IsMemory fault
+    (texts files : List (List ℕ)) (start : ℕ) (relax : Bool) (exe map : List ℕ) (fault : Fault)
+    → AreFilesFor texts files → AreBuilt texts start relax exe map
+    → AreUnlinkable files start relax fault → IsMemory fault
 
 -- where the files are linked, only want of memory keeps the texts from being built
 abbrev pub AreNotRefused : Type 0
 AreNotRefused =
-    (texts files : List (List ℕ)) (start : ℕ) (exe map : List ℕ) (fault : Fault)
-    → AreFilesFor texts files → AreLinked files start exe map
-    → IsRefusedFor texts start fault → IsMemory fault
+    (texts files : List (List ℕ)) (start : ℕ) (relax : Bool) (exe map : List ℕ) (fault : Fault)
+    → AreFilesFor texts files → AreLinked files start relax exe map
+    → IsRefusedFor texts start relax fault → IsMemory fault
 
 -- and where both are refused, neither for want of memory, it is for the same fault
 abbrev pub AreRefusedAlike : Type 0
 AreRefusedAlike =
-    (texts files : List (List ℕ)) (start : ℕ) (fault other : Fault)
-    → AreFilesFor texts files → IsRefusedFor texts start fault → AreUnlinkable files start other
+    (texts files : List (List ℕ)) (start : ℕ) (relax : Bool) (fault other : Fault)
+    → AreFilesFor texts files → IsRefusedFor texts start relax fault
+    → AreUnlinkable files start relax other
     → IsMemory fault ⊎ (IsMemory other ⊎ IsSame fault other)
 
 pub record BuildsAsItLinks : Type 0 where

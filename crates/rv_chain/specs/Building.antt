@@ -1,21 +1,22 @@
 -- What a build makes of the texts of sources.
 
-use Rattle.std.specs.Prelude.{◌≡◌, ℕ, List}
+use Rattle.std.specs.Prelude.{◌≡◌, ℕ, Bool, List}
 use Rattle.rv_statement.specs.Statement.{Statement}
 use Rattle.rv_image.specs.Linked.{Linked}
 use Rattle.rv_source_laws.specs.Compressed.{is_compressed}
 use Rattle.rv_chain_laws.specs.Contents.{IsLinked}
 use Rattle.rv_chain_laws.specs.Headline.{AllRead, TheHeadline}
 
--- the linked program of the statements that the texts read as, flagged where they have compressed
--- code
-pub record IsProgramOf (texts : List (List ℕ)) (start : ℕ) (l : Linked) : Type 0 where
+-- the linked program of the statements that the texts read as, relaxed or not, flagged where they
+-- have compressed code
+pub record IsProgramFrom (texts : List (List ℕ)) (start : ℕ) (relax : Bool)
+    (l : Linked) : Type 0 where
   pub sources : List (List Statement)
   pub read : AllRead texts sources
-  pub linked : IsLinked sources start l
+  pub linked : IsLinked sources start relax l
   pub flag : l.rvc ≡ is_compressed sources
 
 -- the bytes of an executable with the promise of `build`: some text shows its map
-abbrev pub IsExecutableOf : List (List ℕ) → ℕ → List ℕ → Type 0
-IsExecutableOf texts start executable =
-    (map_bytes : List ℕ) × TheHeadline texts start executable map_bytes
+abbrev pub IsExecutableOf : List (List ℕ) → ℕ → Bool → List ℕ → Type 0
+IsExecutableOf texts start relax executable =
+    (map_bytes : List ℕ) × TheHeadline texts start relax executable map_bytes

@@ -1,12 +1,12 @@
 -- Why files are not linked, by their bytes and the address at which the text starts.
 
-use Rattle.std.specs.Prelude.{◌≡◌, ℕ, ◌+◌, ⊤, ◌⊎◌, List, ◌∷◌, ◌++◌, length, Some, None}
+use Rattle.std.specs.Prelude.{◌≡◌, ℕ, ◌+◌, Bool, ⊤, ◌⊎◌, List, ◌∷◌, ◌++◌, length, Some, None}
 use Rattle.std.specs.List.{AllByRecursion}
 use Rattle.rv_elf.specs.declared.fault.FileFault.{FileFault}
 use Rattle.rv_object.specs.Object.{Object}
 use Rattle.rv_object_file_laws.specs.FirstFault.{first_fault}
 use Rattle.rv_link.specs.declared.fault.LinkFault.{LinkFault}
-use Rattle.rv_link.specs.Refusals.{AreWithin, ArePast, IsUnlinked}
+use Rattle.rv_link.specs.Refusals.{AreWithin, ArePast, HasNoProgram}
 use Rattle.rv_chain.specs.declared.fault.Fault.{Fault}
 use Rattle.rv_chain.specs.declared.fault.Fault.TheVariants.{Source, File, Link, Memory}
 use Rattle.rv_chain.specs.Objects.{AreObjectsIn}
@@ -35,16 +35,16 @@ AreUnread files (File number fault) = IsFirstUnread files number fault
 AreUnread files (Link fault) = ⊥
 AreUnread files Memory = ⊤
 
--- no file has a fault, and the link of their objects is refused
-abbrev pub AreReadUnlinked : List (List ℕ) → ℕ → LinkFault → Type 0
-AreReadUnlinked files start fault =
-    (os : List Object) × AreObjectsIn files os × IsUnlinked os start fault
+-- no file has a fault, and their objects have no program
+abbrev pub AreReadUnlinked : List (List ℕ) → ℕ → Bool → LinkFault → Type 0
+AreReadUnlinked files start relax fault =
+    (os : List Object) × AreObjectsIn files os × HasNoProgram os start relax fault
 
 -- first the count of the files, then the text's start, then the files, and then the link
-abbrev pub AreUnlinkable : List (List ℕ) → ℕ → Fault → Type 0
-AreUnlinkable files start (Source number fault) = ⊥
-AreUnlinkable files start (File number fault) =
+abbrev pub AreUnlinkable : List (List ℕ) → ℕ → Bool → Fault → Type 0
+AreUnlinkable files start relax (Source number fault) = ⊥
+AreUnlinkable files start relax (File number fault) =
     AreWithin (length files) start × IsFirstUnread files number fault
-AreUnlinkable files start (Link fault) =
-    ArePast (length files) start fault ⊎ AreReadUnlinked files start fault
-AreUnlinkable files start Memory = ⊤
+AreUnlinkable files start relax (Link fault) =
+    ArePast (length files) start fault ⊎ AreReadUnlinked files start relax fault
+AreUnlinkable files start relax Memory = ⊤

@@ -1,11 +1,11 @@
 -- Why a build is refused, by the texts of its sources and the address at which the text starts.
 
-use Rattle.std.specs.Prelude.{◌≡◌, ℕ, ◌+◌, ⊤, ◌⊎◌, List, ◌∷◌, ◌++◌, length}
+use Rattle.std.specs.Prelude.{◌≡◌, ℕ, ◌+◌, Bool, ⊤, ◌⊎◌, List, ◌∷◌, ◌++◌, length}
 use Rattle.rv_lexer.specs.declared.fault.SourceFault.{SourceFault}
 use Rattle.rv_object.specs.Object.{Object}
 use Rattle.rv_assemble.specs.FirstFault.{IsFirstFault}
 use Rattle.rv_link.specs.declared.fault.LinkFault.{LinkFault}
-use Rattle.rv_link.specs.Refusals.{AreWithin, ArePast, IsUnlinked}
+use Rattle.rv_link.specs.Refusals.{AreWithin, ArePast, HasNoProgram}
 use Rattle.rv_chain.specs.declared.fault.Fault.{Fault}
 use Rattle.rv_chain.specs.declared.fault.Fault.TheVariants.{Source, File, Link, Memory}
 use Rattle.rv_chain.specs.Objects.{AreObjectsFrom}
@@ -38,20 +38,20 @@ IsRefusedIn texts Memory = ⊤
 abbrev pub AreAssembled : List (List ℕ) → Type 0
 AreAssembled texts = (os : List Object) × AreObjectsFrom texts os
 
--- and their link is refused
-abbrev pub AreUnlinked : List (List ℕ) → ℕ → LinkFault → Type 0
-AreUnlinked texts start fault =
-    (os : List Object) × AreObjectsFrom texts os × IsUnlinked os start fault
+-- and they have no program
+abbrev pub AreUnlinked : List (List ℕ) → ℕ → Bool → LinkFault → Type 0
+AreUnlinked texts start relax fault =
+    (os : List Object) × AreObjectsFrom texts os × HasNoProgram os start relax fault
 
 -- files and a start of the text that can be linked, and sources without a fault
 abbrev pub AreGood : List (List ℕ) → ℕ → Type 0
 AreGood texts start = AreWithin (length texts) start × AreAssembled texts
 
 -- first the count of the files, then the text's start, then the sources, and then the link
-abbrev pub IsRefusedFor : List (List ℕ) → ℕ → Fault → Type 0
-IsRefusedFor texts start (Source number fault) =
+abbrev pub IsRefusedFor : List (List ℕ) → ℕ → Bool → Fault → Type 0
+IsRefusedFor texts start relax (Source number fault) =
     AreWithin (length texts) start × IsFirstRefused texts number fault
-IsRefusedFor texts start (File number fault) = ⊥
-IsRefusedFor texts start (Link fault) =
-    ArePast (length texts) start fault ⊎ AreUnlinked texts start fault
-IsRefusedFor texts start Memory = ⊤
+IsRefusedFor texts start relax (File number fault) = ⊥
+IsRefusedFor texts start relax (Link fault) =
+    ArePast (length texts) start fault ⊎ AreUnlinked texts start relax fault
+IsRefusedFor texts start relax Memory = ⊤

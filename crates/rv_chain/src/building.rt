@@ -6,7 +6,7 @@ ghost use Rattle.rv_image.specs.Linked.{linked_of};
 ghost use Rattle.rv_object.specs.View.{object_of};
 ghost use Rattle.rv_object_laws.specs.IsLinkOf.{most_files};
 ghost use Rattle.rv_chain_laws.specs.Headline.{TheHeadline};
-ghost use Rattle.rv_chain.specs.Building.{IsProgramOf, IsExecutableOf};
+ghost use Rattle.rv_chain.specs.Building.{IsProgramFrom, IsExecutableOf};
 ghost use Rattle.rv_chain.specs.Linking.{AreBuilt, IsLinkFrom};
 ghost use Rattle.rv_chain.specs.Listed.{IsListedAs};
 ghost use Rattle.rv_chain.specs.Objects.{IsObjectFrom, AreObjectsFrom};
@@ -17,7 +17,7 @@ use crate::fault::Fault;
 use rv_assemble::assemble;
 use rv_boundary_laws::{linked_objects_are_flagged, objects_of_sources_link};
 use rv_image::{Linked, write_exec};
-use rv_link::{LinkOptions, link, within_limits};
+use rv_link::{LinkOptions, link_all, within_limits};
 use rv_map::known;
 use rv_object::Object;
 use rv_text::SourceFault;
@@ -27,22 +27,24 @@ use std::alloc::Global;
 ///
 /// For every input and every instruction limit, running the executable's bytes gives exactly the
 /// console and the end that the statements of the sources give, each executed in one step at the
-/// addresses of the map; only a jump to the inside of a statement ends the promise.
+/// addresses of the map; only a jump to the inside of a statement ends the promise. Where calls are
+/// relaxed, those are short that can be, and no others.
 ///
 /// The listing of the executable with the map shows, for each statement of code, the base
 /// instructions that stand for it there, and nothing else.
 pub fn build(alloc: Global, sources: &[&[u8]], options: LinkOptions) -> Result<Built, Fault>
     ensures headline { IfOk result
-        (λ built. TheHeadline
-        (map now_of sources.now) options.text_start built.exe.items built.map.items) }
+        (λ built. TheHeadline (map now_of sources.now)
+        options.text_start options.relax built.exe.items built.map.items) }
     ensures listed { IfOk result
         (λ built. IsListedAs (map now_of sources.now) built.exe.items built.map.items) }
     ensures links { IfOk result
-        (λ built. AreBuilt
-        (map now_of sources.now) options.text_start built.exe.items built.map.items) }
+        (λ built. AreBuilt (map now_of sources.now)
+        options.text_start options.relax built.exe.items built.map.items) }
     ensures good { IfOk result (λ _. AreGood (map now_of sources.now) options.text_start) }
     // The first fault: too many files, the text's start, then the sources one by one, then the link.
-    ensures refuses { IfErr result (IsRefusedFor (map now_of sources.now) options.text_start) }
+    ensures refuses { IfErr result
+        (IsRefusedFor (map now_of sources.now) options.text_start options.relax) }
 {
     let linked = linked(alloc, sources, options)?;
     // what the types of a map keep
@@ -54,9 +56,11 @@ pub fn build(alloc: Global, sources: &[&[u8]], options: LinkOptions) -> Result<B
 /// Assembles and links as `build`, without the text of the map: the same executable.
 pub fn build_exe(alloc: Global, sources: &[&[u8]], options: LinkOptions) -> Result<Vec<u8>, Fault>
     ensures headline { IfOk result
-        (λ exe. IsExecutableOf (map now_of sources.now) options.text_start exe.items) }
+        (λ exe. IsExecutableOf
+        (map now_of sources.now) options.text_start options.relax exe.items) }
     ensures good { IfOk result (λ _. AreGood (map now_of sources.now) options.text_start) }
-    ensures refuses { IfErr result (IsRefusedFor (map now_of sources.now) options.text_start) }
+    ensures refuses { IfErr result
+        (IsRefusedFor (map now_of sources.now) options.text_start options.relax) }
 {
     let linked = linked(alloc, sources, options)?;
     // what the types of a map keep
@@ -68,18 +72,21 @@ pub fn build_exe(alloc: Global, sources: &[&[u8]], options: LinkOptions) -> Resu
 /// The linked program of a list of sources.
 fn linked(alloc: Global, sources: &[&[u8]], options: LinkOptions) -> Result<Linked, Fault>
     ensures program { IfOk result
-        (λ l. IsProgramOf (map now_of sources.now) options.text_start (linked_of l)) }
+        (λ l. IsProgramFrom
+        (map now_of sources.now) options.text_start options.relax (linked_of l)) }
     ensures links { IfOk result
-        (λ l. IsLinkFrom (map now_of sources.now) options.text_start (linked_of l)) }
+        (λ l. IsLinkFrom
+        (map now_of sources.now) options.text_start options.relax (linked_of l)) }
     ensures good { IfOk result (λ _. AreGood (map now_of sources.now) options.text_start) }
-    ensures refuses { IfErr result (IsRefusedFor (map now_of sources.now) options.text_start) }
+    ensures refuses { IfErr result
+        (IsRefusedFor (map now_of sources.now) options.text_start options.relax) }
 {
     within_limits(sources.len(), options.text_start)?;
     let objects = objects(alloc, sources)?;
     // what they are linked to is the program of the sources
     objects_of_sources_link();
     linked_objects_are_flagged();
-    let linked = link(alloc, objects.as_slice(), options)?;
+    let linked = link_all(alloc, objects, options)?;
     Ok(linked)
 }
 

@@ -5,7 +5,7 @@ ghost use Rattle.rv_chain.specs.Agreement.{BuildsAsItLinks};
 use rv_assemble_laws::names_are_shown;
 use rv_object_file_laws::{one_object, written_object_is_read};
 use rv_one_link_laws::{
-    objects_keep_it, one_linked_program, refused_for_one_reason, refused_is_not_linked,
+    objects_keep_it, one_program, refused_for_one_reason, refused_has_no_program,
 };
 use rv_one_object_laws::{
     objects_are_not_too_long, objects_are_small, objects_have_files, one_object_of_statements,
@@ -26,8 +26,8 @@ pub fn builds_as_it_links()
     objects_have_files();
     written_object_is_read();
     one_object();
-    one_linked_program();
-    refused_is_not_linked();
+    one_program();
+    refused_has_no_program();
     refused_for_one_reason();
     objects_keep_it();
 }

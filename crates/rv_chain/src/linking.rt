@@ -11,7 +11,7 @@ ghost use Rattle.rv_chain.specs.Objects.{IsObjectIn, AreObjectsIn};
 use crate::built::Built;
 use crate::fault::Fault;
 use rv_image::FileFault;
-use rv_link::{LinkOptions, link, within_limits};
+use rv_link::{LinkOptions, link_all, within_limits};
 use rv_object::Object;
 use rv_object_reader::read;
 use std::alloc::Global;
@@ -19,14 +19,15 @@ use std::alloc::Global;
 /// Links objects, whoever wrote them: the executable and its map. `objects` are the bytes of their files.
 pub fn link_objects(alloc: Global, objects: &[&[u8]], options: LinkOptions) -> Result<Built, Fault>
     ensures linked { IfOk result
-        (λ built. AreLinked
-        (map now_of objects.now) options.text_start built.exe.items built.map.items) }
+        (λ built. AreLinked (map now_of objects.now)
+        options.text_start options.relax built.exe.items built.map.items) }
     // The first fault: too many files, the text's start, then the files one by one, then the link.
-    ensures refuses { IfErr result (AreUnlinkable (map now_of objects.now) options.text_start) }
+    ensures refuses { IfErr result
+        (AreUnlinkable (map now_of objects.now) options.text_start options.relax) }
 {
     within_limits(objects.len(), options.text_start)?;
     let read = read_objects(alloc, objects)?;
-    let linked = link(alloc, read.as_slice(), options)?;
+    let linked = link_all(alloc, read, options)?;
     let built = Built::of(alloc, &linked)?;
     Ok(built)
 }

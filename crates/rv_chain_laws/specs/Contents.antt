@@ -17,8 +17,8 @@ use Rattle.rv_unit_laws.specs.Tables.{aligned}
 use Rattle.rv_source_laws.specs.Fits.{Fits, InputSection, rows_of, input_sections, size}
 use Rattle.rv_source_laws.specs.Resolves.{Resolves}
 use Rattle.rv_source_laws.specs.Start.{spelled}
-use Rattle.rv_chain_laws.specs.Sized.{Sized}
-use Rattle.rv_chain_laws.specs.Shortened.{Shortened}
+use Rattle.rv_source_laws.specs.Sized.{Sized}
+use Rattle.rv_source_laws.specs.Shortened.{Shortened}
 
 -- ---- instructions as they lie in memory
 

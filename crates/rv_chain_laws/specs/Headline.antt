@@ -23,8 +23,8 @@ use Rattle.rv_source_laws.specs.SourceRun.{source_run}
 use Rattle.rv_source_laws.specs.Fits.{Fits}
 use Rattle.rv_source_laws.specs.Resolves.{Resolves}
 use Rattle.rv_chain_laws.specs.Agrees.{Agrees}
-use Rattle.rv_chain_laws.specs.Sized.{Sized}
-use Rattle.rv_chain_laws.specs.Shortened.{Shortened}
+use Rattle.rv_source_laws.specs.Sized.{Sized}
+use Rattle.rv_source_laws.specs.Shortened.{Shortened}
 use Rattle.rv_chain_laws.specs.Contents.{IsCodeWritten}
 
 -- each text reads as its list of statements

@@ -83,7 +83,7 @@ some_left true ds = left_by (is_short_text (map object_of ds)) ds
 
 -- ---- what is seen of the objects is so of what is left
 
-past_unlinked : (left : List Object) (start : ℕ) (fault : LinkFault) → ArePast (length left) start fault → IsUnlinked left start fault
+pub past_unlinked : (left : List Object) (start : ℕ) (fault : LinkFault) → ArePast (length left) start fault → IsUnlinked left start fault
 past_unlinked left start TooManyFiles h = h
 past_unlinked left start BadTextStart h = h
 past_unlinked left start (Duplicate name) h = absurd h

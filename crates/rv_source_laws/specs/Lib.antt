@@ -6,6 +6,7 @@ pub mod Lines
 pub mod Meaning
 pub mod Fits
 pub mod Sized
+pub mod Shortened
 pub mod Resolves
 pub mod Start
 pub mod SourceRun

@@ -2,8 +2,10 @@
 -- with which each form below a statement's largest reaches (GNU as, "RISC-V-Directives"; ISA,
 -- "Conditional Branches" and "Unconditional Jumps").
 
-use Rattle.std.specs.Prelude.{◌≡◌, ℕ, suc, Bool, false, ◌==◌, ⊤, if◌then◌else◌, List, [], ◌∷◌, filter, Option, Some, None}
-use Rattle.rv_statement.specs.Statement.{StatementKind, Directs, Statement, Expression, Directive}
+use Rattle.std.specs.Prelude.{◌≡◌, ℕ, suc, Bool, true, false, ◌==◌, ⊤, if◌then◌else◌, List, [], ◌∷◌, filter, Option, Some, None}
+use Rattle.rv_statement.specs.declared.mnemonic.Mnemonic.{Mnemonic}
+use Rattle.rv_statement.specs.declared.mnemonic.Mnemonic.TheVariants.{Call, Tail, Jump}
+use Rattle.rv_statement.specs.Statement.{StatementKind, Instruction, Directs, Statement, Expression, Directive}
 use Rattle.rv_text_laws.specs.Values.{Value}
 use Rattle.rv_unit_laws.specs.Contributions.{Contribution, Alignment, contribution}
 use Rattle.rv_unit_laws.specs.Tables.{tables, at_start, alignment_of}
@@ -15,8 +17,17 @@ use Rattle.rv_source_laws.specs.Sizes.{code_padding, AreLeast}
 
 -- ---- the size of a statement
 
--- an alignment in code counts as all the padding that it may need, whatever is left of it in the
--- map; all else has the bytes of its row
+abbrev pub is_call : Mnemonic → Bool
+is_call Call = true
+is_call Tail = true
+is_call Jump = true
+is_call _ = false
+
+-- a call counts as 8 bytes, and an alignment in code as all the padding that it may need, whatever
+-- is left of them in the map; all else has the bytes of its row
+abbrev pub instruction_size : Mnemonic → ℕ → ℕ
+instruction_size mnemonic bytes = if is_call mnemonic then 8 else bytes
+
 abbrev pub directive_size : Bool → (Expression → Value) → Directive → Contribution → ℕ → ℕ
 directive_size executable v d (Alignment counts number) bytes =
     if executable then code_padding (alignment_of v d) else bytes
@@ -24,6 +35,7 @@ directive_size executable v d _ bytes = bytes
 
 -- of a statement in a section of code or of data, by the bytes of its row
 abbrev pub statement_size : (executable : Bool) → (Expression → Value) → StatementKind → ℕ → ℕ
+statement_size executable v (Instruction mnemonic operands) bytes = instruction_size mnemonic bytes
 statement_size executable v (Directs d) bytes =
     directive_size executable v d (contribution d) bytes
 statement_size executable v _ bytes = bytes

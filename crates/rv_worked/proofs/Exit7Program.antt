@@ -21,10 +21,10 @@ use Rattle.rv_pseudo_laws.specs.Code.{Closed}
 use Rattle.rv_source_laws.specs.Fits.{Fits}
 use Rattle.rv_source_laws.specs.Resolves.{Resolves}
 use Rattle.rv_source_laws.specs.Located.{located_from}
-use Rattle.rv_chain_laws.specs.Sized.{Sized}
+use Rattle.rv_source_laws.specs.Sized.{Sized}
 use Rattle.rv_source_laws.proofs.Settling.{settled_least}
 use Rattle.rv_unit_laws.specs.Tables.{at_start}
-use Rattle.rv_chain_laws.specs.Shortened.{text_of, sites_of, size_at, HaveBytes, Shortened}
+use Rattle.rv_source_laws.specs.Shortened.{text_of, sites_of, size_at, HaveBytes, Shortened}
 use Rattle.rv_chain_laws.specs.Contents.{IsLinked}
 use Rattle.rv_layout_laws.specs.Calls.{Offers, site_at, MayShorten, IsClosed, Shortenings, Unchanged, LeadsOutside, IsText}
 use Rattle.rv_layout_laws.proofs.Shortening.{shortened_greatest}

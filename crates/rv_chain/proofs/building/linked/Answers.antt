@@ -3,8 +3,7 @@ use Rattle.std.proofs.lemmas.List.{length-map}
 use Rattle.rv_statement.specs.View.{now_of}
 use Rattle.rv_image.specs.Linked.{linked_of}
 use Rattle.rv_object.specs.View.{object_of}
-use Rattle.rv_object_laws.specs.IsLinkOf.{IsLinkOf}
-use Rattle.rv_link.specs.Refusals.{AreWithin, IsUnlinked}
+use Rattle.rv_link.specs.Refusals.{AreWithin}
 use Rattle.rv_chain.specs.Refusals.{IsRefusedFor}
 use Rattle.rv_chain.proofs.Gathered.{err_given, gathered, link_refused}
 use Rattle.rv_chain.proofs.building.linked.Goals as goal
@@ -13,32 +12,31 @@ pub returns-in_err-linked-clause-refuses : goal.returns-in_err-linked-clause-ref
 returns-in_err-linked-clause-refuses c =
     let texts = map now_of c.args.sources.now in
     let start = c.args.options.text_start in
+    let relax = c.args.options.relax in
     let os = map object_of c.in_ok-objects.objects.items in
-    let refused : IsUnlinked os start c.in_err-linked.field-0.0 =
-    subst (λ xs. IsUnlinked (map object_of xs) start c.in_err-linked.field-0.0) c.as_slice.ensures.value c.in_err-linked.ensures.refuses in
-    err_given c.from_residual-in_err-linked.result (IsRefusedFor texts start) _ c.from_residual-in_err-linked.ensures.1
-    (λ f is. subst (IsRefusedFor texts start) (sym is) (link_refused texts start c.in_err-linked.field-0.0 (os, c.in_ok-objects.ensures.objects, refused)))
+    err_given c.from_residual-in_err-linked.result (IsRefusedFor texts start relax) _ c.from_residual-in_err-linked.ensures.1
+    (λ f is. subst (IsRefusedFor texts start relax) (sym is) (link_refused texts start relax c.in_err-linked.field-0.0 (os, c.in_ok-objects.ensures.objects, c.in_err-linked.ensures.refuses)))
 
 pub returns-clause-program : goal.returns-clause-program
 returns-clause-program c =
     let texts = map now_of c.args.sources.now in
     let os = map object_of c.in_ok-objects.objects.items in
     let start = c.args.options.text_start in
+    let relax = c.args.options.relax in
     let l = linked_of c.in_ok-linked.linked in
     let g = gathered texts os c.in_ok-objects.ensures.objects in
-    let link = subst (λ xs. IsLinkOf (map object_of xs) start l) c.as_slice.ensures.value c.in_ok-linked.ensures.links in
     record {
       sources = g.0;
       read = g.1;
-      linked = c.objects_of_sources_link.ensures g.0 os start l g.2 link;
-      flag = c.linked_objects_are_flagged.ensures g.0 os start l g.2 link;
+      linked = c.objects_of_sources_link.ensures g.0 os start relax l g.2 c.in_ok-linked.ensures.links;
+      flag = c.linked_objects_are_flagged.ensures g.0 os start relax l g.2 c.in_ok-linked.ensures.links;
     }
 
 pub returns-clause-links : goal.returns-clause-links
 returns-clause-links c = (
   map object_of c.in_ok-objects.objects.items,
   c.in_ok-objects.ensures.objects,
-  subst (λ xs. IsLinkOf (map object_of xs) c.args.options.text_start (linked_of c.in_ok-linked.linked)) c.as_slice.ensures.value c.in_ok-linked.ensures.links,
+  c.in_ok-linked.ensures.links,
 )
 
 pub returns-clause-good : goal.returns-clause-good

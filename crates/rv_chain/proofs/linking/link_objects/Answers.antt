@@ -1,10 +1,8 @@
 use Rattle.std.proofs.Common.{◌≡◌, length, map, sym, subst}
 use Rattle.std.proofs.lemmas.List.{length-map}
 use Rattle.rv_statement.specs.View.{now_of}
-use Rattle.rv_image.specs.Linked.{linked_of}
 use Rattle.rv_object.specs.View.{object_of}
-use Rattle.rv_object_laws.specs.IsLinkOf.{IsLinkOf}
-use Rattle.rv_link.specs.Refusals.{AreWithin, IsUnlinked}
+use Rattle.rv_link.specs.Refusals.{AreWithin}
 use Rattle.rv_chain.specs.LinkRefusals.{AreUnlinkable}
 use Rattle.rv_chain.proofs.Gathered.{err_given}
 use Rattle.rv_chain.proofs.Unread.{link_unlinkable}
@@ -15,19 +13,18 @@ pub returns-in_err-linked-clause-refuses : goal.returns-in_err-linked-clause-ref
 returns-in_err-linked-clause-refuses c =
     let files = map now_of c.args.objects.now in
     let start = c.args.options.text_start in
+    let relax = c.args.options.relax in
     let os = map object_of c.in_ok-read.read.items in
-    let refused : IsUnlinked os start c.in_err-linked.field-0.0 =
-    subst (λ xs. IsUnlinked (map object_of xs) start c.in_err-linked.field-0.0) c.as_slice.ensures.value c.in_err-linked.ensures.refuses in
-    err_given c.from_residual-in_err-linked.result (AreUnlinkable files start) _ c.from_residual-in_err-linked.ensures.1
-    (λ f is. subst (AreUnlinkable files start) (sym is) (link_unlinkable files start c.in_err-linked.field-0.0 (os, c.in_ok-read.ensures.objects, refused)))
+    err_given c.from_residual-in_err-linked.result (AreUnlinkable files start relax) _ c.from_residual-in_err-linked.ensures.1
+    (λ f is. subst (AreUnlinkable files start relax) (sym is) (link_unlinkable files start relax c.in_err-linked.field-0.0 (os, c.in_ok-read.ensures.objects, c.in_err-linked.ensures.refuses)))
 
 pub returns-clause-linked : goal.returns-clause-linked
 returns-clause-linked c =
     let files = map now_of c.args.objects.now in
     let start = c.args.options.text_start in
+    let relax = c.args.options.relax in
     let os = map object_of c.in_ok-read.read.items in
-    let n : length files ≡ length c.args.objects.now = length-map c.args.objects.now now_of in
-    let links = subst (λ xs. IsLinkOf (map object_of xs) start (linked_of c.in_ok-linked.linked)) c.as_slice.ensures.value c.in_ok-linked.ensures.links in (
+    let n : length files ≡ length c.args.objects.now = length-map c.args.objects.now now_of in (
       subst (λ k. AreWithin k start) (sym n) c.in_ok-within_limits.ensures.within,
-      (os, c.in_ok-read.ensures.objects, built_of os start c.in_ok-linked.linked c.in_ok-built.built.exe.items c.in_ok-built.built.map.items links c.in_ok-built.ensures.exe c.in_ok-built.ensures.map),
+      (os, c.in_ok-read.ensures.objects, built_of os start relax c.in_ok-linked.linked c.in_ok-built.built.exe.items c.in_ok-built.built.map.items c.in_ok-linked.ensures.links c.in_ok-built.ensures.exe c.in_ok-built.ensures.map),
     )

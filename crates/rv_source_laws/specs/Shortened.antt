@@ -21,7 +21,7 @@ use Rattle.rv_source_laws.specs.Program.{Mapped, Program, program, tables_in, fo
 use Rattle.rv_source_laws.specs.Sizes.{target_in}
 use Rattle.rv_source_laws.specs.Resolves.{global_names_of, is_one_of}
 use Rattle.rv_source_laws.specs.Fits.{InputSection, input_sections}
-use Rattle.rv_chain_laws.specs.Sized.{is_call, statement_size}
+use Rattle.rv_source_laws.specs.Sized.{is_call, statement_size}
 
 -- ---- the text in one line
 
