@@ -1,6 +1,6 @@
 # make             proves and builds the program as ./rv, and runs an example with it
-# make test        the whole gate: every proof from nothing, the must-fail edits, the tests and the program
-# make gate-times  the same, with a table of what each crate cost
+# make test        the whole gate: every proof from nothing, the must-fail edits, the tests and the program, and what each
+#                  crate cost
 # make bench       measures rv beside GNU's tools, qemu-riscv64 and an interpreter in C, where they are installed
 # make install     PREFIX=/usr/local by default
 
@@ -10,7 +10,7 @@ PROGRAM := crates/rv_cli/out/rv_cli
 # What the program is made of: no test crate, and no edit that must fail.
 SOURCES := crates.txt $(shell find crates \( -name out -o -name must-fail -o -name '*_tests' \) -prune -o -type f -print)
 
-.PHONY: all test gate-times bench install clean
+.PHONY: all test bench install clean
 
 all: rv
 	@echo "rv run $(EXAMPLE)"
@@ -22,9 +22,6 @@ rv: $(SOURCES)
 	cp $(PROGRAM) rv
 
 test:
-	rt ci
-
-gate-times:
 	scripts/gate_times.py
 
 bench: rv

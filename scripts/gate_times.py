@@ -1,13 +1,13 @@
 #!/usr/bin/env python3
-"""Runs the gate, and writes what each crate cost: make gate-times.
+"""Runs the gate, and writes what each crate cost: make test.
 
 usage: gate_times.py [COMMAND ..]
 
 The command is `rt ci` unless words are given. It runs as it is: this script hands its output on and looks, beside
 it, at the processes that it starts, four times a second. A process belongs to the crate that its words name
 (`--crate-name`), or to its parent's; below a folder rt-edit-* it tries an edit. The table goes to standard output,
-below what the command writes, and to out/gate_times.md. What ended between two looks, and rt itself, stand in the
-last row.
+below what the command writes, and to out/gate_times.md; the command's last line stands once more below it. What ended
+between two looks, and rt itself, stand in the last row.
 """
 
 import os
@@ -51,9 +51,9 @@ def parents():
     for pid in filter(str.isdigit, os.listdir("/proc")):
         try:
             fields = Path(f"/proc/{pid}/stat").read_text().rpartition(")")[2].split()
-        except OSError:
+            found[int(pid)] = int(fields[1]), fields[19]
+        except (OSError, IndexError):
             continue
-        found[int(pid)] = int(fields[1]), fields[19]
     return found
 
 
@@ -73,7 +73,8 @@ def look_at_all(top, seen):
                 seen[key] = Process(above)
             try:
                 seen[key].look(one)
-            except OSError:
+            except (OSError, IndexError):
+                # (it has ended meanwhile)
                 pass
 
 
@@ -133,7 +134,9 @@ def table(lines, seen, spent, clock):
     yield ""
     cores = len(os.sched_getaffinity(0))
     last = lines[-1].strip() if lines else ""
-    yield f"{clock / 60:.0f} minutes on {cores} cores, {spent / 60:.0f} processor minutes ({round(spent):,} seconds); {last}"
+    yield f"{clock / 60:.0f} minutes on {cores} cores, {spent / 60:.0f} processor minutes ({round(spent):,} seconds)"
+    yield ""
+    yield last
 
 
 def main(words):
@@ -141,7 +144,7 @@ def main(words):
     text = "\n".join(table(lines, seen, spent, clock))
     REPORT.parent.mkdir(exist_ok=True)
     REPORT.write_text(text + "\n")
-    print(f"\n{text}\n", flush=True)
+    print(f"\n{text}", flush=True)
     return status
 
 
