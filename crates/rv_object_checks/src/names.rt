@@ -69,7 +69,8 @@ impl<'a> Names<'a> {
 
     /// Whether an object keeps the section.
     pub(crate) fn is_kept(&self, header: &SectionHeader) -> bool
-        ensures { (i : ℕ) → result ≡ is_kept self.now.view.file.now (record { index = i; header = header.now }) }
+        ensures { (i : ℕ) → result ≡ is_kept self.now.view.file.now
+            (record { index = i; header = header.now }) }
     {
         header.sh_type == 1 && !self.is_rows(header) || header.sh_type == 7 || header.sh_type == 8
     }

@@ -127,7 +127,8 @@ fn fits(header: &SectionHeader, rela: &Rela, kind: Kind) -> bool
 
 /// Whether its padding, if it has one, is one.
 fn is_padding(header: &SectionHeader, rela: &Rela, kind: Kind) -> bool
-    ensures { result ≡ is_padding (is_executable header.now) (extent_of header.now) (placed rela.now kind) }
+    ensures { result ≡ is_padding
+        (is_executable header.now) (extent_of header.now) (placed rela.now kind) }
 {
     if !is_align(kind) {
         return true;
@@ -140,7 +141,8 @@ fn is_padding(header: &SectionHeader, rela: &Rela, kind: Kind) -> bool
 
 /// Whether so many bytes from a place on are a padding of the section.
 fn is_padding_of(header: &SectionHeader, place: u64, count: u64) -> bool
-    ensures { result ≡ is_padding_of (is_executable header.now) (extent_of header.now) place (Some count) }
+    ensures { result ≡ is_padding_of
+        (is_executable header.now) (extent_of header.now) place (Some count) }
 {
     if count % 2 != 0 || count > LONGEST_PADDING {
         return false;

@@ -51,7 +51,8 @@ fn either(a: bool, b: bool) -> bool
 
 /// For each of so many sections, what no relocation holds of it.
 fn no_places(alloc: Global, count: u16) -> Result<Vec<Places>, AllocError>
-    ensures { IfOk result (λ all. (file : List ℕ) → section_count file ≡ count → HoldBefore file [] all.items) }
+    ensures { IfOk result
+        (λ all. (file : List ℕ) → section_count file ≡ count → HoldBefore file [] all.items) }
 {
     let mut all = Vec::new(alloc);
     for _ in 0..count {
