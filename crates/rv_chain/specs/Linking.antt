@@ -30,8 +30,8 @@ AreLinked files start relax executable text =
     × ((os : List Object) × AreObjectsIn files os × IsBuiltOf os start relax executable text)
 
 -- the program of the objects of texts
-abbrev pub IsLinkFrom : List (List ℕ) → ℕ → Bool → Linked → Type 0
-IsLinkFrom texts start relax l =
+abbrev pub IsProgramOfObjectsFrom : List (List ℕ) → ℕ → Bool → Linked → Type 0
+IsProgramOfObjectsFrom texts start relax l =
     (os : List Object) × AreObjectsFrom texts os × IsProgramOf os start relax l
 
 -- what is written of the program of the objects of texts

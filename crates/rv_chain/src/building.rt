@@ -7,7 +7,7 @@ ghost use Rattle.rv_object.specs.View.{object_of};
 ghost use Rattle.rv_object_laws.specs.IsLinkOf.{most_files};
 ghost use Rattle.rv_chain_laws.specs.Headline.{TheHeadline};
 ghost use Rattle.rv_chain.specs.Building.{IsProgramFrom, IsExecutableOf};
-ghost use Rattle.rv_chain.specs.Linking.{AreBuilt, IsLinkFrom};
+ghost use Rattle.rv_chain.specs.Linking.{AreBuilt, IsProgramOfObjectsFrom};
 ghost use Rattle.rv_chain.specs.Listed.{IsListedAs};
 ghost use Rattle.rv_chain.specs.Objects.{IsObjectFrom, AreObjectsFrom};
 ghost use Rattle.rv_chain.specs.Refusals.{AreGood, IsRefusedFor, IsRefusedIn, IsRefusedAt};
@@ -75,7 +75,7 @@ fn linked(alloc: Global, sources: &[&[u8]], options: LinkOptions) -> Result<Link
         (λ l. IsProgramFrom
         (map now_of sources.now) options.text_start options.relax (linked_of l)) }
     ensures links { IfOk result
-        (λ l. IsLinkFrom
+        (λ l. IsProgramOfObjectsFrom
         (map now_of sources.now) options.text_start options.relax (linked_of l)) }
     ensures good { IfOk result (λ _. AreGood (map now_of sources.now) options.text_start) }
     ensures refuses { IfErr result
