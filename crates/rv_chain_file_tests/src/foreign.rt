@@ -102,18 +102,23 @@ fn bytes(alloc: Global, text: &str) -> Result<Vec<u8>, AllocError> {
     Ok(bytes)
 }
 
-/// It exits with 7 and the distance from `_start` to `exit`: a call of 8 bytes wants a padding of 4.
+/// Whether calls may be shortened, and what it then exits with: 7 and the distance from `_start` to `exit`. A call of four
+/// bytes wants no padding, one of eight a padding of 4.
+const EXITS: [(bool, u8); 2] = [(true, 23), (false, 31)];
+
 #[test]
 fn gnu_object(rt: HostRuntime) -> Result<(), Fail> {
     let alloc = rt.alloc();
     let object = bytes(alloc, GNU_OBJECT)?;
-    let options = LinkOptions {
-        text_start: OPTIONS.text_start,
-        relax: false,
-    };
-    let built = link_objects(alloc, &[object.as_slice()], options)?;
-    let outcome = run_exec(alloc, built.exe.as_slice(), b"", 100)?;
-    assert_eq!(rt; outcome.end, End::Exited(31));
+    for (relax, code) in EXITS.iter() {
+        let options = LinkOptions {
+            text_start: OPTIONS.text_start,
+            relax: *relax,
+        };
+        let built = link_objects(alloc, &[object.as_slice()], options)?;
+        let outcome = run_exec(alloc, built.exe.as_slice(), b"", 100)?;
+        assert_eq!(rt; outcome.end, End::Exited(*code));
+    }
     Ok(())
 }
 

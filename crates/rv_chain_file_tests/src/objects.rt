@@ -1,6 +1,6 @@
 //! Objects of sources, linked: as the sources build, and refused as they are.
 
-use crate::sources::{EXIT7, FIRST, FIRST_WITH_F, HELLO, KINDS, OPTIONS, SECOND};
+use crate::sources::{CALLS, EXIT7, FIRST, FIRST_WITH_F, HELLO, KINDS, OPTIONS, SECOND};
 use rv_chain::{
     Built, End, Fault, FileFault, LinkFault, LinkOptions, assemble_object, build, link_objects,
     run_exec,
@@ -9,11 +9,13 @@ use std::alloc::{AllocError, Global};
 use std::test::Fail;
 
 /// The lists of sources whose objects are linked to what the sources build.
-const LISTS: [&[&[u8]]; 6] = [
+const LISTS: [&[&[u8]]; 8] = [
     &[EXIT7],
     &[EXIT7, b""],
     &[HELLO],
     &[KINDS],
+    &[CALLS],
+    &[b".option norvc\ntail f\n.balign 4\njump f, t0\n", CALLS],
     &[FIRST, SECOND],
     &[
         SECOND,
@@ -67,6 +69,25 @@ fn two_files(rt: HostRuntime) -> Result<(), Fail> {
     let built = linked(alloc, &[FIRST, SECOND], OPTIONS)?;
     let outcome = run_exec(alloc, built.exe.as_slice(), b"", 1_000_000)?;
     assert_eq!(rt; outcome.end, End::Exited(11));
+    Ok(())
+}
+
+/// Whether calls may be shortened, and what the program of `CALLS` exits with: the bytes of its first call, which may be
+/// shortened, and 16 times those of its second.
+const EXITS: [(bool, u8); 2] = [(true, 4 + 16 * 8), (false, 8 + 16 * 8)];
+
+#[test]
+fn calls(rt: HostRuntime) -> Result<(), Fail> {
+    let alloc = rt.alloc();
+    for (relax, code) in EXITS.iter() {
+        let options = LinkOptions {
+            text_start: OPTIONS.text_start,
+            relax: *relax,
+        };
+        let built = linked(alloc, &[CALLS], options)?;
+        let outcome = run_exec(alloc, built.exe.as_slice(), b"", 100)?;
+        assert_eq!(rt; outcome.end, End::Exited(*code));
+    }
     Ok(())
 }
 

@@ -44,6 +44,26 @@ there: .byte 1
 .word 2
 ";
 
+/// Calls that are shortened and calls that may not be, and a difference over each kind.
+pub(super) const CALLS: &[u8] = b".globl _start, f
+_start: call f
+first: .option push
+.option norelax
+call f
+.option pop
+second: tail end
+.balign 16
+f: ret
+end: lw a0, lengths
+lw a1, lengths + 4
+slli a1, a1, 4
+or a0, a0, a1
+li a7, 93
+ecall
+.data
+lengths: .word first - _start, second - first
+";
+
 /// A program whose loop has the name of the other file's.
 pub(super) const FIRST: &[u8] = b".globl _start
 _start: li a0, 0

@@ -29,10 +29,14 @@ mod padding;
 #[cfg(test)]
 mod programs;
 #[cfg(test)]
+mod relaxed;
+#[cfg(test)]
 mod several;
 #[cfg(test)]
 mod short;
 #[cfg(test)]
 mod sources;
+#[cfg(test)]
+mod texts;
 #[cfg(test)]
 mod worked;

@@ -5,79 +5,11 @@
 //! says otherwise, and in a branch of eight bytes, whose first instruction is no parcel here.
 
 use crate::sources::{Answer, answered, answered_at};
-use rv_chain::{End, Fault, LinkOptions, build, run_exec};
+use crate::texts::{LONG, PAGE, Row, SHORT, UNRELAXED, makes, put, stand_for};
+use rv_chain::{End, Fault, build, run_exec};
 use std::alloc::{AllocError, Global};
 use std::process::Abort;
 use std::test::Fail;
-
-/// The page of a file where its text begins.
-const PAGE: usize = 4096;
-
-const UNRELAXED: LinkOptions = LinkOptions {
-    text_start: 0x1_0000,
-    relax: false,
-};
-
-/// A line, and what stands for it without compressed code and with it: words, and parcels of two bytes.
-type Row = (&'static [u8], &'static [u32], &'static [u32]);
-
-/// Appends the bytes of words and parcels; the two low bits of a word are 11.
-fn put(bytes: &mut Vec<u8>, pieces: &[u32]) -> Result<(), AllocError> {
-    for piece in pieces {
-        let count = if *piece % 4 == 3 { 4 } else { 2 };
-        let all = piece.to_le_bytes();
-        bytes.extend_from_slice(all.as_slice().get(..count).unwrap_or_default())?;
-    }
-    Ok(())
-}
-
-/// Whether all these bytes are 0.
-fn is_zero(bytes: &[u8]) -> bool {
-    for byte in bytes {
-        if *byte != 0 {
-            return false;
-        }
-    }
-    true
-}
-
-/// Whether the text of these sources has these bytes, and the pages of their data come after it.
-fn has_text(alloc: Global, sources: &[&[u8]], wanted: &[u8]) -> Result<bool, Fail> {
-    let built = build(alloc, sources, UNRELAXED)?;
-    let text = built.exe.as_slice().get(PAGE..).unwrap_or_default();
-    let behind = text.get(wanted.len()..PAGE).unwrap_or_default();
-    let rest = text.get(wanted.len()..).unwrap_or_default();
-    Ok(text.starts_with(wanted) && (is_zero(behind) && (text.len() > PAGE || rest.is_empty())))
-}
-
-const LONG: &[u8] = b".option norvc; .globl _start; _start: ";
-
-/// A source begins with compressed code on.
-const SHORT: &[u8] = b".globl _start; _start: ";
-
-/// Whether a line behind this front, with another source, makes these words and parcels.
-fn makes(
-    alloc: Global,
-    front: &[u8],
-    line: &[u8],
-    other: &[u8],
-    pieces: &[u32],
-) -> Result<bool, Fail> {
-    let mut source = Vec::from_slice(alloc, front)?;
-    source.extend_from_slice(line)?;
-    let mut wanted = Vec::new(alloc);
-    put(&mut wanted, pieces)?;
-    has_text(alloc, &[source.as_slice(), other], wanted.as_slice())
-}
-
-/// Each line makes its words without compressed code, and its words and parcels with it.
-fn stand_for(rt: &impl Abort, alloc: Global, rows: &[Row]) -> Result<(), Fail> {
-    for (index, (line, long, short)) in rows.iter().enumerate() {
-        assert!(rt; makes(alloc, LONG, line, b"", long)?, "long row {index}");
-        assert!(rt; makes(alloc, SHORT, line, b"", short)?, "short row {index}");
-    }
-    Ok(())
-}
 
 /// Branches to places of their own section; those of two bytes where `c.beqz` or `c.bnez` has the registers.
 const BRANCHES: [Row; 26] = [
@@ -123,7 +55,7 @@ const BRANCHES: [Row; 26] = [
 
 #[test]
 fn branches(rt: HostRuntime) -> Result<(), Fail> {
-    stand_for(&rt, rt.alloc(), &BRANCHES)
+    stand_for(&rt, rt.alloc(), UNRELAXED, &BRANCHES)
 }
 
 /// Jumps and calls of one instruction. GNU as leaves four bytes to `jal zero`, which the papers take as `j`.
@@ -151,7 +83,7 @@ const JUMPS: [Row; 11] = [
 
 #[test]
 fn jumps(rt: HostRuntime) -> Result<(), Fail> {
-    stand_for(&rt, rt.alloc(), &JUMPS)
+    stand_for(&rt, rt.alloc(), UNRELAXED, &JUMPS)
 }
 
 /// Addresses, and loads and stores of symbols, with constants at the ends of a low part.
@@ -250,7 +182,7 @@ const ADDRESSES: [Row; 18] = [
 
 #[test]
 fn addresses(rt: HostRuntime) -> Result<(), Fail> {
-    stand_for(&rt, rt.alloc(), &ADDRESSES)
+    stand_for(&rt, rt.alloc(), UNRELAXED, &ADDRESSES)
 }
 
 /// Calls that the linker may not shorten. In `call rd` it is rd that holds the upper part, where GNU as takes t1.
@@ -304,7 +236,7 @@ const CALLS: [Row; 9] = [
 
 #[test]
 fn calls(rt: HostRuntime) -> Result<(), Fail> {
-    stand_for(&rt, rt.alloc(), &CALLS)
+    stand_for(&rt, rt.alloc(), UNRELAXED, &CALLS)
 }
 
 /// Parts of addresses; a low part of a distance before its upper part and behind other code.
@@ -358,7 +290,7 @@ const PARTS: [Row; 13] = [
 
 #[test]
 fn parts(rt: HostRuntime) -> Result<(), Fail> {
-    stand_for(&rt, rt.alloc(), &PARTS)
+    stand_for(&rt, rt.alloc(), UNRELAXED, &PARTS)
 }
 
 /// In another section a branch has eight bytes and a jump four.
@@ -392,7 +324,7 @@ const SECTIONS: [Row; 5] = [
 
 #[test]
 fn sections(rt: HostRuntime) -> Result<(), Fail> {
-    stand_for(&rt, rt.alloc(), &SECTIONS)
+    stand_for(&rt, rt.alloc(), UNRELAXED, &SECTIONS)
 }
 
 /// Another source, and the same without compressed code.
@@ -499,11 +431,11 @@ fn files(rt: HostRuntime) -> Result<(), Fail> {
     let alloc = rt.alloc();
     for (index, (line, long, short)) in FILES.iter().enumerate() {
         assert!(rt;
-            makes(alloc, LONG, line, LONG_OTHER, long)?,
+            makes(alloc, UNRELAXED, LONG, line, LONG_OTHER, long)?,
             "long row {index}"
         );
         assert!(rt;
-            makes(alloc, SHORT, line, OTHER, short)?,
+            makes(alloc, UNRELAXED, SHORT, line, OTHER, short)?,
             "short row {index}"
         );
     }
@@ -791,7 +723,7 @@ const CONSTANTS: [Row; 3] = [
 
 #[test]
 fn constants(rt: HostRuntime) -> Result<(), Fail> {
-    stand_for(&rt, rt.alloc(), &CONSTANTS)
+    stand_for(&rt, rt.alloc(), UNRELAXED, &CONSTANTS)
 }
 
 /// The largest form is taken without a test; where it does not reach, the link says so.
@@ -920,7 +852,7 @@ fn runs(rt: HostRuntime) -> Result<(), Fail> {
 }
 
 /// A source of these lines, so many `nop`, and the guest's end at f.
-fn with_nops(
+pub(super) fn with_nops(
     alloc: Global,
     front: &[u8],
     lines: &[u8],

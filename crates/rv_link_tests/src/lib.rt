@@ -22,4 +22,6 @@ mod programs;
 #[cfg(test)]
 mod relaxed;
 #[cfg(test)]
+mod rounds;
+#[cfg(test)]
 mod shapes;

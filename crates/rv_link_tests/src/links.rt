@@ -32,7 +32,7 @@ pub(crate) fn link_objects(alloc: Global, objects: &[Object], text_start: u64) -
         text_start,
         relax: false,
     };
-    of_result(link(alloc, objects, options))
+    of_link(link(alloc, objects, options))
 }
 
 /// What the link of objects comes to at the usual start of the text, with their calls shortened or not.
@@ -41,11 +41,11 @@ pub(crate) fn link_relaxed(alloc: Global, objects: Vec<Object>, relax: bool) -> 
         text_start: 0x1_0000,
         relax,
     };
-    of_result(link_all(alloc, objects, options))
+    of_link(link_all(alloc, objects, options))
 }
 
-fn of_result(result: Result<Linked, LinkFault>) -> Answer {
-    match result {
+fn of_link(found: Result<Linked, LinkFault>) -> Answer {
+    match found {
         Ok(linked) => Answer::Linked(linked),
         Err(fault) => of_fault(&fault),
     }

@@ -10,10 +10,13 @@ use rv_object::{Binding, Contents, Definition, Object};
 use std::alloc::{AllocError, Global};
 use std::test::Fail;
 
-const START: SymbolRow = (b"_start", Binding::Global, Definition::InSection(0, 0));
+pub(crate) const START: SymbolRow = (b"_start", Binding::Global, Definition::InSection(0, 0));
+
+/// Behind a call of eight bytes.
+const F: SymbolRow = (b"f", Binding::Global, Definition::InSection(0, 8));
 
 /// `call f`, as an assembler leaves it.
-const CALL: [u8; 8] = [0x97, 0, 0, 0, 0xe7, 0x80, 0, 0];
+pub(crate) const CALL: [u8; 8] = [0x97, 0, 0, 0, 0xe7, 0x80, 0, 0];
 
 /// `tail f`.
 const TAIL: [u8; 8] = [0x17, 0x03, 0, 0, 0x67, 0, 0x03, 0];
@@ -69,13 +72,29 @@ const BETWEEN: ObjectRow = (
             &[(0, Kind::Add64, Some(1), 0), (0, Kind::Sub64, Some(0), 0)],
         ),
     ],
-    &[START, (b"f", Binding::Global, Definition::InSection(0, 8))],
+    &[START, F],
 );
 
 /// `jal ra` over nothing, and `ret`.
 const BETWEEN_SHORT: &[u8] = b"\xef\0\x40\0\x82\x80";
 
 const BETWEEN_LONG: &[u8] = b"\x97\0\0\0\xe7\x80\x80\0\x82\x80";
+
+/// `_start: tail f`, `f: ret`, in an object that says nothing of compressed code.
+const TO_F: ObjectRow = (
+    &[(
+        b".text",
+        A | X,
+        b"\x17\x03\0\0\x67\0\x03\0\x82\x80",
+        None,
+        2,
+        &[(0, Kind::CallPlt, Some(1), 0), (0, Kind::Relax, None, 0)],
+    )],
+    &[START, F],
+);
+
+/// `jal zero` over nothing, and `ret`.
+const TO_F_SHORT: &[u8] = b"\x6f\0\x40\0\x82\x80";
 
 /// Bytes of a row's program: the text, and the data.
 fn linked_row(
@@ -113,8 +132,12 @@ fn calls_are_short(rt: HostRuntime) -> Result<(), Fail> {
     assert!(rt; comes_to(alloc, THREE, false, THREE_LONG, b"")?);
     assert!(rt; comes_to(alloc, BETWEEN, true, BETWEEN_SHORT, b"\x04\0\0\0\0\0\0\0")?);
     assert!(rt; comes_to(alloc, BETWEEN, false, BETWEEN_LONG, b"\x08\0\0\0\0\0\0\0")?);
+    assert!(rt; comes_to(alloc, TO_F, true, TO_F_SHORT, b"")?);
     Ok(())
 }
+
+/// `call f`, and `ret`.
+const CALL_RET: &[u8] = b"\x97\0\0\0\xe7\x80\0\0\x82\x80";
 
 /// A name at an offset of the code.
 fn place(name: &'static [u8], offset: u64) -> SymbolRow {
@@ -122,7 +145,7 @@ fn place(name: &'static [u8], offset: u64) -> SymbolRow {
 }
 
 /// An object of compressed code with these bytes, relocations and names.
-fn code(
+pub(crate) fn code(
     alloc: Global,
     bytes: Vec<u8>,
     rows: &[RelocationRow],
@@ -141,6 +164,87 @@ fn code(
     Ok(object_with(sections, symbols, Vec::new(alloc), true))
 }
 
+/// The relocations of a call that may be shortened.
+const CALLED: &[RelocationRow] = &[(0, Kind::CallPlt, Some(1), 0), (0, Kind::Relax, None, 0)];
+
+/// The bytes, relocations and symbols of an object of code.
+type Code = (
+    &'static [u8],
+    &'static [RelocationRow],
+    &'static [SymbolRow],
+);
+
+/// Calls of a place near them that are not shortened.
+const WHOLE: [Code; 8] = [
+    // no RELAX, or none at the call
+    (CALL_RET, &[(0, Kind::CallPlt, Some(1), 0)], &[START, F]),
+    (
+        CALL_RET,
+        &[(0, Kind::CallPlt, Some(1), 0), (4, Kind::Relax, None, 0)],
+        &[START, F],
+    ),
+    // a symbol strictly inside, and another field
+    (
+        CALL_RET,
+        CALLED,
+        &[
+            START,
+            F,
+            (b"inside", Binding::Local, Definition::InSection(0, 4)),
+        ],
+    ),
+    (
+        CALL_RET,
+        &[
+            (0, Kind::CallPlt, Some(1), 0),
+            (0, Kind::Relax, None, 0),
+            (4, Kind::Lo12I, Some(1), 0),
+        ],
+        &[START, F],
+    ),
+    // `jalr ra` from t1, and `lui` before it
+    (b"\x97\0\0\0\xe7\0\x03\0\x82\x80", CALLED, &[START, F]),
+    (b"\xb7\0\0\0\xe7\x80\0\0\x82\x80", CALLED, &[START, F]),
+    // a number and one of the linker's names
+    (
+        CALL_RET,
+        CALLED,
+        &[
+            START,
+            (b"f", Binding::Global, Definition::Absolute(0x1_0008)),
+        ],
+    ),
+    (
+        CALL_RET,
+        CALLED,
+        &[START, (b"_etext", Binding::Global, Definition::Undefined)],
+    ),
+];
+
+/// The bytes of the text of a program; none where there is none.
+fn length(alloc: Global, row: &Code) -> Result<Option<usize>, AllocError> {
+    let (bytes, relocations, symbols) = *row;
+    let bytes = Vec::from_slice(alloc, bytes)?;
+    let Some(object) = code(alloc, bytes, relocations, symbols)? else {
+        return Ok(None);
+    };
+    let mut objects = Vec::new(alloc);
+    objects.push(object)?;
+    match link_relaxed(alloc, objects, true) {
+        Answer::Linked(linked) => Ok(Some(linked.text.len())),
+        Answer::Fault(_) | Answer::Neither => Ok(None),
+    }
+}
+
+#[test]
+fn calls_are_whole(rt: HostRuntime) -> Result<(), Fail> {
+    let alloc = rt.alloc();
+    for (index, row) in WHOLE.iter().enumerate() {
+        assert_eq!(rt; length(alloc, row)?, Some(10), "row {index}");
+    }
+    Ok(())
+}
+
 /// Where `f` stands in the program of an object.
 fn f_in(alloc: Global, object: Object, relax: bool) -> Result<Option<u64>, AllocError> {
     let mut objects = Vec::new(alloc);
@@ -151,7 +255,7 @@ fn f_in(alloc: Global, object: Object, relax: bool) -> Result<Option<u64>, Alloc
                 .map
                 .globals
                 .iter()
-                .find(|global| global.name.as_slice() == b"f")
+                .find(|global| global.name.as_slice() == b"f".as_slice())
                 .map(|global| global.address),
         ),
         Answer::Fault(_) | Answer::Neither => Ok(None),
@@ -254,6 +358,6 @@ fn many_calls(alloc: Global, count: u64) -> Result<Option<u64>, AllocError> {
 #[test]
 fn many_calls_are_short(rt: HostRuntime) -> Result<(), Fail> {
     let alloc = rt.alloc();
-    assert_eq!(rt; many_calls(alloc, 20000)?, Some(0x2_3888));
+    assert_eq!(rt; many_calls(alloc, 400)?, Some(0x1_0000 + 4 * 400 + 8));
     Ok(())
 }

@@ -1,6 +1,7 @@
 //! What `rv run` writes for each end of a run, and its status. The words are those that GNU as writes.
 
 use super::fake::{Row, Scene, ends, first_other};
+use super::listings::CALLS;
 use rv_chain::{Fault, build};
 use rv_program::default_options;
 use std::alloc::Global;
@@ -115,6 +116,19 @@ fn a_limit_ends_a_run(rt: HostRuntime) -> Result<(), Fail> {
         first_other(rt.alloc(), Scene::source(EXIT7), &LIMITS)?,
         None
     );
+    Ok(())
+}
+
+/// A call that is shortened is one instruction.
+const CALL_LIMITS: [Row; 2] = [
+    ("rv run --limit 8 a.s", 0, "", ""),
+    ("rv run --limit 7 a.s", 125, "", "rv: Limit\n"),
+];
+
+#[test]
+fn a_run_shortens_calls(rt: HostRuntime) -> Result<(), Fail> {
+    let scene = Scene::source(CALLS);
+    assert_eq!(rt; first_other(rt.alloc(), scene, &CALL_LIMITS)?, None);
     Ok(())
 }
 
