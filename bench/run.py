@@ -44,6 +44,8 @@ OBJECTS = 500
 OBJECT_BYTES = 16 * 2**10
 TEXT_BYTES = 16 * 2**20
 TEXTS = 16
+CALLS = 10_000
+CALLED_BYTES = 2**20
 # No token: the last line of a source that is read whole and refused.
 FAULT = "!\n"
 
@@ -221,9 +223,9 @@ def compiled(folder):
         yield re.split(r"(?<![\w.$])(" + "|".join(map(re.escape, longest)) + r")(?![\w.$])", text)
 
 
-def write_compiled(folder, path):
-    """Writes a compiler's output again and again, each time with other names, up to the length that is measured; it
-    answers how many lines there are."""
+def write_compiled(folder, path, most=SOURCE_BYTES):
+    """Writes a compiler's output again and again, each time with other names, up to a length; it answers how many lines
+    there are."""
     texts = list(compiled(folder))
     front = ".globl _start\n.text\n_start:\n"
     count, length, number = 3, len(front), 0
@@ -232,7 +234,7 @@ def write_compiled(folder, path):
         while True:
             copy = "".join(part + f"_{number}" * (at % 2) for at, part in enumerate(texts[number % len(texts)]))
             length += len(copy)
-            if length > SOURCE_BYTES:
+            if length > most:
                 return count
             count += copy.count("\n")
             number += 1
@@ -249,16 +251,15 @@ def peak(command, status=0):
 
 def builders(folder, source, architecture="rv64ima"):
     """The commands that build a source, by what they do: rv makes the executable and its map; GNU as an object, of
-    which GNU ld makes the executable."""
+    which GNU ld makes the executable. Calls keep their eight bytes."""
     executable, linked = folder / "executable", folder / "object"
     commands = {
-        "rv build": [RV, "build", "-o", executable, "--map", folder / "map", source],
+        "rv build": [RV, "build", "--no-relax", "-o", executable, "--map", folder / "map", source],
         "rv as": [RV, "as", "-o", linked, source],
     }
     if not missing(AS):
         commands["as"] = [AS, f"-march={architecture}", "-mabi=lp64", "-o", linked, source]
     if "as" in commands and not missing(LD):
-        # (calls keep their eight bytes, as rv leaves them)
         commands["ld"] = [LD, "--no-relax", "-Map", folder / "map", "-o", executable, linked]
     return commands
 
@@ -370,7 +371,8 @@ def write_parts(folder):
 
 
 def objects(folder):
-    """Linking many objects, those of rv and those of GNU as: bytes of text a second, and the memory that it takes."""
+    """Linking many objects, those of rv and those of GNU as: bytes of text a second, and the memory that it takes. Calls
+    keep their eight bytes."""
     sources = write_parts(folder)
     length = OBJECTS * OBJECT_BYTES
     print(f"Linking {OBJECTS} objects with {length} bytes of text together")
@@ -382,9 +384,8 @@ def objects(folder):
         makers[", of as"] = assemble_all(sources)[1]
     for maker, made in makers.items():
         written = ["-o", folder / "executable", *made]
-        measured(f"rv ld{maker}", [RV, "ld", "--map", folder / "map", *written], length)
+        measured(f"rv ld{maker}", [RV, "ld", "--no-relax", "--map", folder / "map", *written], length)
         if not missing(LD):
-            # (calls keep their eight bytes, as rv leaves them)
             measured(f"ld{maker}", [LD, "--no-relax", "-Map", folder / "map", *written], length)
 
 
@@ -465,9 +466,86 @@ def growth(folder):
             print(f"{kind:10} {name:10} {said} s, exponent {math.log2(times[2] / times[0]) / 2:5.2f}")
 
 
+def write_graph(folder, path, count):
+    """Writes functions that call two others each, anywhere in the text."""
+    functions = count // 2
+    with path.open("w") as file:
+        file.write(".globl _start\n_start:\n")
+        for at in range(functions):
+            file.write(f"f_{at}: call f_{at * 7919 % functions}\ncall f_{(at * 104729 + 1) % functions}\nret\n")
+
+
+def write_cascade(folder, path, count):
+    """Writes tails, each of which reaches in two bytes once all of the 1021 behind it have two: the last is the first."""
+    with path.open("w") as file:
+        file.write(".globl _start\n_start:\n")
+        file.writelines(f"label_{at}: tail label_{min(at + 1022, count)}\n" for at in range(count))
+        file.write(f"label_{count}: nop\n")
+
+
+# Sources with calls, by what they have: what writes one, and how much of it at first.
+CALLING = {
+    "graph of calls": (write_graph, CALLS),
+    "cascade of tails": (write_cascade, CALLS),
+    "output of GCC": (write_compiled, CALLED_BYTES),
+}
+# Where the text starts, far enough from zero that GNU ld shortens nothing but calls, and its script, which sets no gp.
+CALLED_START = 0x400000
+SCRIPT = f"""SECTIONS {{ . = {CALLED_START:#x}; .text : {{ *(.text .text.*) }}
+.rodata ALIGN(4096) : {{ *(.rodata .rodata.* .srodata .srodata.*) }}
+.data ALIGN(4096) : {{ *(.data .data.* .sdata .sdata.*) *(.bss .bss.* .sbss .sbss.*) }} }}
+"""
+
+
+def text_left(path):
+    """The bytes of text by a map of rv or of GNU ld."""
+    shown = path.read_text()
+    ours = re.search(r"^text ([0-9a-f]+) ([0-9a-f]+)$", shown, re.MULTILINE)
+    if ours:
+        return int(ours.group(2), 16) - int(ours.group(1), 16)
+    theirs = re.search(r"^\.text\s+0x[0-9a-f]+\s+0x([0-9a-f]+)", shown, re.MULTILINE)
+    return int(theirs.group(1), 16)
+
+
+def shortening(folder, source):
+    """The commands that link a source with calls shortened, each after its object is made, by what they do."""
+    executable, ours, theirs, script = (folder / name for name in ("executable", "ours.o", "theirs.o", "script"))
+    script.write_text(SCRIPT)
+    start = ["--text-start", str(CALLED_START), "--map", folder / "map", "-o", executable]
+    subprocess.run([RV, "as", "-o", ours, source], check=True)
+    commands = {"rv build": [RV, "build", *start, source], "rv ld": [RV, "ld", *start, ours]}
+    if not missing(AS) and not missing(LD):
+        subprocess.run([AS, "-march=rv64imac", "-mabi=lp64", "-o", theirs, source], check=True)
+        commands["rv ld, of as"] = [RV, "ld", *start, theirs]
+        quiet = ["--no-warn-rwx-segments", "-e", "_start"]
+        commands["ld"] = [LD, *quiet, "-T", script, "-Map", folder / "map", "-o", executable, theirs]
+    return commands
+
+
+def relaxation(folder):
+    """Shortening calls: once, twice, four and eight times as many, the exponent between the first and the last, and the
+    bytes of text that are left of the last."""
+    print("Shortening calls: seconds at n, 2n, 4n and 8n, the exponent, and the bytes of text of 8n")
+    source = folder / "calling.s"
+    for kind, (write, first) in CALLING.items():
+        if write is write_compiled and missing(GCC):
+            continue
+        rows, left = {}, {}
+        for count in (first, 2 * first, 4 * first, 8 * first):
+            write(folder, source, count)
+            for name, command in shortening(folder, source).items():
+                # (GNU ld takes minutes)
+                seconds, _ = best(command, b"", times=1 if name == "ld" else 3)
+                rows.setdefault(name, []).append(seconds)
+                left[name] = text_left(folder / "map")
+        for name, times in rows.items():
+            said = " ".join(f"{seconds:8.3f}" for seconds in times)
+            print(f"{kind:18} {name:14} {said} s, exponent {math.log2(times[3] / times[0]) / 3:5.2f}, {left[name]:9} bytes")
+
+
 def main():
     with tempfile.TemporaryDirectory() as folder:
-        for benchmark in (hart, start, reading, compiler, many, objects, listings, statements, growth):
+        for benchmark in (hart, start, reading, compiler, many, objects, listings, statements, growth, relaxation):
             benchmark(Path(folder))
 
 

@@ -9,6 +9,7 @@ use crate::sources::{OPTIONS, built};
 use crate::texts::{LONG, Row, SHORT, makes, stand_for};
 use rv_chain::{End, LinkOptions, build, run_exec};
 use std::alloc::{AllocError, Global};
+use std::process::Abort;
 use std::test::Fail;
 
 /// Lines with calls that are shortened.
@@ -109,11 +110,7 @@ const BESIDE: [Row; 6] = [
         &[0x004000ef, 0x00008067],
         &[0x004000ef, 0x00008067],
     ),
-    (
-        b"tail f",
-        &[0x0040006f, 0x00008067],
-        &[0xa009, 0x00008067],
-    ),
+    (b"tail f", &[0x0040006f, 0x00008067], &[0xa009, 0x00008067]),
     (
         b"call k",
         &[0x00000097, 0x010080e7, 0x00008067],
@@ -156,10 +153,14 @@ fn calls_beside_a_source(rt: HostRuntime) -> Result<(), Fail> {
 /// Lines, how many `nop` stand behind them before `f`, whether calls may be shortened, and the end of the text.
 type Reach = (&'static [u8], usize, bool, &'static [u8]);
 
-/// A call counts with all of its bytes when it is judged, and a tail with four once `jal` reaches.
-const REACHES: [Reach; 8] = [
+/// A call counts with all of its bytes when it is judged.
+const CALLS: [Reach; 2] = [
     (b"call f", 524_283, true, b"rvmap 1\ntext 10000 110002\n"),
     (b"call f", 524_284, true, b"rvmap 1\ntext 10000 110008\n"),
+];
+
+/// A tail counts with four bytes once `jal` reaches.
+const TAILS: [Reach; 6] = [
     (b"tail f", 1021, true, b"rvmap 1\ntext 10000 10804\n"),
     (b"tail f", 1022, true, b"rvmap 1\ntext 10000 10808\n"),
     (b"call f", 1021, false, b"rvmap 1\ntext 10000 1080a\n"),
@@ -179,10 +180,9 @@ const REACHES: [Reach; 8] = [
     ),
 ];
 
-#[test]
-fn call_reach(rt: HostRuntime) -> Result<(), Fail> {
-    let alloc = rt.alloc();
-    for (index, (lines, count, relax, front)) in REACHES.iter().enumerate() {
+/// Each row's text ends there, and its run at `f`.
+fn reach(rt: &impl Abort, alloc: Global, rows: &[Reach]) -> Result<(), Fail> {
+    for (index, (lines, count, relax, front)) in rows.iter().enumerate() {
         let source = with_nops(alloc, SHORT, lines, *count)?;
         let options = LinkOptions {
             text_start: OPTIONS.text_start,
@@ -194,6 +194,16 @@ fn call_reach(rt: HostRuntime) -> Result<(), Fail> {
         assert_eq!(rt; outcome.end, End::Exited(0), "row {index}");
     }
     Ok(())
+}
+
+#[test]
+fn call_reach(rt: HostRuntime) -> Result<(), Fail> {
+    reach(&rt, rt.alloc(), &CALLS)
+}
+
+#[test]
+fn tail_reach(rt: HostRuntime) -> Result<(), Fail> {
+    reach(&rt, rt.alloc(), &TAILS)
 }
 
 /// Two tails over 1020 `nop`, and an alignment before the second one's target.
@@ -229,7 +239,7 @@ fn regrown_padding(rt: HostRuntime) -> Result<(), Fail> {
     let source = two_tails(alloc)?;
     let built = built(alloc, source.as_slice())?;
     assert!(rt; built.map.as_slice().starts_with(TWO_TAILS_MAP));
-    let outcome = run_exec(alloc, built.exe.as_slice(), b"", 10)?;
+    let outcome = run_exec(alloc, built.exe.as_slice(), b"", 11)?;
     assert_eq!(rt; outcome.end, End::Exited(0));
     Ok(())
 }
