@@ -1,6 +1,6 @@
 -- The worked program: what it is linked to, and its run by the machine.
 
-use Rattle.std.proofs.Common.{◌≡◌, ℕ, zero, suc, Bool, true, false, List, [], ◌∷◌, refl, sym, ◌∙◌, lit<, arith, inl, inr, pos}
+use Rattle.std.proofs.Common.{◌≡◌, ℕ, zero, suc, Bool, true, false, IsTrue, List, [], ◌∷◌, refl, sym, ◌∙◌, lit<, arith, inl, inr, pos}
 use Rattle.std.proofs.lemmas.Int.{ints}
 use Rattle.std.specs.Prelude.{slice_index}
 use Rattle.rv_isa.specs.Ranges.{IsValid}
@@ -97,8 +97,12 @@ in_line = record { in_order = (omega arith, tt); outside = outside }
     outside zero j = tt
     outside (suc i) j = tt
 
+-- none of its statements is a call
+no_call : {A : Type 0} → IsTrue false → A
+no_call c = absurd (let e : false ≡ true = c in cc)
+
 bytes : (size : ℕ → ℕ) → HaveBytes size (text_of (exit7 ∷ []) exit7_map)
-bytes size = ((λ c. absurd c), ((λ c. absurd c), ((λ c. absurd c), ((λ c. absurd c), tt))))
+bytes size = ((λ c. no_call c), ((λ c. no_call c), ((λ c. no_call c), ((λ c. no_call c), tt))))
 
 shortened : (relax : Bool) → Shortened relax (exit7 ∷ []) exit7_map
 shortened false = bytes (λ offset. 8)
