@@ -343,8 +343,9 @@ fn many_calls(alloc: Global, count: u64) -> Result<Option<u64>, AllocError> {
     let mut rows = Vec::new(alloc);
     for i in 0..count {
         bytes.extend_from_slice(&CALL)?;
-        rows.push((8 * i, Kind::CallPlt, Some(1), 0))?;
-        rows.push((8 * i, Kind::Relax, None, 0))?;
+        let place = i.wrapping_mul(8);
+        rows.push((place, Kind::CallPlt, Some(1), 0))?;
+        rows.push((place, Kind::Relax, None, 0))?;
     }
     bytes.extend_from_slice(&EXIT)?;
     let f = bytes.len() as u64;

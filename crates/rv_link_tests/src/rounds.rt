@@ -18,8 +18,11 @@ const BACKWARDS: u64 = 1 << 20;
 /// How many calls there are.
 const COUNT: u64 = 100;
 
-/// The passes over the sites of an object, and how many bytes of a call each of them keeps.
-fn passes(alloc: Global, object: Object) -> Result<Option<(usize, bool)>, AllocError> {
+/// How many passes there are over the sites of an object, and whether all of its calls are short then.
+fn passes(alloc: Global, object: Option<Object>) -> Result<Option<(usize, bool)>, AllocError> {
+    let Some(object) = object else {
+        return Ok(None);
+    };
     let mut objects = Vec::new(alloc);
     objects.push(object)?;
     let Ok(names) = Names::of(alloc, &objects) else {
@@ -40,17 +43,18 @@ fn chain(alloc: Global, calls: u64, targets: u64, size: u64) -> Result<Option<Ob
     let mut names = Vec::from_slice(alloc, &[START])?;
     for i in 0..COUNT {
         bytes.extend_from_slice(&CALL)?;
-        let place = calls + 8 * i;
+        let place = calls.wrapping_add(8 * i);
+        let target = targets.wrapping_add(4 * i);
         rows.push((place, Kind::CallPlt, Some(1 + i as u32), 0))?;
         rows.push((place, Kind::Relax, None, 0))?;
         names.push((
             b"".as_slice(),
             Binding::Local,
-            Definition::InSection(0, targets + 4 * i),
+            Definition::InSection(0, target),
         ))?;
     }
-    let behind = vec![in alloc; 0; (size - bytes.len() as u64) as usize]?;
-    bytes.extend_from_slice(&behind)?;
+    let behind = (size as usize).saturating_sub(bytes.len());
+    bytes.extend_from_slice(&vec![in alloc; 0; behind]?)?;
     code(alloc, bytes, &rows, &names)
 }
 
@@ -59,9 +63,7 @@ fn chain(alloc: Global, calls: u64, targets: u64, size: u64) -> Result<Option<Ob
 fn a_chain_from_the_end(rt: HostRuntime) -> Result<(), Fail> {
     let alloc = rt.alloc();
     let last = 8 * (COUNT - 1) + FORWARDS;
-    let Some(object) = chain(alloc, 0, last - 4 * (COUNT - 1), last + 2)? else {
-        return Ok(assert!(rt; false));
-    };
+    let object = chain(alloc, 0, last - 4 * (COUNT - 1), last + 2)?;
     assert_eq!(rt; passes(alloc, object)?, Some((3, true)));
     Ok(())
 }
@@ -70,10 +72,7 @@ fn a_chain_from_the_end(rt: HostRuntime) -> Result<(), Fail> {
 #[test]
 fn a_chain_from_the_start(rt: HostRuntime) -> Result<(), Fail> {
     let alloc = rt.alloc();
-    let size = BACKWARDS + 8 * COUNT;
-    let Some(object) = chain(alloc, BACKWARDS, 0, size)? else {
-        return Ok(assert!(rt; false));
-    };
+    let object = chain(alloc, BACKWARDS, 0, BACKWARDS + 8 * COUNT)?;
     assert_eq!(rt; passes(alloc, object)?, Some((2, true)));
     Ok(())
 }
