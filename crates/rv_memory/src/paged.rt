@@ -336,10 +336,11 @@ impl Memory for Paged {
 
     #[inline(always)]
     fn try_load(&self, address: u64, bytes: u64, right: Right) -> Option<u64> {
-        match self.part(self.first(address, right), address, bytes, right) {
-            Some(part) => Some(number(part)),
-            None => self.search_load(address, bytes, right),
+        if let Some(part) = self.part(self.first(address, right), address, bytes, right) {
+            return Some(number(part));
         }
+        // the number is taken out, so that no caller has to ask again whether the page that was looked at first held it
+        Some(self.search_load(address, bytes, right)?)
     }
 
     #[inline(always)]
