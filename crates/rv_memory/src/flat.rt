@@ -371,7 +371,8 @@ impl Memory for Flat {
         if let Some(part) = self.part(self.first(address, right), address, bytes, right) {
             return Some(number(part));
         }
-        self.load_elsewhere(address, bytes, right)
+        // the number is taken out, so that no caller has to ask again whether the first segment held it
+        Some(self.load_elsewhere(address, bytes, right)?)
     }
 
     #[inline(always)]

@@ -4,8 +4,9 @@ ghost use Rattle.std.specs.Prelude.{
   ◌≡◌,
   ℕ,
   ◌+◌,
+  ◌*◌,
   ◌/◌,
-  ◌==◌,
+  ◌%◌,
   ◌≤◌,
   ◌<◌,
   ◌++◌,
@@ -16,6 +17,7 @@ ghost use Rattle.std.specs.Prelude.{
   drop,
   replicate,
   IfOk,
+  IfSome,
   slice_index,
 };
 ghost use Rattle.std.specs.List.{list_all};
@@ -34,35 +36,49 @@ pub const PAGE_BYTES: u64 = 4096;
 #[derive(Drop)]
 pub struct Page {
     pub number: u64,
+    /// The first of its addresses.
+    pub start: u64,
     pub bytes: Box<[u8; 4096]>,
     /// The rights of each byte: 1 to execute, 2 to write, 4 to read.
     pub rights: Box<[u8; 4096]>,
+    pub ghost starts: { start ≡ 4096 * number },
     pub ghost bytes_long: { length bytes.value ≡ 4096 },
     pub ghost rights_long: { length rights.value ≡ 4096 },
 }
 
 impl Page {
-    /// A page of zeros, without rights.
-    pub fn new(alloc: Global, number: u64) -> Result<Page, AllocError>
-        ensures number { IfOk result (λ page. page.number ≡ number) }
+    /// The page of an address, of zeros and without rights.
+    pub fn new(alloc: Global, address: u64) -> Result<Page, AllocError>
+        ensures number { IfOk result (λ page. page.number ≡ address / 4096) }
         ensures bytes { IfOk result (λ page. (k : ℕ) → slice_index page.bytes.value k ≡ 0) }
         ensures rights { IfOk result (λ page. (k : ℕ) → slice_index page.rights.value k ≡ 0) }
     {
+        let number = address / PAGE_BYTES;
+        let start = number * PAGE_BYTES;
         let bytes = Box::new(alloc, [0; 4096])?;
         let rights = Box::new(alloc, [0; 4096])?;
         Ok(Page {
             number,
+            start,
             bytes,
             rights,
         })
     }
 
-    /// Whether an address is one of the page's.
+    /// Where an address stands in the page, where 1, 2, 4 or 8 bytes from it on are all the page's.
     #[inline(always)]
-    pub fn has(&self, address: u64) -> bool
-        ensures { result ≡ (self.now.number == address / 4096) }
+    pub fn place(&self, address: u64, bytes: usize) -> Option<usize>
+        requires { IsWidth bytes }
+        ensures number { IfSome result (λ _. self.now.number ≡ address / 4096) }
+        ensures place { IfSome result (λ at. at ≡ address % 4096) }
+        ensures within { IfSome result (λ at. at + bytes ≤ 4096) }
     {
-        self.number == address / PAGE_BYTES
+        let at = address.wrapping_sub(self.start);
+        if at <= PAGE_BYTES - bytes as u64 {
+            Some(at as usize)
+        } else {
+            None
+        }
     }
 }
 

@@ -32,19 +32,22 @@ use crate::flat::{overwrite, with_stack};
 use crate::memory::{Memory, Right};
 use crate::page::{PAGE_BYTES, Page, all_have, count_having, cut, overwrite_all};
 use crate::pieces::{Pieces, have_right, load_number, number, store_number};
-use rv_image::{Image, Segment};
+use rv_image::{Image, STACK_START, Segment};
 use std::alloc::{AllocError, Global};
 use std::cell::Cell;
 
-/// Pages by ascending numbers: all of an image's segments and of the stack. An access looks first at the page
-/// where the latest one was found, and a binary search finds its page where that one is another.
+/// Pages by ascending numbers: all of an image's segments and of the stack. Pages that follow one another by number do
+/// so in the list as well, so an access looks first as far from where the latest search ended as its number is from the
+/// one that was found there. A binary search finds its page where that one is another.
 #[derive(Drop)]
 pub struct Paged {
     pages: Vec<Page>,
-    /// The index of the page where the latest search for bytes to execute ended.
+    /// The index less the number of the page where the latest search for bytes to execute ended.
     code: Cell<usize>,
-    /// The index of the page where the latest search for other bytes ended.
+    /// The same of the latest search for other bytes below the stack.
     data: Cell<usize>,
+    /// The same of the latest search for other bytes from the stack on.
+    stack: Cell<usize>,
     ghost ascending: { AreAscending (map page_of pages.items) },
 }
 
@@ -60,6 +63,7 @@ impl Paged {
             pages: Vec::new(alloc),
             code: Cell::new(0),
             data: Cell::new(0),
+            stack: Cell::new(0),
         };
         for segment in &segments {
             paged.put_segment(alloc, segment)?;
@@ -75,15 +79,15 @@ impl Paged {
         self.pages.binary_search_by_key(&number, |page| page.number)
     }
 
-    /// The index of the page of a number, which is made where there is none.
-    fn place(&mut self, alloc: Global, number: u64) -> Result<usize, AllocError>
-        ensures found { IfOk result (IsPageAt (pages_of self.new) number) }
+    /// The index of the page of an address, which is made where there is none.
+    fn place(&mut self, alloc: Global, address: u64) -> Result<usize, AllocError>
+        ensures found { IfOk result (IsPageAt (pages_of self.new) (address / 4096)) }
         ensures same { OnOk result (held_pages self.new ≡ held_pages self.old) }
     {
-        match self.position(number) {
+        match self.position(address / PAGE_BYTES) {
             Ok(i) => Ok(i),
             Err(i) => {
-                self.pages.insert(i, Page::new(alloc, number)?)?;
+                self.pages.insert(i, Page::new(alloc, address)?)?;
                 Ok(i)
             }
         }
@@ -126,7 +130,7 @@ impl Paged {
         ensures { OnOk result (held_pages self.new
             ≡ with_segment (held_pages self.old) (record { address = address; bytes = bytes.now; flags = flags })) }
     {
-        let i = self.place(alloc, address / PAGE_BYTES)?;
+        let i = self.place(alloc, address)?;
         self.write(i, address, bytes);
         self.give(i, address, bytes, flags);
         Ok(())
@@ -149,22 +153,29 @@ impl Paged {
         Ok(())
     }
 
-    /// The index of the page that an access looks at first.
+    /// Where the latest search for such bytes ended.
     #[inline(always)]
-    fn first(&self, right: Right) -> usize {
+    fn latest(&self, address: u64, right: Right) -> &Cell<usize> {
         match right {
-            Right::Execute => self.code.get(),
-            Right::Read | Right::Write => self.data.get(),
+            Right::Execute => &self.code,
+            _ if address < STACK_START => &self.data,
+            _ => &self.stack,
         }
     }
 
-    /// Has the next accesses look first at the page of an address.
+    /// The index of the page that an access looks at first.
+    #[inline(always)]
+    fn first(&self, address: u64, right: Right) -> usize {
+        let number = (address / PAGE_BYTES) as usize;
+        self.latest(address, right).get().wrapping_add(number)
+    }
+
+    /// Has the next accesses look first as far from the page of an address as theirs are.
     fn remember(&self, address: u64, right: Right) {
-        if let Ok(i) = self.position(address / PAGE_BYTES) {
-            match right {
-                Right::Execute => self.code.set(i),
-                Right::Read | Right::Write => self.data.set(i),
-            }
+        let number = address / PAGE_BYTES;
+        if let Ok(i) = self.position(number) {
+            let ahead = i.wrapping_sub(number as usize);
+            self.latest(address, right).set(ahead);
         }
     }
 
@@ -182,11 +193,8 @@ impl Paged {
             return None;
         }
         let page = &self.pages[i];
-        let at = (address % PAGE_BYTES) as usize;
         let count = bytes as usize;
-        if !page.has(address) || at + count > 4096 {
-            return None;
-        }
+        let at = page.place(address, count)?;
         if all_have(cut(&page.rights[..], at, count), right) {
             Some(cut(&page.bytes[..], at, count))
         } else {
@@ -207,7 +215,7 @@ impl Paged {
             (λ _. (k : ℕ) → k < bytes → (held_pages self.now).byte ((address + k) % 2 ^ 64) < 256) }
     {
         self.remember(address, right);
-        if let Some(part) = self.part(self.first(right), address, bytes, right) {
+        if let Some(part) = self.part(self.first(address, right), address, bytes, right) {
             return Some(number(part));
         }
         if self.may(address, bytes, right) {
@@ -230,10 +238,9 @@ impl Paged {
             return false;
         }
         let page = &self.pages[i];
-        let at = (address % PAGE_BYTES) as usize;
-        if !page.has(address) || at + bytes.len() > 4096 {
+        let Some(at) = page.place(address, bytes.len()) else {
             return false;
-        }
+        };
         if !all_have(cut(&page.rights[..], at, bytes.len()), Right::Write) {
             return false;
         }
@@ -252,7 +259,7 @@ impl Paged {
     {
         self.remember(address, Right::Write);
         let digits = value.to_le_bytes();
-        let first = self.first(Right::Write);
+        let first = self.first(address, Right::Write);
         if self.put_part(first, address, &digits[..bytes as usize]) {
             return true;
         }
@@ -329,16 +336,17 @@ impl Memory for Paged {
 
     #[inline(always)]
     fn try_load(&self, address: u64, bytes: u64, right: Right) -> Option<u64> {
-        match self.part(self.first(right), address, bytes, right) {
-            Some(part) => Some(number(part)),
-            None => self.search_load(address, bytes, right),
+        if let Some(part) = self.part(self.first(address, right), address, bytes, right) {
+            return Some(number(part));
         }
+        // the number is taken out, so that no caller has to ask again whether the page that was looked at first held it
+        Some(self.search_load(address, bytes, right)?)
     }
 
     #[inline(always)]
     fn try_store(&mut self, address: u64, bytes: u64, value: u64) -> bool {
         let digits = value.to_le_bytes();
-        let first = self.first(Right::Write);
+        let first = self.first(address, Right::Write);
         if self.put_part(first, address, &digits[..bytes as usize]) {
             return true;
         }

@@ -61,13 +61,9 @@ pub fn number(bytes: &[u8]) -> u64
     requires { IsWidth (length bytes.now) }
     ensures { result ≡ number_in bytes.now }
 {
-    match bytes {
-        [a] => u64::from(*a),
-        [a, b] => u64::from(u16::from_le_bytes([*a, *b])),
-        [a, b, c, d] => u64::from(u32::from_le_bytes([*a, *b, *c, *d])),
-        [a, b, c, d, e, f, g, h] => u64::from_le_bytes([*a, *b, *c, *d, *e, *f, *g, *h]),
-        _ => 0,
-    }
+    let mut digits = [0; 8];
+    digits[..bytes.len()].copy_from_slice(bytes);
+    u64::from_le_bytes(digits)
 }
 
 /// Whether bytes have the right.
