@@ -1,5 +1,7 @@
 pub mod KnownRows
 pub mod OpenRows
+pub mod FreeRows
+pub mod OneInstruction
 pub mod OpenFields
 pub mod Taken
 pub mod Encoding

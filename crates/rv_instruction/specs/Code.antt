@@ -34,7 +34,7 @@ use Rattle.rv_pseudo_laws.specs.Valid.{AreOperandsOf, IsOpen}
 use Rattle.rv_pseudo.specs.declared.template.Form.{Form}
 use Rattle.rv_pseudo.specs.declared.template.Template.{Template}
 use Rattle.rv_pseudo.specs.Faults.{takes_target, fault}
-use Rattle.rv_pseudo.specs.Templates.{templates, statement_with, asked_bytes}
+use Rattle.rv_pseudo.specs.Templates.{plain, templates, statement_with, asked_bytes}
 use Rattle.rv_assemble_laws.specs.Coded.{IsCode, constants, joined}
 use Rattle.rv_assemble_laws.specs.InstructionFaults.{instruction_faults, number_faults, target_faults, upper_faults, low_faults, distance_faults}
 use Rattle.rv_source_laws.specs.Sizes.{near_forms}
@@ -355,3 +355,15 @@ abbrev pub IsNumber : values.Value → ℕ → Result ℕ SourceFault → Type 0
 IsNumber v line (Ok n) = v ≡ values.Constant n
 IsNumber v line (Err (At code at)) = (constant_faults v ≡ number_of code ∷ []) × (at ≡ line)
 IsNumber v line (Err OutOfMemory) = ⊥
+
+-- ---- one instruction
+
+abbrev pub alone : Inst → ArrayVec Template
+alone i = record { items = plain i ∷ [] }
+
+-- a part that leaves no field open
+abbrev pub whole : Encoded → Coded
+whole e = record { encoded = e; kind = None }
+
+abbrev pub alone_coded : Encoded → ArrayVec Coded
+alone_coded e = record { items = whole e ∷ [] }

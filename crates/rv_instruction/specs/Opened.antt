@@ -1,14 +1,16 @@
 -- The open field of a part of a statement's code, as the code holds it.
 
-use Rattle.std.specs.Prelude.{ℕ, Bool, ◌&&◌, if◌then◌else◌, List, [], ◌∷◌, Option, Some, None}
+use Rattle.std.specs.Prelude.{◌≡◌, ℕ, Bool, true, ◌&&◌, if◌then◌else◌, List, [], ◌∷◌, Option, Some, None}
 use Rattle.rv_isa.specs.declared.kind.Kind.{Kind}
 use Rattle.rv_text_laws.specs.Values.{Value}
 use Rattle.rv_text.specs.Nodes.{symbol_of}
 use Rattle.rv_statement.specs.declared.pseudo.Function.{Function}
 use Rattle.rv_statement.specs.declared.pseudo.Function.TheVariants.{Hi, Lo, PcrelHi, PcrelLo}
 use Rattle.rv_statement.specs.Statement.{StatementKind, Expression}
+use Rattle.rv_pseudo_laws.specs.Code.{Part, Constants}
+use Rattle.rv_pseudo_laws.specs.Filled.{are_closed}
 use Rattle.rv_unit_laws.specs.Tables.{Tables}
-use Rattle.rv_source_laws.specs.Lines.{operand_of, is_low_part}
+use Rattle.rv_source_laws.specs.Lines.{operand_of, is_low_part, parts_of}
 use Rattle.rv_assemble_laws.specs.Templates.{Open}
 use Rattle.rv_assemble_laws.specs.CodeFields.{symbol_field, low_field, label_field, field_of}
 use Rattle.rv_instruction.specs.declared.opened.Reference.{Reference}
@@ -41,3 +43,12 @@ value_field is_target k ordinal v =
 -- the fields of a statement's operand under a kind
 abbrev pub fields_of : Tables → (Expression → Value) → ℕ → StatementKind → Kind → List Open
 fields_of t v ordinal kind k = field_of t v ordinal (operand_of kind) k
+
+-- no part has an open field, or there are none
+abbrev pub are_free : Option (List Part) → Bool
+are_free None = true
+are_free (Some parts) = are_closed parts
+
+-- the code of such a statement leaves no field open, whatever its names stand for
+abbrev pub LeavesNone : StatementKind → Type 0
+LeavesNone kind = (v : Constants) (rvc : Bool) (bytes : ℕ) → are_free (parts_of v rvc bytes kind) ≡ true

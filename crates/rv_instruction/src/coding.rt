@@ -1,23 +1,27 @@
 //! The code of a statement.
 
-ghost use Rattle.std.specs.Prelude.{◌≡◌, ◌≤◌, ℕ, length, IfOk};
+ghost use Rattle.std.specs.Prelude.{◌≡◌, ◌≤◌, ℕ, Bool, None, Ok, length, IfOk, IfSome};
+ghost use Rattle.rv_isa.specs.Ranges.{IsValid};
+ghost use Rattle.rv_text_laws.specs.Expression.{Primary};
 ghost use Rattle.rv_text_laws.specs.Values as values;
 ghost use Rattle.rv_text.specs.Eval.{IsOutcome};
+ghost use Rattle.rv_text.specs.Expr.{tree_of_expr};
 ghost use Rattle.rv_statement.specs.Statement.{Expression};
 ghost use Rattle.rv_statement.specs.View.{statement_of};
 ghost use Rattle.rv_unit.specs.Unit.{IsFilled, IsScope};
 ghost use Rattle.rv_pseudo.specs.Templates.{statement_with};
 ghost use Rattle.rv_instruction.specs.Code as laws;
-ghost use Rattle.rv_instruction.specs.Code.{Codes, AreCodable, IsBuilt, IsExpanded, IsNumber, MayHave};
+ghost use Rattle.rv_instruction.specs.Code.{encoded_instructions, Codes, AreCodable, IsBuilt, IsExpanded, IsNumber, MayHave};
 ghost use Rattle.rv_instruction.specs.Scoped.{values_at, labels_at};
 
-use crate::encoded::{Code, encode_all};
-use crate::known::{plain, taken};
-use crate::operand::{Outcome, operand_fault};
+use crate::encoded::{Code, Encoded, alone, encode_all, in_least_form};
+use crate::known::{plain, plain_one, taken, taken_one};
+use crate::operand::{Outcome, operand_fault, value_fault};
 use arrayvec::ArrayVec;
-use rv_pseudo::Templates;
+use rv_isa::Inst;
+use rv_pseudo::{Templates, takes_target};
 use rv_statement::{Function, Operation, Statement, StatementKind};
-use rv_text::{SourceCode, SourceFault, Value};
+use rv_text::{Expr, SourceCode, SourceFault, Value};
 use rv_unit::{Scope, SectionOffset};
 
 /// The number of an expression that has to be a constant, by its value; else its fault at a line.
@@ -103,6 +107,110 @@ fn expanded<'a>(
     }
 }
 
+/// The code of the statement that is next by the list of its instructions, as `code` gives it.
+fn listed<'a>(
+    statement: &Statement<'a>,
+    scope: &Scope<'_, 'a>,
+    place: SectionOffset,
+    compressed: bool,
+    bytes: u8,
+) -> Result<Code, SourceFault>
+    requires { MayHave compressed (statement_of statement.now).kind bytes }
+    ensures few { IfOk result (λ c. length c.items ≤ 8) }
+    ensures codes { (index : ℕ) → IsFilled (scope.now).unit.now → IsScope scope.now index
+        → Codes compressed bytes (values_at scope.now index place)
+        (labels_at scope.now index) (statement_of statement.now) result }
+{
+    match expanded(statement, scope, place, compressed, bytes) {
+        Ok(templates) => Ok(encode_all(templates, compressed)),
+        Err(fault) => Err(fault),
+    }
+}
+
+// ---- one instruction
+
+/// The one instruction of an operation with an expression of this value; none where it is faulty, or
+/// may have several.
+fn with_one(operation: &Operation, value: &Outcome<'_>) -> Option<Inst>
+    ensures valid { IfSome result (λ i. IsValid i) }
+    ensures built { IfSome result (λ i. (l : Primary → Bool) (v : values.Value) (line : ℕ)
+        (rvc : Bool) (bytes : ℕ) → IsOutcome value.now line v
+        → IsBuilt l operation.now None v rvc bytes line (Ok (laws.alone i))) }
+{
+    match value_fault(*operation, value) {
+        Some(_) => None,
+        None => taken_one(operation, value),
+    }
+}
+
+/// The one instruction of an operation with an expression in the statement that is next, at a line;
+/// none where it is faulty, has a target, or may have several.
+fn operand_one<'a>(
+    operation: &Operation,
+    expression: &Expr<'a>,
+    scope: &Scope<'_, 'a>,
+    place: SectionOffset,
+    line: u32,
+) -> Option<Inst>
+    ensures valid { IfSome result (λ i. IsValid i) }
+    ensures built { IfSome result (λ i. (index : ℕ) → IsFilled (scope.now).unit.now
+        → IsScope scope.now index → (l : Primary → Bool) (rvc : Bool) (bytes : ℕ)
+        → IsBuilt l operation.now None
+        (values_at scope.now index place (tree_of_expr expression.now)) rvc bytes line
+        (Ok (laws.alone i))) }
+{
+    if takes_target(operation) {
+        return None;
+    }
+    let value = scope.value(place, expression, line);
+    with_one(operation, &value)
+}
+
+/// The one instruction of the statement that is next; none where it is faulty, or may have several
+/// or none.
+fn expanded_one<'a>(
+    statement: &Statement<'a>,
+    scope: &Scope<'_, 'a>,
+    place: SectionOffset,
+) -> Option<Inst>
+    ensures valid { IfSome result (λ i. IsValid i) }
+    ensures built { IfSome result (λ i. (index : ℕ) → IsFilled (scope.now).unit.now
+        → IsScope scope.now index → (rvc : Bool) (bytes : ℕ)
+        → IsExpanded rvc bytes (values_at scope.now index place)
+        (labels_at scope.now index) (statement_of statement.now) (Ok (laws.alone i))) }
+{
+    match &statement.kind {
+        StatementKind::Plain(statement) => plain_one(statement),
+        StatementKind::With(operation, expression) => {
+            operand_one(operation, expression, scope, place, statement.line)
+        }
+        _ => None,
+    }
+}
+
+/// The code of the statement that is next, where it is one instruction and leaves no field open, as
+/// most are; `code` gives the same, and that of others.
+pub fn one_code<'a>(
+    statement: &Statement<'a>,
+    scope: &Scope<'_, 'a>,
+    place: SectionOffset,
+    compressed: bool,
+) -> Option<Encoded>
+    ensures one { IfSome result (λ e. encoded_instructions e ≡ 1) }
+    ensures codes { IfSome result (λ e. (index : ℕ) → IsFilled (scope.now).unit.now
+        → IsScope scope.now index → (bytes : ℕ)
+        → MayHave compressed (statement_of statement.now).kind bytes
+        → Codes compressed bytes (values_at scope.now index place) (labels_at scope.now index)
+        (statement_of statement.now) (Ok (laws.alone_coded e))) }
+{
+    match expanded_one(statement, scope, place) {
+        Some(inst) => Some(in_least_form(inst, compressed)),
+        None => None,
+    }
+}
+
+// ---- any instruction
+
 /// The code of the statement that is next, none where it is no instruction, where compressed code is
 /// on or off. A branch or a jump that may be near has `bytes` bytes; no other is asked.
 ///
@@ -123,8 +231,8 @@ pub fn code<'a>(
         → Codes compressed bytes (values_at scope.now index place)
         (labels_at scope.now index) (statement_of statement.now) result }
 {
-    match expanded(statement, scope, place, compressed, bytes) {
-        Ok(templates) => Ok(encode_all(templates, compressed)),
-        Err(fault) => Err(fault),
+    match one_code(statement, scope, place, compressed) {
+        Some(encoded) => Ok(alone(encoded)),
+        None => listed(statement, scope, place, compressed, bytes),
     }
 }

@@ -63,7 +63,7 @@ fn shortened(inst: &Inst, compressed: bool) -> Option<u16>
 
 /// An instruction in its least form.
 #[tactic(auto, using(crate::proofs::Encoding::as_parcel, crate::proofs::Encoding::as_word))]
-fn in_least_form(inst: Inst, compressed: bool) -> Encoded
+pub(crate) fn in_least_form(inst: Inst, compressed: bool) -> Encoded
     requires { IsValid inst }
     ensures is { IsCodedPart compressed (Closed inst) (encoded_bytes result) }
     ensures one { encoded_instructions result ≡ 1 }
@@ -198,6 +198,18 @@ fn encode_pair(first: Inst, second: Inst) -> Code
     code.push(Coded {
         encoded: Encoded::Pair(encode(first), encode(second)),
         kind: Some(Kind::CallPlt),
+    });
+    code
+}
+
+/// The code of a statement that is one instruction.
+pub(crate) fn alone(encoded: Encoded) -> Code
+    ensures { result ≡ laws.alone_coded encoded }
+{
+    let mut code = ArrayVec::new();
+    code.push(Coded {
+        encoded,
+        kind: None,
     });
     code
 }

@@ -1,7 +1,10 @@
 //! The instructions of a statement, with their operands in range.
 
-ghost use Rattle.std.specs.Prelude.{◌≡◌, ℕ, None, Some, IfSome, not};
+ghost use Rattle.std.specs.Prelude.{◌≡◌, ℕ, Bool, None, Some, IfSome, not};
+ghost use Rattle.rv_isa.specs.Ranges.{IsValid};
 ghost use Rattle.rv_isa_laws.specs.Arithmetic.{signed};
+ghost use Rattle.rv_text_laws.specs.Values as values;
+ghost use Rattle.rv_text.specs.Eval.{value_told};
 ghost use Rattle.rv_statement.specs.Statement.{Operand, Expression};
 ghost use Rattle.rv_statement.specs.View.{plain_of, with_operand};
 ghost use Rattle.rv_pseudo_laws.specs.Code.{Constants};
@@ -12,7 +15,8 @@ ghost use Rattle.rv_instruction.specs.Code as laws;
 ghost use Rattle.rv_instruction.specs.Code.{mnemonic_of, AreInRange, AreCodable, MayHave, IsTaken, IsOfNumber};
 
 use crate::operand::{Outcome, signed};
-use rv_pseudo::{Form, Templates, with_operand, without_operand};
+use rv_isa::Inst;
+use rv_pseudo::{Form, Templates, single, single_bare, with_operand, without_operand};
 use rv_statement::{Function, Operation, Plain};
 use rv_text::Value;
 
@@ -96,6 +100,16 @@ pub(crate) fn plain(statement: Plain, compressed: bool) -> Templates
 {
     plain_in_range(&statement);
     without_operand(statement, compressed)
+}
+
+/// The one instruction of a statement without an expression; none where it may have two.
+pub(crate) fn plain_one(statement: &Plain) -> Option<Inst>
+    ensures valid { IfSome result (λ i. IsValid i) }
+    ensures is { IfSome result (λ i. (rvc : Bool) (bytes : ℕ)
+        → AreTemplates rvc bytes (plain_of statement.now) (laws.alone i).items) }
+{
+    plain_in_range(statement);
+    single_bare(statement)
 }
 
 /// With a part of a value a store to a symbol is one at a number from a register.
@@ -187,5 +201,44 @@ pub(crate) fn taken(
         Ok(Value::Constant(number)) => of_constant(known, function, *number, compressed, bytes),
         Ok(Value::Symbolic(..)) => of_address(known, function, compressed, bytes),
         _ => None,
+    }
+}
+
+/// The one instruction of an operation with a constant; none where its field does not take that, or
+/// it may have several.
+fn constant_one(operation: &Operation, number: u64) -> Option<Inst>
+    ensures valid { IfSome result (λ i. IsValid i) }
+    ensures is { IfSome result (λ i. (rvc : Bool) (bytes : ℕ)
+        → IsOfNumber operation.now None (Some (signed 64 number)) rvc bytes
+        (Some (laws.alone i))) }
+{
+    operation_in_range(operation);
+    single(operation, signed(number))
+}
+
+/// The one instruction of an operation with this value; none where its field does not take that, or it
+/// may have several.
+fn value_one(operation: &Operation, value: &Value<'_>) -> Option<Inst>
+    ensures valid { IfSome result (λ i. IsValid i) }
+    ensures is { IfSome result (λ i. (v : values.Value) → value_told value.now v
+        → (rvc : Bool) (bytes : ℕ)
+        → IsTaken operation.now None v rvc bytes (Some (laws.alone i))) }
+{
+    match value {
+        Value::Constant(number) => constant_one(operation, *number),
+        _ => None,
+    }
+}
+
+/// The one instruction of an operation with an expression of this value; none where its field does
+/// not take that, or it may have several.
+pub(crate) fn taken_one(operation: &Operation, value: &Outcome<'_>) -> Option<Inst>
+    ensures valid { IfSome result (λ i. IsValid i) }
+    ensures is { IfSome result (λ i. ForValue value.now (λ v. (rvc : Bool) (bytes : ℕ)
+        → IsTaken operation.now None v rvc bytes (Some (laws.alone i)))) }
+{
+    match value {
+        Ok(value) => value_one(operation, value),
+        Err(_) => None,
     }
 }

@@ -29,7 +29,7 @@ mod near;
 mod opened;
 mod operand;
 
-pub use coding::{code, constant};
+pub use coding::{code, constant, one_code};
 pub use encoded::{Code, Coded, Encoded};
 pub use near::{item, near_forms};
-pub use opened::{Reference, open_field};
+pub use opened::{Reference, is_closed, open_field};

@@ -2,12 +2,13 @@
 //!
 //! Source: RISC-V ELF psABI, "Relocations", "PC-Relative Addresses"; GNU as, "RISC-V-Modifiers".
 
-ghost use Rattle.std.specs.Prelude.{◌≡◌, ◌+◌, option_map};
+ghost use Rattle.std.specs.Prelude.{◌≡◌, ◌+◌, None, option_map, true};
 ghost use Rattle.rv_isa.specs.declared.kind.Kind.{Kind as SpecKind};
 ghost use Rattle.rv_text_laws.specs.Values as values;
 ghost use Rattle.rv_text.specs.Nodes.{symbol_of};
 ghost use Rattle.rv_statement.specs.Statement.{Expression};
 ghost use Rattle.rv_statement.specs.View.{statement_kind};
+ghost use Rattle.rv_pseudo.specs.Templates.{statement_with};
 ghost use Rattle.rv_unit_laws.specs.Tables.{tables, definition};
 ghost use Rattle.rv_unit.specs.Faults.{ForValue};
 ghost use Rattle.rv_unit.specs.Unit.{said, definition_of};
@@ -20,7 +21,7 @@ use crate::near::addend;
 use crate::operand::Outcome;
 use rv_isa::Kind;
 use rv_pseudo::takes_target;
-use rv_statement::{Function, Statement, StatementKind};
+use rv_statement::{Function, Operation, Statement, StatementKind};
 use rv_text::{Symbol, Value};
 use rv_unit::{Definition, Scope, SectionOffset};
 
@@ -33,6 +34,27 @@ pub struct Reference<'a> {
     pub symbol: Symbol<'a>,
     /// What is added.
     pub addend: i64,
+}
+
+/// Whether the code of an operation with an expression leaves no field open: that is a number, and
+/// no target.
+#[tactic(auto, using(crate::proofs::FreeRows::operand_free))]
+fn takes_number(operation: &Operation) -> bool
+    ensures { result ≡ true
+        → (e : Expression) → laws.LeavesNone (statement_with operation.now None e) }
+{
+    !takes_target(operation)
+}
+
+/// Whether the code of a statement leaves no field open, as its words alone tell.
+pub fn is_closed(kind: &StatementKind<'_>) -> bool
+    ensures { result ≡ true → laws.LeavesNone (statement_kind kind.now) }
+{
+    match kind {
+        StatementKind::Plain(_) => true,
+        StatementKind::With(operation, _) => takes_number(operation),
+        _ => false,
+    }
 }
 
 /// Whether a field takes the low part of a distance.

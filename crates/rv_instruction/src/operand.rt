@@ -235,7 +235,7 @@ fn distance_fault(operation: Operation, is_labelled: bool) -> Option<SourceCode>
 // ---- operands
 
 /// The fault of an operation with an expression of this value.
-fn value_fault(operation: Operation, value: &Outcome<'_>) -> Option<SourceCode>
+pub(crate) fn value_fault(operation: Operation, value: &Outcome<'_>) -> Option<SourceCode>
     ensures { ForValue value.now (λ v. IsLowest result (value_faults operation v)) }
 {
     if takes_target(&operation) {

@@ -11,6 +11,8 @@ use Rattle.rv_lexer.specs.declared.fault.SourceFault.TheVariants.{At}
 use Rattle.rv_statement.specs.declared.mnemonic.Mnemonic.{Mnemonic}
 use Rattle.rv_statement.specs.declared.mnemonic.Mnemonic.TheVariants.{Call, Tail, Jump}
 use Rattle.rv_statement.specs.declared.pseudo.Function.{Function}
+use Rattle.rv_statement.specs.declared.statement.Plain.{Plain}
+use Rattle.rv_statement.specs.declared.statement.Plain.TheVariants as plains
 use Rattle.rv_statement.specs.declared.statement.Operation.{Operation}
 use Rattle.rv_statement.specs.declared.statement.Operation.TheVariants as operations
 use Rattle.rv_statement.specs.Statement.{StatementKind, Instruction, Operand, Value, Applied, Expression}
@@ -19,6 +21,7 @@ use Rattle.rv_isa_laws.specs.Arithmetic.{wrapped}
 use Rattle.rv_pseudo_laws.specs.Code.{Part, Closed, Open, Joined, Constants, code, alone, signed_12, upper_20, number_of, by_constant}
 use Rattle.rv_pseudo.specs.declared.template.Form.{Form}
 use Rattle.rv_pseudo.specs.declared.template.Template.{Template}
+use Rattle.rv_pseudo.specs.Faults.{fault}
 
 -- ---- templates
 
@@ -142,3 +145,31 @@ AreNumbered operation number reloc found =
 abbrev pub AreTemplates : (rvc : Bool) → (bytes : ℕ) → StatementKind → List Template → Type 0
 AreTemplates rvc bytes kind found =
     (v : Constants) → option_map all_templates (parts_of v rvc bytes kind) ≡ Some found
+
+abbrev pub is_li : Operation → Bool
+is_li (operations.Li rd) = true
+is_li _ = false
+
+-- this is its one instruction, under whichever relocation it is put; `li` may have several
+abbrev pub IsNumberedOne : Operation → ℤ → Option Inst → Type 0
+IsNumberedOne operation number None = is_li operation ≡ true
+IsNumberedOne operation number (Some i) =
+    (reloc : Option Kind) → AreNumbered operation number reloc (with_reloc reloc i)
+
+-- an operation with this constant has no fault, and this one instruction
+pub record IsOne (operation : Operation) (number : ℤ) (i : Inst) : Type 0 where
+  pub sound : fault operation None (Some number) ≡ None
+  pub is : (rvc : Bool) (bytes : ℕ) (e : Expression) →
+      templates (record { value = Some number; bytes = bytes; rvc = rvc })
+      (statement_with operation None e)
+      ≡ Some (plain i ∷ [])
+
+abbrev pub is_unary : Plain → Bool
+is_unary (plains.Unary operation rd rs) = true
+is_unary _ = false
+
+-- a statement without an expression is this one instruction, compressed code or not; an operation on
+-- one register may have two
+abbrev pub IsBareOne : StatementKind → Bool → Option Inst → Type 0
+IsBareOne kind unary None = unary ≡ true
+IsBareOne kind unary (Some i) = (rvc : Bool) (bytes : ℕ) → AreTemplates rvc bytes kind (plain i ∷ [])

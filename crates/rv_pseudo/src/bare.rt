@@ -1,6 +1,6 @@
 //! Statements without an expression.
 
-ghost use Rattle.std.specs.Prelude.{◌≡◌, ℕ, ◌<◌, [], ◌∷◌, ◌==◌, map};
+ghost use Rattle.std.specs.Prelude.{◌≡◌, ℕ, ◌<◌, [], ◌∷◌, ◌==◌, map, true};
 ghost use Rattle.rv_isa.specs.Operations.{of_reserve, of_atomic, of_shift};
 ghost use Rattle.rv_isa.specs.Ranges.{shift_limit};
 ghost use Rattle.rv_statement.specs.declared.pseudo.UnaryOperation.TheVariants.{Mv};
@@ -10,6 +10,7 @@ ghost use Rattle.rv_pseudo_laws.specs.Li as li;
 ghost use Rattle.rv_pseudo.specs.Templates as is;
 
 use crate::template::{Templates, one, plain, two};
+use arrayvec::ArrayVec;
 use rv_isa::{
     Atomic, AtomicForm, AtomicOperation, IType, Inst, RType, Reg, Reserve, SType, Shift,
     ShiftOperation, fence,
@@ -164,32 +165,62 @@ fn compare(operation: CompareOperation, rd: Reg, rs1: Reg, rs2: Reg) -> Inst
     }
 }
 
+/// The one instruction of a statement without an expression; none of an operation on one register.
+fn instruction(statement: Plain) -> Option<Inst>
+    ensures { is.IsBareOne (plain_of statement) (is.is_unary statement) result }
+{
+    match statement {
+        Plain::Registers(operation, rd, rs1, rs2) => {
+            Some(operation.instruction(r_type(rd, rs1, rs2)))
+        }
+        Plain::Load(operation, rd, rs1) => Some(operation.instruction(i_type(rd, rs1, 0))),
+        Plain::Store(operation, rs2, rs1) => Some(operation.instruction(SType {
+            immediate: 0,
+            rs1,
+            rs2,
+        })),
+        Plain::Jalr(rd, rs1) => Some(jalr(rd, rs1, 0)),
+        Plain::JalrLinked(rs1) => Some(jalr(ra(), rs1, 0)),
+        Plain::LoadReserved(form, rd, rs1) => Some(load_reserved(form, rd, rs1)),
+        Plain::Atomic(operation, form, rd, rs2, rs1) => Some(atomic(operation, form, rd, rs2, rs1)),
+        Plain::Fence => Some(fence(0, 15, 15)),
+        Plain::FenceBetween(before, after) => Some(fence(0, before.bits(), after.bits())),
+        Plain::FenceTso => Some(fence(8, 3, 3)),
+        Plain::Ecall => Some(Inst::Ecall),
+        Plain::Ebreak => Some(Inst::Ebreak),
+        Plain::Nop => Some(Inst::Addi(i_type(x0(), x0(), 0))),
+        Plain::Unary(..) => None,
+        Plain::Compare(operation, rd, rs1, rs2) => Some(compare(operation, rd, rs1, rs2)),
+        Plain::Jr(rs) => Some(jalr(x0(), rs, 0)),
+        Plain::Ret => Some(jalr(x0(), ra(), 0)),
+    }
+}
+
+/// The one instruction of a statement without an expression; none of an operation on one register,
+/// which may have two.
+pub fn single_bare(statement: &Plain) -> Option<Inst>
+    ensures { is.IsBareOne (plain_of statement.now) (is.is_unary statement.now) result }
+{
+    instruction(*statement)
+}
+
+/// The templates of an operation on one register.
+fn on_register(statement: Plain, rvc: bool) -> Templates
+    requires { is.is_unary statement ≡ true }
+    ensures { (bytes : ℕ) → is.AreTemplates rvc bytes (plain_of statement) result.items }
+{
+    match statement {
+        Plain::Unary(operation, rd, rs) => unary(rvc, operation, rd, rs),
+        _ => ArrayVec::new(),
+    }
+}
+
 /// The templates of a statement without an expression.
 pub fn without_operand(statement: Plain, rvc: bool) -> Templates
     ensures { (bytes : ℕ) → is.AreTemplates rvc bytes (plain_of statement) result.items }
 {
-    let inst = match statement {
-        Plain::Registers(operation, rd, rs1, rs2) => operation.instruction(r_type(rd, rs1, rs2)),
-        Plain::Load(operation, rd, rs1) => operation.instruction(i_type(rd, rs1, 0)),
-        Plain::Store(operation, rs2, rs1) => operation.instruction(SType {
-            immediate: 0,
-            rs1,
-            rs2,
-        }),
-        Plain::Jalr(rd, rs1) => jalr(rd, rs1, 0),
-        Plain::JalrLinked(rs1) => jalr(ra(), rs1, 0),
-        Plain::LoadReserved(form, rd, rs1) => load_reserved(form, rd, rs1),
-        Plain::Atomic(operation, form, rd, rs2, rs1) => atomic(operation, form, rd, rs2, rs1),
-        Plain::Fence => fence(0, 15, 15),
-        Plain::FenceBetween(before, after) => fence(0, before.bits(), after.bits()),
-        Plain::FenceTso => fence(8, 3, 3),
-        Plain::Ecall => Inst::Ecall,
-        Plain::Ebreak => Inst::Ebreak,
-        Plain::Nop => Inst::Addi(i_type(x0(), x0(), 0)),
-        Plain::Unary(operation, rd, rs) => return unary(rvc, operation, rd, rs),
-        Plain::Compare(operation, rd, rs1, rs2) => compare(operation, rd, rs1, rs2),
-        Plain::Jr(rs) => jalr(x0(), rs, 0),
-        Plain::Ret => jalr(x0(), ra(), 0),
-    };
-    one(plain(inst))
+    match single_bare(&statement) {
+        Some(inst) => one(plain(inst)),
+        None => on_register(statement, rvc),
+    }
 }

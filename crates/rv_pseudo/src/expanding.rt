@@ -1,6 +1,6 @@
 //! The templates of any statement of code.
 
-ghost use Rattle.std.specs.Prelude.{◌≡◌, Some, None};
+ghost use Rattle.std.specs.Prelude.{◌≡◌, Some, None, IfSome};
 ghost use Rattle.rv_statement.specs.Statement.{Expression};
 ghost use Rattle.rv_statement.specs.View.{statement_kind};
 ghost use Rattle.rv_pseudo.specs.Faults as faults;
@@ -9,10 +9,11 @@ ghost use Rattle.rv_pseudo.specs.Templates.{Answers, IsExpansion};
 
 use crate::bare::without_operand;
 use crate::fault::fault;
-use crate::number::{number, numbered, relocation};
+use crate::number::{number, numbered, numbered_one, relocation};
 use crate::target::{takes_target, targeted};
 use crate::template::{Form, Templates};
 use arrayvec::ArrayVec;
+use rv_isa::Inst;
 use rv_lexer::{SourceCode, SourceFault};
 use rv_statement::{Function, Operation, Statement, StatementKind};
 
@@ -50,6 +51,19 @@ pub fn with_operand(
     match fault(&operation, function, form.value) {
         Some(code) => Err(code),
         None => Ok(templates(operation, function, form)),
+    }
+}
+
+/// The one instruction of an operation with a constant; none where it is faulty, or may have several.
+pub fn single(operation: &Operation, number: i64) -> Option<Inst>
+    ensures { IfSome result (λ i. is.IsOne operation.now number i) }
+{
+    if takes_target(operation) {
+        return None;
+    }
+    match fault(operation, None, Some(number)) {
+        Some(_) => None,
+        None => numbered_one(operation, number),
     }
 }
 

@@ -27,8 +27,8 @@ mod number;
 mod target;
 mod template;
 
-pub use bare::without_operand;
-pub use expanding::{expansion, with_operand};
+pub use bare::{single_bare, without_operand};
+pub use expanding::{expansion, single, with_operand};
 pub use fault::takes;
 pub use li::{is_short, li_sequence};
 pub use number::{lower_part, upper_part};

@@ -1,7 +1,8 @@
 //! Statements with a number, or with a part of an address in place of one.
 
-ghost use Rattle.std.specs.Prelude.{◌≡◌, ◌<◌, ◌^◌, true};
+ghost use Rattle.std.specs.Prelude.{◌≡◌, ◌<◌, ◌^◌, Option, true};
 ghost use Rattle.rv_isa.specs.Operations.{of_immediate, of_shift, of_upper, of_load, of_store};
+ghost use Rattle.rv_isa.specs.declared.kind.Kind.{Kind as SpecKind};
 ghost use Rattle.rv_isa.specs.Ranges.{IsSigned12, shift_limit};
 ghost use Rattle.rv_isa_laws.specs.Arithmetic.{wrapped};
 ghost use Rattle.rv_isa_laws.specs.Halves.{hi, lo};
@@ -17,7 +18,7 @@ use crate::li::{halves, is_short, li_sequence};
 use crate::template::{Templates, all_plain, with_reloc};
 use arrayvec::ArrayVec;
 use rv_isa::{
-    IType, ImmediateOperation, Kind, LoadOperation, Reg, RegisterOperation, SType, Shift,
+    IType, ImmediateOperation, Inst, Kind, LoadOperation, Reg, RegisterOperation, SType, Shift,
     ShiftOperation, StoreOperation, UType, UpperOperation,
 };
 use rv_statement::{Function, Operation};
@@ -32,19 +33,12 @@ fn immediate(number: i64) -> i32
 }
 
 /// An operation on a register and a number of 12 bits.
-fn with_immediate(
-    operation: ImmediateOperation,
-    rd: Reg,
-    rs1: Reg,
-    number: i64,
-    reloc: Option<Kind>,
-) -> Templates
+fn with_immediate(operation: ImmediateOperation, rd: Reg, rs1: Reg, number: i64) -> Inst
     requires { is_signed 12 number ≡ true }
-    ensures { result.items
-        ≡ is.with_reloc reloc (of_immediate operation (row.i_type rd rs1 number)) }
+    ensures { result ≡ of_immediate operation (row.i_type rd rs1 number) }
 {
     let immediate = immediate(number);
-    with_reloc(operation.instruction(IType { immediate, rd, rs1 }), reloc)
+    operation.instruction(IType { immediate, rd, rs1 })
 }
 
 /// The amount of a shift.
@@ -66,99 +60,119 @@ fn upper_field(number: i64) -> u32
 }
 
 /// A shift by a number.
-fn shift(
-    operation: ShiftOperation,
-    rd: Reg,
-    rs1: Reg,
-    number: i64,
-    reloc: Option<Kind>,
-) -> Templates
+fn shift(operation: ShiftOperation, rd: Reg, rs1: Reg, number: i64) -> Inst
     requires { is_amount operation number ≡ true }
-    ensures { result.items
-        ≡ is.with_reloc reloc (of_shift operation (row.shift_by rd rs1 (wrapped number))) }
+    ensures { result ≡ of_shift operation (row.shift_by rd rs1 (wrapped number)) }
 {
     let amount = amount(operation, number);
-    with_reloc(operation.instruction(Shift { rd, rs1, amount }), reloc)
+    operation.instruction(Shift { rd, rs1, amount })
 }
 
 /// The upper 20 bits of an instruction.
-fn upper(operation: UpperOperation, rd: Reg, number: i64, reloc: Option<Kind>) -> Templates
+fn upper(operation: UpperOperation, rd: Reg, number: i64) -> Inst
     requires { is_upper_20 number ≡ true }
-    ensures { result.items
-        ≡ is.with_reloc reloc (of_upper operation (row.u_type rd (wrapped number))) }
+    ensures { result ≡ of_upper operation (row.u_type rd (wrapped number)) }
 {
     let immediate = upper_field(number);
-    with_reloc(operation.instruction(UType { immediate, rd }), reloc)
+    operation.instruction(UType { immediate, rd })
 }
 
 /// An operation on registers with a number in place of the last.
-fn with_constant(
-    operation: RegisterOperation,
-    rd: Reg,
-    rs1: Reg,
-    number: i64,
-    reloc: Option<Kind>,
-) -> Templates
+fn with_constant(operation: RegisterOperation, rd: Reg, rs1: Reg, number: i64) -> Inst
     requires { form_takes (syntax.with_constant operation) number ≡ true }
-    ensures { is.IsConstantRow (syntax.with_constant operation) rd rs1 number reloc result.items }
+    ensures { (reloc : Option SpecKind) →
+        is.IsConstantRow (syntax.with_constant operation) rd rs1 number reloc
+        (is.with_reloc reloc result) }
 {
     match operation {
-        RegisterOperation::Add => with_immediate(ImmediateOperation::Addi, rd, rs1, number, reloc),
-        RegisterOperation::Slt => with_immediate(ImmediateOperation::Slti, rd, rs1, number, reloc),
-        RegisterOperation::Sltu => {
-            with_immediate(ImmediateOperation::Sltiu, rd, rs1, number, reloc)
-        }
-        RegisterOperation::Xor => with_immediate(ImmediateOperation::Xori, rd, rs1, number, reloc),
-        RegisterOperation::Or => with_immediate(ImmediateOperation::Ori, rd, rs1, number, reloc),
-        RegisterOperation::And => with_immediate(ImmediateOperation::Andi, rd, rs1, number, reloc),
-        RegisterOperation::Addw => {
-            with_immediate(ImmediateOperation::Addiw, rd, rs1, number, reloc)
-        }
-        RegisterOperation::Sll => shift(ShiftOperation::Slli, rd, rs1, number, reloc),
-        RegisterOperation::Srl => shift(ShiftOperation::Srli, rd, rs1, number, reloc),
-        RegisterOperation::Sra => shift(ShiftOperation::Srai, rd, rs1, number, reloc),
-        RegisterOperation::Sllw => shift(ShiftOperation::Slliw, rd, rs1, number, reloc),
-        RegisterOperation::Srlw => shift(ShiftOperation::Srliw, rd, rs1, number, reloc),
-        RegisterOperation::Sraw => shift(ShiftOperation::Sraiw, rd, rs1, number, reloc),
-        _ => ArrayVec::new(),
+        RegisterOperation::Add => with_immediate(ImmediateOperation::Addi, rd, rs1, number),
+        RegisterOperation::Slt => with_immediate(ImmediateOperation::Slti, rd, rs1, number),
+        RegisterOperation::Sltu => with_immediate(ImmediateOperation::Sltiu, rd, rs1, number),
+        RegisterOperation::Xor => with_immediate(ImmediateOperation::Xori, rd, rs1, number),
+        RegisterOperation::Or => with_immediate(ImmediateOperation::Ori, rd, rs1, number),
+        RegisterOperation::And => with_immediate(ImmediateOperation::Andi, rd, rs1, number),
+        RegisterOperation::Addw => with_immediate(ImmediateOperation::Addiw, rd, rs1, number),
+        RegisterOperation::Sll => shift(ShiftOperation::Slli, rd, rs1, number),
+        RegisterOperation::Srl => shift(ShiftOperation::Srli, rd, rs1, number),
+        RegisterOperation::Sra => shift(ShiftOperation::Srai, rd, rs1, number),
+        RegisterOperation::Sllw => shift(ShiftOperation::Slliw, rd, rs1, number),
+        RegisterOperation::Srlw => shift(ShiftOperation::Srliw, rd, rs1, number),
+        RegisterOperation::Sraw => shift(ShiftOperation::Sraiw, rd, rs1, number),
+        _ => Inst::default(),
     }
 }
 
 /// A load at a register and a number.
-fn load(operation: LoadOperation, rd: Reg, rs1: Reg, number: i64, reloc: Option<Kind>) -> Templates
+fn load(operation: LoadOperation, rd: Reg, rs1: Reg, number: i64) -> Inst
     requires { is_signed 12 number ≡ true }
-    ensures { result.items ≡ is.with_reloc reloc (of_load operation (row.i_type rd rs1 number)) }
+    ensures { result ≡ of_load operation (row.i_type rd rs1 number) }
 {
     let immediate = immediate(number);
-    with_reloc(operation.instruction(IType { immediate, rd, rs1 }), reloc)
+    operation.instruction(IType { immediate, rd, rs1 })
 }
 
 /// A store at a register and a number.
-fn store(
-    operation: StoreOperation,
-    rs2: Reg,
-    rs1: Reg,
-    number: i64,
-    reloc: Option<Kind>,
-) -> Templates
+fn store(operation: StoreOperation, rs2: Reg, rs1: Reg, number: i64) -> Inst
     requires { is_signed 12 number ≡ true }
-    ensures { result.items ≡ is.with_reloc reloc (of_store operation (row.s_type rs2 rs1 number)) }
+    ensures { result ≡ of_store operation (row.s_type rs2 rs1 number) }
 {
     let immediate = immediate(number);
-    let x = SType {
+    operation.instruction(SType {
         immediate,
         rs1,
         rs2,
-    };
-    with_reloc(operation.instruction(x), reloc)
+    })
 }
 
 /// A jump to a register and a number.
-fn jump(rd: Reg, rs1: Reg, number: i64, reloc: Option<Kind>) -> Templates
+fn jump(rd: Reg, rs1: Reg, number: i64) -> Inst
     requires { is_signed 12 number ≡ true }
-    ensures { result.items ≡ is.with_reloc reloc (row.jalr rd rs1 number) }
+    ensures { result ≡ row.jalr rd rs1 number }
 {
-    with_reloc(jalr(rd, rs1, immediate(number)), reloc)
+    jalr(rd, rs1, immediate(number))
+}
+
+/// The one instruction of a statement with a number that is in the range of its field; none of `li`.
+fn instruction(operation: Operation, number: i64) -> Option<Inst>
+    requires { faults.takes operation number ≡ true }
+    ensures { is.IsNumberedOne operation number result }
+{
+    match operation {
+        Operation::Registers(operation, rd, rs1) => {
+            Some(with_constant(operation, rd, rs1, number))
+        }
+        Operation::Immediate(operation, rd, rs1) => {
+            Some(with_immediate(operation, rd, rs1, number))
+        }
+        Operation::Shift(operation, rd, rs1) => Some(shift(operation, rd, rs1, number)),
+        Operation::Upper(operation, rd) => Some(upper(operation, rd, number)),
+        Operation::Load(operation, rd, rs1) => Some(load(operation, rd, rs1, number)),
+        Operation::Store(operation, rs2, rs1) => Some(store(operation, rs2, rs1, number)),
+        Operation::Jalr(rd, rs1) => Some(jump(rd, rs1, number)),
+        Operation::JalrThen(rd, rs1) => Some(jump(rd, rs1, number)),
+        Operation::JalrLinked(rs1) => Some(jump(ra(), rs1, number)),
+        Operation::Jr(rs) => Some(jump(x0(), rs, number)),
+        _ => None,
+    }
+}
+
+/// The same of an operation that is lent.
+pub(crate) fn numbered_one(operation: &Operation, number: i64) -> Option<Inst>
+    requires { faults.takes operation.now number ≡ true }
+    ensures { is.IsNumberedOne operation.now number result }
+{
+    instruction(*operation, number)
+}
+
+/// The templates of `li` with a number.
+fn loaded(operation: Operation, number: i64) -> Templates
+    requires { is.is_li operation ≡ true }
+    ensures { (reloc : Option SpecKind) → is.AreNumbered operation number reloc result.items }
+{
+    match operation {
+        Operation::Li(rd) => all_plain(li_sequence(rd, number)),
+        _ => ArrayVec::new(),
+    }
 }
 
 /// The templates of a statement with a number that is in the range of its field.
@@ -166,23 +180,9 @@ pub(crate) fn numbered(operation: Operation, number: i64, reloc: Option<Kind>) -
     requires { faults.takes operation number ≡ true }
     ensures { is.AreNumbered operation number reloc result.items }
 {
-    match operation {
-        Operation::Registers(operation, rd, rs1) => {
-            with_constant(operation, rd, rs1, number, reloc)
-        }
-        Operation::Immediate(operation, rd, rs1) => {
-            with_immediate(operation, rd, rs1, number, reloc)
-        }
-        Operation::Shift(operation, rd, rs1) => shift(operation, rd, rs1, number, reloc),
-        Operation::Upper(operation, rd) => upper(operation, rd, number, reloc),
-        Operation::Load(operation, rd, rs1) => load(operation, rd, rs1, number, reloc),
-        Operation::Store(operation, rs2, rs1) => store(operation, rs2, rs1, number, reloc),
-        Operation::Jalr(rd, rs1) => jump(rd, rs1, number, reloc),
-        Operation::JalrThen(rd, rs1) => jump(rd, rs1, number, reloc),
-        Operation::JalrLinked(rs1) => jump(ra(), rs1, number, reloc),
-        Operation::Jr(rs) => jump(x0(), rs, number, reloc),
-        Operation::Li(rd) => all_plain(li_sequence(rd, number)),
-        _ => ArrayVec::new(),
+    match numbered_one(&operation, number) {
+        Some(inst) => with_reloc(inst, reloc),
+        None => loaded(operation, number),
     }
 }
 

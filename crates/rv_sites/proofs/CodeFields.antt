@@ -1,6 +1,6 @@
 -- The open fields of a statement's code, by the shapes and the bytes of its parts.
 
-use Rattle.std.proofs.Common.{◌≡◌, ◌≢◌, ℕ, zero, suc, ◌+◌, ◌≤◌, Bool, true, false, List, [], ◌∷◌, ◌++◌, length, refl, sym, ap, ◌∙◌, subst, arith, map, drop, append-nil, append_assoc, length-append, Some, inl, inr}
+use Rattle.std.proofs.Common.{◌≡◌, ◌≢◌, ℕ, zero, suc, ◌+◌, ◌≤◌, Bool, true, false, List, [], ◌∷◌, ◌++◌, length, refl, sym, ap, ◌∙◌, subst, arith, map, drop, append-nil, append_assoc, length-append, Option, Some, None, inl, inr}
 use Rattle.std.specs.Prelude.{◌&&◌, unwrap_or, if◌then◌else◌}
 use Rattle.std.proofs.lemmas.List.{at_drop_all}
 use Rattle.rv_isa.specs.declared.instruction.Inst.{Inst}
@@ -26,6 +26,7 @@ use Rattle.rv_assemble_laws.specs.Sites.{Site, part_of, coded_templates}
 use Rattle.rv_assemble_laws.specs.Fields.{Field, field_at, fields_from}
 use Rattle.rv_instruction.specs.declared.encoded.Coded.{Coded}
 use Rattle.rv_instruction.specs.Code.{IsCodeOf, coded_by, encoded_bytes, shape_in, shape_of}
+use Rattle.rv_instruction.specs.Opened.{are_free, LeavesNone}
 use Rattle.rv_sites.specs.declared.data.Spot.{Spot}
 use Rattle.rv_sites.specs.declared.fields.Choices.{Choices}
 use Rattle.rv_sites.specs.declared.item.Item.{Item}
@@ -147,6 +148,32 @@ spot_fields spot index says choices l x found coded at plain size coded_as is lo
     ∙ ap (λ s. coded_fields (λ k. field_of t there l.ordinal (operand_of s) k) (relax_fields choices.relax l.ordinal) section x.offset found) (sym at.kind)
     ∙ ap (λ r. coded_fields (λ k. field_of t there l.ordinal (operand_of l.kind) k) (relax_fields r l.ordinal) section x.offset found) (sym at.relax)
     ∙ located_fields t l x found coded section l.kind plain size coded_as is' long
+
+-- ---- a statement that leaves no field open
+
+free_row : (row : Option (List CodePart)) → are_free row ≡ true → are_closed (unwrap_or row []) ≡ true
+free_row None free = refl
+free_row (Some ps) free = free
+
+closed_fields : (own : CodePart → List Open) (section place ordinal : ℕ) → ((i : Inst) → own (Closed i) ≡ []) → (ps : List CodePart) (coded : List (List ℕ))
+    → are_closed ps ≡ true → fields_from section place (map (part_of ordinal) (coded_templates own ps coded)) ≡ []
+closed_fields own section place ordinal none [] coded closed = refl
+closed_fields own section place ordinal none (p ∷ ps) [] closed = refl
+closed_fields own section place ordinal none (Closed i ∷ ps) (x ∷ coded) closed =
+    ap (λ o. map (field_at section place) o ++ fields_from section (place + length x) (map (part_of ordinal) (coded_templates own ps coded))) (none i)
+    ∙ closed_fields own section (place + length x) ordinal none ps coded closed
+closed_fields own section place ordinal none (OpenPart k i ∷ ps) (x ∷ coded) closed = absurd (cc)
+closed_fields own section place ordinal none (Joined k i j ∷ ps) (x ∷ coded) closed = absurd (cc)
+
+pub free_fields : (t : Tables) (l : Located) (x : Item) (coded : List Coded) (section : ℕ) (says : StatementKind) → is_alignment says ≡ false → LeavesNone says
+    → fields_from section x.offset (code_said t (site_of l x coded) says) ≡ []
+free_fields t l x coded section (Label name) plain free = refl
+free_fields t l x coded section (Numbered number) plain free = refl
+free_fields t l x coded section (Instruction mnemonic operands) plain free =
+    let v : Expression → Value = λ e. value_at t l e in
+    closed_fields (part_fields t v l) section x.offset l.ordinal (λ i. refl) (unwrap_or (code (constants v) l.options.rvc x.bytes mnemonic operands) []) (coded_by coded)
+    (free_row (code (constants v) l.options.rvc x.bytes mnemonic operands) (free (constants v) l.options.rvc x.bytes))
+free_fields t l x coded section (Directs directive) plain free = ap (λ c. fields_from section x.offset (if c then padding_said l.ordinal x.bytes else [])) plain
 
 -- ---- part by part
 

@@ -25,7 +25,7 @@ use crate::code::{asked, bytes_of, width};
 use crate::data::Spot;
 use crate::field::OpenField;
 use crate::item::Item;
-use rv_instruction::{Code, Coded, Encoded, Reference, code as code_of, open_field};
+use rv_instruction::{Code, Coded, Encoded, Reference, code as code_of, is_closed, open_field};
 use rv_isa::Kind;
 use rv_statement::{Statement, StatementKind};
 use rv_text::SourceFault;
@@ -306,6 +306,9 @@ fn put_instruction<'a>(
         (parts.code_said (tables (said ((spot.now).scope.now).unit.now)) (site_of l item coded)
         l.kind))) }
 {
+    if is_closed(&statement.kind) {
+        return Ok(());
+    }
     let found = code_in_bytes(statement, spot, choices.compressed, item.bytes)?;
     put_parts(
         fields,

@@ -19,35 +19,93 @@ use crate::paddings::padding_of;
 use rv_instruction::{code as code_of, item};
 use rv_layout::{Layout, is_input};
 use rv_layout_laws::Item as LayoutItem;
-use rv_statement::{Statement, StatementKind};
+use rv_statement::{Operation, Plain, Statement, StatementKind};
 use rv_text::SourceFault;
 use rv_unit::{Scope, SectionOffset, Unit};
 use std::alloc::{AllocError, Global};
 
-/// The length of the largest form of a statement.
-fn widest(kind: &StatementKind<'_>, compressed: bool) -> Option<u8>
-    ensures { IfSome result (λ bytes. MayHave compressed (statement_kind kind.now) bytes) }
-{
-    match asked(kind, compressed, 8) {
-        Some(bytes) => Some(bytes),
-        None => asked(kind, compressed, 4),
+/// The bytes of an instruction that may have a form of two bytes where compressed code is on.
+fn word_length(compressed: bool) -> Option<u8> {
+    if compressed { None } else { Some(4) }
+}
+
+/// The bytes of a statement without an expression, where its words alone tell them.
+fn plain_length(statement: &Plain, compressed: bool) -> Option<u8> {
+    match statement {
+        Plain::Unary(..) => None,
+        _ => word_length(compressed),
     }
 }
 
-/// How many bytes the instruction that is next has as code, in its largest form; none where it is
-/// faulty, and another statement.
+/// The bytes of an operation with an expression, where its words alone tell them.
+fn operation_length(operation: &Operation, compressed: bool) -> Option<u8> {
+    match operation {
+        Operation::Registers(..)
+        | Operation::Immediate(..)
+        | Operation::Shift(..)
+        | Operation::Upper(..)
+        | Operation::Load(..)
+        | Operation::Store(..)
+        | Operation::Jalr(..)
+        | Operation::JalrThen(..)
+        | Operation::JalrLinked(_)
+        | Operation::Jr(_) => word_length(compressed),
+        // no form of two bytes writes where it came from
+        Operation::Jal(_) | Operation::JalLinked => Some(4),
+        Operation::La(_)
+        | Operation::Li(_)
+        | Operation::LoadSymbol(..)
+        | Operation::StoreSymbol(..) => None,
+        // their forms tell it
+        Operation::Branch(..)
+        | Operation::ZeroBranch(..)
+        | Operation::SwappedBranch(..)
+        | Operation::J
+        | Operation::Call(_)
+        | Operation::CallLinked
+        | Operation::Tail
+        | Operation::Jump(_) => Some(0),
+    }
+}
+
+/// The bytes of a statement as code, where its words alone tell them. They do not matter where it has
+/// forms of several lengths, or is faulty: its fault comes first.
+fn told_length(kind: &StatementKind<'_>, compressed: bool) -> Option<u8> {
+    match kind {
+        StatementKind::Plain(statement) => plain_length(statement, compressed),
+        StatementKind::With(operation, _) => operation_length(operation, compressed),
+        StatementKind::WithFunction(operation, ..) => operation_length(operation, compressed),
+        _ => Some(0),
+    }
+}
+
+/// How many bytes the instruction that is next has as code; none where it is faulty.
+fn made_length<'a>(
+    statement: &Statement<'a>,
+    scope: &Scope<'_, 'a>,
+    place: SectionOffset,
+    compressed: bool,
+) -> u8 {
+    let Some(bytes) = asked(&statement.kind, compressed, 4) else {
+        return 0;
+    };
+    match code_of(statement, scope, place, compressed, bytes) {
+        Ok(found) => bytes_of(found.as_slice()),
+        Err(_) => 0,
+    }
+}
+
+/// How many bytes the instruction that is next has as code, and another statement none. The code is
+/// made where its words do not tell them.
 fn code_length<'a>(
     statement: &Statement<'a>,
     scope: &Scope<'_, 'a>,
     place: SectionOffset,
     compressed: bool,
 ) -> u8 {
-    let Some(bytes) = widest(&statement.kind, compressed) else {
-        return 0;
-    };
-    match code_of(statement, scope, place, compressed, bytes) {
-        Ok(found) => bytes_of(found.as_slice()),
-        Err(_) => 0,
+    match told_length(&statement.kind, compressed) {
+        Some(bytes) => bytes,
+        None => made_length(statement, scope, place, compressed),
     }
 }
 

@@ -1,10 +1,21 @@
-use Rattle.std.proofs.Common.{rules, ◌≡◌, ◌++◌, ◌∙◌, map, ap}
+use Rattle.std.proofs.Common.{rules, ◌≡◌, ◌++◌, ◌∙◌, map, ap, sym, subst, true, append-nil}
 use Rattle.std.proofs.lemmas.Result.{on_ok_weaker}
 use Rattle.rv_statement.specs.View.{statement_kind}
+use Rattle.rv_unit_laws.specs.Tables.{tables}
+use Rattle.rv_unit.specs.Unit.{said}
+use Rattle.rv_instruction.specs.Opened.{LeavesNone}
 use Rattle.rv_sites.specs.Draft.{field_of}
 use Rattle.rv_sites.specs.Spots.{fields_coded}
-use Rattle.rv_sites.proofs.CodeFields.{spot_fields}
+use Rattle.rv_sites.proofs.CodeFields.{free_fields, spot_fields}
 use Rattle.rv_sites.proofs.fields.put_instruction.Goals as goal
+
+pub returns-then-is_closed : goal.returns-then-is_closed
+returns-then-is_closed c = λ index f s l coded at plain size is.
+    let spot = c.args.spot.now in
+    let closed : c.is_closed.result ≡ true = search rules in
+    sym (append-nil _)
+    ∙ ap (λ g. map field_of c.args.fields.now.items ++ g)
+    (sym (free_fields (tables (said spot.scope.now.unit.now)) l c.args.item coded spot.place.section l.kind plain (subst LeavesNone (sym at.kind) (c.is_closed.ensures closed))))
 
 pub returns : goal.returns
 returns c =
