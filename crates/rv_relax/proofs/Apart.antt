@@ -41,7 +41,7 @@ lies c r align h =
     let both = padding_lies c r.place (padding_of r.addend) (sym (ap (λ b. not b || is_padding_of true c r.place (padding_of r.addend)) align) ∙ h) in
     record { short = both.0; within = both.1 }
 
-padded : (r : Relocation) → has_padding r ≡ true → (is_align r.kind ≡ true) × (0 < full_padding r)
+pub padded : (r : Relocation) → has_padding r ≡ true → (is_align r.kind ≡ true) × (0 < full_padding r)
 padded r h =
     let both = and_parts (is_align r.kind) (nat_lt 0 (full_padding r)) h in
     (both.0, ltb-true 0 (full_padding r) both.1)
@@ -55,7 +55,7 @@ held_full r align = ap (λ b. cond b (unwrap_or (padding_of r.addend) 0) (width_
 abbrev pub are_clear : Relocation → Relocation → Bool
 are_clear r q = nat_le (r.place + full_padding r) q.place || nat_le (q.place + full_padding q) r.place
 
-clear : (r q : Relocation) → has_padding r ≡ true → has_padding q ≡ true → are_apart r q ≡ true → are_clear r q ≡ true
+pub clear : (r q : Relocation) → has_padding r ≡ true → has_padding q ≡ true → are_apart r q ≡ true → are_clear r q ≡ true
 clear r q first second h =
     from (either (not (is_align r.kind || is_align q.kind)) (nat_le (r.place + held r) (max r.place q.place)) (nat_le (q.place + held q) (max r.place q.place)) h
     (ap (λ b. not (b || is_align q.kind)) (padded r first).0))
@@ -94,7 +94,7 @@ all_inserted p r (q ∷ qs) one h =
     by true here more = and_from (p r) (list_all p (q ∷ qs)) one h
     by false here more = and_from (p q) (list_all p (inserted r qs)) here more
 
-all_by_place : (p : Relocation → Bool) (rs : List Relocation) → list_all p rs ≡ true → list_all p (by_place rs) ≡ true
+pub all_by_place : (p : Relocation → Bool) (rs : List Relocation) → list_all p rs ≡ true → list_all p (by_place rs) ≡ true
 all_by_place p [] h = refl
 all_by_place p (r ∷ rs) h =
     let both = and_parts (p r) (list_all p rs) h in
@@ -147,3 +147,7 @@ of_section c true rs is low h =
     let both = and_parts (list_all (is_padding true c) rs) (are_all_apart rs) h in
     in_order c rs low both.0 both.1
 of_section c false rs is low h = absurd (cc)
+
+pub all_apart : (c : Contents) (executable : Bool) (rs : List Relocation) → executable ≡ true → are_paddings executable c rs ≡ true → are_all_apart rs ≡ true
+all_apart c true rs is h = (and_parts (list_all (is_padding true c) rs) (are_all_apart rs) h).1
+all_apart c false rs is h = absurd (cc)

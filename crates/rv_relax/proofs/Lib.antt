@@ -2,10 +2,12 @@ pub mod Order
 pub mod Losses
 pub mod Aligned
 pub mod Sorting
+pub mod Stable
 pub mod Planned
 pub mod Kept
 pub mod Rooms
 pub mod Apart
+pub mod ByPlace
 pub mod Dropping
 pub mod Judging
 pub mod Tables

@@ -1,9 +1,10 @@
 //! The alignments of a section.
 
-ghost use Rattle.std.specs.Prelude.{◌≡◌, ◌+◌, ◌<◌, ◌≤◌, nat_le, length, map, reverse, IfOk, OnOk, if◌then◌else◌};
-ghost use Rattle.std.specs.List.{filter, insert as with_inserted};
+ghost use Rattle.std.specs.Prelude.{◌≡◌, ◌<◌, ◌≤◌, ◌++◌, [], ◌∷◌, true, map, reverse, IfOk, OnOk, if◌then◌else◌};
+ghost use Rattle.std.specs.List.{filter};
 ghost use Rattle.rv_object.specs.Parts.{relocation_of};
-ghost use Rattle.rv_object_laws.specs.Moves.{alignment_of, by_place, full_padding as full_padding_of, has_padding as has_padding_of, inserted};
+ghost use Rattle.rv_object.specs.Valid.{are_all_apart};
+ghost use Rattle.rv_object_laws.specs.Moves.{alignment_of, by_place, full_padding as full_padding_of, has_padding as has_padding_of};
 
 use rv_isa::Kind;
 use rv_object::Relocation;
@@ -45,47 +46,30 @@ pub fn has_padding(relocation: &Relocation) -> bool
     matches!(relocation.kind, Kind::Align) && full_padding(relocation) > 0
 }
 
-/// Whether another relocation stands at the end of a padding or behind it.
-fn ends_before(alignment: &Relocation, other: &Relocation) -> bool
-    ensures { result
-        ≡ nat_le ((alignment.now).place + full_padding_of (relocation_of alignment.now))
-        (other.now).place }
-{
-    if other.place < alignment.place {
-        return false;
-    }
-    full_padding(alignment) <= other.place - alignment.place
-}
-
-/// The index of an alignment among others, which stand from the last to the first.
-fn place_in(sorted: &[Relocation], alignment: &Relocation) -> usize
-    ensures bound { result ≤ length sorted.now }
-    ensures place { reverse (map relocation_of (with_inserted sorted.now result alignment.now))
-        ≡ inserted (relocation_of alignment.now) (reverse (map relocation_of sorted.now)) }
-{
-    let mut at = sorted.len();
-    while at > 0 {
-        if ends_before(alignment, &sorted[at - 1]) {
-            return at;
-        }
-        at -= 1;
-    }
-    at
-}
-
-/// Adds a relocation to those that stand from the last to the first, if it is an alignment with bytes of padding.
-fn put(sorted: &mut Vec<Relocation>, relocation: &Relocation) -> Result<(), AllocError>
-    ensures { OnOk result (reverse (map relocation_of sorted.new.items)
+/// Adds a relocation, if it is an alignment with bytes of padding.
+fn put(found: &mut Vec<Relocation>, relocation: &Relocation) -> Result<(), AllocError>
+    ensures { OnOk result (map relocation_of found.new.items
         ≡ (if has_padding_of (relocation_of relocation.now)
-        then inserted (relocation_of relocation.now) (reverse (map relocation_of sorted.old.items))
-        else reverse (map relocation_of sorted.old.items))) }
+        then map relocation_of found.old.items ++ relocation_of relocation.now ∷ []
+        else map relocation_of found.old.items)) }
 {
     if !has_padding(relocation) {
         return Ok(());
     }
-    let place = place_in(sorted, relocation);
-    sorted.insert(place, *relocation)?;
+    found.push(*relocation)?;
     Ok(())
+}
+
+/// The alignments with bytes of padding among relocations.
+fn with_padding(alloc: Global, relocations: &[Relocation]) -> Result<Vec<Relocation>, AllocError>
+    ensures { IfOk result (λ found. map relocation_of found.items
+        ≡ filter has_padding_of (map relocation_of relocations.now)) }
+{
+    let mut found = Vec::new(alloc);
+    for relocation in relocations {
+        put(&mut found, relocation)?;
+    }
+    Ok(found)
 }
 
 /// The alignments with bytes of padding among relocations of code, from the last to the first.
@@ -93,14 +77,13 @@ pub(crate) fn alignments(
     alloc: Global,
     relocations: &[Relocation],
 ) -> Result<Vec<Relocation>, AllocError>
+    requires { are_all_apart (map relocation_of relocations.now) ≡ true }
     ensures { IfOk result (λ sorted. reverse (map relocation_of sorted.items)
         ≡ by_place (filter has_padding_of (map relocation_of relocations.now))) }
 {
-    let mut sorted = Vec::new(alloc);
-    let mut left = relocations.len();
-    while left > 0 {
-        left -= 1;
-        put(&mut sorted, &relocations[left])?;
-    }
+    let mut sorted = with_padding(alloc, relocations)?;
+    // linear where they stand in order already
+    sorted.sort_by_key(|alignment| alignment.place)?;
+    sorted.reverse();
     Ok(sorted)
 }

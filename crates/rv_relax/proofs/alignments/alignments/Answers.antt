@@ -1,19 +1,21 @@
-use Rattle.std.proofs.Common.{◌≡◌, ◌+◌, ◌-◌, ◌<◌, length, sym, ap, ◌∙◌, arith}
-use Rattle.rv_relax.proofs.Sorting.{backwards, one_more_at, all_of_them, none_of_them}
+use Rattle.std.proofs.Common.{◌∙◌, map, ap, rules, subst, sym}
+use Rattle.std.proofs.lemmas.List.Sorted.{answers_always, IsNonDecreasingBy-from_sort}
+use Rattle.rv_object.specs.Parts.{relocation_of}
+use Rattle.rv_object_laws.specs.Moves.{by_place}
+use Rattle.rv_relax.proofs.ByPlace.{place_of, AreTold, all_told, map_ordered}
+use Rattle.rv_relax.proofs.Sorting.{backwards, backwards_back}
+use Rattle.rv_relax.proofs.Stable.{sorted_is}
 use Rattle.rv_relax.proofs.alignments.alignments.Goals as goal
 
-pub loop-left-init : goal.loop-left-init
-loop-left-init c = (omega arith, ap backwards c.new-sorted.ensures.items ∙ sym (none_of_them c.args.relocations.now))
-
-pub loop-left-preserved : goal.loop-left-preserved
-loop-left-preserved c =
-    let xs = c.args.relocations.now in
-    let left = c.loop-left.left in
-    let is : left - 1 + 1 ≡ left = omega (arith, c.loop-left-test.true) in
-    let inside : left - 1 < length xs = omega (arith, c.loop-left.invariant.0) in (
-      omega (arith, c.loop-left.invariant.0),
-      one_more_at xs (left - 1) left _ (backwards c.loop-left.sorted.items) (backwards c.put.new.sorted.items) is inside c.loop-left.invariant.1 c.in_ok-put.ensures,
-    )
-
 pub returns : goal.returns
-returns c = all_of_them c.args.relocations.now c.loop-left.left (backwards c.loop-left.sorted.items) c.loop-left-test.false c.loop-left.invariant.1
+returns c =
+    let keys = answers_always _ _ _ (λ f a r next called. search rules) in
+    let rs = map relocation_of c.args.relocations.now in
+    let found = c.in_ok-sorted.sorted.items in
+    let sorted = c.sort_by_key.new.self.items in
+    let told : AreTold (map relocation_of found) = subst AreTold (sym c.in_ok-sorted.ensures) (all_told rs c.requires) in
+    ap backwards c.reverse.ensures.items ∙ backwards_back sorted
+    ∙ ap (map relocation_of)
+    (sorted_is place_of found sorted
+    (IsNonDecreasingBy-from_sort place_of _ (c.in_ok-sort_by_key.ensures.sorted place_of keys)) (c.sort_by_key.ensures.stable place_of keys))
+    ∙ map_ordered found told ∙ ap by_place c.in_ok-sorted.ensures

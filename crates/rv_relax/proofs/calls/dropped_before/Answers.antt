@@ -1,6 +1,6 @@
-use Rattle.std.proofs.Common.{◌≡◌, ◌+◌, ◌<◌, ◌≤◌, length, slice_index, ap, ◌∙◌, sym, arith}
+use Rattle.std.proofs.Common.{◌≡◌, ◌<◌, length, slice_index, ap, ◌∙◌, sym, arith}
 use Rattle.rv_layout_laws.specs.declared.site.Site.{Site}
-use Rattle.rv_layout_laws.specs.Calls.{dropped, dropped_of, site_at}
+use Rattle.rv_layout_laws.specs.Calls.{dropped_of, site_at}
 use Rattle.rv_layout_laws.proofs.Dropping.{dropped_most}
 use Rattle.rv_relax.proofs.Dropping.{site_read}
 use Rattle.rv_relax.proofs.Laid.{laid_in_order, laid_length, dropped_there, dropped_past}

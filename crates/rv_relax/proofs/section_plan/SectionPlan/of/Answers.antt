@@ -3,12 +3,19 @@ use Rattle.std.specs.Prelude.{reverse}
 use Rattle.std.specs.List.{filter}
 use Rattle.std.proofs.lemmas.Bool.{and_left, and_right, and_from}
 use Rattle.rv_object.specs.Parts.{relocation_of, contents_of}
+use Rattle.rv_object.specs.Valid.{are_all_apart}
 use Rattle.rv_object_laws.specs.Moves.{has_padding, by_place, plan}
 use Rattle.rv_relax.specs.Plan.{moves_of}
 use Rattle.rv_relax.specs.Paddings.{move_of, are_alignments}
-use Rattle.rv_relax.proofs.Apart.{of_section}
+use Rattle.rv_relax.proofs.Apart.{all_apart, of_section}
 use Rattle.rv_relax.proofs.section_plan.SectionPlan.of.Goals as goal
 use Rattle.rv_relax.proofs.section_plan.SectionPlan.of.Goals.{then-not-section-via-then-not-section, then-not-section-via-else-not-section+then-not-section-2}
+
+pub alignments-requires : goal.alignments-requires
+alignments-requires c =
+    let s = c.args.section.now in
+    ap (λ l. are_all_apart (map relocation_of l)) c.deref.ensures.value
+    ∙ all_apart (contents_of s.contents) s.executable (map relocation_of s.relocations.items) c.if-not-section-2.false s.paddings
 
 pub paddings-requires : goal.paddings-requires
 paddings-requires c =
