@@ -51,7 +51,7 @@ IsEvenPadding r = (r.place % 2 ≡ 0) × (full_padding r % 2 ≡ 0)
 even_drop : (full text old place rest : ℕ) → full % 2 ≡ 0 → text % 2 ≡ 0 → old % 2 ≡ 0 → place % 2 ≡ 0 → rest % 2 ≡ 0 → (min (full - text) (old - (place + text)) + rest) % 2 ≡ 0
 even_drop full text old place rest a b c d e = omega (arith, a, b, c, d, e)
 
-dropped_even : (base gone old : ℕ) (rs : List Relocation) → AllByRecursion IsEvenPadding rs → old % 2 ≡ 0 → dropped (plan base gone rs) old % 2 ≡ 0
+pub dropped_even : (base gone old : ℕ) (rs : List Relocation) → AllByRecursion IsEvenPadding rs → old % 2 ≡ 0 → dropped (plan base gone rs) old % 2 ≡ 0
 dropped_even base gone old [] h e = refl
 dropped_even base gone old (r ∷ rs) ((place, full), h) e =
     let least = aligned (alignment_of r) (base + (r.place - gone)) - (base + (r.place - gone)) in
@@ -96,7 +96,7 @@ all_padded c (r ∷ rs) e =
     by true is own more = all_inserted r (by_place (filter has_padding rs)) (relocation_even c r own is) more
     by false is own more = more
 
-section_padded : (s : Section) → are_paddings s.executable s.contents s.relocations ≡ true → AllByRecursion IsEvenPadding (alignments_of s)
+pub section_padded : (s : Section) → are_paddings s.executable s.contents s.relocations ≡ true → AllByRecursion IsEvenPadding (alignments_of s)
 section_padded s e = by s.loaded s.executable (and_parts (list_all (is_padding s.executable s.contents) s.relocations) (not s.executable || are_all_apart s.relocations) e).0
   where
     by : (l x : Bool) → list_all (is_padding x s.contents) s.relocations ≡ true → AllByRecursion IsEvenPadding (if l && x then by_place (filter has_padding s.relocations) else [])
