@@ -1,6 +1,6 @@
 -- The worked program: what it is linked to, and its run by the machine.
 
-use Rattle.std.proofs.Common.{◌≡◌, ℕ, zero, suc, Bool, true, false, IsTrue, List, [], ◌∷◌, refl, sym, ◌∙◌, lit<, arith, inl, inr, pos}
+use Rattle.std.proofs.Common.{◌≡◌, ℕ, zero, suc, Bool, true, false, IsTrue, [], ◌∷◌, refl, sym, ◌∙◌, lit<, arith, inl, inr, pos}
 use Rattle.std.proofs.lemmas.Int.{ints}
 use Rattle.std.specs.Prelude.{slice_index}
 use Rattle.rv_isa.specs.Ranges.{IsValid}
@@ -26,7 +26,7 @@ use Rattle.rv_source_laws.proofs.Settling.{settled_least}
 use Rattle.rv_unit_laws.specs.Tables.{at_start}
 use Rattle.rv_source_laws.specs.Shortened.{text_of, sites_of, size_at, HaveBytes, Shortened}
 use Rattle.rv_chain_laws.specs.Contents.{IsLinked}
-use Rattle.rv_layout_laws.specs.Calls.{Offers, site_at, MayShorten, IsClosed, Shortenings, Unchanged, LeadsOutside, IsText}
+use Rattle.rv_layout_laws.specs.Calls.{Offers, site_at, MayShorten, IsClosed, Unchanged, LeadsOutside, IsText}
 use Rattle.rv_layout_laws.proofs.Shortening.{shortened_greatest}
 use Rattle.rv_source_laws.specs.SourceRun.{source_run}
 use Rattle.rv_chain_laws.proofs.Contents.{linked_agrees}
