@@ -164,6 +164,51 @@ fn damaged_objects(rt: HostRuntime) -> Result<(), Fail> {
     Ok(())
 }
 
+/// The greatest number of a field of eight bytes, and that of one of four.
+const MOST: &[u8] = b"\xff\xff\xff\xff\xff\xff\xff\xff";
+
+const MOST_SHORT: &[u8] = b"\xff\xff\xff\xff";
+
+/// Places, sizes and indices in the same object that are as great as their fields hold.
+const GREATEST: [(usize, &[u8], FileFault); 14] = [
+    // where the section headers stand
+    (0x28, MOST, FileFault::Truncated),
+    // `.text`: its name, its place, its size, its alignment
+    (0x2E8, MOST_SHORT, FileFault::BadString),
+    (0x300, MOST, FileFault::Truncated),
+    (0x308, MOST, FileFault::Truncated),
+    (0x318, b"\0\0\0\0\0\0\0\x80", FileFault::BadTable),
+    // the sections that `.rela.text` names, and the one that `.symtab` does
+    (0x390, MOST_SHORT, FileFault::BadIndex),
+    (0x394, MOST_SHORT, FileFault::BadIndex),
+    (0x410, MOST_SHORT, FileFault::BadIndex),
+    // the first relocation: its offset, its kind, its symbol
+    (0x68, MOST, FileFault::BadTable),
+    (
+        0x70,
+        MOST_SHORT,
+        FileFault::UnsupportedRelocation(0xFFFF_FFFF),
+    ),
+    (0x74, MOST_SHORT, FileFault::BadIndex),
+    // the first row: its offset, its bytes
+    (0xA8, MOST, FileFault::BadTable),
+    (0xB0, MOST_SHORT, FileFault::BadTable),
+    // the first symbol's name
+    (0x210, MOST_SHORT, FileFault::BadString),
+];
+
+#[test]
+fn greatest_numbers(rt: HostRuntime) -> Result<(), Fail> {
+    let alloc = rt.alloc();
+    let object = assemble_object(alloc, HELLO)?;
+    for (offset, bytes, fault) in GREATEST.iter() {
+        let file = changed(alloc, object.as_slice(), *offset, *bytes)?;
+        let found = link_objects(alloc, &[file.as_slice()], OPTIONS);
+        assert!(rt; file_fault(found) == Some((1, *fault)), "offset {offset}");
+    }
+    Ok(())
+}
+
 /// An alignment of 0 is that of 1: the executable is the same.
 #[test]
 fn no_alignment(rt: HostRuntime) -> Result<(), Fail> {
