@@ -2,6 +2,7 @@
 """Proves and builds a program and the libraries below it, those side by side that do not need each other.
 
 usage: build.py PROGRAM
+       build.py PROGRAM WORD ..    (in the program's folder, with all libraries built: runs it with these words)
 
 It does what `rt run` does in the program's folder, which takes one crate after the other: each library is proved
 over what earlier runs kept in its out/, and written there for the crates above. A crate that has not changed is
@@ -25,14 +26,20 @@ ROOT = os.path.dirname(os.path.dirname(os.path.realpath(__file__)))
 EACH = 3_000_000_000
 
 
+def checker_module(name, file):
+    """A Python file that stands beside `rt`, as a module."""
+    rt = shutil.which("rt") or sys.exit("rt is not on the PATH: README.md names the checker that this needs")
+    path = f"{os.path.dirname(os.path.realpath(rt))}/{file}"
+    loader = importlib.machinery.SourceFileLoader(name, path)
+    made = importlib.util.module_from_spec(importlib.util.spec_from_loader(name, loader))
+    sys.modules[name] = made
+    loader.exec_module(made)
+    return made
+
+
 def checker():
     """The checker's own library, which `rt` loads in the same way."""
-    rt = shutil.which("rt") or sys.exit("rt is not on the PATH: README.md names the checker that this needs")
-    path = f"{os.path.dirname(os.path.realpath(rt))}/rtlib.py"
-    loader = importlib.machinery.SourceFileLoader("rtlib", path)
-    made = importlib.util.module_from_spec(importlib.util.spec_from_loader("rtlib", loader))
-    sys.modules["rtlib"] = made
-    loader.exec_module(made)
+    made = checker_module("rtlib", "rtlib.py")
     made.Crate.stamp = once(made.Crate.stamp)
     return made
 
@@ -115,13 +122,23 @@ def build_program(program):
     """Proves, compiles and links the program over its libraries, and sees that it starts."""
     start = time.monotonic()
     how = {"cwd": f"{ROOT}/crates/{program}", "stdout": subprocess.PIPE, "stderr": subprocess.STDOUT, "text": True}
-    ran = subprocess.run(["rt", "run", "--", "--version"], stdin=subprocess.DEVNULL, errors="replace", **how)
+    words = [sys.executable, os.path.realpath(__file__), program, "--version"]
+    ran = subprocess.run(words, stdin=subprocess.DEVNULL, errors="replace", **how)
     if ran.returncode:
         stop(program, ran.returncode, ran.stdout)
     tell("program", program, start)
 
 
-def main(program):
+def run_program(words):
+    """Does what `rt run` does in the working folder, with these words for the program, with stamps that are made once."""
+    rt = checker_module("rt", "rt")
+    rt.rtlib.Crate.stamp = once(rt.rtlib.Crate.stamp)
+    return rt.main(["run", "--", *words])
+
+
+def main(program, *words):
+    if words:
+        return run_program(words)
     # (with Python's own handler, Ctrl-C would wait for the checks)
     signal.signal(signal.SIGINT, signal.SIG_DFL)
     rtlib = checker()

@@ -203,6 +203,7 @@ impl Paged {
     }
 
     /// The number of bytes that have the right, by a search; the next accesses look first where it ended.
+    #[cold]
     #[inline(never)]
     fn search_load(&self, address: u64, bytes: u64, right: Right) -> Option<u64>
         requires width { IsWidth bytes }
@@ -249,6 +250,7 @@ impl Paged {
     }
 
     /// Puts the low bytes of a number where all may be written, by a search; whether they may.
+    #[cold]
     #[inline(never)]
     fn search_store(&mut self, address: u64, bytes: u64, value: u64) -> bool
         requires { IsWidth bytes }
