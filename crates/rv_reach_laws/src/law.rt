@@ -2,7 +2,8 @@
 
 ghost use Rattle.rv_reach_laws.specs.Reach.{ShortBranchesReach, ShortCallsReach};
 
-/// Whatever paddings regrow, the field of each call of which relaxation leaves `jal` or `c.j` takes its value, in any objects.
+/// Whatever paddings regrow, the field of each call of which relaxation leaves `jal` or `c.j` takes its value: in any
+/// objects, whoever made them.
 pub fn short_calls_reach()
     ensures { ShortCallsReach }
 {}
