@@ -96,11 +96,11 @@ sound_sections : (ss : List Section) → AllByRecursion IsFit ss → AllByRecurs
 sound_sections [] h k = tt
 sound_sections (s ∷ ss) (fit, h) (padded, k) = (record { fit = fit; paddings = padded }, sound_sections ss h k)
 
-pub all_sound : (os : List Object) → AllByRecursion IsSound os → AllSound os
+all_sound : (os : List Object) → AllByRecursion IsSound os → AllSound os
 all_sound [] h = tt
 all_sound (o ∷ os) (sound, h) = (sound_sections o.sections sound.inside sound.paddings, all_sound os h)
 
-pub text_inputs : (whole : List Object) (file : ℕ) (os : List Object) → 1 ≤ file → ((n : ℕ) → object_at whole (file + n) ≡ slice_index_or os n no_object) → AllByRecursion IsSound os
+text_inputs : (whole : List Object) (file : ℕ) (os : List Object) → 1 ≤ file → ((n : ℕ) → object_at whole (file + n) ≡ slice_index_or os n no_object) → AllByRecursion IsSound os
     → EachOf goes_to_text (IsTextInput whole) file os
 text_inputs whole file [] some each h = tt
 text_inputs whole file (o ∷ os) some each (sound, h) = (
@@ -115,7 +115,7 @@ text_inputs whole file (o ∷ os) some each (sound, h) = (
   text_inputs whole (suc file) os (omega (arith, some)) (λ n. ap (object_at whole) (let e : suc file + n ≡ file + suc n = omega arith in e) ∙ each (suc n)) h,
 )
 
-pub sites_text : (os : List Object) → AllByRecursion IsSound os → IsText (sites_of os)
+sites_text : (os : List Object) → AllByRecursion IsSound os → IsText (sites_of os)
 sites_text os h =
     text os (all_of goes_to_text (IsTextInput os) 1 os
     (text_inputs os 1 os (omega arith) (λ n. ap (λ k. slice_index_or os k no_object) (let e : 1 + n - 1 ≡ n = omega arith in e)) h))
@@ -134,7 +134,7 @@ small_by true os left is h k =
     let walk = walk_is os is.0 (all_sound os h) (sites_text os h) is.1.closed.family.same_length in
     subst (AllByRecursion IsSmall) (walk.same ∙ sym is.2) (walked_small os (sites_of os) is.0 walk.allowed h k)
 
-pub left_sound : (relax : Bool) (os left : List Object) → Relaxes relax os left → AllByRecursion IsSound os → AllByRecursion IsSound left
+left_sound : (relax : Bool) (os left : List Object) → Relaxes relax os left → AllByRecursion IsSound os → AllByRecursion IsSound left
 left_sound false os left is h = subst (AllByRecursion IsSound) (sym is) h
 left_sound true os left is h = sound_by (is_short_text os) os left is h
 

@@ -4,3 +4,8 @@ pub mod Spans
 pub mod Targets
 pub mod Shorter
 pub mod Reached
+pub mod Branching
+pub mod Fielding
+pub mod Nears
+pub mod Nearby
+pub mod Branched

@@ -1,33 +1,31 @@
 -- The field of each call that relaxation shortens takes its value where the text is placed.
 
-use Rattle.std.proofs.Common.{rules, ◌≡◌, ℕ, zero, suc, ◌+◌, ◌-◌, ◌*◌, ◌%◌, ◌^◌, ◌<◌, ◌≤◌, ◌⊎◌, inl, inr, Bool, true, false, cond, not, ◌&&◌, ◌||◌, nat_lt, List, [], ◌∷◌, length, map, Option, Some, None, option_map, slice_index, ℤ, pos, negsuc, ◌+ℤ◌, ◌-ℤ◌, ◌≤ℤ◌, ◌<ℤ◌, neg_ℤ, unsigned_abs, FitsSigned, refl, sym, ap, subst, ◌∙◌, arith}
-use Rattle.std.specs.Prelude.{◌==◌, IsTrue, filter, unwrap_or, if◌then◌else◌}
+use Rattle.std.proofs.Common.{rules, ◌≡◌, ℕ, zero, suc, ◌+◌, ◌%◌, ◌^◌, ◌<◌, ◌≤◌, ◌⊎◌, inl, inr, Bool, true, false, not, ◌&&◌, List, [], ◌∷◌, length, map, Option, Some, None, option_map, slice_index, ℤ, pos, negsuc, ◌+ℤ◌, ◌-ℤ◌, ◌≤ℤ◌, ◌<ℤ◌, neg_ℤ, FitsSigned, refl, sym, ap, subst, ◌∙◌, arith}
+use Rattle.std.specs.Prelude.{◌==◌, filter, unwrap_or, if◌then◌else◌}
 use Rattle.std.specs.List.{AllByRecursion, slice_get}
 use Rattle.std.specs.Int.{w64, int_wrap}
 use Rattle.std.proofs.lemmas.Int.{ints, int_wrap_fits}
-use Rattle.std.proofs.lemmas.Bool.{and_parts, or_right, cases_lt}
+use Rattle.std.proofs.lemmas.Bool.{or_right, cases_lt}
 use Rattle.std.proofs.lemmas.Option.{slice_get-map}
 use Rattle.rv_isa.specs.declared.kind.Kind.{Kind}
 use Rattle.rv_isa.specs.declared.kind.Kind.TheVariants as kinds
-use Rattle.rv_reloc.specs.Ranges.{IsInRange, is_target, IsOdd, Takes}
-use Rattle.rv_reloc.specs.Values.{value_of}
+use Rattle.rv_reloc.specs.Ranges.{IsInRange, IsOdd, Takes}
 use Rattle.rv_layout_laws.specs.declared.site.Site.{Site}
 use Rattle.rv_layout_laws.specs.Offsets.{IsEven, IsImmediate, Reaches}
 use Rattle.rv_layout_laws.specs.Calls as layout
 use Rattle.rv_layout_laws.specs.Calls.{Offers, half, site_at, bytes_of, InOrder, IsText, IsFamily, IsGreatestClosed, ReachesFrom, ReachesBy, is_call as is_call_site}
 use Rattle.rv_layout_laws.proofs.Reaching.{Nearer, reaches_nearer}
 use Rattle.rv_layout_laws.proofs.Shortening.{greatest_reaching}
-use Rattle.rv_map.specs.Map.{Global}
 use Rattle.rv_object.specs.declared.object.Object.{Object as DeclaredObject}
 use Rattle.rv_object.specs.Object.{Relocation, Section, Object, size_of}
 use Rattle.rv_object.specs.Valid.{are_paddings}
 use Rattle.rv_object.specs.View.{object_of}
 use Rattle.rv_object_laws.specs.Moves.{dropped, moves, new_offset, has_padding}
-use Rattle.rv_object_laws.specs.Inputs.{Starts, InputSection, goes_to_text, inputs, start_of, Stand}
-use Rattle.rv_object_laws.specs.Names.{Place, globals_of, shown_linker_symbols}
-use Rattle.rv_object_laws.specs.Values.{target, value}
+use Rattle.rv_object_laws.specs.Inputs.{Starts, InputSection, goes_to_text, inputs, Stand}
+use Rattle.rv_object_laws.specs.Names.{Place, shown_linker_symbols}
+use Rattle.rv_object_laws.specs.Values.{target}
 use Rattle.rv_object_laws.specs.Calls.{is_call, start_padding, base, text_offset, target_place, is_text_place, is_permitted, may_change, changes, call_site, site_of, sites_of, is_short_text}
-use Rattle.rv_object_laws.specs.Shortened.{Sizes, size_at, sizes_by, is_shortened, cuts, shortened_kind, shortened_relocation, shortened_text, shortened_object, shortened, IsRelaxed}
+use Rattle.rv_object_laws.specs.Shortened.{Sizes, size_at, sizes_by, is_shortened, cuts, shortened_kind, shortened_relocation, shortened_text, shortened, IsRelaxed}
 use Rattle.rv_object_laws.proofs.Changes as permitted
 use Rattle.rv_object_laws.proofs.TextInputs.{IsTextInput, text_inputs}
 use Rattle.rv_object_laws.proofs.TextLine.{site_call, sites_text}
@@ -37,7 +35,7 @@ use Rattle.rv_placement.specs.Placement.{starts_of, IsPlacement}
 use Rattle.rv_resolve.specs.Shown.{regions_of, shown_globals}
 use Rattle.rv_link.specs.Refusals.{IsTextStart}
 use Rattle.rv_link.specs.Filled.{IsTaken}
-use Rattle.rv_shorten.specs.Cutting.{In, AreCuts, cut_section}
+use Rattle.rv_shorten.specs.Cutting.{In}
 use Rattle.rv_shorten.proofs.Changes as changed
 use Rattle.rv_shorten.proofs.Lists.{filter_in, ordered_in}
 use Rattle.rv_shorten.proofs.Sections.{short_parts, same_text}
@@ -46,7 +44,7 @@ use Rattle.rv_shorten.proofs.Shifts as cut
 use Rattle.rv_one_link_laws.proofs.Multiples.{BeginsSo, all_begin}
 use Rattle.rv_reach_laws.specs.Reach.{is_short_call, ForEachLeft, ShortCallsReach}
 use Rattle.rv_reach_laws.proofs.Lines.{IsFramed, Frames, frames}
-use Rattle.rv_reach_laws.proofs.Spans.{left_section, left_input, lefts, IsPlain, taken, address, line, AreInLine, in_order, stays_even, nearer_ahead, nearer_behind}
+use Rattle.rv_reach_laws.proofs.Spans.{left_section, left_input, lefts, IsPlain, address, in_order, stays_even, nearer_ahead, nearer_behind}
 use Rattle.rv_reach_laws.proofs.Targets.{IsAt, IsInText, in_text, place_at, stands, target_stands}
 use Rattle.rv_reach_laws.proofs.Shorter.{sounds, IsEvenCode, evens, ordered_all, index_of, in_at, all_at, kept_here, lows}
 
@@ -81,7 +79,7 @@ half_most k = by (k == 2)
     by false = omega arith
 
 -- the value as the field has it
-value_is : (a s p : ℕ) (z : ℤ) (h : ℕ) → h ≤ 2 ^ 20 → IsImmediate h ((pos a -ℤ pos p) +ℤ z) → a < 2 ^ 64 → s ≡ a % 2 ^ 64 → int_wrap w64 ((pos s +ℤ z) -ℤ pos p) ≡ (pos a -ℤ pos p) +ℤ z
+pub value_is : (a s p : ℕ) (z : ℤ) (h : ℕ) → h ≤ 2 ^ 20 → IsImmediate h ((pos a -ℤ pos p) +ℤ z) → a < 2 ^ 64 → s ≡ a % 2 ^ 64 → int_wrap w64 ((pos s +ℤ z) -ℤ pos p) ≡ (pos a -ℤ pos p) +ℤ z
 value_is a s p z h most it low e =
     let same : s ≡ a = omega (arith, e, low) in
     let v = (pos a -ℤ pos p) +ℤ z in
@@ -108,7 +106,7 @@ pub record HasFrame (os : List Object) (kept : List ℕ) (i : InputSection) : Ty
   pub gone : ℕ
   pub frame : IsFramed os kept at gone i
 
-frame_at : (os : List Object) (kept : List ℕ) (at gone : ℕ) (is : List InputSection) → Frames os kept at gone is → (k : ℕ) (i : InputSection) → slice_get is k ≡ Some i → HasFrame os kept i
+pub frame_at : (os : List Object) (kept : List ℕ) (at gone : ℕ) (is : List InputSection) → Frames os kept at gone is → (k : ℕ) (i : InputSection) → slice_get is k ≡ Some i → HasFrame os kept i
 frame_at os kept at gone [] h k i e = absurd (cc)
 frame_at os kept at gone (x ∷ is) (one, h) zero i e = let same : x ≡ i = cc in subst (HasFrame os kept) same (record { at = at; gone = gone; frame = one })
 frame_at os kept at gone (x ∷ is) (one, h) (suc k) i e =
@@ -151,7 +149,7 @@ module _ (ds : List DeclaredObject) (kept : List ℕ) (greatest : IsGreatestClos
   inputs_are : AllByRecursion (IsTextInput os) is
   inputs_are = text_inputs ds
 
-  all_frames : Frames os kept 0 0 is
+  pub all_frames : Frames os kept 0 0 is
   all_frames = frames os kept 1 0 0 0 is kept inputs_are (ordered_all 1 os) (record {
     stands = record { base_is = λ g y later. omega arith; size_is = λ o le. refl; many = family.same_length; order = order };
     drops = λ n le. (let d = layout.dropped sites kept n in let e : d ≡ 0 + d = omega arith in e);
@@ -189,7 +187,7 @@ module _ (ds : List DeclaredObject) (kept : List ℕ) (greatest : IsGreatestClos
     plains_from (at + start_padding i.section + size_of i.section.contents) (gone + dropped (cuts (its i) i.section) (size_of i.section.contents)) js fs as' bs cs ds',
   )
 
-  plains : AllByRecursion (IsPlain os kept) is
+  pub plains : AllByRecursion (IsPlain os kept) is
   plains = plains_from 0 0 is all_frames inputs_are (all_begin os (sounds ds)) (evens 1 ds) all_lows
 
   stand : Stand starts start (map (left_input os kept) is)

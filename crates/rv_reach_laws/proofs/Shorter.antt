@@ -1,56 +1,32 @@
 -- Each call that relaxation shortens reaches where its text is placed.
 
-use Rattle.std.proofs.Common.{◌≡◌, ℕ, zero, suc, ◌+◌, ◌-◌, ◌*◌, ◌%◌, ◌^◌, ◌<◌, ◌≤◌, ◌⊎◌, inl, inr, Bool, true, false, cond, not, ◌&&◌, ◌||◌, nat_lt, List, [], ◌∷◌, ◌++◌, length, map, Option, Some, None, option_map, slice_index, ℤ, pos, negsuc, ◌+ℤ◌, ◌-ℤ◌, ◌≤ℤ◌, ◌<ℤ◌, neg_ℤ, unsigned_abs, refl, sym, ap, subst, ◌∙◌, arith}
-use Rattle.std.specs.Prelude.{◌==◌, ⊤, IsTrue, filter, if◌then◌else◌}
+use Rattle.std.proofs.Common.{◌≡◌, ℕ, zero, suc, ◌+◌, ◌-◌, ◌%◌, ◌^◌, ◌<◌, ◌≤◌, ◌⊎◌, inl, inr, Bool, true, false, cond, List, [], ◌∷◌, ◌++◌, length, map, Some, slice_index, refl, sym, ap, subst, ◌∙◌, arith}
+use Rattle.std.specs.Prelude.{◌==◌, IsTrue, if◌then◌else◌}
 use Rattle.std.specs.List.{AllByRecursion, slice_get}
 use Rattle.std.specs.Global.{Vec}
-use Rattle.std.specs.Int.{w64, int_wrap}
-use Rattle.std.proofs.lemmas.Int.{ints, int_wrap_fits}
-use Rattle.std.proofs.lemmas.Bool.{and_parts, and_from, or_right, eq-eqb, eqb-true, ne_eqb, ltb-true, cases_lt}
-use Rattle.std.proofs.lemmas.Option.{slice_get-map}
-use Rattle.rv_isa.specs.declared.kind.Kind.{Kind}
-use Rattle.rv_isa.specs.declared.kind.Kind.TheVariants as kinds
+use Rattle.std.proofs.lemmas.Bool.{and_parts, and_from, eq-eqb, eqb-true, ne_eqb}
 use Rattle.rv_layout_laws.specs.declared.site.Site.{Site}
 use Rattle.rv_layout_laws.specs.declared.site.SiteKind.{SiteKind}
 use Rattle.rv_layout_laws.specs.declared.site.SiteKind.TheVariants.{Call, Padding}
-use Rattle.rv_layout_laws.specs.Offsets.{IsEven, IsImmediate, Reaches}
-use Rattle.rv_layout_laws.specs.Calls as layout
-use Rattle.rv_layout_laws.specs.Calls.{Offers, half, site_at, bytes_of, InOrder, IsText, IsGreatestClosed, ReachesFrom, ReachesBy, is_call as is_call_site}
-use Rattle.rv_layout_laws.proofs.Reaching.{Nearer, reaches_nearer}
-use Rattle.rv_layout_laws.proofs.Dropping.{dropped_most}
-use Rattle.rv_layout_laws.proofs.Shortening.{before_all, greatest_reaching}
+use Rattle.rv_layout_laws.specs.Calls.{site_at, bytes_of, InOrder, is_call as is_call_site}
+use Rattle.rv_layout_laws.proofs.Shortening.{before_all}
 use Rattle.rv_object.specs.declared.object.Object.{Object as DeclaredObject}
 use Rattle.rv_object.specs.declared.section.Section.{Section as DeclaredSection}
-use Rattle.rv_object.specs.Object.{Relocation, Section, Object, size_of}
+use Rattle.rv_object.specs.Object.{Section, Object, size_of}
 use Rattle.rv_object.specs.Sections.{section_of}
 use Rattle.rv_object.specs.Valid.{is_even, is_alignment, are_paddings, fit_inside}
 use Rattle.rv_object.specs.View.{object_of}
-use Rattle.rv_object_laws.specs.Moves.{moves, new_offset, has_padding}
-use Rattle.rv_object_laws.specs.Inputs.{Starts, InputSection, goes_to_text, inputs_from, inputs_of, inputs, begins_at, Stand}
-use Rattle.rv_object_laws.specs.Names.{Place, no_object, object_at}
-use Rattle.rv_object_laws.specs.Calls.{is_call, base, base_in, text_offset, target_place, is_text_place, is_permitted, may_change, in_order as ordered_changes, changes, call_site, site_of, sites_from, sites_of}
-use Rattle.rv_object_laws.specs.Shortened.{Sizes, size_at, sizes_by, is_shortened, cuts, shortened_kind, shortened_relocation, shortened_text, shortened}
-use Rattle.rv_object_laws.proofs.Changes as permitted
-use Rattle.rv_object_laws.proofs.TextInputs.{IsTextInput, text_inputs}
-use Rattle.rv_object_laws.proofs.TextLine.{site_call, sites_text}
-use Rattle.rv_object_laws.proofs.TextPlaces.{target_named}
+use Rattle.rv_object_laws.specs.Inputs.{InputSection, goes_to_text, inputs_from, inputs_of, inputs}
+use Rattle.rv_object_laws.specs.Shortened.{size_at}
 use Rattle.rv_placement.specs.declared.placement.PlacedSection.{PlacedSection}
 use Rattle.rv_placement.specs.declared.placement.Placement.{Placement}
 use Rattle.rv_placement.specs.Placement.{placed_in, start_in, starts_of, section_in, section_at, IsPlacement}
-use Rattle.rv_shorten.specs.Cutting.{In, AreCuts, cut_section}
+use Rattle.rv_shorten.specs.Cutting.{In}
 use Rattle.rv_shorten.proofs.Changes as changed
-use Rattle.rv_shorten.proofs.Lists.{filter_in, ordered_in}
 use Rattle.rv_shorten.proofs.Line.{Later}
-use Rattle.rv_shorten.proofs.Sections.{short_parts, same_text}
-use Rattle.rv_shorten.proofs.Short.{size_left, paddings_stay}
-use Rattle.rv_shorten.proofs.Shifts as cut
 use Rattle.rv_one_link_laws.specs.Asked.{IsSound}
-use Rattle.rv_one_link_laws.proofs.Found.{Each, EachOf, all_of}
-use Rattle.rv_one_link_laws.proofs.Multiples.{BeginsSo, all_begin}
-use Rattle.rv_reach_laws.proofs.Moving.{IsPaddedText}
-use Rattle.rv_reach_laws.proofs.Lines.{IsFramed, Frames, Ordered, AreLeft, frames}
-use Rattle.rv_reach_laws.proofs.Spans.{left_section, left_input, lefts, IsPlain, taken, address, line, AreInLine, in_order, stays_even, nearer_ahead, nearer_behind}
-use Rattle.rv_reach_laws.proofs.Targets.{IsAt, IsInText, in_text, place_at, stands}
+use Rattle.rv_one_link_laws.proofs.Found.{EachOf, all_of}
+use Rattle.rv_reach_laws.proofs.Lines.{Ordered}
 
 -- ---- what objects of the code keep
 

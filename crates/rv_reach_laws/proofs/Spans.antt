@@ -1,14 +1,12 @@
 -- Where the places of a text stand once it is placed: as far apart as the sizes of its calls have them, but for what its
 -- paddings drop, which is more the further on a place is.
 
-use Rattle.std.proofs.Common.{◌≡◌, ℕ, zero, suc, ◌+◌, ◌-◌, ◌*◌, ◌/◌, ◌%◌, ◌<◌, ◌≤◌, ◌⊎◌, inl, inr, Bool, true, false, cond, ◌&&◌, ◌||◌, nat_lt, nat_le, max, List, [], ◌∷◌, ◌++◌, map, Some, pos, ◌-ℤ◌, refl, sym, ap, subst, ◌∙◌, arith}
+use Rattle.std.proofs.Common.{◌≡◌, ℕ, zero, suc, ◌+◌, ◌-◌, ◌*◌, ◌/◌, ◌%◌, ◌<◌, ◌≤◌, ◌⊎◌, inl, inr, Bool, true, false, ◌&&◌, nat_lt, nat_le, max, List, [], ◌∷◌, ◌++◌, map, Some, pos, ◌-ℤ◌, refl, sym, ap, subst, ◌∙◌, arith}
 use Rattle.std.specs.Prelude.{◌==◌, filter, if◌then◌else◌}
 use Rattle.std.specs.List.{AllByRecursion, slice_get}
 use Rattle.std.proofs.lemmas.Int.{ints}
 use Rattle.std.proofs.lemmas.Bool.{and_parts}
-use Rattle.rv_isa.specs.declared.kind.Kind.{Kind}
 use Rattle.rv_isa.specs.declared.kind.Kind.TheVariants as kinds
-use Rattle.rv_layout_laws.specs.declared.site.Site.{Site}
 use Rattle.rv_layout_laws.specs.Calls as layout
 use Rattle.rv_layout_laws.specs.Calls.{InOrder}
 use Rattle.rv_layout_laws.proofs.Reaching.{Nearer, Ahead, Behind}
@@ -16,11 +14,10 @@ use Rattle.rv_layout_laws.proofs.Dropping.{dropped_most}
 use Rattle.rv_object.specs.Object.{Relocation, Section, Object, size_of}
 use Rattle.rv_object.specs.Valid.{is_align}
 use Rattle.rv_object_laws.specs.Moves.{Move, dropped, new_offset, aligned, full_padding, has_padding, alignment_of, inserted, by_place, alignments_of, moves}
-use Rattle.rv_object_laws.specs.Inputs.{Starts, InputSection, goes_to_text, inputs_from, inputs_of, inputs, raised, begins_at, start_of, size, Stand}
+use Rattle.rv_object_laws.specs.Inputs.{Starts, InputSection, goes_to_text, inputs_from, inputs_of, raised, begins_at, start_of, size, Stand}
 use Rattle.rv_object_laws.specs.Calls.{is_call, start_padding, base, sites_of}
-use Rattle.rv_object_laws.specs.Shortened.{Sizes, sizes_by, is_shortened, cuts, shortened_kind, shortened_relocation, shortened_contents, shortened_text, shortened_section, shortened_sections, shortened_object, shortened_from}
+use Rattle.rv_object_laws.specs.Shortened.{Sizes, sizes_by, is_shortened, cuts, shortened_kind, shortened_relocation, shortened_text, shortened_section, shortened_sections, shortened_object, shortened_from}
 use Rattle.rv_placement.proofs.Walks.{above}
-use Rattle.rv_shorten.specs.Cutting.{are_cuts, AreCuts}
 use Rattle.rv_shorten.proofs.CallKinds.{call_no_align}
 use Rattle.rv_shorten.proofs.Shifts as cut
 use Rattle.rv_one_link_laws.proofs.Multiples.{aligned_even, aligned_near}

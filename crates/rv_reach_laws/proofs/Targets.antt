@@ -1,8 +1,8 @@
 -- The place that a call's symbol names has, once the text is placed, the address that the symbol stands for.
 
-use Rattle.std.proofs.Common.{◌≡◌, ℕ, zero, suc, ◌+◌, ◌-◌, ◌%◌, ◌^◌, ◌<◌, ◌≤◌, Bool, true, false, cond, ◌&&◌, nat_le, List, [], ◌∷◌, ◌++◌, map, Option, Some, None, option_map, slice_index_or, refl, sym, ap, subst, ◌∙◌, arith}
+use Rattle.std.proofs.Common.{◌≡◌, ℕ, zero, suc, ◌+◌, ◌-◌, ◌%◌, ◌^◌, ◌≤◌, Bool, true, false, ◌&&◌, nat_le, List, [], ◌∷◌, ◌++◌, map, Option, Some, None, option_map, slice_index_or, refl, sym, ap, subst, ◌∙◌, arith}
 use Rattle.std.specs.Prelude.{filter, flat_map, option_and_then, bytes_eq, if◌then◌else◌}
-use Rattle.std.specs.List.{AllByRecursion, find, slice_get}
+use Rattle.std.specs.List.{find, slice_get}
 use Rattle.std.proofs.lemmas.Bool.{and_parts, leb-true}
 use Rattle.std.proofs.lemmas.List.{append_assoc}
 use Rattle.std.proofs.lemmas.Option.{slice_get-map}
@@ -12,7 +12,7 @@ use Rattle.rv_object.specs.declared.symbol.Definition.TheVariants as definitions
 use Rattle.rv_object.specs.Object.{Relocation, Section, Symbol, Object, size_of}
 use Rattle.rv_object_laws.specs.Moves.{moves, new_offset}
 use Rattle.rv_object_laws.specs.Inputs.{Starts, InputSection, goes_to_text, inputs_from, inputs_of, inputs}
-use Rattle.rv_object_laws.specs.Names.{offset_address, defined_address, global_address, symbol_address, is_defined, is_global, is_exported, exported, shown, globals_of, Place, place_in, global_place, symbol_place, no_object, object_at}
+use Rattle.rv_object_laws.specs.Names.{offset_address, defined_address, symbol_address, is_defined, is_global, is_exported, exported, shown, globals_of, Place, place_in, global_place, symbol_place, no_object, object_at}
 use Rattle.rv_object_laws.specs.Values.{target}
 use Rattle.rv_object_laws.specs.Calls.{target_place, is_in_section, is_text_place}
 use Rattle.rv_object_laws.specs.Shortened.{Sizes, sizes_by, cuts, cuts_at, cuts_in, shortened_text, shortened_section, shortened_sections, shortened_definition, shortened_symbol, shortened_object, shortened_from}
@@ -116,7 +116,7 @@ module _ (os : List Object) (kept : List ℕ) (starts : Starts) where
   place : ℕ → ℕ → ℕ → Place
   place file section offset = record { file = file; section = section; offset = offset }
 
-  defined_at : (file section offset : ℕ) (s : Section) → slice_get (object_at os file).sections section ≡ Some s → goes_to_text s ≡ true
+  pub defined_at : (file section offset : ℕ) (s : Section) → slice_get (object_at os file).sections section ≡ Some s → goes_to_text s ≡ true
       → offset_address (starts file section) (new_offset (cuts_in (its file) (object_at os file) section) offset) (slice_get (shortened_sections (its file) 0 (object_at os file).sections) section)
       ≡ Some (stands (record { file = file; section = section; offset = offset }) s % 2 ^ 64)
   defined_at file section offset s there text =

@@ -1,9 +1,13 @@
--- That no call is out of reach in the shorter form that relaxation chose for it, whatever paddings
--- come to be (RISC-V ELF psABI, "Linker Relaxation", function call relaxation, and "Relocations").
+-- That no form that is chosen because it reaches comes to be out of reach, whatever paddings
+-- regrow: of a call the shorter one that relaxation leaves, of a branch or a jump the one below its
+-- largest (RISC-V ELF psABI, "Linker Relaxation", function call relaxation, and "Relocations"; ISA,
+-- "Conditional Branches", "Unconditional Jumps").
 
-use Rattle.std.specs.Prelude.{◌≡◌, ℕ, Bool, true, not, ◌&&◌, List, map, Some}
+use Rattle.std.specs.Prelude.{◌≡◌, ℕ, Bool, true, false, not, ◌&&◌, List, map, Some}
 use Rattle.std.specs.List.{slice_get}
 use Rattle.rv_isa.specs.declared.kind.Kind.{Kind}
+use Rattle.rv_isa.specs.declared.kind.Kind.TheVariants as kinds
+use Rattle.rv_statement.specs.Statement.{Statement}
 use Rattle.rv_object.specs.declared.object.Object.{Object as DeclaredObject}
 use Rattle.rv_object.specs.Object.{Relocation, Object}
 use Rattle.rv_object.specs.View.{object_of}
@@ -14,10 +18,19 @@ use Rattle.rv_placement.specs.declared.placement.Placement.{Placement}
 use Rattle.rv_placement.specs.Placement.{IsPlacement}
 use Rattle.rv_link.specs.Refusals.{IsTextStart}
 use Rattle.rv_link.specs.Filled.{IsTaken}
+use Rattle.rv_boundary_laws.specs.Joins.{AreObjectsOf}
 
 -- the field of a call, of which `jal` or `c.j` is left
 abbrev pub is_short_call : (before now : Kind) → Bool
 is_short_call before now = is_call before && not (is_call now)
+
+-- the field of a branch of 2 or 4 bytes, or of `c.j`: a form below the largest, which for a branch
+-- is the inverted one over a jump, and for a jump is `jal`
+abbrev pub is_short_branch : Kind → Bool
+is_short_branch kinds.Branch = true
+is_short_branch kinds.RvcBranch = true
+is_short_branch kinds.RvcJump = true
+is_short_branch _ = false
 
 -- this holds of each relocation of the text, as it was before relaxation and as it is now, and of
 -- the section that it is in now
@@ -39,3 +52,13 @@ ShortCallsReach =
     → IsTextStart start → IsPlacement left start p
     → ForEachLeft (map object_of objects) left
     (λ before now i. is_short_call before.kind now.kind ≡ true → IsTaken left p i now)
+
+-- and so does the field of each branch and jump of sources that has a form below its largest
+abbrev pub ShortBranchesReach : Type 0
+ShortBranchesReach =
+    (sources : List (List Statement)) (objects : List DeclaredObject) (left : List Object)
+    (start : ℕ) (relax : Bool) (p : Placement)
+    → AreObjectsOf sources (map object_of objects) → Relaxes relax (map object_of objects) left
+    → IsTextStart start → IsPlacement left start p
+    → ForEachLeft (map object_of objects) left
+    (λ before now i. is_short_branch before.kind ≡ true → IsTaken left p i now)

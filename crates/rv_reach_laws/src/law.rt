@@ -1,8 +1,14 @@
-//! The laws of chosen forms.
+//! Laws of chosen forms, each the contract of a function with nothing to do.
 
-ghost use Rattle.rv_reach_laws.specs.Reach.{ShortCallsReach};
+ghost use Rattle.rv_reach_laws.specs.Reach.{ShortBranchesReach, ShortCallsReach};
 
-/// Whatever paddings come to be, the field of each call of which relaxation leaves `jal` or `c.j` takes its value.
+/// Whatever paddings regrow, the field of each call of which relaxation leaves `jal` or `c.j` takes its value: in any
+/// objects, whoever made them.
 pub fn short_calls_reach()
     ensures { ShortCallsReach }
+{}
+
+/// So does that of each branch of 2 or 4 bytes and of each `c.j` in objects of sources, with calls shortened or not.
+pub fn short_branches_reach()
+    ensures { ShortBranchesReach }
 {}

@@ -1,13 +1,17 @@
 //! That what is chosen because it reaches does reach.
 //!
-//! Relaxation gives a call a shorter form by distances over paddings in full, and it is placed with the least paddings. This
-//! is the law that each such form takes its value nevertheless, so that no link is refused because a call was shortened. It
-//! takes what relaxation leaves of objects (`rv_object_laws`), where a link places it (`rv_placement`), and when a field
-//! takes its value (`rv_link`). Nothing here runs.
+//! The assembler and the linker choose forms by distances as they are before paddings regrow: a branch or a jump the least
+//! that reaches, with each call in 8 bytes; a call the shorter one that reaches, with each padding in full. The text is then
+//! placed with its calls shortened and the least paddings. These are the laws that each such form takes its value
+//! nevertheless, so that no link is refused for a value out of range, or an odd one, because a form was chosen too short.
+//! They take what relaxation leaves of objects (`rv_object_laws`), where a link places it (`rv_placement`), when a field takes
+//! its value (`rv_link`), and what the object of a source is (`rv_assemble_laws`). Nothing here runs.
 //!
-//! Source: RISC-V ELF psABI, "Linker Relaxation", "Relocations".
+//! Main contracts: [`short_calls_reach`], of any objects; [`short_branches_reach`], of objects of sources.
+//!
+//! Source: RISC-V ELF psABI, "Linker Relaxation", "Relocations"; ISA manual, "Conditional Branches", "Unconditional Jumps".
 #![tactic(auto)]
 
 mod law;
 
-pub use law::short_calls_reach;
+pub use law::{short_branches_reach, short_calls_reach};

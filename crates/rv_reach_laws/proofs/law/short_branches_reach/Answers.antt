@@ -1,0 +1,5 @@
+use Rattle.rv_reach_laws.proofs.Branched.{short_branches_reach}
+use Rattle.rv_reach_laws.proofs.law.short_branches_reach.Goals as goal
+
+pub returns : goal.returns
+returns c = short_branches_reach
