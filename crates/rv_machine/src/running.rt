@@ -152,7 +152,8 @@ fn step<R: GuestIn, W: GuestOut, M: Memory>(
     reader: &mut R,
     writer: &mut W,
 ) -> Result<Option<End>, RunFault>
-    ensures steps { let before = input_of intake.old.ended (R.ends reader.old) (R.left reader.old) in
+    ensures steps { let before = input_of intake.old.ended (R.ends reader.old)
+        (R.left reader.old) in
         let after = input_of intake.new.ended (R.ends reader.new) (R.left reader.new) in
         (read written : List ℕ) × HasRead before after read
         × Appends (W.written writer.old) (W.written writer.new) written
@@ -234,7 +235,8 @@ pub fn run_io<R: GuestIn, W: GuestOut>(
         (machine_run r (mem_of (image_of image)) image.entry (read ++ rest) limit)) }
     // The reader has failed exactly at InputFault, the writer exactly at OutputFault.
     ensures failed { FailsBy result false false (R.in_failed reader.new) (W.out_failed writer.new) }
-    ensures memory { IsErrOf result OutOfMemory → (reader.new ≡ reader.old) × (writer.new ≡ writer.old) }
+    ensures memory { IsErrOf result OutOfMemory
+        → (reader.new ≡ reader.old) × (writer.new ≡ writer.old) }
 {
     let entry = image.entry;
     match Paged::new(alloc, image) {

@@ -236,7 +236,8 @@ impl Flat {
         ensures right { MatchOption result
             (may (held self.now) address bytes (right_of right) ≡ false)
             (λ _. may (held self.now) address bytes (right_of right) ≡ true) }
-        ensures number { IfSome result (λ number. number ≡ number_at (held self.now) address bytes) }
+        ensures number { IfSome result
+            (λ number. number ≡ number_at (held self.now) address bytes) }
         ensures bytes { IfSome result
             (λ _. (k : ℕ) → k < bytes → (held self.now).byte ((address + k) % 2 ^ 64) < 256) }
     {

@@ -122,7 +122,8 @@ pub fn all_have(rights: &[u8], right: Right) -> bool
 /// How many bytes with these rights, from the first on, have the right.
 pub fn count_having(rights: &[u8], right: Right) -> usize
     ensures bound { result ≤ length rights.now }
-    ensures all { list_all (λ flags. has_flag flags (right_of right)) (take result rights.now) ≡ true }
+    ensures all { list_all (λ flags. has_flag flags (right_of right))
+        (take result rights.now) ≡ true }
     ensures none { result ≡ 0 → 0 < length rights.now →
         has_flag (slice_index rights.now 0) (right_of right) ≡ false }
 {

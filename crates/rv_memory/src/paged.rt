@@ -138,7 +138,8 @@ impl Paged {
 
     /// Puts the bytes of a segment with their rights.
     fn put_segment(&mut self, alloc: Global, segment: &Segment) -> Result<(), AllocError>
-        ensures { OnOk result (held_pages self.new ≡ with_segment (held_pages self.old) (segment_of segment.now)) }
+        ensures { OnOk result (held_pages self.new
+            ≡ with_segment (held_pages self.old) (segment_of segment.now)) }
     {
         let flags = (segment.flags % 8) as u8;
         let mut at = 0;
@@ -186,7 +187,8 @@ impl Paged {
         ensures right { IfSome result
             (λ _. may (held_pages self.now) address bytes (right_of right) ≡ true) }
         ensures length { IfSome result (λ part. length part.now ≡ bytes) }
-        ensures bytes { IfSome result (λ part. bytes_at (held_pages self.now) address bytes ≡ part.now) }
+        ensures bytes { IfSome result
+            (λ part. bytes_at (held_pages self.now) address bytes ≡ part.now) }
         ensures small { IfSome result (λ part. (k : ℕ) → slice_index part.now k < 256) }
     {
         if i >= self.pages.len() {
@@ -211,7 +213,8 @@ impl Paged {
         ensures right { MatchOption result
             (may (held_pages self.now) address bytes (right_of right) ≡ false)
             (λ _. may (held_pages self.now) address bytes (right_of right) ≡ true) }
-        ensures number { IfSome result (λ number. number ≡ number_at (held_pages self.now) address bytes) }
+        ensures number { IfSome result
+            (λ number. number ≡ number_at (held_pages self.now) address bytes) }
         ensures bytes { IfSome result
             (λ _. (k : ℕ) → k < bytes → (held_pages self.now).byte ((address + k) % 2 ^ 64) < 256) }
     {

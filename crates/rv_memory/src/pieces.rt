@@ -37,7 +37,8 @@ pub trait Pieces {
     /// How many bytes from an address on have the right, as far as its piece goes and no more than are asked for.
     fn run(&self, address: u64, most: u64, right: Right) -> u64
         ensures all { may (mem self.now) address result (right_of right) ≡ true }
-        ensures none { result ≡ 0 → 0 < most → (mem self.now).has address (right_of right) ≡ false };
+        ensures none { result ≡ 0 → 0 < most
+            → (mem self.now).has address (right_of right) ≡ false };
 
     /// The bytes from an address on, as far as its piece goes.
     fn rest(&self, address: u64) -> &[u8]

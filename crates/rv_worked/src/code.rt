@@ -35,7 +35,8 @@ pub fn symbols_take_words()
 pub fn branches_have_three_sizes()
     ensures parcel { IsCode with_symbols true (ZeroBranch Beqz) own_to_x 2 branches_short 1 }
     ensures word { IsCode with_symbols false (ZeroBranch Beqz) own_to_x 4 branches_word 1 }
-    ensures compressed_word { IsCode with_symbols true (ZeroBranch Beqz) own_to_x 4 branches_word 1 }
+    ensures compressed_word { IsCode with_symbols true (ZeroBranch Beqz) own_to_x 4
+        branches_word 1 }
     ensures over { IsCode with_symbols true (ZeroBranch Beqz) own_to_x 8 branches_over 2 }
 {}
 
