@@ -8,9 +8,6 @@ use rv_image::load;
 use std::alloc::{AllocError, Global};
 use std::test::Fail;
 
-/// The bytes of the headers of an executable with three segments.
-const HEADERS: usize = 232;
-
 /// What a file is taken as.
 #[derive(Clone, Copy)]
 enum Use {
@@ -63,22 +60,10 @@ fn set(file: &mut Vec<u8>, offset: usize, byte: u8) {
     }
 }
 
-/// Whether a byte is a zero after the headers of an executable, as nearly all bytes of its pages are.
-fn is_filler(used: Use, offset: usize, byte: u8) -> bool {
-    match used {
-        Use::Object => false,
-        Use::Executable => offset >= HEADERS && byte == 0,
-    }
-}
-
-/// Whether a file is taken, or refused by a name, where any one of its bytes is this one; of those that fill the pages
-/// of an executable none is changed.
+/// Whether a file is taken, or refused by a name, where any one of its bytes is this one.
 fn is_answered(alloc: Global, file: &[u8], used: Use, byte: u8) -> Result<bool, AllocError> {
     let mut changed = Vec::from_slice(alloc, file)?;
     for (offset, old) in file.iter().enumerate() {
-        if is_filler(used, offset, *old) {
-            continue;
-        }
         set(&mut changed, offset, byte);
         match refused(alloc, changed.as_slice(), used) {
             None | Some(Fault::File(1, _)) | Some(Fault::Link(_)) => {}
