@@ -131,11 +131,7 @@ pub fn signed_6(value: u32) -> i32
     ensures high { result ≤ℤ pos 31 }
     ensures same { field 6 result ≡ value }
 {
-    if value < 0x20 {
-        value as i32
-    } else {
-        value as i32 - 0x40
-    }
+    (value << 26).cast_signed() >> 26
 }
 
 /// Nine bits as a number with sign.
@@ -146,11 +142,7 @@ pub fn signed_9(value: u32) -> i32
     ensures high { result ≤ℤ pos 255 }
     ensures same { field 9 result ≡ value }
 {
-    if value < 0x100 {
-        value as i32
-    } else {
-        value as i32 - 0x200
-    }
+    (value << 23).cast_signed() >> 23
 }
 
 /// Ten bits as a number with sign.
@@ -161,11 +153,7 @@ pub fn signed_10(value: u32) -> i32
     ensures high { result ≤ℤ pos 511 }
     ensures same { field 10 result ≡ value }
 {
-    if value < 0x200 {
-        value as i32
-    } else {
-        value as i32 - 0x400
-    }
+    (value << 22).cast_signed() >> 22
 }
 
 /// Twelve bits as a number with sign.
@@ -176,11 +164,7 @@ pub fn signed_12(value: u32) -> i32
     ensures high { result ≤ℤ pos 2047 }
     ensures same { field 12 result ≡ value }
 {
-    if value < 0x800 {
-        value as i32
-    } else {
-        value as i32 - 0x1000
-    }
+    (value << 20).cast_signed() >> 20
 }
 
 /// The low 20 bits of a number with sign of six bits.

@@ -93,22 +93,6 @@ fn sd(bits: u32) -> Compressed
 }
 
 #[inline(always)]
-fn quadrant_0(bits: u32) -> Option<Compressed>
-    requires size { bits < 2 ^ 16 }
-    requires quadrant { bits % 4 ≡ 0 }
-    ensures { IsRead result bits }
-{
-    match bits >> 13 {
-        0 => addi4spn(bits),
-        2 => Some(lw(bits)),
-        3 => Some(ld(bits)),
-        6 => Some(sw(bits)),
-        7 => Some(sd(bits)),
-        _ => None,
-    }
-}
-
-#[inline(always)]
 fn addi(bits: u32) -> Compressed
     requires { HasOpcode bits 1 0 }
     ensures { IsForm result bits }
@@ -184,50 +168,42 @@ fn upper(bits: u32) -> Option<Compressed>
     }
 }
 
-/// Arithmetic over 64 bits.
+/// Bits 12:10 and 6:5, which tell the short arithmetic apart.
 #[inline(always)]
-fn full_arithmetic(bits: u32) -> Compressed
+fn short_selector(bits: u32) -> u32
+    ensures { result ≡ bits / 2 ^ 10 % 8 * 4 + bits / 2 ^ 5 % 4 }
+{
+    bits >> 5 & 3 | (bits >> 10 & 7) << 2
+}
+
+#[inline(always)]
+fn srli(bits: u32) -> Compressed
     requires opcode { HasOpcode bits 1 4 }
-    requires funct2 { bits / 2 ^ 10 % 4 ≡ 3 }
-    requires bit_12 { bits / 2 ^ 12 % 2 ≡ 0 }
+    requires funct2 { bits / 2 ^ 10 % 4 ≡ 0 }
     ensures { IsForm result bits }
 {
-    let (rd, rs2) = (short_7(bits), short_2(bits));
-    match bits >> 5 & 3 {
-        0 => Compressed::Sub { rd, rs2 },
-        1 => Compressed::Xor { rd, rs2 },
-        2 => Compressed::Or { rd, rs2 },
-        _ => Compressed::And { rd, rs2 },
-    }
-}
-
-/// Arithmetic over 32 bits.
-#[inline(always)]
-fn word_arithmetic(bits: u32) -> Option<Compressed>
-    requires opcode { HasOpcode bits 1 4 }
-    requires funct2 { bits / 2 ^ 10 % 4 ≡ 3 }
-    requires bit_12 { bits / 2 ^ 12 % 2 ≡ 1 }
-    ensures { IsRead result bits }
-{
-    let (rd, rs2) = (short_7(bits), short_2(bits));
-    match bits >> 5 & 3 {
-        0 => Some(Compressed::Subw { rd, rs2 }),
-        1 => Some(Compressed::Addw { rd, rs2 }),
-        _ => None,
-    }
+    let (rd, amount) = (short_7(bits), six(bits) as u8);
+    Compressed::Srli { rd, amount }
 }
 
 #[inline(always)]
-fn arithmetic(bits: u32) -> Option<Compressed>
+fn srai(bits: u32) -> Compressed
     requires opcode { HasOpcode bits 1 4 }
-    requires funct2 { bits / 2 ^ 10 % 4 ≡ 3 }
-    ensures { IsRead result bits }
+    requires funct2 { bits / 2 ^ 10 % 4 ≡ 1 }
+    ensures { IsForm result bits }
 {
-    if bits >> 12 & 1 == 0 {
-        Some(full_arithmetic(bits))
-    } else {
-        word_arithmetic(bits)
-    }
+    let (rd, amount) = (short_7(bits), six(bits) as u8);
+    Compressed::Srai { rd, amount }
+}
+
+#[inline(always)]
+fn andi(bits: u32) -> Compressed
+    requires opcode { HasOpcode bits 1 4 }
+    requires funct2 { bits / 2 ^ 10 % 4 ≡ 2 }
+    ensures { IsForm result bits }
+{
+    let (rd, immediate) = (short_7(bits), signed_6(six(bits)));
+    Compressed::Andi { rd, immediate }
 }
 
 /// Shifts, `c.andi` and arithmetic of x8 to x15.
@@ -236,21 +212,18 @@ fn short_arithmetic(bits: u32) -> Option<Compressed>
     requires { HasOpcode bits 1 4 }
     ensures { IsRead result bits }
 {
-    let (rd, value) = (short_7(bits), six(bits));
-    match bits >> 10 & 3 {
-        0 => Some(Compressed::Srli {
-            rd,
-            amount: value as u8,
-        }),
-        1 => Some(Compressed::Srai {
-            rd,
-            amount: value as u8,
-        }),
-        2 => Some(Compressed::Andi {
-            rd,
-            immediate: signed_6(value),
-        }),
-        _ => arithmetic(bits),
+    let (rd, rs2) = (short_7(bits), short_2(bits));
+    match short_selector(bits) {
+        0b000_00..=0b000_11 | 0b100_00..=0b100_11 => Some(srli(bits)),
+        0b001_00..=0b001_11 | 0b101_00..=0b101_11 => Some(srai(bits)),
+        0b010_00..=0b010_11 | 0b110_00..=0b110_11 => Some(andi(bits)),
+        0b011_00 => Some(Compressed::Sub { rd, rs2 }),
+        0b011_01 => Some(Compressed::Xor { rd, rs2 }),
+        0b011_10 => Some(Compressed::Or { rd, rs2 }),
+        0b011_11 => Some(Compressed::And { rd, rs2 }),
+        0b111_00 => Some(Compressed::Subw { rd, rs2 }),
+        0b111_01 => Some(Compressed::Addw { rd, rs2 }),
+        _ => None,
     }
 }
 
@@ -290,24 +263,6 @@ fn bnez(bits: u32) -> Compressed
 {
     let (rs1, offset) = (short_7(bits), signed_9(branch_offset(bits)));
     Compressed::Bnez { rs1, offset }
-}
-
-#[inline(always)]
-fn quadrant_1(bits: u32) -> Option<Compressed>
-    requires size { bits < 2 ^ 16 }
-    requires quadrant { bits % 4 ≡ 1 }
-    ensures { IsRead result bits }
-{
-    match bits >> 13 {
-        0 => Some(addi(bits)),
-        1 => addiw(bits),
-        2 => Some(li(bits)),
-        3 => upper(bits),
-        4 => short_arithmetic(bits),
-        5 => Some(j(bits)),
-        6 => Some(beqz(bits)),
-        _ => Some(bnez(bits)),
-    }
 }
 
 #[inline(always)]
@@ -406,21 +361,13 @@ fn sdsp(bits: u32) -> Compressed
     Compressed::Sdsp { rs2, offset }
 }
 
+/// The quadrant and funct3, each an octal digit.
 #[inline(always)]
-fn quadrant_2(bits: u32) -> Option<Compressed>
-    requires size { bits < 2 ^ 16 }
-    requires quadrant { bits % 4 ≡ 2 }
-    ensures { IsRead result bits }
+fn selector_of(bits: u32) -> u32
+    requires { bits < 2 ^ 16 }
+    ensures { result ≡ bits % 4 * 8 + bits / 2 ^ 13 }
 {
-    match bits >> 13 {
-        0 => Some(slli(bits)),
-        2 => lwsp(bits),
-        3 => ldsp(bits),
-        4 => registers(bits),
-        6 => Some(swsp(bits)),
-        7 => Some(sdsp(bits)),
-        _ => None,
-    }
+    bits >> 13 | (bits & 3) << 3
 }
 
 /// The form that a parcel spells, with its operands; HINTs are forms, reserved parcels and 0 none.
@@ -431,10 +378,26 @@ pub fn read(parcel: u16) -> Option<Compressed>
     ensures { IsRead result parcel }
 {
     let bits = u32::from(parcel);
-    match bits & 3 {
-        0 => quadrant_0(bits),
-        1 => quadrant_1(bits),
-        2 => quadrant_2(bits),
+    match selector_of(bits) {
+        0o00 => addi4spn(bits),
+        0o02 => Some(lw(bits)),
+        0o03 => Some(ld(bits)),
+        0o06 => Some(sw(bits)),
+        0o07 => Some(sd(bits)),
+        0o10 => Some(addi(bits)),
+        0o11 => addiw(bits),
+        0o12 => Some(li(bits)),
+        0o13 => upper(bits),
+        0o14 => short_arithmetic(bits),
+        0o15 => Some(j(bits)),
+        0o16 => Some(beqz(bits)),
+        0o17 => Some(bnez(bits)),
+        0o20 => Some(slli(bits)),
+        0o22 => lwsp(bits),
+        0o23 => ldsp(bits),
+        0o24 => registers(bits),
+        0o26 => Some(swsp(bits)),
+        0o27 => Some(sdsp(bits)),
         _ => None,
     }
 }
