@@ -14,7 +14,7 @@ ghost use Rattle.rv_instruction.specs.Code as laws;
 ghost use Rattle.rv_instruction.specs.Code.{encoded_instructions, Codes, AreCodable, IsBuilt, IsExpanded, IsNumber, MayHave};
 ghost use Rattle.rv_instruction.specs.Scoped.{values_at, labels_at};
 
-use crate::encoded::{Code, Encoded, alone, encode_all, in_least_form};
+use crate::encoded::{Code, Encoded, encode_all, in_least_form};
 use crate::known::{plain, plain_one, taken, taken_one};
 use crate::operand::{Outcome, operand_fault, value_fault};
 use arrayvec::ArrayVec;
@@ -107,8 +107,14 @@ fn expanded<'a>(
     }
 }
 
-/// The code of the statement that is next by the list of its instructions, as `code` gives it.
-fn listed<'a>(
+/// The code of the statement that is next, none where it is no instruction, where compressed code is
+/// on or off. A branch or a jump that may be near has `bytes` bytes; no other is asked.
+///
+/// # Errors
+///
+/// At the statement's line the lowest code of its faults as code; E9 where nothing else is wrong
+/// with a part of an address in a field that takes none. Never want of memory.
+pub fn code<'a>(
     statement: &Statement<'a>,
     scope: &Scope<'_, 'a>,
     place: SectionOffset,
@@ -206,33 +212,5 @@ pub fn one_code<'a>(
     match expanded_one(statement, scope, place) {
         Some(inst) => Some(in_least_form(inst, compressed)),
         None => None,
-    }
-}
-
-// ---- any instruction
-
-/// The code of the statement that is next, none where it is no instruction, where compressed code is
-/// on or off. A branch or a jump that may be near has `bytes` bytes; no other is asked.
-///
-/// # Errors
-///
-/// At the statement's line the lowest code of its faults as code; E9 where nothing else is wrong
-/// with a part of an address in a field that takes none. Never want of memory.
-pub fn code<'a>(
-    statement: &Statement<'a>,
-    scope: &Scope<'_, 'a>,
-    place: SectionOffset,
-    compressed: bool,
-    bytes: u8,
-) -> Result<Code, SourceFault>
-    requires { MayHave compressed (statement_of statement.now).kind bytes }
-    ensures few { IfOk result (λ c. length c.items ≤ 8) }
-    ensures codes { (index : ℕ) → IsFilled (scope.now).unit.now → IsScope scope.now index
-        → Codes compressed bytes (values_at scope.now index place)
-        (labels_at scope.now index) (statement_of statement.now) result }
-{
-    match one_code(statement, scope, place, compressed) {
-        Some(encoded) => Ok(alone(encoded)),
-        None => listed(statement, scope, place, compressed, bytes),
     }
 }

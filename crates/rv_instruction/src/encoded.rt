@@ -202,18 +202,6 @@ fn encode_pair(first: Inst, second: Inst) -> Code
     code
 }
 
-/// The code of a statement that is one instruction.
-pub(crate) fn alone(encoded: Encoded) -> Code
-    ensures { result ≡ laws.alone_coded encoded }
-{
-    let mut code = ArrayVec::new();
-    code.push(Coded {
-        encoded,
-        kind: None,
-    });
-    code
-}
-
 /// The instructions of a statement, each in its least form where no field is open.
 pub(crate) fn encode_all(templates: Templates, compressed: bool) -> Code
     requires { AreCodable templates.items }

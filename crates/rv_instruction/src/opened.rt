@@ -53,6 +53,8 @@ pub fn is_closed(kind: &StatementKind<'_>) -> bool
     match kind {
         StatementKind::Plain(_) => true,
         StatementKind::With(operation, _) => takes_number(operation),
+        StatementKind::Label(_) => true,
+        StatementKind::Numbered(_) => true,
         _ => false,
     }
 }

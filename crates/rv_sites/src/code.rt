@@ -14,14 +14,14 @@ ghost use Rattle.rv_source_laws.specs.Sizes.{AreLeast};
 ghost use Rattle.rv_sites.specs.Added.{Adds, IsAllCode, IsCodeSoFar, IsSourceCode};
 ghost use Rattle.rv_sites.specs.Code as laws;
 ghost use Rattle.rv_sites.specs.Sized.{bytes_of_sizes};
-ghost use Rattle.rv_instruction.specs.Code.{encoded_bytes, encoded_instructions, instructions_of, HasCode, MayHave};
+ghost use Rattle.rv_instruction.specs.Code.{alone_coded, encoded_bytes, encoded_instructions, instructions_of, HasCode, MayHave};
 ghost use Rattle.rv_sites.specs.Code.{GrowsBy, full_fault, full_at};
 ghost use Rattle.rv_instruction.specs.Scoped.{values_at, faults_at};
 
 use crate::item::CodeSize;
 use crate::items::extent_at;
 use crate::paddings::padding_of;
-use rv_instruction::{Coded, Encoded, code as code_of, near_forms};
+use rv_instruction::{Coded, Encoded, code as code_of, near_forms, one_code};
 use rv_layout_laws::Forms;
 use rv_object::{operations, put_no_operations};
 use rv_statement::{Statement, StatementKind};
@@ -306,10 +306,60 @@ impl Coder {
             return Err(SourceFault::OutOfMemory);
         };
         let padding = padding_of(statement, scope, place, executable);
+        match one_code(statement, scope, place, compressed) {
+            Some(encoded) => self.add_one(statement, place.section, padding, encoded),
+            None => self.add_code(statement, scope, place, padding, compressed, bytes),
+        }
+    }
+
+    /// Adds a statement that has this padding, by the list of its instructions.
+    fn add_code<'a>(
+        &mut self,
+        statement: &Statement<'a>,
+        scope: &Scope<'_, 'a>,
+        place: SectionOffset,
+        padding: u32,
+        compressed: bool,
+        bytes: u8,
+    ) -> Result<(), SourceFault>
+        requires asked { MayHave compressed (statement_of statement.now).kind bytes }
+        requires low { padding ≤ 65535 }
+        requires section { place.section < length self.old.sections.items }
+        ensures { (index : ℕ) → IsFilled (scope.now).unit.now → IsScope scope.now index
+            → (executable : Bool) → padding ≡ laws.padding_of executable
+            (values_at scope.now index place) (statement_of statement.now).kind
+            → Adds self.old self.new place.section executable
+            (faults_at scope.now index place (statement_of statement.now).kind)
+            (values_at scope.now index place) compressed (statement_of statement.now) result }
+    {
         match code_of(statement, scope, place, compressed, bytes) {
             Ok(found) => self.add_found(statement, place.section, padding, found.as_slice()),
             Err(fault) => Err(fault),
         }
+    }
+
+    /// Adds a statement that has this padding, and is one instruction.
+    fn add_one(
+        &mut self,
+        statement: &Statement<'_>,
+        section: u32,
+        padding: u32,
+        encoded: Encoded,
+    ) -> Result<(), SourceFault>
+        requires low { padding ≤ 65535 }
+        requires section { section < length self.old.sections.items }
+        ensures { (executable : Bool) (faults : List ℕ) (v : Expression → values.Value)
+            (rvc : Bool) (bytes : ℕ) → faults ≡ []
+            → padding ≡ laws.padding_of executable v (statement_of statement.now).kind
+            → HasCode v rvc bytes (statement_of statement.now).kind (alone_coded encoded).items
+            → Adds self.old self.new section executable faults v rvc
+            (statement_of statement.now) result }
+    {
+        let found = [Coded {
+            encoded,
+            kind: None,
+        }];
+        self.add_found(statement, section, padding, &found)
     }
 
     /// Adds a statement that has this padding and these instructions.

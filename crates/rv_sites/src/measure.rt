@@ -13,10 +13,10 @@ ghost use Rattle.rv_instruction.specs.Code.{MayHave};
 ghost use Rattle.rv_instruction.specs.Scoped.{AtNext};
 ghost use Rattle.rv_sites.specs.Measure.{IsSeenAs, IsMeasured};
 
-use crate::code::{asked, bytes_of};
+use crate::code::{asked, bytes_of, width};
 use crate::items::extent_at;
 use crate::paddings::padding_of;
-use rv_instruction::{code as code_of, item};
+use rv_instruction::{code as code_of, item, one_code};
 use rv_layout::{Layout, is_input};
 use rv_layout_laws::Item as LayoutItem;
 use rv_statement::{Operation, Plain, Statement, StatementKind};
@@ -86,6 +86,9 @@ fn made_length<'a>(
     place: SectionOffset,
     compressed: bool,
 ) -> u8 {
+    if let Some(encoded) = one_code(statement, scope, place, compressed) {
+        return width(encoded);
+    }
     let Some(bytes) = asked(&statement.kind, compressed, 4) else {
         return 0;
     };

@@ -1,27 +1,14 @@
-use Rattle.std.proofs.Common.{rules, ◌≡◌, subst, sym}
+use Rattle.std.proofs.Common.{Ok}
 use Rattle.rv_statement.specs.View.{statement_of}
-use Rattle.rv_instruction.specs.Code.{HasCode, Codes}
-use Rattle.rv_instruction.specs.Scoped.{values_at, labels_at, faults_at}
-use Rattle.rv_sites.proofs.Adding.{adds_fault}
+use Rattle.rv_instruction.specs.Scoped.{values_at, faults_at}
 use Rattle.rv_sites.proofs.code.Coder.add.Goals as goal
 
-pub returns-in-Ok : goal.returns-in-Ok
-returns-in-Ok c = λ index filled stands.
-    let b = c.args.executable in
-    let s = statement_of c.args.statement.now in
-    let v = values_at c.args.scope.now index c.args.place in
-    let l = labels_at c.args.scope.now index in
-    let codes = subst (Codes c.args.compressed c.in-Some.bytes v l s) c.in-Ok.is (c.code.ensures.codes index filled stands) in
-    let same : c.as_slice.result.now ≡ c.in-Ok.found.items = search rules in
-    c.add_found.ensures b (faults_at c.args.scope.now index c.args.place s.kind) v c.args.compressed c.in-Some.bytes codes.0
-    (c.padding_of-padding.ensures.is index filled stands)
-    (subst (λ found. HasCode v c.args.compressed c.in-Some.bytes s.kind found) (sym same) codes.1)
+pub returns-in-Some-one_code : goal.returns-in-Some-one_code
+returns-in-Some-one_code c = λ index filled stands.
+    let codes = c.in-Some-one_code.ensures.codes index filled stands c.in-Some.bytes c.in-Some.ensures in
+    c.add_one.ensures c.args.executable (faults_at c.args.scope.now index c.args.place (statement_of c.args.statement.now).kind) (values_at c.args.scope.now index c.args.place) c.args.compressed c.in-Some.bytes
+    codes.0 (c.padding_of-padding.ensures.is index filled stands) codes.1
 
-pub returns-in-Err : goal.returns-in-Err
-returns-in-Err c = λ index filled stands.
-    let b = c.args.executable in
-    let s = statement_of c.args.statement.now in
-    let v = values_at c.args.scope.now index c.args.place in
-    let l = labels_at c.args.scope.now index in
-    adds_fault c.args.self.now c.args.self.now c.args.place.section b c.args.compressed c.in-Some.bytes v l s c.in-Err.fault
-    (subst (Codes c.args.compressed c.in-Some.bytes v l s) c.in-Err.is (c.code.ensures.codes index filled stands))
+pub returns-in-None : goal.returns-in-None
+returns-in-None c = λ index filled stands.
+    c.add_code.ensures index filled stands c.args.executable (c.padding_of-padding.ensures.is index filled stands)
