@@ -1,11 +1,12 @@
 -- The lines that say why something is refused and how a run ended (this program's own).
 
-use Rattle.std.specs.Prelude.{◌≡◌, ℕ, ◌-◌, ◌==◌, false, ⊤, if◌then◌else◌, List, [], ◌++◌, Option, Some, None, option_map, codes, string_bytes}
+use Rattle.std.specs.Prelude.{◌≡◌, ℕ, ◌-◌, ◌==◌, false, ⊤, if◌then◌else◌, List, [], ◌∷◌, ◌++◌, Option, Some, None, option_map, codes, flat_map, string_bytes}
 use Rattle.std.specs.Borrow.{Bor}
 use Rattle.std.specs.Fmt.{decimal, digits}
 use Rattle.std.specs.List.{slice_get}
 use Rattle.std.specs.Option.{option_map_or}
-use Rattle.std.specs.Str.{is_utf8}
+use Rattle.hex.specs.Hex.{encode_lower}
+use Rattle.rv_map.specs.Name.{is_name_byte}
 use Rattle.rv_lexer.specs.declared.fault.SourceFault.{SourceFault}
 use Rattle.rv_lexer.specs.declared.fault.SourceFault.TheVariants.{At, OutOfMemory}
 use Rattle.rv_lexer.specs.Fault as sources
@@ -62,9 +63,16 @@ name_in (Undefined name) = Some name.items
 name_in (Duplicate name) = Some name.items
 name_in _ = None
 
--- a name that is no UTF-8 is not shown
+-- a byte as its number, `\x1b`
+abbrev pub number_of : ℕ → List ℕ
+number_of byte = codes "\\x" ++ encode_lower (byte ∷ [])
+
+-- a byte of a name that a map does not show stands as its number
+abbrev pub shown_byte : ℕ → List ℕ
+shown_byte byte = if is_name_byte byte then byte ∷ [] else number_of byte
+
 abbrev pub shown_name : List ℕ → List ℕ
-shown_name name = if is_utf8 name then name else []
+shown_name = flat_map shown_byte
 
 -- `L7 EntryMissing`, `L5 Undefined f`
 abbrev pub link_text : LinkFault → Option (List ℕ)

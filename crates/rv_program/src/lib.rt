@@ -24,6 +24,7 @@ mod error;
 mod host;
 mod jobs;
 mod messages;
+mod shown;
 mod status;
 mod system;
 mod words;

@@ -1,13 +1,13 @@
 //! The lines that the program writes to standard error, without `rv: ` before them.
 
 ghost use Rattle.std.specs.Prelude.{◌≡◌, IfOk, option_map, string_bytes};
-ghost use Rattle.rv_program.specs.Messages.{Tells, end_text, fault_text, file_name, file_text, kind_in, link_text, name_in, run_text, shown_name, source_text};
+ghost use Rattle.rv_program.specs.Messages.{Tells, end_text, fault_text, file_name, file_text, kind_in, link_text, name_in, run_text, source_text};
 
 use crate::error::CliError;
+use crate::shown::shown_name;
 use rv_chain::{End, Fault, FileFault, LinkFault, SourceFault};
 use rv_machine::RunFault;
 use std::alloc::{AllocError, Global};
-use std::str::from_utf8;
 
 /// The line of a fault of a call of `rv_chain`; `names` are the files in their order.
 pub fn fault_line(alloc: Global, fault: &Fault, names: &[&str]) -> Result<CliError, AllocError>
@@ -83,31 +83,23 @@ fn link_line(alloc: Global, fault: &LinkFault) -> Result<CliError, AllocError>
     };
     let what = fault.name();
     let line = match name_in(fault) {
-        Some(name) => format!(in alloc; "L{number} {what} {name}")?,
+        Some(name) => {
+            let name = shown_name(alloc, name)?;
+            format!(in alloc; "L{number} {what} {name}")?
+        }
         None => format!(in alloc; "L{number} {what}")?,
     };
     Ok(CliError::Line(line))
 }
 
-/// The name that a fault of the link is about, as it is shown.
-fn name_in(fault: &LinkFault) -> Option<&str>
-    ensures { option_map (λ name. name.now) result ≡ option_map shown_name (name_in fault.now) }
+/// The name that a fault of the link is about.
+fn name_in(fault: &LinkFault) -> Option<&[u8]>
+    ensures { option_map (λ name. name.now) result ≡ name_in fault.now }
 {
     match fault {
-        LinkFault::Undefined(name) => Some(shown_name(name.as_slice())),
-        LinkFault::Duplicate(name) => Some(shown_name(name.as_slice())),
+        LinkFault::Undefined(name) => Some(name.as_slice()),
+        LinkFault::Duplicate(name) => Some(name.as_slice()),
         _ => None,
-    }
-}
-
-/// A name; without bytes where it is no UTF-8.
-#[tactic(auto, using(crate::proofs::Shown::shown_whole, crate::proofs::Shown::not_shown))]
-fn shown_name(name: &[u8]) -> &str
-    ensures { result.now ≡ shown_name name.now }
-{
-    match from_utf8(name) {
-        Ok(name) => name,
-        Err(_) => "",
     }
 }
 

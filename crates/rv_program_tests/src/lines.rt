@@ -55,6 +55,15 @@ fn fault_lines(rt: HostRuntime) -> Result<(), AllocError> {
     assert!(rt; shows(alloc, fault, Some("L5 Undefined f"))?);
     let fault = Fault::Link(LinkFault::Duplicate(Vec::from_slice(alloc, b"f")?));
     assert!(rt; shows(alloc, fault, Some("L6 Duplicate f"))?);
+    let odd = Vec::from_slice(alloc, b"a b\x1b\n\xc3\xbc\\")?;
+    let fault = Fault::Link(LinkFault::Undefined(odd));
+    assert!(rt;
+        shows(
+            alloc,
+            fault,
+            Some("L5 Undefined a\\x20b\\x1b\\x0a\\xc3\\xbc\\")
+        )?
+    );
     assert!(rt; shows(alloc, Fault::Memory, None)?);
     Ok(())
 }
