@@ -1,14 +1,15 @@
 //! The sites of objects: the calls that may be shortened, the alignments, and the starts of sections of text.
 //!
-//! It takes objects (`rv_object`) and what their names mean (`rv_resolve`). It gives the list of sites (`rv_layout_laws`) by
-//! which calls are shortened: all sections of text in one line, as long as they are before anything is taken out.
+//! It takes objects (`rv_object`) and what their names mean (`rv_resolve`). It gives the text (`rv_relax`, `Placed`) by
+//! whose sites calls are shortened: all sections of text in one line, as long as they are before anything is taken out.
 //!
-//! Main contract: [`sites`] gives `sites_of` the objects (`rv_object_laws`, specs/Calls), a text in which each offset is at
-//! most 2^62; or nothing where the text is longer. It must not know addresses, nor which calls come to be shortened.
+//! Main contract: [`placed`] gives the text whose sites are `sites_of` the objects (`rv_object_laws`, specs/Calls), in which
+//! each offset is at most 2^62; or nothing where the text is longer. It must not know addresses, nor which calls come to be
+//! shortened.
 //!
 //! ```text
 //! let names = Names::of(alloc, &objects)?;
-//! let Some(sites) = sites(alloc, &objects, &names)? else { .. };
+//! let Some(placed) = placed(alloc, &objects, &names)? else { .. };
 //! ```
 //!
 //! Each section's relocations are sorted once, where they do not stand in order, and gone over once; each object's symbols
@@ -26,4 +27,4 @@ mod text;
 mod walk;
 mod words;
 
-pub use walk::sites;
+pub use walk::placed;

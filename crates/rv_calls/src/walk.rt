@@ -7,6 +7,7 @@ ghost use Rattle.rv_object.specs.Object.{Section};
 ghost use Rattle.rv_object.specs.View.{object_of};
 ghost use Rattle.rv_object_laws.specs.Calls.{is_short_text, sites_of};
 ghost use Rattle.rv_object_laws.specs.Within.{IsWithin};
+ghost use Rattle.rv_relax.specs.Plan.{placed_sites};
 ghost use Rattle.rv_resolve.specs.Names.{IsNames};
 ghost use Rattle.rv_calls.specs.Entries.{AreEntries};
 ghost use Rattle.rv_calls.specs.Line as walk;
@@ -18,21 +19,22 @@ use crate::text::Text;
 use rv_layout_laws::Site;
 use rv_object::Object;
 use rv_placement::is_text;
+use rv_relax::Placed;
 use rv_resolve::Names;
 use std::alloc::{AllocError, Global};
 
-/// The sites of the text of objects, whose names mean this. `None`: the text is too long for memory, whatever is taken out of it.
-pub fn sites(
+/// The text of objects, whose names mean this: its sites. `None`: it is too long for memory, whatever is taken out of it.
+pub fn placed(
     alloc: Global,
     objects: &[Object],
     names: &Names<'_>,
-) -> Result<Option<Vec<Site>>, AllocError>
+) -> Result<Option<Placed>, AllocError>
     requires { IsNames (map object_of objects.now) names.now }
     ensures sites { IfOk result (λ found. IfSome found
-        (λ sites. sites.items ≡ sites_of (map object_of objects.now))) }
-    ensures text { IfOk result (λ found. IfSome found (λ sites. IsText sites.items)) }
+        (λ text. placed_sites text ≡ sites_of (map object_of objects.now))) }
+    ensures text { IfOk result (λ found. IfSome found (λ text. IsText (placed_sites text))) }
     ensures within { IfOk result (λ found. IfSome found
-        (λ sites. (i : ℕ) → IsWithin (2 ^ 62) (site_at sites.items i))) }
+        (λ text. (i : ℕ) → IsWithin (2 ^ 62) (site_at (placed_sites text) i))) }
     ensures short { IfOk result
         (λ found. IfSome found (λ _. is_short_text (map object_of objects.now) ≡ true)) }
     ensures long { IfOk result
@@ -42,7 +44,7 @@ pub fn sites(
         Some(text) => {
             let mut sites = Vec::new(alloc);
             put_all(alloc, &mut sites, &text)?;
-            Ok(Some(sites))
+            Ok(Some(Placed::of(sites)))
         }
         None => Ok(None),
     }

@@ -2,7 +2,7 @@
 //! hand: passes go forwards and backwards in turn, and the last shortens nothing.
 
 use crate::relaxed::{CALL, START, code};
-use rv_calls::sites;
+use rv_calls::placed;
 use rv_isa::Kind;
 use rv_object::{Binding, Definition, Object};
 use rv_relax::Plan;
@@ -28,10 +28,10 @@ fn passes(alloc: Global, object: Option<Object>) -> Result<Option<(usize, bool)>
     let Ok(names) = Names::of(alloc, &objects) else {
         return Ok(None);
     };
-    let Some(sites) = sites(alloc, &objects, &names)? else {
+    let Some(text) = placed(alloc, &objects, &names)? else {
         return Ok(None);
     };
-    let plan = Plan::of(alloc, sites)?;
+    let plan = Plan::of(alloc, &text, true)?;
     let are_short = plan.kept().iter().all(|kept| *kept <= 4);
     Ok(Some((plan.rounds(), are_short)))
 }

@@ -1,17 +1,15 @@
--- Sites one behind the other: the search for an offset among them, and the size of the call there.
+-- Sites one behind the other: the search for an offset among them, and what is dropped before it.
 
-use Rattle.std.proofs.Common.{◌≡◌, ◌≢◌, ℕ, zero, suc, ◌+◌, ◌≤◌, ◌<◌, ◌==◌, nat_le, Bool, true, false, ◌&&◌, cond, IsTrue, List, [], ◌∷◌, length, slice_index, slice_index_or, refl, ap, ◌∙◌, arith}
+use Rattle.std.proofs.Common.{◌≡◌, ℕ, zero, suc, ◌+◌, ◌≤◌, ◌<◌, nat_le, true, ◌&&◌, List, [], ◌∷◌, length, slice_index, slice_index_or, refl, arith}
 use Rattle.std.specs.List.Sorted.{IsPartitionedBy}
-use Rattle.std.proofs.lemmas.Bool.{leb-true, le-leb, ne_eqb, and_parts, and_from}
+use Rattle.std.proofs.lemmas.Bool.{leb-true, le-leb, and_parts, and_from}
 use Rattle.rv_layout_laws.specs.declared.site.Site.{Site}
-use Rattle.rv_layout_laws.specs.declared.site.SiteKind.{SiteKind}
-use Rattle.rv_layout_laws.specs.declared.site.SiteKind.TheVariants.{Call, Padding}
+use Rattle.rv_layout_laws.specs.declared.site.SiteKind.TheVariants.{Padding}
 use Rattle.rv_layout_laws.specs.Offsets.{offset}
-use Rattle.rv_layout_laws.specs.Calls.{bytes_of, is_call, site_at, dropped, dropped_of, InOrder}
+use Rattle.rv_layout_laws.specs.Calls.{bytes_of, site_at, dropped, dropped_of, InOrder}
 use Rattle.rv_layout_laws.proofs.Dropping.{dropped_most}
-use Rattle.rv_object_laws.specs.Shortened.{size_at}
 use Rattle.rv_relax.specs.Passes.{AreSums, IsPlace, are_laid, drops, end_of}
-use Rattle.rv_relax.proofs.Dropping.{dropped_at, later, past_drops}
+use Rattle.rv_relax.proofs.Dropping.{dropped_at, past_drops}
 
 -- what a text has past its end
 abbrev pub no_site : Site
@@ -102,53 +100,3 @@ dropped_past sites kept sums old n laid sum place past =
     let is = (dropped_there sites kept sums old n laid sum place).0 in
     let none : dropped_of (site_at sites n) (slice_index kept n) old ≡ 0 = past_drops sites n (slice_index kept n) old (omega arith) in
     omega arith
-
--- ---- the size of the call at an offset
-
-apart : (b : Bool) (m n : ℕ) → (IsTrue b → m ≢ n) → (b && (m == n)) ≡ false
-apart true m n h = ne_eqb m n (h refl)
-apart false m n h = refl
-
-none_sized : (sites : List Site) (kept : List ℕ) (offset : ℕ) → ((j : ℕ) → j < length sites → IsTrue (is_call (site_at sites j).kind) → (site_at sites j).offset ≢ offset) → size_at sites kept offset ≡ 8
-none_sized [] kept offset other = refl
-none_sized (site ∷ sites) [] offset other = refl
-none_sized (site ∷ sites) (k ∷ kept) offset other =
-    ap (λ b. cond b k (size_at sites kept offset)) (apart (is_call site.kind) site.offset offset (other zero (omega arith)))
-    ∙ none_sized sites kept offset (λ j lt. other (suc j) (omega arith))
-
-sized_by : (sites : List Site) (kept : List ℕ) (offset n : ℕ) → length kept ≡ length sites
-    → ((j : ℕ) → j < n → j < length sites → IsTrue (is_call (site_at sites j).kind) → (site_at sites j).offset ≢ offset)
-    → ((j : ℕ) → n < j → j < length sites → IsTrue (is_call (site_at sites j).kind) → (site_at sites j).offset ≢ offset)
-    → size_at sites kept offset ≡ cond (is_call (site_at sites n).kind && ((site_at sites n).offset == offset)) (slice_index kept n) 8
-sized_by [] kept offset n same before after = refl
-sized_by (site ∷ sites) [] offset n same before after = absurd (omega arith)
-sized_by (site ∷ sites) (k ∷ kept) offset zero same before after =
-    ap (cond (is_call site.kind && (site.offset == offset)) k) (none_sized sites kept offset (λ j lt. after (suc j) (omega arith) (omega arith)))
-sized_by (site ∷ sites) (k ∷ kept) offset (suc n) same before after =
-    ap (λ b. cond b k (size_at sites kept offset)) (apart (is_call site.kind) site.offset offset (before zero (omega arith) (omega arith)))
-    ∙ sized_by sites kept offset n (omega arith) (λ j lt within. before (suc j) (omega arith) (omega arith)) (λ j lt within. after (suc j) (omega arith) (omega arith))
-
-call_has_eight : (kind : SiteKind) → IsTrue (is_call kind) → bytes_of kind ≡ 8
-call_has_eight (Call call) h = refl
-call_has_eight (Padding padding) h = absurd (cc)
-
-pub sized : (sites : List Site) (kept : List ℕ) (offset n : ℕ) → InOrder 0 sites → length kept ≡ length sites → IsPlace sites offset n
-    → size_at sites kept offset ≡ cond (is_call (site_at sites n).kind && ((site_at sites n).offset == offset)) (slice_index kept n) 8
-sized sites kept offset n order same place =
-    sized_by sites kept offset n same
-    (λ j lt within call e.
-    let ended : end_of (site_at sites j) ≤ offset = place.before j lt in
-    let eight : bytes_of (site_at sites j).kind ≡ 8 = call_has_eight (site_at sites j).kind call in
-    omega arith)
-    (λ j lt within call e.
-    let next : end_of (site_at sites n) ≤ (site_at sites j).offset = later sites 0 order n j lt within in
-    let here : offset < end_of (site_at sites n) = place.after n (omega arith) (omega arith) in
-    omega arith)
-
-pub sized_past : (sites : List Site) (kept : List ℕ) (offset : ℕ) → InOrder 0 sites → length kept ≡ length sites → IsPlace sites offset (length sites) → size_at sites kept offset ≡ 8
-sized_past sites kept offset order same place =
-    none_sized sites kept offset
-    (λ j lt call e.
-    let ended : end_of (site_at sites j) ≤ offset = place.before j lt in
-    let eight : bytes_of (site_at sites j).kind ≡ 8 = call_has_eight (site_at sites j).kind call in
-    omega arith)

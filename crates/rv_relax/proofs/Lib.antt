@@ -13,3 +13,5 @@ pub mod Judging
 pub mod Tables
 pub mod Going
 pub mod Laid
+pub mod Placing
+pub mod Sizing

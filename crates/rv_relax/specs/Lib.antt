@@ -1,4 +1,6 @@
 pub mod Paddings
 pub mod Passes
+pub mod Placed
 pub mod Plan
+pub mod Sizes
 pub mod Worked

@@ -1,13 +1,14 @@
 //! How much is kept of each call of a text.
 
-ghost use Rattle.std.specs.Prelude.{◌≡◌, true, ◌+◌, ◌*◌, ◌<◌, ◌≤◌, ℕ, length, slice_index, IfOk, IsTrue};
-ghost use Rattle.rv_layout_laws.specs.Calls.{IsGreatestClosed, bytes_of, calls, dropped, new_offset as offset_of};
-ghost use Rattle.rv_object_laws.specs.Shortened.{size_at as size_by};
+ghost use Rattle.std.specs.Prelude.{◌≡◌, true, ◌+◌, ◌*◌, ◌<◌, ◌≤◌, ◌++◌, [], ◌∷◌, ℕ, length, slice_index, IfOk, OnOk, IsTrue, if◌then◌else◌};
+ghost use Rattle.rv_layout_laws.specs.Calls.{bytes_of, calls, dropped, is_call as is_call_site, new_offset as offset_of, whole_sizes};
 ghost use Rattle.rv_relax.specs.Passes.{AreSums, IsInput, are_laid};
+ghost use Rattle.rv_relax.specs.Sizes.{IsPlanned, call_sizes as sizes_of};
 
 use crate::passes::{settle, sum_up};
+use crate::placed::Placed;
 use crate::places::{dropped_of, is_call, place_of, targets, whole};
-use rv_layout_laws::Site;
+use rv_layout_laws::{Site, SiteKind};
 use std::alloc::{AllocError, Global};
 
 /// The bytes before an offset that are dropped.
@@ -24,20 +25,27 @@ fn dropped_before(sites: &[Site], kept: &[u32], sums: &[u64], old: u64) -> u64
     sums[place] + dropped_of(&sites[place], kept[place], old)
 }
 
-/// The bytes that are kept of the call at an offset, or 8 where there is none.
-fn size_at(sites: &[Site], kept: &[u32], offset: u64) -> u32
-    requires laid { are_laid 0 sites.now kept.now ≡ true }
-    ensures { result ≡ size_by sites.now kept.now offset }
+/// Adds what is kept of a site, if it is a call.
+fn put_size(sizes: &mut Vec<u32>, kind: &SiteKind, kept: u32) -> Result<(), AllocError>
+    ensures { OnOk result (sizes.new.items
+        ≡ sizes.old.items ++ (if is_call_site kind.now then kept ∷ [] else [])) }
 {
-    let place = place_of(sites, offset);
-    if place == sites.len() {
-        return 8;
+    if is_call(kind) {
+        sizes.push(kept)?;
     }
-    let site = &sites[place];
-    if is_call(&site.kind) && site.offset == offset {
-        return kept[place];
+    Ok(())
+}
+
+/// The bytes that are kept of each call, in the order of the text.
+fn call_sizes(alloc: Global, sites: &[Site], kept: &[u32]) -> Result<Vec<u32>, AllocError>
+    requires { length kept.now ≡ length sites.now }
+    ensures { IfOk result (λ sizes. sizes.items ≡ sizes_of sites.now kept.now) }
+{
+    let mut sizes = Vec::new(alloc);
+    for i in 0..sites.len() {
+        put_size(&mut sizes, &sites[i].kind, kept[i])?;
     }
-    8
+    Ok(sizes)
 }
 
 /// What passes over the sites of a text find.
@@ -51,68 +59,91 @@ struct Sizes {
     rounds: usize,
 }
 
-/// Finds the greatest sizes of calls with which no call has a shorter form that reaches.
-fn find_sizes(alloc: Global, sites: &[Site]) -> Result<Sizes, AllocError>
+/// Where calls are relaxed, finds the greatest sizes with which no call has a shorter form that reaches, and tells in how many
+/// passes. At first the sites are whole, and nothing is dropped.
+fn relaxed(
+    alloc: Global,
+    sites: &[Site],
+    relax: bool,
+    kept: &mut [u32],
+    sums: &mut [u64],
+) -> Result<usize, AllocError>
+    requires input { IsInput sites.now }
+    requires whole { kept.old ≡ whole_sizes sites.now }
+    requires same_length { length sums.old ≡ length sites.now + 1 }
+    requires none { (j : ℕ) → slice_index sums.old j ≡ 0 }
+    ensures planned { OnOk result (IsPlanned relax sites.now kept.new) }
+    ensures same_length { length sums.new ≡ length sites.now + 1 }
+    ensures rounds { IfOk result (λ rounds. rounds ≤ 2 * calls sites.now + 1) }
+{
+    if !relax {
+        return Ok(0);
+    }
+    let targets = targets(alloc, sites)?;
+    Ok(settle(sites, &targets, kept, sums))
+}
+
+/// Finds what is kept of each site.
+fn find_sizes(alloc: Global, sites: &[Site], relax: bool) -> Result<Sizes, AllocError>
     requires { IsInput sites.now }
-    ensures greatest { IfOk result (λ found. IsGreatestClosed sites.now found.kept.items) }
+    ensures planned { IfOk result (λ found. IsPlanned relax sites.now found.kept.items) }
     ensures sums { IfOk result (λ found. AreSums sites.now found.kept.items found.sums.items) }
     ensures rounds { IfOk result (λ found. found.rounds ≤ 2 * calls sites.now + 1) }
 {
-    let targets = targets(alloc, sites)?;
     let mut kept = whole(alloc, sites)?;
     let mut sums = vec![in alloc; 0; sites.len() + 1]?;
-    let rounds = settle(sites, &targets, &mut kept, &mut sums);
+    let rounds = relaxed(alloc, sites, relax, &mut kept, &mut sums)?;
     sum_up(sites, &kept, &mut sums);
     Ok(Sizes { kept, sums, rounds })
 }
 
 /// How much is kept of each site of a text, so that the calls which can be short are short. No byte of the text is in it.
 #[derive(Drop)]
-pub struct Plan {
+pub struct Plan<'p> {
     /// In the order of the text.
-    sites: Vec<Site>,
+    sites: &'p [Site],
     /// The bytes that are kept of each.
     kept: Vec<u32>,
-    /// The bytes that are dropped before each, and behind the last those that are dropped in all.
+    /// Those of the calls alone.
+    sizes: Vec<u32>,
+    /// The bytes that are dropped before each site, and behind the last those that are dropped in all.
     sums: Vec<u64>,
-    /// How many passes over the sites there were, the last of which shortened nothing.
+    /// How many passes over the sites there were, the last of which shortened nothing; none where calls are not relaxed.
     rounds: usize,
     /// The sites stand one behind the other, and of each no more is kept than there is.
-    ghost laid: { IsTrue (are_laid 0 sites.items kept.items) },
+    ghost laid: { IsTrue (are_laid 0 sites.now kept.items) },
+    /// The sizes are those of the calls.
+    ghost sized: { sizes.items ≡ sizes_of sites.now kept.items },
     /// The sums are those of what is dropped.
-    ghost summed: { AreSums sites.items kept.items sums.items },
+    ghost summed: { AreSums sites.now kept.items sums.items },
 }
 
-impl Plan {
-    ghost use Rattle.rv_relax.specs.Plan.{kept_of, rounds_of, sites_in};
+impl<'p> Plan<'p> {
+    ghost use Rattle.rv_relax.specs.Plan.{kept_of, placed_sites, rounds_of, sites_in};
 
-    /// The greatest sizes of calls with which no call has a shorter form that reaches, found in passes over the sites of a
-    /// text, forwards and backwards in turn.
+    /// Where calls are relaxed, the greatest sizes with which no call has a shorter form that reaches, found in passes over
+    /// the sites of a text, forwards and backwards in turn. Elsewhere each call keeps its eight bytes.
     ///
     /// # Errors
     ///
-    /// `AllocError` where there is no memory for some 20 bytes a site.
-    pub fn of(alloc: Global, sites: Vec<Site>) -> Result<Plan, AllocError>
-        requires { IsInput sites.items }
-        ensures sites { IfOk result (λ plan. sites_in plan ≡ sites.items) }
-        ensures greatest { IfOk result
-            (λ plan. IsGreatestClosed sites.items (kept_of plan)) }
-        ensures rounds { IfOk result (λ plan. rounds_of plan ≤ 2 * calls sites.items + 1) }
+    /// `AllocError` where there is no memory for some 24 bytes a site.
+    pub fn of(alloc: Global, placed: &'p Placed, relax: bool) -> Result<Plan<'p>, AllocError>
+        ensures sites { IfOk result (λ plan. sites_in plan ≡ placed_sites placed.now) }
+        ensures planned { IfOk result
+            (λ plan. IsPlanned relax (placed_sites placed.now) (kept_of plan)) }
+        ensures rounds { IfOk result
+            (λ plan. rounds_of plan ≤ 2 * calls (placed_sites placed.now) + 1) }
     {
-        let Sizes { kept, sums, rounds } = find_sizes(alloc, &sites)?;
+        let sites = placed.sites();
+        let Sizes { kept, sums, rounds } = find_sizes(alloc, sites, relax)?;
+        let sizes = call_sizes(alloc, sites, &kept)?;
         Ok(Plan {
             sites,
             kept,
+            sizes,
             sums,
             rounds,
         })
-    }
-
-    /// The sites of the text.
-    pub fn sites(&self) -> &[Site]
-        ensures { result.now ≡ sites_in self.now }
-    {
-        &self.sites
     }
 
     /// The bytes that are kept of each site.
@@ -122,18 +153,19 @@ impl Plan {
         &self.kept
     }
 
-    /// The bytes that are kept of the call at an offset of the text, or 8 where there is no call that may be shortened.
-    pub fn size_at(&self, offset: u64) -> u32
-        ensures { result ≡ size_by (sites_in self.now) (kept_of self.now) offset }
+    /// The bytes of a call afterwards, by its place among the calls that may be shortened, from 0.
+    pub fn call_size(&self, i: usize) -> u32
+        requires { i < calls (sites_in self.now) }
+        ensures { result ≡ slice_index (sizes_of (sites_in self.now) (kept_of self.now)) i }
     {
-        size_at(&self.sites, &self.kept, offset)
+        self.sizes[i]
     }
 
-    /// Where an offset of the text is afterwards: less the bytes that are dropped before it.
+    /// Where an offset of the line is afterwards, each padding in full: less the bytes of calls that are dropped before it.
     pub fn new_offset(&self, old: u64) -> u64
         ensures { result ≡ offset_of (sites_in self.now) (kept_of self.now) old }
     {
-        old - dropped_before(&self.sites, &self.kept, &self.sums, old)
+        old - dropped_before(self.sites, &self.kept, &self.sums, old)
     }
 
     /// How many passes over the sites there were.

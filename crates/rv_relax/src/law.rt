@@ -4,6 +4,7 @@ ghost use Rattle.std.specs.Prelude.{◌≡◌, [], ◌∷◌, true, false};
 ghost use Rattle.std.specs.List.{list_all};
 ghost use Rattle.rv_layout_laws.specs.Calls.{IsGreatestClosed, new_offset as offset_of};
 ghost use Rattle.rv_object_laws.specs.Moves.{has_room, kept, lost, moves, new_offset};
+ghost use Rattle.rv_relax.specs.Sizes.{call_sizes};
 ghost use Rattle.rv_relax.specs.Worked.{align_at, calls_to_f, code_with, kept_of};
 
 /// Two bytes of code, and then an alignment to 8 with 6 bytes of padding. In a section that starts at a multiple of 8 all of
@@ -39,6 +40,7 @@ pub fn two_alignments()
 /// moves up.
 pub fn three_calls()
     ensures kept { IsGreatestClosed calls_to_f (0 ∷ 4 ∷ 4 ∷ 4 ∷ []) }
+    ensures sizes { call_sizes calls_to_f (0 ∷ 4 ∷ 4 ∷ 4 ∷ []) ≡ 4 ∷ 4 ∷ 4 ∷ [] }
     ensures first { offset_of calls_to_f (0 ∷ 4 ∷ 4 ∷ 4 ∷ []) 0 ≡ 0 }
     ensures second { offset_of calls_to_f (0 ∷ 4 ∷ 4 ∷ 4 ∷ []) 8 ≡ 4 }
     ensures third { offset_of calls_to_f (0 ∷ 4 ∷ 4 ∷ 4 ∷ []) 16 ≡ 8 }

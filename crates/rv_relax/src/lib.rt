@@ -2,9 +2,10 @@
 //!
 //! A call has eight bytes, and a shorter form where its target is near (R_RISCV_RELAX). Which calls are shortened is decided
 //! for a whole text at once: the sizes are the greatest with which no call has a shorter form that reaches, distances counted
-//! with every padding in full (`rv_layout_laws`, `IsGreatestClosed`). [`Plan`] takes the sites of a text and finds them in
-//! passes, forwards and backwards in turn, over tables of numbers: no byte moves, and the passes are at most twice the calls
-//! and one. It tells how much is kept of each site, and where an offset of the text is afterwards.
+//! with every padding in full (`rv_layout_laws`, `IsGreatestClosed`). [`Plan`] takes the sites of a text ([`Placed`]) and finds
+//! them in passes, forwards and backwards in turn, over tables of numbers: no byte moves, and the passes are at most twice the
+//! calls and one. Where relaxation is off each call keeps its eight bytes. It tells how long each call is, how much is kept of
+//! each site, and where an offset of the line is afterwards, on which all paddings stay in full.
 //!
 //! An alignment in code (R_RISCV_ALIGN) brings as much padding as it can ever need. Where its section starts at an address,
 //! the linker keeps the least of it that is needed, writes it anew as instructions without effect, and drops the rest; all
@@ -17,8 +18,9 @@
 //! It must not know symbols, values of relocations, or where sections come to stand.
 //!
 //! ```text
-//! let calls = Plan::of(alloc, sites)?;
-//! let bytes = calls.size_at(offset);
+//! let placed = Placed::of(sites);
+//! let calls = Plan::of(alloc, &placed, true)?;
+//! let bytes = calls.call_size(0);
 //!
 //! let plan = SectionPlan::of(alloc, section, 0x1_0000)?;
 //! let offset = plan.new_offset(relocation.place);
@@ -36,6 +38,7 @@ mod offsets;
 mod padding;
 mod paddings;
 mod passes;
+mod placed;
 mod places;
 mod reach;
 mod section_plan;
@@ -43,4 +46,5 @@ mod section_plan;
 pub use alignments::{asked_alignment, full_padding, has_padding};
 pub use calls::Plan;
 pub use law::{one_alignment, three_calls, two_alignments};
+pub use placed::Placed;
 pub use section_plan::SectionPlan;

@@ -1,29 +1,31 @@
-use Rattle.std.proofs.Common.{◌+◌, ◌*◌, ◌≤◌, refl, subst}
-use Rattle.rv_layout_laws.specs.Calls.{IsGreatestClosed, calls}
-use Rattle.rv_relax.specs.Passes.{AreSums}
+use Rattle.std.proofs.Common.{◌+◌, ◌*◌, ◌≤◌, subst, ◌∙◌, ap}
+use Rattle.rv_layout_laws.specs.Calls.{IsFamily, calls}
 use Rattle.rv_relax.specs.Plan.{kept_of, rounds_of, sites_in}
+use Rattle.rv_relax.specs.Sizes.{IsPlanned, call_sizes}
 use Rattle.rv_relax.proofs.Dropping.{family_most}
 use Rattle.rv_relax.proofs.Laid.{laid_from}
+use Rattle.rv_relax.proofs.Sizing.{planned_family}
 use Rattle.rv_relax.proofs.calls.Plan.of.Goals as goal
 
 pub invariant_of-result : goal.invariant_of-result
 invariant_of-result c =
-    let greatest : IsGreatestClosed c.args.sites.items c.in_ok-kept.field-0.kept.items =
-    subst (λ sites. IsGreatestClosed sites c.in_ok-kept.field-0.kept.items) c.deref.ensures.value c.in_ok-kept.ensures.greatest in
+    let sites = c.sites-sites.result.now in
+    let kept = c.in_ok-kept.field-0.kept.items in
+    let family : IsFamily sites kept = planned_family c.args.relax sites kept c.in_ok-kept.ensures.planned in
     record {
-      laid = laid_from 0 c.args.sites.items c.in_ok-kept.field-0.kept.items c.requires.text.in_order greatest.closed.family.same_length
-          (family_most c.args.sites.items c.in_ok-kept.field-0.kept.items greatest.closed.family);
-      summed = subst (λ sites. AreSums sites c.in_ok-kept.field-0.kept.items c.in_ok-kept.field-0.sums.items) c.deref.ensures.value c.in_ok-kept.ensures.sums;
+      laid = laid_from 0 sites kept c.sites-sites.ensures.input.text.in_order family.same_length (family_most sites kept family);
+      sized = c.in_ok-sizes.ensures ∙ ap (call_sizes sites) c.deref.ensures.value;
+      summed = c.in_ok-kept.ensures.sums;
     }
 
 pub returns-clause-sites : goal.returns-clause-sites
 unfolding sites_in
-returns-clause-sites c = refl
+returns-clause-sites c = c.sites-sites.ensures.value
 
-pub returns-clause-greatest : goal.returns-clause-greatest
+pub returns-clause-planned : goal.returns-clause-planned
 unfolding kept_of
-returns-clause-greatest c = subst (λ sites. IsGreatestClosed sites c.in_ok-kept.field-0.kept.items) c.deref.ensures.value c.in_ok-kept.ensures.greatest
+returns-clause-planned c = subst (λ sites. IsPlanned c.args.relax sites c.in_ok-kept.field-0.kept.items) c.sites-sites.ensures.value c.in_ok-kept.ensures.planned
 
 pub returns-clause-rounds : goal.returns-clause-rounds
 unfolding rounds_of
-returns-clause-rounds c = subst (λ sites. c.in_ok-kept.field-0.rounds ≤ 2 * calls sites + 1) c.deref.ensures.value c.in_ok-kept.ensures.rounds
+returns-clause-rounds c = subst (λ sites. c.in_ok-kept.field-0.rounds ≤ 2 * calls sites + 1) c.sites-sites.ensures.value c.in_ok-kept.ensures.rounds
