@@ -1,6 +1,6 @@
 -- Cuts in the order of their places: which stand before an offset, and what of them is dropped there.
 
-use Rattle.std.proofs.Common.{◌≡◌, ℕ, zero, suc, ◌+◌, ◌-◌, ◌%◌, ◌^◌, ◌<◌, ◌≤◌, min, Bool, true, false, cond, ◌&&◌, ◌||◌, nat_lt, nat_le, List, [], ◌∷◌, length, map, drop, slice_index_or, refl, ap, arith}
+use Rattle.std.proofs.Common.{◌≡◌, ℕ, zero, suc, ◌+◌, ◌-◌, ◌%◌, ◌^◌, ◌<◌, ◌≤◌, min, Bool, true, false, cond, ◌&&◌, ◌||◌, nat_lt, nat_le, List, [], ◌∷◌, length, map, slice_index_or, refl, ap, arith}
 use Rattle.std.specs.Prelude.{◌==◌}
 use Rattle.std.specs.List.Sorted.{IsPartitionedBy}
 use Rattle.std.proofs.lemmas.Bool.{ltb-true, leb-true, eqb-true, lt-ltb, le-leb, eq-eqb, and_parts, and_from}
@@ -48,12 +48,6 @@ first stop past c cs h = next stop past c (and_parts (is_next stop past c) (are_
 
 pub rest : (stop past : ℕ) (c : Cut) (cs : List Cut) → are_in_order stop past (c ∷ cs) ≡ true → are_in_order (c.place + 8) (past + (8 - left_of c)) cs ≡ true
 rest stop past c cs h = (and_parts (is_next stop past c) (are_in_order (c.place + 8) (past + (8 - left_of c)) cs) h).1
-
--- those from an index on are in order as well
-pub from_index : (stop past : ℕ) (cs : List Cut) (i : ℕ) → are_in_order stop past cs ≡ true → (s : ℕ) × (g : ℕ) × (are_in_order s g (drop i cs) ≡ true)
-from_index stop past cs zero h = (stop, past, h)
-from_index stop past [] (suc i) h = (stop, past, refl)
-from_index stop past (c ∷ cs) (suc i) h = from_index (c.place + 8) (past + (8 - left_of c)) cs i (rest stop past c cs h)
 
 pub after : (stop past : ℕ) (cs : List Cut) (k : ℕ) (d : Cut) → are_in_order stop past cs ≡ true → k < length cs → stop ≤ (slice_index_or cs k d).place
 after stop past [] k d h inside = absurd (omega arith)

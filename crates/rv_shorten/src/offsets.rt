@@ -47,12 +47,8 @@ pub(crate) fn lost(cuts: &[Cut], offset: u64, bytes: u32) -> u64
     ensures { result ≡ lost_of (map move_of cuts.now) offset bytes }
 {
     let stop = offset.saturating_add(u64::from(bytes));
-    let mut lost = 0;
-    for i in count_before(cuts, offset)..cuts.len() {
-        if cuts[i].place + 8 > stop {
-            return lost;
-        }
-        lost += 1;
-    }
-    lost
+    let before = count_before(cuts, offset);
+    // a call has 8 bytes: to end by the stop it begins before the last 7 of them
+    let ended = count_before(cuts, stop.saturating_sub(7));
+    ended.saturating_sub(before) as u64
 }

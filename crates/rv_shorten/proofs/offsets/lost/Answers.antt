@@ -1,38 +1,18 @@
-use Rattle.std.proofs.Common.{◌+◌, ◌<◌, ◌≤◌, length, slice_index_or, rules, arith}
-use Rattle.std.proofs.lemmas.List.{drop_more}
-use Rattle.rv_shorten.proofs.Order.{zeros, ends_low}
-use Rattle.rv_shorten.proofs.Losses.{skipped, taken, none_left}
+use Rattle.std.proofs.Common.{arith}
+use Rattle.rv_shorten.proofs.Order.{ends_low}
+use Rattle.rv_shorten.proofs.Losses.{counted}
 use Rattle.rv_shorten.proofs.offsets.lost.Goals as goal
 
-pub loop-i-init : goal.loop-i-init
-loop-i-init c =
-    let same = skipped c.args.offset c.args.bytes c.args.cuts.now c.count_before-i.result c.count_before-i.ensures.bound c.count_before-i.ensures.point.0 in
-    (omega arith, omega (arith, same))
-
-pub overflow_add-cuts : goal.overflow_add-cuts
-overflow_add-cuts c =
-    let ends = ends_low 0 0 c.args.cuts.now c.loop-i.i zeros c.requires c.loop-i-test.true in
+pub returns : goal.returns
+returns c =
+    let cs = c.args.cuts.now in
+    let offset = c.args.offset in
+    let bytes = c.args.bytes in
+    let before = c.count_before-before.result in
+    let ended = c.count_before-ended.result in
+    let first = c.count_before-before.ensures.point in
+    let second = c.count_before-ended.ensures.point in
+    let is = counted offset bytes cs before ended c.count_before-before.ensures.bound c.count_before-ended.ensures.bound first.0 first.1
+    (λ k d low high. let one = second.0 k d low high in omega (arith, c.saturating_add-stop.ensures, c.saturating_sub.ensures))
+    (λ k d low high. let one = second.1 k d low high in let ends = ends_low 0 0 cs k d c.requires high in omega (arith, c.saturating_add-stop.ensures, c.saturating_sub.ensures)) in
     omega arith
-
-pub returns-then-cuts-i : goal.returns-then-cuts-i
-returns-then-cuts-i c =
-    let cs = c.args.cuts.now in
-    let i = c.loop-i.i in
-    let inside : i < length cs = c.loop-i-test.true in
-    let p = slice_index_or cs i zeros in
-    let ends = ends_low 0 0 cs i zeros c.requires inside in
-    let far : c.args.offset + c.args.bytes < p.place + 8 = omega (arith, c.saturating_add-stop.ensures) in
-    let none = none_left c.args.offset c.args.bytes i p cs c.requires (drop_more cs i zeros inside) far in
-    omega (arith, c.loop-i.invariant.1)
-
-pub loop-i-preserved : goal.loop-i-preserved
-loop-i-preserved c =
-    let cs = c.args.cuts.now in
-    let i = c.loop-i.i in
-    let inside : i < length cs = c.loop-i-test.true in
-    let p = slice_index_or cs i zeros in
-    let ends = ends_low 0 0 cs i zeros c.requires inside in
-    let near : p.place + 8 ≤ c.args.offset + c.args.bytes = omega (arith, c.saturating_add-stop.ensures) in
-    let from = c.count_before-i.ensures.point.1 i zeros (search rules) inside in
-    let more = taken c.args.offset c.args.bytes i p cs (drop_more cs i zeros inside) from near in
-    (omega (arith, c.loop-i.invariant.0), omega (arith, c.loop-i.invariant.1))
