@@ -1,9 +1,9 @@
 -- Paddings in the order of their places: which stand before an offset, and what of them is dropped there.
 
-use Rattle.std.proofs.Common.{◌≡◌, ℕ, zero, suc, ◌+◌, ◌-◌, ◌%◌, ◌^◌, ◌<◌, ◌≤◌, min, true, ◌&&◌, nat_lt, nat_le, List, [], ◌∷◌, length, map, drop, slice_index_or, refl, arith}
+use Rattle.std.proofs.Common.{◌≡◌, ℕ, zero, suc, ◌+◌, ◌-◌, ◌%◌, ◌^◌, ◌<◌, ◌≤◌, min, true, ◌&&◌, nat_lt, nat_le, List, [], ◌∷◌, length, map, slice_index_or, refl, arith}
 use Rattle.std.specs.Prelude.{◌==◌}
 use Rattle.std.specs.List.Sorted.{IsPartitionedBy}
-use Rattle.std.proofs.lemmas.Bool.{ltb-true, leb-true, eqb-true, lt-ltb, and_parts}
+use Rattle.std.proofs.lemmas.Bool.{ltb-true, leb-true, le-leb, eqb-true, lt-ltb, and_parts}
 use Rattle.rv_object_laws.specs.Moves.{dropped}
 use Rattle.rv_relax.specs.declared.padding.Padding.{Padding}
 use Rattle.rv_relax.specs.Paddings.{move_of, is_next, are_in_order}
@@ -11,7 +11,7 @@ use Rattle.rv_object.proofs.Nops.{length_even}
 
 -- what a slice has past its end
 abbrev pub zeros : Padding
-zeros = record { place = 0; gone = 0; full = 0; left = 0 }
+zeros = record { place = 0; gone = 0; full = 0; left = 0; lost = 0 }
 
 -- a padding that stands behind others
 pub record IsNext (stop past : ℕ) (p : Padding) : Type 0 where
@@ -37,12 +37,6 @@ first stop past p ps h = next stop past p (and_parts (is_next stop past p) (are_
 
 pub rest : (stop past : ℕ) (p : Padding) (ps : List Padding) → are_in_order stop past (p ∷ ps) ≡ true → are_in_order (p.place + p.full) (past + (p.full - p.left)) ps ≡ true
 rest stop past p ps h = (and_parts (is_next stop past p) (are_in_order (p.place + p.full) (past + (p.full - p.left)) ps) h).1
-
--- those from an index on are in order as well
-pub from_index : (stop past : ℕ) (ps : List Padding) (i : ℕ) → are_in_order stop past ps ≡ true → (s : ℕ) × (g : ℕ) × (are_in_order s g (drop i ps) ≡ true)
-from_index stop past ps zero h = (stop, past, h)
-from_index stop past [] (suc i) h = (stop, past, refl)
-from_index stop past (p ∷ ps) (suc i) h = from_index (p.place + p.full) (past + (p.full - p.left)) ps i (rest stop past p ps h)
 
 pub after : (stop past : ℕ) (ps : List Padding) (k : ℕ) (d : Padding) → are_in_order stop past ps ≡ true → k < length ps → stop ≤ (slice_index_or ps k d).place
 after stop past [] k d h inside = absurd (omega arith)
@@ -86,6 +80,24 @@ partitioned o ps h = λ i j d le inside test.
     let low : (slice_index_or ps i d).place ≤ (slice_index_or ps j d).place = rising 0 0 ps h i j d le inside in
     let high : (slice_index_or ps j d).place < o = ltb-true (slice_index_or ps j d).place o test in
     lt-ltb (slice_index_or ps i d).place o (omega arith)
+
+-- so their ends rise as well
+ends_after : (stop past : ℕ) (ps : List Padding) → are_in_order stop past ps ≡ true → (j : ℕ) (d : Padding) → j < length ps → stop ≤ (slice_index_or ps j d).place + (slice_index_or ps j d).full
+ends_after stop past ps h j d inside = let later = after stop past ps j d h inside in omega arith
+
+ends_rising : (stop past : ℕ) (ps : List Padding) → are_in_order stop past ps ≡ true → (i j : ℕ) (d : Padding) → i ≤ j → j < length ps
+    → (slice_index_or ps i d).place + (slice_index_or ps i d).full ≤ (slice_index_or ps j d).place + (slice_index_or ps j d).full
+ends_rising stop past [] h i j d le inside = absurd (omega arith)
+ends_rising stop past (p ∷ ps) h zero zero d le inside = omega arith
+ends_rising stop past (p ∷ ps) h zero (suc j) d le inside = ends_after (p.place + p.full) (past + (p.full - p.left)) ps (rest stop past p ps h) j d (omega arith)
+ends_rising stop past (p ∷ ps) h (suc i) zero d le inside = absurd (omega arith)
+ends_rising stop past (p ∷ ps) h (suc i) (suc j) d le inside = ends_rising (p.place + p.full) (past + (p.full - p.left)) ps (rest stop past p ps h) i j d (omega arith) (omega arith)
+
+pub ends_partitioned : (o : ℕ) (ps : List Padding) → are_in_order 0 0 ps ≡ true → IsPartitionedBy (λ (p : Padding). nat_le (p.place + p.full) o) ps
+ends_partitioned o ps h = λ i j d le inside test.
+    let low = ends_rising 0 0 ps h i j d le inside in
+    let high = leb-true ((slice_index_or ps j d).place + (slice_index_or ps j d).full) o test in
+    le-leb ((slice_index_or ps i d).place + (slice_index_or ps i d).full) o (omega arith)
 
 -- ---- what is dropped before an offset
 

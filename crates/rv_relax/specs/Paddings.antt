@@ -1,9 +1,9 @@
 -- Paddings in the order of their places.
 
-use Rattle.std.specs.Prelude.{ℕ, ◌+◌, ◌-◌, ◌%◌, ◌^◌, Bool, true, ◌&&◌, ◌==◌, nat_le, nat_lt, List, [], ◌∷◌}
+use Rattle.std.specs.Prelude.{ℕ, zero, suc, ◌+◌, ◌-◌, ◌%◌, ◌^◌, Bool, true, ◌&&◌, ◌==◌, nat_le, nat_lt, List, [], ◌∷◌}
 use Rattle.rv_relax.specs.declared.padding.Padding.{Padding}
 use Rattle.rv_object.specs.Object.{Relocation}
-use Rattle.rv_object.specs.Padding.{no_operations}
+use Rattle.rv_object.specs.Padding.{no_operations, operations_in}
 use Rattle.rv_object_laws.specs.Moves.{Move, full_padding}
 
 -- what is kept of a padding
@@ -21,6 +21,20 @@ abbrev pub are_in_order : ℕ → ℕ → List Padding → Bool
 are_in_order stop gone [] = true
 are_in_order stop gone (p ∷ ps) =
     is_next stop gone p && are_in_order (p.place + p.full) (gone + (p.full - p.left)) ps
+
+-- the instructions that a padding loses, and those that so many paddings from the first on lose
+abbrev pub loses : Padding → ℕ
+loses p = operations_in p.full - operations_in p.left
+
+abbrev pub lost_by_first : ℕ → List Padding → ℕ
+lost_by_first zero ps = 0
+lost_by_first (suc k) [] = 0
+lost_by_first (suc k) (p ∷ ps) = loses p + lost_by_first k ps
+
+-- behind paddings that lose so many instructions, each has what it and those before it lose
+abbrev pub are_summed : ℕ → List Padding → Bool
+are_summed lost [] = true
+are_summed lost (p ∷ ps) = (p.lost == lost + loses p) && are_summed (lost + loses p) ps
 
 -- behind paddings that end at an offset, alignments whose paddings lie one behind the other, in a
 -- section of less than 2 ^ 64 bytes

@@ -1,6 +1,6 @@
 //! Paddings of a section.
 
-ghost use Rattle.std.specs.Prelude.{◌≡◌, ◌+◌, ◌-◌, ◌^◌, ◌<◌, ◌≤◌, min};
+ghost use Rattle.std.specs.Prelude.{◌≡◌, ◌+◌, ◌-◌, ◌^◌, ◌<◌, ◌≤◌, min, nat_le};
 
 /// A padding, and what is kept of it.
 #[derive(Clone, Copy, Drop)]
@@ -13,6 +13,8 @@ pub(crate) struct Padding {
     pub full: u32,
     /// The bytes that are left of it.
     pub left: u32,
+    /// The instructions that it and the paddings before it lose.
+    pub lost: u64,
 }
 
 impl Padding {
@@ -22,6 +24,13 @@ impl Padding {
         ensures { result ≡ (self.now).place + (self.now).full }
     {
         self.place + u64::from(self.full)
+    }
+
+    /// Whether it ends at an offset or before it.
+    pub fn ends_by(&self, offset: u64) -> bool
+        ensures { result ≡ nat_le ((self.now).place + (self.now).full) offset }
+    {
+        self.place <= offset && u64::from(self.full) <= offset - self.place
     }
 
     /// The bytes of it and of the paddings before it that are dropped before an offset.

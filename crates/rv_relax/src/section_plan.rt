@@ -6,7 +6,7 @@ ghost use Rattle.rv_object.specs.Object.{size_of};
 ghost use Rattle.rv_object.specs.Parts.{contents_of};
 ghost use Rattle.rv_object.specs.Sections.{section_of};
 ghost use Rattle.rv_object_laws.specs.Moves.{moves, has_room, kept, lost as lost_of, new_offset as offset_of};
-ghost use Rattle.rv_relax.specs.Paddings.{are_in_order};
+ghost use Rattle.rv_relax.specs.Paddings.{are_in_order, are_summed};
 
 use crate::alignments::alignments;
 use crate::bytes::put_kept;
@@ -22,6 +22,8 @@ pub struct SectionPlan {
     paddings: Vec<Padding>,
     /// They stand one behind the other.
     ghost order: { IsTrue (are_in_order 0 0 paddings.items) },
+    /// Each has what it and those before it lose.
+    ghost sums: { IsTrue (are_summed 0 paddings.items) },
 }
 
 impl SectionPlan {
