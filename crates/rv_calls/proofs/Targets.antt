@@ -20,7 +20,7 @@ use Rattle.rv_object_laws.proofs.TextLine.{sites_text, sites_within}
 use Rattle.rv_placement.specs.Placement.{section_in, section_at}
 use Rattle.rv_resolve.specs.Names.{place_of}
 use Rattle.rv_calls.specs.Line.{end_from, next, ended, ended_files, firsts, firsts_files, lists_of, base_at}
-use Rattle.rv_calls.specs.Text.{text_target, symbol_in}
+use Rattle.rv_calls.specs.Text.{text_target}
 use Rattle.rv_calls.proofs.Along.{number_in, base_is, same_number, line_ends}
 use Rattle.rv_calls.proofs.Steps.{grows, grows_files}
 
@@ -115,16 +115,12 @@ are_within ds sites is short i =
 
 -- ---- the symbol of a relocation
 
-target_by : (os : List Object) (i : InputSection) (r : Relocation) → target_place os i r ≡ option_and_then (symbol_place os i.file) (symbol_in i.object r.symbol)
-target_by os i r = by r.symbol
-  where
-    by : (o : Option ℕ) → option_and_then (λ index. option_and_then (symbol_place os i.file) (slice_get i.object.symbols index)) o ≡ option_and_then (symbol_place os i.file) (symbol_in i.object o)
-    by None = refl
-    by (Some index) = refl
+-- a relocation without one leads nowhere
+pub target_none : (os : List Object) (i : InputSection) (r : Relocation) → r.symbol ≡ None → text_target os (target_place os i r) ≡ None
+target_none os i r h = ap (λ o. text_target os (option_and_then (λ index. option_and_then (symbol_place os i.file) (slice_get i.object.symbols index)) o)) h
 
-pub target_none : (os : List Object) (i : InputSection) (r : Relocation) → symbol_in i.object r.symbol ≡ None → text_target os (target_place os i r) ≡ None
-target_none os i r h = ap (text_target os) (target_by os i r ∙ ap (option_and_then (symbol_place os i.file)) h)
-
-pub target_is : (os : List Object) (i : InputSection) (r : Relocation) (file : ℕ) (s : Symbol) → i.file ≡ file → symbol_in i.object r.symbol ≡ Some s
-    → text_target os (target_place os i r) ≡ text_target os (symbol_place os file s)
-target_is os i r file s same h = ap (text_target os) (target_by os i r ∙ ap (option_and_then (symbol_place os i.file)) h ∙ ap (λ n. symbol_place os n s) same)
+pub target_is : (os : List Object) (i : InputSection) (r : Relocation) (file index : ℕ) → i.file ≡ file → r.symbol ≡ Some index
+    → target_place os i r ≡ option_and_then (symbol_place os file) (slice_get i.object.symbols index)
+target_is os i r file index same h =
+    ap (option_and_then (λ n. option_and_then (symbol_place os i.file) (slice_get i.object.symbols n))) h
+    ∙ ap (λ f. option_and_then (symbol_place os f) (slice_get i.object.symbols index)) same

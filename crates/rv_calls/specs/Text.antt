@@ -3,7 +3,7 @@
 use Rattle.std.specs.Prelude.{◌≡◌, ℕ, ◌+◌, ◌≤◌, ◌^◌, Bool, not, ◌&&◌, true, List, length, map, Option, Some, None, if◌then◌else◌}
 use Rattle.std.specs.List.{slice_get}
 use Rattle.rv_layout_laws.specs.declared.site.Call.{Call}
-use Rattle.rv_object.specs.Object.{Relocation, Section, Symbol, Object, stored, size_of}
+use Rattle.rv_object.specs.Object.{Relocation, Section, Object, stored, size_of}
 use Rattle.rv_object.specs.Sections.{section_of}
 use Rattle.rv_object.specs.View.{object_of}
 use Rattle.rv_object_laws.specs.Moves.{full_padding, has_padding}
@@ -28,11 +28,6 @@ pub record IsLaid (t : Text) : Type 0 where
 -- where a place is, if it is in text
 abbrev pub text_target : List Object → Option Place → Option ℕ
 text_target os p = if is_text_place os p then Some (text_offset os p) else None
-
--- the symbol of a relocation
-abbrev pub symbol_in : Object → Option ℕ → Option Symbol
-symbol_in o None = None
-symbol_in o (Some index) = slice_get o.symbols index
 
 -- ---- a section
 

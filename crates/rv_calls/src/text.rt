@@ -1,19 +1,18 @@
 //! The text of objects, as what calls lead to.
 
-ghost use Rattle.std.specs.Prelude.{◌≡◌, ◌+◌, Some, map, false, option_map, IfOk, IfSome, IfNone};
+ghost use Rattle.std.specs.Prelude.{◌≡◌, ◌+◌, Some, map, false, IfOk, IfSome, IfNone};
 ghost use Rattle.std.specs.List.{slice_get};
-ghost use Rattle.rv_object.specs.Object.{Object as SaidObject};
-ghost use Rattle.rv_object.specs.Parts.{relocation_of, symbol_of};
+ghost use Rattle.rv_object.specs.Parts.{relocation_of};
 ghost use Rattle.rv_object.specs.View.{object_of};
 ghost use Rattle.rv_object_laws.specs.Inputs.{InputSection};
 ghost use Rattle.rv_object_laws.specs.Calls.{is_in_section, is_short_text, target_place};
 ghost use Rattle.rv_placement.specs.Placement.{section_at};
 ghost use Rattle.rv_resolve.specs.Names.{IsNames, place_of};
 ghost use Rattle.rv_calls.specs.Line.{base_at};
-ghost use Rattle.rv_calls.specs.Text.{IsLaid, objects_of, symbol_in, text_target};
+ghost use Rattle.rv_calls.specs.Text.{IsLaid, objects_of, text_target};
 
 use crate::line::bases;
-use rv_object::{Object, Relocation, Symbol};
+use rv_object::{Object, Relocation};
 use rv_placement::{full_size, is_text};
 use rv_resolve::Names;
 use std::alloc::{AllocError, Global};
@@ -25,16 +24,6 @@ pub(crate) struct Text<'t, 'o> {
     pub(crate) names: &'t Names<'o>,
     /// Where the first byte of each section stands, by its file and its index there, both from 0.
     pub(crate) bases: Vec<Vec<u64>>,
-}
-
-/// The symbol of a relocation of a file, from 0, if it has one.
-fn symbol_at(objects: &[Object], file: usize, index: Option<u32>) -> Option<&Symbol>
-    ensures { (o : SaidObject) → slice_get (map object_of objects.now) file ≡ Some o
-        → option_map (λ s. symbol_of s.now) result ≡ symbol_in o index }
-{
-    let index = index?;
-    let object = objects.get(file)?;
-    object.symbols.get(index as usize)
 }
 
 /// Whether an offset of a section, by its file and its index there, both from 0, is in text or at its end.
@@ -95,8 +84,8 @@ impl<'t, 'o> Text<'t, 'o> {
             ≡ text_target (objects_of self.now)
             (target_place (objects_of self.now) i (relocation_of relocation.now)) }
     {
-        let symbol = symbol_at(self.objects, file, relocation.symbol)?;
-        let (file, section, offset) = self.names.place(file, symbol)?;
+        let index = relocation.symbol?;
+        let (file, section, offset) = self.names.place(self.objects, file, index)?;
         self.offset(file, section as usize, offset)
     }
 

@@ -14,7 +14,7 @@ use Rattle.rv_map.specs.Map.{Global}
 use Rattle.rv_object.specs.Object.{Symbol, Object}
 use Rattle.rv_object_laws.specs.Inputs.{Starts}
 use Rattle.rv_object_laws.specs.Names.{shown, defined_address, is_exported, is_one_of, global_names, globals_of}
-use Rattle.rv_resolve.specs.declared.names.Exported.{Exported}
+use Rattle.rv_resolve.specs.declared.definitions.Exported.{Exported}
 use Rattle.rv_resolve.specs.declared.names.Names.{Names}
 use Rattle.rv_resolve.specs.Exports.{export_of}
 use Rattle.rv_resolve.specs.Names.{IsNames}
@@ -31,7 +31,7 @@ copied_some (Some x) = refl
 
 -- a name that the table finds is one that an object defines
 pub is_taken : (os : List Object) (names : Names) (name : List ℕ) (f : Option (Bor Exported)) (b : Bool) → IsNames os names
-    → option_copied f ≡ get_by (λ (k : Bor (List ℕ)). slice_cmp nat_cmp name k.now) names.by_name → is_some f ≡ b → is_one_of (global_names os) name ≡ b
+    → option_copied f ≡ get_by (λ (k : Bor (List ℕ)). slice_cmp nat_cmp name k.now) names.definitions.by_name → is_some f ≡ b → is_one_of (global_names os) name ≡ b
 is_taken os names name f b h found is =
     one_of_exports os name ∙ sym (kept_some (export_of os name)) ∙ ap is_some (sym (h.answers name) ∙ sym found) ∙ copied_some f ∙ is
 

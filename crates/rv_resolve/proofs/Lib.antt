@@ -5,6 +5,7 @@ mod FirstSome
 mod Found
 mod LinkerNames
 mod Meant
+mod Numbers
 mod Resolved
 mod Shown
 mod Steps

@@ -8,7 +8,7 @@ use Rattle.rv_object.specs.declared.symbol.Definition.TheVariants as definitions
 use Rattle.rv_object.specs.Object.{Symbol, Object}
 use Rattle.rv_object_laws.specs.Inputs.{Starts}
 use Rattle.rv_object_laws.specs.Names.{defined_address, global_address, symbol_address_by, is_defined, is_one_of, AreDistinct, global_names, globals_of, linker_symbols, shown_linker_symbols, Place, place_in, global_place, symbol_place}
-use Rattle.rv_resolve.specs.declared.names.Exported.{Exported}
+use Rattle.rv_resolve.specs.declared.definitions.Exported.{Exported}
 use Rattle.rv_resolve.specs.Exports.{Export, export_of}
 use Rattle.rv_resolve.specs.Names.{kept_of, meant_by}
 use Rattle.rv_resolve.specs.Undefined.{has_address, is_known, linker_names}

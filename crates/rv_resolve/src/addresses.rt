@@ -1,6 +1,6 @@
 //! What symbols mean: their addresses and their places.
 
-ghost use Rattle.std.specs.Prelude.{◌≡◌, ◌+◌, ℕ, List, Some, map, option_map};
+ghost use Rattle.std.specs.Prelude.{◌≡◌, ◌+◌, ℕ, List, Some, map, option_map, option_and_then};
 ghost use Rattle.std.specs.List.{slice_get};
 ghost use Rattle.rv_object.specs.Object.{Object as SaidObject};
 ghost use Rattle.rv_object.specs.Parts.{symbol_of};
@@ -11,26 +11,31 @@ ghost use Rattle.rv_resolve.specs.Entry.{has_entry};
 ghost use Rattle.rv_resolve.specs.Names.{IsNames, place_of};
 ghost use Rattle.rv_resolve.specs.Shown.{shown_globals, regions_of};
 
-use crate::names::{Exported, Names};
+use crate::definitions::Exported;
+use crate::names::Names;
 use rv_object::{Definition, Object, Symbol};
 use rv_placement::Placement;
 
 impl<'o> Names<'o> {
-    /// What a symbol of a file, from 0, means: its address; none where it has none.
+    /// What the symbol at an index of a file means, both from 0: its address; none where it has none, or there is no
+    /// symbol.
     pub fn address(
         &self,
         objects: &[Object],
         placement: &Placement,
         file: usize,
-        symbol: &Symbol,
+        index: u32,
     ) -> Option<u64>
         ensures { (start : ℕ) (o : SaidObject) → IsNames (map object_of objects.now) self.now
             → IsPlacement (map object_of objects.now) start placement.now
             → slice_get (map object_of objects.now) file ≡ Some o
-            → result ≡ laws.symbol_address (shown_globals (map object_of objects.now) placement.now)
-            (starts_of placement.now (file + 1)) o (symbol_of symbol.now) }
+            → result ≡ option_and_then
+            (laws.symbol_address (shown_globals (map object_of objects.now) placement.now)
+            (starts_of placement.now (file + 1)) o)
+            (slice_get o.symbols index) }
     {
-        match self.meant(file, symbol) {
+        let symbol = symbol_at(objects, file, index)?;
+        match self.meant(file, index, symbol) {
             Some(exported) => {
                 defined_address(objects, placement, exported.file, exported.definition)
             }
@@ -38,13 +43,17 @@ impl<'o> Names<'o> {
         }
     }
 
-    /// Where a symbol of a file, from 0, stands: a file, from 0, a section there, and an offset that has not moved. None where
-    /// it is a number or the linker's.
-    pub fn place(&self, file: usize, symbol: &Symbol) -> Option<(usize, u32, u64)>
-        ensures { (os : List SaidObject) → IsNames os self.now
-            → option_map place_of result ≡ laws.symbol_place os (file + 1) (symbol_of symbol.now) }
+    /// Where the symbol at an index of a file stands, both from 0: a file, from 0, a section there, and an offset that has
+    /// not moved. None where it is a number or the linker's, or there is no symbol.
+    pub fn place(&self, objects: &[Object], file: usize, index: u32) -> Option<(usize, u32, u64)>
+        ensures { (o : SaidObject) → IsNames (map object_of objects.now) self.now
+            → slice_get (map object_of objects.now) file ≡ Some o
+            → option_map place_of result
+            ≡ option_and_then (laws.symbol_place (map object_of objects.now) (file + 1))
+            (slice_get o.symbols index) }
     {
-        match self.meant(file, symbol) {
+        let symbol = symbol_at(objects, file, index)?;
+        match self.meant(file, index, symbol) {
             Some(exported) => placed(exported),
             None => None,
         }
@@ -55,7 +64,7 @@ impl<'o> Names<'o> {
         ensures { IsNames (map object_of objects.now) self.now
             → result ≡ has_entry (map object_of objects.now) }
     {
-        match self.by_name.get(b"_start".as_slice()).copied() {
+        match self.definitions.by_name.get(b"_start".as_slice()).copied() {
             Some(exported) => can_begin(objects, exported.file, exported.definition),
             None => false,
         }
@@ -67,7 +76,7 @@ impl<'o> Names<'o> {
             → IsPlacement (map object_of objects.now) start placement.now
             → result ≡ laws.entry_of (starts_of placement.now) 1 (map object_of objects.now) }
     {
-        match self.by_name.get(b"_start".as_slice()).copied() {
+        match self.definitions.by_name.get(b"_start".as_slice()).copied() {
             Some(exported) => {
                 if can_begin(objects, exported.file, exported.definition) {
                     defined_address(objects, placement, exported.file, exported.definition)
@@ -78,6 +87,15 @@ impl<'o> Names<'o> {
             None => None,
         }
     }
+}
+
+/// The symbol at an index of a file, both from 0.
+fn symbol_at(objects: &[Object], file: usize, index: u32) -> Option<&Symbol>
+    ensures { (o : SaidObject) → slice_get (map object_of objects.now) file ≡ Some o
+        → option_map (λ s. symbol_of s.now) result ≡ slice_get o.symbols index }
+{
+    let object = objects.get(file)?;
+    object.symbols.get(index as usize)
 }
 
 /// The file, section and offset of a definition.

@@ -88,7 +88,7 @@ impl<'o> Names<'o> {
             ++ filter (λ g. not (laws.is_one_of (laws.global_names os) g.name))
             (laws.global name.now address ∷ [])) }
     {
-        if self.by_name.get(name).is_some() {
+        if self.definitions.by_name.get(name).is_some() {
             return Ok(());
         }
         let name = Vec::from_slice(alloc, name)?;

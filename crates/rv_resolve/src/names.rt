@@ -1,31 +1,25 @@
-//! The global definitions of objects, by name.
+//! What the names of objects mean.
 
-ghost use Rattle.std.specs.Prelude.{◌≡◌, List, ◌∷◌, [], map, IfOk, IfErr, OnOk};
+ghost use Rattle.std.specs.Prelude.{◌≡◌, Some, List, map, IfOk, IfErr};
+ghost use Rattle.std.specs.List.{slice_get};
 ghost use Rattle.rv_object.specs.Object.{Object as SaidObject};
 ghost use Rattle.rv_object.specs.Parts.{symbol_of};
 ghost use Rattle.rv_object.specs.View.{object_of};
 ghost use Rattle.rv_object_laws.specs.Names.{AreDistinct, global_names};
-ghost use Rattle.rv_resolve.specs.Exports.{Export, exports_in, first_duplicate};
-ghost use Rattle.rv_resolve.specs.Names.{Answers, AreAdded, IsRefused, IsNames, IsDuplicate, meant_by};
+ghost use Rattle.rv_resolve.specs.Exports.{first_duplicate};
+ghost use Rattle.rv_resolve.specs.Names.{IsNames, IsDuplicate, meant_by};
 
+use crate::definitions::{Definitions, Exported};
 use crate::fault::ResolveFault;
-use crate::symbol::is_exported;
+use crate::meanings::Meanings;
 use rv_object::{Definition, Object, Symbol};
 use std::alloc::Global;
-use std::collections::BTreeMap;
 
-/// What is kept of a global definition: its file, from 0, and what it is.
-#[derive(Clone, Copy, Drop)]
-pub(crate) struct Exported {
-    pub file: usize,
-    pub definition: Definition,
-}
-
-/// The global definitions of objects, by name: in the order of the names, which costs the same whatever names a file has,
-/// while names of one hash can be made at will.
+/// The global definitions of objects by name, and which of them each symbol means.
 #[derive(Drop)]
 pub struct Names<'o> {
-    pub(crate) by_name: BTreeMap<&'o [u8], Exported>,
+    pub(crate) definitions: Definitions<'o>,
+    pub(crate) meanings: Meanings,
 }
 
 impl<'o> Names<'o> {
@@ -37,57 +31,24 @@ impl<'o> Names<'o> {
         ensures refuses { IfErr result
             (λ fault. IsDuplicate fault (first_duplicate (map object_of objects.now))) }
     {
-        let mut names = Names {
-            by_name: BTreeMap::new(alloc),
-        };
-        for file in 0..objects.len() {
-            names.put_all(file, objects[file].symbols.as_slice())?;
-        }
-        Ok(names)
+        let definitions = Definitions::of(alloc, objects)?;
+        let meanings = Meanings::of(alloc, objects, &definitions)?;
+        Ok(Names {
+            definitions,
+            meanings,
+        })
     }
 
-    /// Adds the definitions for all files among the symbols of a file.
-    fn put_all(&mut self, file: usize, symbols: &'o [Symbol]) -> Result<(), ResolveFault<'o>>
-        ensures added { OnOk result ((o : SaidObject) (es : List Export) → Answers es self.old
-            → AreAdded es (exports_in file o (map symbol_of symbols.now)) self.new) }
-        ensures refuses { IfErr result (λ fault. (o : SaidObject) (es : List Export)
-            → Answers es self.old
-            → IsRefused fault es (exports_in file o (map symbol_of symbols.now))) }
-    {
-        for symbol in symbols {
-            self.put(file, symbol)?;
-        }
-        Ok(())
-    }
-
-    /// Adds a symbol of a file, if it is a definition for all files.
-    fn put(&mut self, file: usize, symbol: &'o Symbol) -> Result<(), ResolveFault<'o>>
-        ensures added { OnOk result ((o : SaidObject) (es : List Export) → Answers es self.old
-            → AreAdded es (exports_in file o (symbol_of symbol.now ∷ [])) self.new) }
-        ensures refuses { IfErr result (λ fault. (o : SaidObject) (es : List Export)
-            → Answers es self.old
-            → IsRefused fault es (exports_in file o (symbol_of symbol.now ∷ []))) }
-    {
-        if !is_exported(symbol) {
-            return Ok(());
-        }
-        let exported = Exported {
-            file,
-            definition: symbol.definition,
-        };
-        match self.by_name.insert(symbol.name.as_slice(), exported)? {
-            Some(_) => Err(ResolveFault::Duplicate(symbol.name.as_slice())),
-            None => Ok(()),
-        }
-    }
-
-    /// What a symbol of a file means: what its own object defines, else the global definition of its name.
-    pub(crate) fn meant(&self, file: usize, symbol: &Symbol) -> Option<Exported>
-        ensures { (os : List SaidObject) → IsNames os self.now
+    /// What the symbol at an index of a file means, both from 0: what its own object defines, else the global definition
+    /// of its name.
+    pub(crate) fn meant(&self, file: usize, index: u32, symbol: &Symbol) -> Option<Exported>
+        ensures { (os : List SaidObject) (o : SaidObject) → IsNames os self.now
+            → slice_get os file ≡ Some o
+            → slice_get o.symbols index ≡ Some (symbol_of symbol.now)
             → result ≡ meant_by os file (symbol_of symbol.now) }
     {
         match symbol.definition {
-            Definition::Undefined => self.by_name.get(symbol.name.as_slice()).copied(),
+            Definition::Undefined => self.meanings.at(file, index),
             definition => Some(Exported { file, definition }),
         }
     }

@@ -96,7 +96,7 @@ impl<'o> Names<'o> {
         let index = relocation.symbol?;
         match object.symbols.get(index as usize) {
             Some(symbol) => {
-                if self.is_resolved(objects, file, symbol) {
+                if self.is_resolved(objects, file, index, symbol) {
                     None
                 } else {
                     Some(symbol.name.as_slice())
@@ -106,13 +106,14 @@ impl<'o> Names<'o> {
         }
     }
 
-    /// Whether a symbol of an object has an address, wherever sections stand.
-    fn is_resolved(&self, objects: &[Object], file: usize, symbol: &Symbol) -> bool
+    /// Whether the symbol at an index of an object has an address, wherever sections stand.
+    fn is_resolved(&self, objects: &[Object], file: usize, index: u32, symbol: &Symbol) -> bool
         ensures { (o : SaidObject) → IsNames (map object_of objects.now) self.now
             → slice_get (map object_of objects.now) file ≡ Some o
+            → slice_get o.symbols index ≡ Some (symbol_of symbol.now)
             → result ≡ laws.is_resolved (map object_of objects.now) o (symbol_of symbol.now) }
     {
-        match self.meant(file, symbol) {
+        match self.meant(file, index, symbol) {
             Some(exported) => has_address(objects, exported.file, exported.definition),
             None => is_linker_name(symbol.name.as_slice()),
         }

@@ -1,3 +1,2 @@
 pub mod Highs
-pub mod Symbols
 pub mod Values

@@ -3,7 +3,7 @@
 ghost use Rattle.std.specs.Prelude.{◌≡◌, ◌+◌, ◌%◌, ◌^◌, ℕ, List, map, option_map, unwrap_or, Some, IfOk, IfErr};
 ghost use Rattle.std.specs.List.{slice_get};
 ghost use Rattle.rv_object.specs.Object.{Object as PlainObject};
-ghost use Rattle.rv_object.specs.Parts.{relocation_of, symbol_of};
+ghost use Rattle.rv_object.specs.Parts.{relocation_of};
 ghost use Rattle.rv_object.specs.View.{object_of};
 ghost use Rattle.rv_object_laws.specs.Inputs.{InputSection};
 ghost use Rattle.rv_object_laws.specs.Values as laws;
@@ -11,13 +11,12 @@ ghost use Rattle.rv_placement.specs.declared.placement.Placement.{Placement as P
 ghost use Rattle.rv_placement.specs.Placement.{placed_at, starts_of, IsPlacement};
 ghost use Rattle.rv_resolve.specs.Names.{IsNames, place_of};
 ghost use Rattle.rv_resolve.specs.Shown.{shown_globals};
-ghost use Rattle.rv_values.specs.Symbols.{symbol_in};
 ghost use Rattle.rv_values.specs.Values.{IsInputAt, IsValueOf, IsDangling, IsValues};
 
 use crate::fault::ValueFault;
 use crate::high::Highs;
 use rv_isa::Kind;
-use rv_object::{Object, Relocation, Symbol};
+use rv_object::{Object, Relocation};
 use rv_placement::{PlacedSection, Placement};
 use rv_resolve::Names;
 use std::alloc::{AllocError, Global};
@@ -36,16 +35,6 @@ fn is_low(kind: Kind) -> bool
     ensures { result ≡ laws.is_low kind }
 {
     matches!(kind, Kind::PcrelLo12I | Kind::PcrelLo12S)
-}
-
-/// The symbol of a relocation of a file, from 0, if it has one.
-fn symbol_at(objects: &[Object], file: usize, index: Option<u32>) -> Option<&Symbol>
-    ensures { (o : PlainObject) → slice_get (map object_of objects.now) file ≡ Some o
-        → option_map (λ s. symbol_of s.now) result ≡ symbol_in o index }
-{
-    let index = index?;
-    let object = objects.get(file)?;
-    object.symbols.get(index as usize)
 }
 
 /// The place of a section by its file and its index there, both from 0.
@@ -122,10 +111,10 @@ impl<'p, 'o> Values<'p, 'o> {
             → slice_get os file ≡ Some o → result
             ≡ unwrap_or (laws.target (shown_globals os p) (starts_of p (file + 1)) o symbol) 0 }
     {
-        match symbol_at(self.objects, file, symbol) {
-            Some(symbol) => self
+        match symbol {
+            Some(index) => self
                 .names
-                .address(self.objects, self.placement, file, symbol)
+                .address(self.objects, self.placement, file, index)
                 .unwrap_or(0),
             None => 0,
         }
@@ -149,8 +138,8 @@ impl<'p, 'o> Values<'p, 'o> {
             → slice_get os file ≡ Some o
             → result ≡ laws.paired (shown_globals os p) (starts_of p) os (file + 1) o symbol }
     {
-        let symbol = symbol_at(self.objects, file, symbol)?;
-        let (file, section, offset) = self.names.place(file, symbol)?;
+        let index = symbol?;
+        let (file, section, offset) = self.names.place(self.objects, file, index)?;
         self.value_at(file, section, offset)
     }
 

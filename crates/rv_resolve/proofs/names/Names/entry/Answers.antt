@@ -3,7 +3,7 @@ use Rattle.std.specs.Prelude.{option_and_then, if◌then◌else◌}
 use Rattle.rv_object.specs.View.{object_of}
 use Rattle.rv_object_laws.specs.Names.{defined_address, can_begin}
 use Rattle.rv_placement.specs.Placement.{starts_of}
-use Rattle.rv_resolve.specs.declared.names.Exported.{Exported}
+use Rattle.rv_resolve.specs.declared.definitions.Exported.{Exported}
 use Rattle.rv_resolve.specs.Exports.{export_of}
 use Rattle.rv_resolve.specs.Names.{kept_of}
 use Rattle.rv_resolve.proofs.Entry.{start_name, start_at, entry_found}

@@ -1,7 +1,7 @@
 use Rattle.std.proofs.Common.{◌≡◌, ◌∙◌, Some, None, option_map, map, ap, sym}
 use Rattle.rv_object.specs.View.{object_of}
 use Rattle.rv_object_laws.specs.Names.{can_begin}
-use Rattle.rv_resolve.specs.declared.names.Exported.{Exported}
+use Rattle.rv_resolve.specs.declared.definitions.Exported.{Exported}
 use Rattle.rv_resolve.specs.Exports.{export_of}
 use Rattle.rv_resolve.specs.Names.{kept_of}
 use Rattle.rv_resolve.proofs.Entry.{start_name, can_one, entry_named}

@@ -4,7 +4,7 @@ use Rattle.rv_object.specs.Parts.{symbol_of}
 use Rattle.rv_resolve.specs.Exports.{exports_in, names_of, first_again}
 use Rattle.rv_resolve.specs.Names.{Answers, IsDuplicate}
 use Rattle.rv_resolve.proofs.Steps.{symbols_more, symbols_left}
-use Rattle.rv_resolve.proofs.names.Names.put_all.Goals as goal
+use Rattle.rv_resolve.proofs.definitions.Definitions.put_all.Goals as goal
 
 pub returns-in_err-put-clause-refuses : goal.returns-in_err-put-clause-refuses
 returns-in_err-put-clause-refuses c =

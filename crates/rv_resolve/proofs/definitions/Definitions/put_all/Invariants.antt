@@ -4,7 +4,7 @@ use Rattle.rv_object.specs.Object.{Object}
 use Rattle.rv_object.specs.Parts.{symbol_of}
 use Rattle.rv_resolve.specs.Exports.{Export, exports_in, names_of, first_again}
 use Rattle.rv_resolve.specs.Names.{Answers}
-use Rattle.rv_resolve.proofs.names.Names.put_all.Given as goal
+use Rattle.rv_resolve.proofs.definitions.Definitions.put_all.Given as goal
 
 abbrev pub invariant-loop-symbol : goal.invariant-loop-symbol
 invariant-loop-symbol l = record {

@@ -14,7 +14,7 @@ use Rattle.rv_resolve.specs.Exports.{exports_from, exports_in, names_of, first_a
 use Rattle.rv_resolve.specs.Names.{Answers, IsDuplicate}
 use Rattle.rv_resolve.proofs.Distinct.{all_apart}
 use Rattle.rv_resolve.proofs.Steps.{viewed, files_more, files_left, names_of_exports}
-use Rattle.rv_resolve.proofs.names.Names.of.Goals as goal
+use Rattle.rv_resolve.proofs.definitions.Definitions.of.Goals as goal
 
 pub loop-file-init : goal.loop-file-init
 loop-file-init c = record {
@@ -64,17 +64,19 @@ returns-in_err-put_all-clause-refuses c =
     (sym (c.loop-file.invariant.apart ∙ ap (first_again (names_of done)) (files_left os i o inside' is ∙ ap (λ l. names_of l ++ behind) (sym own))))
     (c.in_err-put_all.ensures.refuses o done c.loop-file.invariant.answers behind))
 
-pub returns-clause-names : goal.returns-clause-names
-returns-clause-names c =
+pub returns-clause-answers : goal.returns-clause-answers
+returns-clause-answers c =
     let n = c.loop-file.file in
     let xs = c.args.objects.now in
     let os = map object_of xs in
     let past : length os ≤ n = subst (λ k. k ≤ n) (sym (length-map xs object_of)) (search rules) in
-    record {
-      answers = subst (λ l. Answers (exports_from 0 l) c.loop-file.names) (take_all n os past) c.loop-file.invariant.answers;
-      distinct = all_apart [] (global_names os)
-          (c.loop-file.invariant.apart ∙ at_drop_all (λ l. first_again (names_of (exports_from 0 (take n os))) (names_of (exports_from n l))) os n past);
-    }
+    subst (λ l. Answers (exports_from 0 l) c.loop-file.definitions) (take_all n os past) c.loop-file.invariant.answers
 
 pub returns-clause-distinct : goal.returns-clause-distinct
-returns-clause-distinct c = (returns-clause-names c).distinct
+returns-clause-distinct c =
+    let n = c.loop-file.file in
+    let xs = c.args.objects.now in
+    let os = map object_of xs in
+    let past : length os ≤ n = subst (λ k. k ≤ n) (sym (length-map xs object_of)) (search rules) in
+    all_apart [] (global_names os)
+    (c.loop-file.invariant.apart ∙ at_drop_all (λ l. first_again (names_of (exports_from 0 (take n os))) (names_of (exports_from n l))) os n past)
