@@ -1,4 +1,4 @@
-use Rattle.std.proofs.Common.{◌≡◌, ◌<◌, ◌≤◌, ◌++◌, ◌∙◌, [], length, map, rules, ap, sym, subst, append-nil}
+use Rattle.std.proofs.Common.{◌<◌, ◌≤◌, ◌++◌, ◌∙◌, [], length, map, rules, ap, sym, subst, append-nil}
 use Rattle.std.proofs.lemmas.List.{take_all}
 use Rattle.rv_object.specs.Parts.{symbol_of}
 use Rattle.rv_resolve.specs.Names.{outside, numbered, HaveMeanings}

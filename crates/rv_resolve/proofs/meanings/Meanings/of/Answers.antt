@@ -7,7 +7,7 @@ use Rattle.rv_object.specs.Parts.{symbol_of}
 use Rattle.rv_object.specs.View.{object_of}
 use Rattle.rv_resolve.specs.declared.definitions.Exported.{Exported}
 use Rattle.rv_resolve.specs.Names.{outside, numbered, HaveMeanings}
-use Rattle.rv_resolve.proofs.Numbers.{HaveRows, row_more, rows_are}
+use Rattle.rv_resolve.proofs.Numbers.{row_more, rows_are}
 use Rattle.rv_resolve.proofs.Steps.{viewed}
 use Rattle.rv_resolve.proofs.meanings.Meanings.of.Goals as goal
 

@@ -1,4 +1,4 @@
-use Rattle.std.proofs.Common.{◌≡◌, false, refl, sym, ap, ◌∙◌}
+use Rattle.std.proofs.Common.{◌≡◌, false, ap, ◌∙◌}
 use Rattle.rv_object.specs.Parts.{symbol_of}
 use Rattle.rv_object_laws.specs.Names.{is_defined}
 use Rattle.rv_resolve.proofs.Numbers.{answered, meant_outside}
