@@ -10,7 +10,7 @@ use Rattle.rv_layout_laws.specs.declared.site.SiteKind.{SiteKind}
 use Rattle.rv_layout_laws.specs.declared.site.SiteKind.TheVariants.{Call, Padding}
 use Rattle.rv_layout_laws.specs.Calls.{IsText, site_at}
 use Rattle.rv_object.specs.declared.object.Object.{Object as DeclaredObject}
-use Rattle.rv_object.specs.Object.{Section, Symbol, Relocation, Object, size_of}
+use Rattle.rv_object.specs.Object.{Section, Relocation, Object, size_of}
 use Rattle.rv_object.specs.View.{object_of}
 use Rattle.rv_object_laws.specs.Inputs.{InputSection, goes_to_text, inputs}
 use Rattle.rv_object_laws.specs.Names.{Place, no_object, object_at, symbol_place}

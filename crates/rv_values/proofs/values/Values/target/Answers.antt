@@ -1,4 +1,4 @@
-use Rattle.std.proofs.Common.{◌≡◌, ◌∙◌, ◌+◌, ap, sym, Some, None}
+use Rattle.std.proofs.Common.{◌∙◌, ◌+◌, ap, sym}
 use Rattle.std.specs.Prelude.{unwrap_or}
 use Rattle.rv_object_laws.specs.Values.{target}
 use Rattle.rv_placement.specs.Placement.{starts_of}
