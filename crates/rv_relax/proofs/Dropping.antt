@@ -145,21 +145,20 @@ no_offset zero = refl
 no_offset (suc n) = refl
 
 -- the sites that have ended drop all they can, and of the others the next alone may drop some
-pub dropped_is : (sites : List Site) (kept : List ℕ) (old n : ℕ) → length kept ≡ length sites → ((i : ℕ) → slice_index kept i ≤ bytes_of (site_at sites i).kind)
+pub dropped_is : (sites : List Site) (kept : List ℕ) (old n : ℕ) → length kept ≡ length sites
     → ((j : ℕ) → j < n → j < length sites → end_of (site_at sites j) ≤ old) → ((j : ℕ) → n < j → j < length sites → old ≤ (site_at sites j).offset)
     → dropped sites kept old ≡ offset (drops sites kept) n + dropped_of (site_at sites n) (slice_index kept n) old
-dropped_is [] [] old n same most before after = let none : offset [] n ≡ 0 = no_offset n in omega arith
-dropped_is (site ∷ sites) [] old n same most before after = absurd (omega arith)
-dropped_is [] (k ∷ kept) old n same most before after = absurd (omega arith)
-dropped_is (site ∷ sites) (k ∷ kept) old zero same most before after =
+dropped_is [] [] old n same before after = let none : offset [] n ≡ 0 = no_offset n in omega arith
+dropped_is (site ∷ sites) [] old n same before after = absurd (omega arith)
+dropped_is [] (k ∷ kept) old n same before after = absurd (omega arith)
+dropped_is (site ∷ sites) (k ∷ kept) old zero same before after =
     let others : dropped sites kept old ≡ 0 = none_dropped sites kept old (λ j lt. after (suc j) (omega arith) (omega arith)) in
     let none : offset (drops (site ∷ sites) (k ∷ kept)) 0 ≡ 0 = refl in
     omega arith
-dropped_is (site ∷ sites) (k ∷ kept) old (suc n) same most before after =
+dropped_is (site ∷ sites) (k ∷ kept) old (suc n) same before after =
     let others : dropped sites kept old ≡ offset (drops sites kept) n + dropped_of (site_at sites n) (slice_index kept n) old =
-    dropped_is sites kept old n (omega arith) (λ i. most (suc i)) (λ j lt within. before (suc j) (omega arith) (omega arith)) (λ j lt within. after (suc j) (omega arith) (omega arith)) in
+    dropped_is sites kept old n (omega arith) (λ j lt within. before (suc j) (omega arith) (omega arith)) (λ j lt within. after (suc j) (omega arith) (omega arith)) in
     let ended : site.offset + bytes_of site.kind ≤ old = before zero (omega arith) (omega arith) in
-    let fits : k ≤ bytes_of site.kind = most zero in
     let own : min (bytes_of site.kind - k) (old - (site.offset + k)) ≡ bytes_of site.kind - k = omega arith in
     let split : offset (drops (site ∷ sites) (k ∷ kept)) (suc n) ≡ (bytes_of site.kind - k) + offset (drops sites kept) n = sum_by-cons (λ x. x) (bytes_of site.kind - k) (take n (drops sites kept)) in
     let whole : dropped (site ∷ sites) (k ∷ kept) old ≡ min (bytes_of site.kind - k) (old - (site.offset + k)) + dropped sites kept old = refl in
@@ -169,18 +168,18 @@ pub family_most : (sites : List Site) (kept : List ℕ) → IsFamily sites kept 
 family_most sites kept f i = offers_most (site_at sites i).kind (slice_index kept i) (f.offered i)
 
 -- before a site
-pub dropped_before_site : (sites : List Site) (kept : List ℕ) (i : ℕ) → InOrder 0 sites → IsFamily sites kept → i < length sites → dropped sites kept (site_at sites i).offset ≡ offset (drops sites kept) i
-dropped_before_site sites kept i order f within =
+pub dropped_before_site : (sites : List Site) (kept : List ℕ) (i : ℕ) → InOrder 0 sites → length kept ≡ length sites → i < length sites → dropped sites kept (site_at sites i).offset ≡ offset (drops sites kept) i
+dropped_before_site sites kept i order same within =
     let is : dropped sites kept (site_at sites i).offset ≡ offset (drops sites kept) i + dropped_of (site_at sites i) (slice_index kept i) (site_at sites i).offset =
-    dropped_is sites kept (site_at sites i).offset i f.same_length (family_most sites kept f) (λ j before there. later sites 0 order j i before within)
+    dropped_is sites kept (site_at sites i).offset i same (λ j before there. later sites 0 order j i before within)
     (λ j after there. let next : end_of (site_at sites i) ≤ (site_at sites j).offset = later sites 0 order i j after there in omega arith) in
     omega arith
 
 -- before any offset
-pub dropped_at : (sites : List Site) (kept : List ℕ) (old n : ℕ) → InOrder 0 sites → length kept ≡ length sites → ((i : ℕ) → slice_index kept i ≤ bytes_of (site_at sites i).kind) → IsPlace sites old n
+pub dropped_at : (sites : List Site) (kept : List ℕ) (old n : ℕ) → InOrder 0 sites → length kept ≡ length sites → IsPlace sites old n
     → dropped sites kept old ≡ offset (drops sites kept) n + dropped_of (site_at sites n) (slice_index kept n) old
-dropped_at sites kept old n order same most place =
-    dropped_is sites kept old n same most (λ j before there. place.before j before)
+dropped_at sites kept old n order same place =
+    dropped_is sites kept old n same (λ j before there. place.before j before)
     (λ j after there.
     let next : end_of (site_at sites n) ≤ (site_at sites j).offset = later sites 0 order n j after there in
     let here : old < end_of (site_at sites n) = place.after n (omega arith) (omega arith) in
@@ -203,7 +202,7 @@ outside_drops begins (Padding padding) k old offered out lt = omega arith
 pub dropped_outside : (sites : List Site) (kept : List ℕ) (old n : ℕ) → InOrder 0 sites → IsFamily sites kept → IsPlace sites old n → IsOpen sites old → dropped sites kept old ≡ offset (drops sites kept) n
 dropped_outside sites kept old n order f place out =
     let is : dropped sites kept old ≡ offset (drops sites kept) n + dropped_of (site_at sites n) (slice_index kept n) old =
-    dropped_at sites kept old n order f.same_length (family_most sites kept f) place in
+    dropped_at sites kept old n order f.same_length place in
     let none : dropped_of (site_at sites n) (slice_index kept n) old ≡ 0 = elim (cases_lt n (length sites)) [
       | inl within ↦ outside_drops (site_at sites n).offset (site_at sites n).kind (slice_index kept n) old (f.offered n) (out n) (place.after n (omega arith) within)
       | inr past ↦ past_drops sites n (slice_index kept n) old past

@@ -1,15 +1,12 @@
--- Sites one behind the other: the search for an offset among them, and what is dropped before it.
+-- Sites one behind the other, and the search for an offset among them.
 
 use Rattle.std.proofs.Common.{◌≡◌, ℕ, zero, suc, ◌+◌, ◌≤◌, ◌<◌, nat_le, true, ◌&&◌, List, [], ◌∷◌, length, slice_index, slice_index_or, refl, arith}
 use Rattle.std.specs.List.Sorted.{IsPartitionedBy}
 use Rattle.std.proofs.lemmas.Bool.{leb-true, le-leb, and_parts, and_from}
 use Rattle.rv_layout_laws.specs.declared.site.Site.{Site}
 use Rattle.rv_layout_laws.specs.declared.site.SiteKind.TheVariants.{Padding}
-use Rattle.rv_layout_laws.specs.Offsets.{offset}
-use Rattle.rv_layout_laws.specs.Calls.{bytes_of, site_at, dropped, dropped_of, InOrder}
-use Rattle.rv_layout_laws.proofs.Dropping.{dropped_most}
-use Rattle.rv_relax.specs.Passes.{AreSums, IsPlace, are_laid, drops, end_of}
-use Rattle.rv_relax.proofs.Dropping.{dropped_at, past_drops}
+use Rattle.rv_layout_laws.specs.Calls.{bytes_of, site_at, InOrder}
+use Rattle.rv_relax.specs.Passes.{are_laid, end_of}
 
 -- what a text has past its end
 abbrev pub no_site : Site
@@ -82,21 +79,3 @@ partitioned old sites order = λ i j d le within test.
     let low : end_of (slice_index_or sites i d) ≤ end_of (slice_index_or sites j d) = rising sites order i j d le within in
     let high : end_of (slice_index_or sites j d) ≤ old = leb-true (end_of (slice_index_or sites j d)) old test in
     le-leb (end_of (slice_index_or sites i d)) old (omega arith)
-
--- ---- what is dropped before an offset
-
--- by the sums, and what the next site drops
-pub dropped_there : (sites : List Site) (kept sums : List ℕ) (old n : ℕ) → are_laid 0 sites kept ≡ true → AreSums sites kept sums → IsPlace sites old n
-    → (dropped sites kept old ≡ slice_index sums n + dropped_of (site_at sites n) (slice_index kept n) old) × (dropped sites kept old ≤ old)
-dropped_there sites kept sums old n laid sum place =
-    let is : dropped sites kept old ≡ offset (drops sites kept) n + dropped_of (site_at sites n) (slice_index kept n) old =
-    dropped_at sites kept old n (laid_in_order 0 sites kept laid) (laid_length 0 sites kept laid) (laid_most 0 sites kept laid) place in
-    let read : slice_index sums n ≡ offset (drops sites kept) n = sum.before n place.within in
-    (omega arith, dropped_most sites kept old (laid_in_order 0 sites kept laid))
-
--- and behind the last
-pub dropped_past : (sites : List Site) (kept sums : List ℕ) (old n : ℕ) → are_laid 0 sites kept ≡ true → AreSums sites kept sums → IsPlace sites old n → n ≡ length sites → dropped sites kept old ≡ slice_index sums n
-dropped_past sites kept sums old n laid sum place past =
-    let is = (dropped_there sites kept sums old n laid sum place).0 in
-    let none : dropped_of (site_at sites n) (slice_index kept n) old ≡ 0 = past_drops sites n (slice_index kept n) old (omega arith) in
-    omega arith

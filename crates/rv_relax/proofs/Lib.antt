@@ -15,3 +15,5 @@ pub mod Going
 pub mod Laid
 pub mod Placing
 pub mod Sizing
+pub mod Pieced
+pub mod Spread

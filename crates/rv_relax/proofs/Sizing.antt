@@ -1,11 +1,12 @@
 -- The sizes of calls: how many there are, one more of them, and that whole sites are a family.
 
-use Rattle.std.proofs.Common.{◌≡◌, ℕ, zero, suc, ◌+◌, ◌<◌, Bool, true, false, cond, if◌then◌else◌, List, [], ◌∷◌, ◌++◌, length, drop, slice_index, slice_index_or, refl, ap, ◌∙◌, sym, subst, arith}
+use Rattle.std.proofs.Common.{◌≡◌, ℕ, zero, suc, ◌+◌, ◌<◌, Bool, true, false, not, cond, if◌then◌else◌, List, [], ◌∷◌, ◌++◌, length, drop, slice_index, slice_index_or, refl, ap, ◌∙◌, sym, subst, arith}
 use Rattle.std.proofs.lemmas.List.{append_assoc}
 use Rattle.std.proofs.lemmas.List.Sums.{sum_by-cons}
 use Rattle.rv_layout_laws.specs.declared.site.Site.{Site}
 use Rattle.rv_layout_laws.specs.Calls.{IsFamily, calls, is_call, site_at}
 use Rattle.rv_layout_laws.proofs.Shortening.{whole_family}
+use Rattle.rv_relax.specs.Padded.{alignments, pads}
 use Rattle.rv_relax.specs.Sizes.{IsPlanned, call_sizes}
 use Rattle.rv_relax.proofs.Dropping.{zeros_site, site_read}
 
@@ -58,3 +59,16 @@ sizes_length (site ∷ sites) (k ∷ kept) same =
 pub planned_family : (relax : Bool) (sites : List Site) (kept : List ℕ) → IsPlanned relax sites kept → IsFamily sites kept
 planned_family true sites kept planned = planned.closed.family
 planned_family false sites kept planned = subst (IsFamily sites) (sym planned) (whole_family sites)
+
+-- ---- alignments
+
+pub pads_length : (sites : List Site) (kept : List ℕ) → length kept ≡ length sites → length (pads sites kept) ≡ alignments sites
+pads_length [] kept same = refl
+pads_length (site ∷ sites) [] same = absurd (omega arith)
+pads_length (site ∷ sites) (k ∷ kept) same =
+    counted (is_call site.kind) (pads sites kept) (pads_length sites kept (omega arith))
+    ∙ sym (sum_by-cons (λ x. cond (not (is_call x.kind)) 1 0) site sites)
+  where
+    counted : (b : Bool) (left : List ℕ) → length left ≡ alignments sites → length (if b then left else k ∷ left) ≡ cond (not b) 1 0 + alignments sites
+    counted true left h = omega arith
+    counted false left h = omega arith

@@ -152,7 +152,7 @@ away_by sites i kept call count far away input within f is place between e =
     let out : (j : ℕ) → LeadsOutside (Call call) (site_at sites j) = λ j. subst (λ kind. LeadsOutside kind (site_at sites j)) is (input.text.outside i j) in
     let open_there : IsOpen sites call.target = out in
     let there : dropped sites kept call.target ≡ offset (drops sites kept) count = dropped_outside sites kept call.target count input.text.in_order f place open_there in
-    let here : dropped sites kept (site_at sites i).offset ≡ offset (drops sites kept) i = dropped_before_site sites kept i input.text.in_order f within in
+    let here : dropped sites kept (site_at sites i).offset ≡ offset (drops sites kept) i = dropped_before_site sites kept i input.text.in_order f.same_length within in
     let low_there : dropped sites kept call.target ≤ call.target = dropped_most sites kept call.target input.text.in_order in
     let low_here : dropped sites kept (site_at sites i).offset ≤ (site_at sites i).offset = dropped_most sites kept (site_at sites i).offset input.text.in_order in
     omega (arith, ints)
@@ -204,12 +204,3 @@ backward_is sites i kept stands left call count far away input within table now 
           let own : slice_index stands i ≡ offset (drops sites kept) i = table.starts i (omega arith) in
           e ∙ chosen ∙ omega (arith, ints)
     ])
-
--- ---- the sums at last
-
-pub sum_more : (sites : List Site) (kept : List ℕ) (i sum dropped : ℕ) → i < length sites → length kept ≡ length sites → sum ≡ offset (drops sites kept) i
-    → dropped ≡ bytes_of (site_at sites i).kind - slice_index kept i → sum + dropped ≡ offset (drops sites kept) (i + 1)
-sum_more sites kept i sum dropped lt same is e =
-    let more : offset (drops sites kept) (i + 1) ≡ offset (drops sites kept) i + slice_index (drops sites kept) i = offset_more (drops sites kept) i in
-    let own : slice_index (drops sites kept) i ≡ bytes_of (site_at sites i).kind - slice_index kept i = drop_at sites kept i lt same in
-    omega arith

@@ -62,11 +62,6 @@ pub record IsTable (sites : List Site) (i : ℕ) (kept stands : List ℕ) : Type
   pub rests : (j : ℕ) → i ≤ j → j ≤ length sites →
       slice_index stands j ≡ rest (drops sites kept) j
 
--- what is dropped before each site, and in all
-pub record AreSums (sites : List Site) (kept sums : List ℕ) : Type 0 where
-  pub same_length : length sums ≡ length sites + 1
-  pub before : (j : ℕ) → j ≤ length sites → slice_index sums j ≡ offset (drops sites kept) j
-
 -- sites one behind the other, of each of which no more is kept than there is
 abbrev pub are_laid : ℕ → List Site → List ℕ → Bool
 are_laid stop [] [] = true

@@ -1,29 +1,20 @@
-//! How much is kept of each call of a text.
+//! How much is kept of each call and of each alignment of a text.
 
-ghost use Rattle.std.specs.Prelude.{◌≡◌, true, ◌+◌, ◌*◌, ◌<◌, ◌≤◌, ◌++◌, [], ◌∷◌, ℕ, length, slice_index, IfOk, OnOk, IsTrue, if◌then◌else◌};
-ghost use Rattle.rv_layout_laws.specs.Calls.{bytes_of, calls, dropped, is_call as is_call_site, new_offset as offset_of, whole_sizes};
-ghost use Rattle.rv_relax.specs.Passes.{AreSums, IsInput, are_laid};
+ghost use Rattle.std.specs.Prelude.{◌≡◌, true, ◌+◌, ◌*◌, ◌<◌, ◌≤◌, ◌++◌, [], ◌∷◌, length, slice_index, IfOk, OnOk, IsTrue, if◌then◌else◌};
+ghost use Rattle.rv_layout_laws.specs.Calls.{calls, is_call as is_call_site, new_offset as offset_of, whole_sizes};
+ghost use Rattle.rv_layout_laws.specs.Paddings.{IsPadded};
+ghost use Rattle.rv_relax.specs.Padded.{alignments, are_roomy, inner, joined, padded, pads as pads_of};
+ghost use Rattle.rv_relax.specs.Passes.{IsInput, are_laid};
+ghost use Rattle.rv_relax.specs.Pieces.{are_pieces, pieces_of};
 ghost use Rattle.rv_relax.specs.Sizes.{IsPlanned, call_sizes as sizes_of};
 
-use crate::passes::{settle, sum_up};
+use crate::layout::{Layout, dropped_before, have_room, laid_out};
+use crate::passes::settle;
+use crate::piece::Piece;
 use crate::placed::Placed;
-use crate::places::{dropped_of, is_call, place_of, targets, whole};
+use crate::places::{is_call, targets, whole};
 use rv_layout_laws::{Site, SiteKind};
 use std::alloc::{AllocError, Global};
-
-/// The bytes before an offset that are dropped.
-fn dropped_before(sites: &[Site], kept: &[u32], sums: &[u64], old: u64) -> u64
-    requires laid { are_laid 0 sites.now kept.now ≡ true }
-    requires sums { AreSums sites.now kept.now sums.now }
-    ensures value { result ≡ dropped sites.now kept.now old }
-    ensures within { result ≤ old }
-{
-    let place = place_of(sites, old);
-    if place == sites.len() {
-        return sums[place];
-    }
-    sums[place] + dropped_of(&sites[place], kept[place], old)
-}
 
 /// Adds what is kept of a site, if it is a call.
 fn put_size(sizes: &mut Vec<u32>, kind: &SiteKind, kept: u32) -> Result<(), AllocError>
@@ -51,102 +42,115 @@ fn call_sizes(alloc: Global, sites: &[Site], kept: &[u32]) -> Result<Vec<u32>, A
 /// What passes over the sites of a text find.
 #[derive(Drop)]
 struct Sizes {
-    /// The bytes that are kept of each site.
+    /// The bytes that are kept of each site, each padding in full.
     kept: Vec<u32>,
-    /// The bytes that are dropped before each, and behind the last those that are dropped in all.
-    sums: Vec<u64>,
     /// How many passes there were.
     rounds: usize,
 }
 
 /// Where calls are relaxed, finds the greatest sizes with which no call has a shorter form that reaches, and tells in how many
-/// passes. At first the sites are whole, and nothing is dropped.
+/// passes. At first the sites are whole.
 fn relaxed(
     alloc: Global,
     sites: &[Site],
     relax: bool,
     kept: &mut [u32],
-    sums: &mut [u64],
 ) -> Result<usize, AllocError>
     requires input { IsInput sites.now }
     requires whole { kept.old ≡ whole_sizes sites.now }
-    requires same_length { length sums.old ≡ length sites.now + 1 }
-    requires none { (j : ℕ) → slice_index sums.old j ≡ 0 }
     ensures planned { OnOk result (IsPlanned relax sites.now kept.new) }
-    ensures same_length { length sums.new ≡ length sites.now + 1 }
     ensures rounds { IfOk result (λ rounds. rounds ≤ 2 * calls sites.now + 1) }
 {
     if !relax {
         return Ok(0);
     }
     let targets = targets(alloc, sites)?;
-    Ok(settle(sites, &targets, kept, sums))
+    let mut stands = vec![in alloc; 0; sites.len() + 1]?;
+    Ok(settle(sites, &targets, kept, &mut stands))
 }
 
-/// Finds what is kept of each site.
+/// Finds what is kept of each site, each padding in full.
 fn find_sizes(alloc: Global, sites: &[Site], relax: bool) -> Result<Sizes, AllocError>
     requires { IsInput sites.now }
     ensures planned { IfOk result (λ found. IsPlanned relax sites.now found.kept.items) }
-    ensures sums { IfOk result (λ found. AreSums sites.now found.kept.items found.sums.items) }
     ensures rounds { IfOk result (λ found. found.rounds ≤ 2 * calls sites.now + 1) }
 {
     let mut kept = whole(alloc, sites)?;
-    let mut sums = vec![in alloc; 0; sites.len() + 1]?;
-    let rounds = relaxed(alloc, sites, relax, &mut kept, &mut sums)?;
-    sum_up(sites, &kept, &mut sums);
-    Ok(Sizes { kept, sums, rounds })
+    let rounds = relaxed(alloc, sites, relax, &mut kept)?;
+    Ok(Sizes { kept, rounds })
 }
 
-/// How much is kept of each site of a text, so that the calls which can be short are short. No byte of the text is in it.
+/// How much is kept of each site of a text, so that the calls which can be short are short, and then each alignment is as short
+/// as it can be. No byte of the text is in it.
 #[derive(Drop)]
 pub struct Plan<'p> {
     /// In the order of the text.
     sites: &'p [Site],
-    /// The bytes that are kept of each.
+    /// Of each, whether it is the start of a section.
+    starts: &'p [bool],
+    /// The bytes that are kept of each, each padding in full.
     kept: Vec<u32>,
     /// Those of the calls alone.
     sizes: Vec<u32>,
-    /// The bytes that are dropped before each site, and behind the last those that are dropped in all.
-    sums: Vec<u64>,
+    /// The bytes that are kept of each alignment.
+    pads: Vec<u32>,
+    /// The calls and alignments, where the sections' bytes stand end to end.
+    pieces: Vec<Piece>,
     /// How many passes over the sites there were, the last of which shortened nothing; none where calls are not relaxed.
     rounds: usize,
     /// The sites stand one behind the other, and of each no more is kept than there is.
     ghost laid: { IsTrue (are_laid 0 sites.now kept.items) },
     /// The sizes are those of the calls.
     ghost sized: { sizes.items ≡ sizes_of sites.now kept.items },
-    /// The sums are those of what is dropped.
-    ghost summed: { AreSums sites.now kept.items sums.items },
+    /// The pads are those of the alignments, each the least.
+    ghost least: { pads.items ≡ pads_of (joined 0 starts.now sites.now)
+        (inner starts.now (padded 0 sites.now kept.items)) },
+    /// The pieces are the calls and the alignments.
+    ghost pieced: { pieces.items ≡ pieces_of 0 (joined 0 starts.now sites.now)
+        (inner starts.now (padded 0 sites.now kept.items)) },
+    /// They stand one behind the other.
+    ghost order: { IsTrue (are_pieces 0 0 pieces.items) },
 }
 
 impl<'p> Plan<'p> {
-    ghost use Rattle.rv_relax.specs.Plan.{kept_of, placed_sites, rounds_of, sites_in};
+    ghost use Rattle.rv_relax.specs.Plan.{joined_kept, joined_sites, kept_of, padded_of, placed_sites, placed_starts, rounds_of, sites_in, starts_in};
 
     /// Where calls are relaxed, the greatest sizes with which no call has a shorter form that reaches, found in passes over
-    /// the sites of a text, forwards and backwards in turn. Elsewhere each call keeps its eight bytes.
+    /// the sites of a text, forwards and backwards in turn. Elsewhere each call keeps its eight bytes. Then each padding is the
+    /// least that aligns its end.
+    ///
+    /// An alignment that would need more bytes than it has is no error here: [`Plan::is_roomy`] tells whether there is one.
     ///
     /// # Errors
     ///
-    /// `AllocError` where there is no memory for some 24 bytes a site.
+    /// `AllocError` where there is no memory for some 32 bytes a site.
     pub fn of(alloc: Global, placed: &'p Placed, relax: bool) -> Result<Plan<'p>, AllocError>
         ensures sites { IfOk result (λ plan. sites_in plan ≡ placed_sites placed.now) }
+        ensures starts { IfOk result (λ plan. starts_in plan ≡ placed_starts placed.now) }
         ensures planned { IfOk result
             (λ plan. IsPlanned relax (placed_sites placed.now) (kept_of plan)) }
+        ensures padded { IfOk result
+            (λ plan. IsPadded (placed_sites placed.now) (kept_of plan) (padded_of plan)) }
         ensures rounds { IfOk result
             (λ plan. rounds_of plan ≤ 2 * calls (placed_sites placed.now) + 1) }
     {
         let sites = placed.sites();
-        let Sizes { kept, sums, rounds } = find_sizes(alloc, sites, relax)?;
+        let starts = placed.starts();
+        let Sizes { kept, rounds } = find_sizes(alloc, sites, relax)?;
         let sizes = call_sizes(alloc, sites, &kept)?;
+        let Layout { pieces, pads } = laid_out(alloc, sites, starts, &kept)?;
         Ok(Plan {
             sites,
+            starts,
             kept,
             sizes,
-            sums,
+            pads,
+            pieces,
             rounds,
         })
     }
 
-    /// The bytes that are kept of each site.
+    /// The bytes that are kept of each site, each padding in full.
     pub fn kept(&self) -> &[u32]
         ensures { result.now ≡ kept_of self.now }
     {
@@ -161,11 +165,28 @@ impl<'p> Plan<'p> {
         self.sizes[i]
     }
 
-    /// Where an offset of the line is afterwards, each padding in full: less the bytes of calls that are dropped before it.
-    pub fn new_offset(&self, old: u64) -> u64
-        ensures { result ≡ offset_of (sites_in self.now) (kept_of self.now) old }
+    /// The bytes of an alignment afterwards, by its place among the alignments of the sections of text in order, from 0: the
+    /// least that align its end. Starts of sections are no alignments, nor are those that bring no bytes.
+    pub fn pad(&self, i: usize) -> u32
+        requires { i < alignments (joined_sites self.now) }
+        ensures { result ≡ slice_index (pads_of (joined_sites self.now) (joined_kept self.now)) i }
     {
-        old - dropped_before(self.sites, &self.kept, &self.sums, old)
+        self.pads[i]
+    }
+
+    /// Whether each alignment has as many bytes as it needs.
+    pub fn is_roomy(&self) -> bool
+        ensures { result ≡ are_roomy (joined_sites self.now) (joined_kept self.now) }
+    {
+        have_room(&self.pieces)
+    }
+
+    /// Where an offset is afterwards: less the bytes of calls and of alignments that are dropped before it. Offsets count the
+    /// bytes of the sections of text end to end, without what lies between two sections, before and after.
+    pub fn new_offset(&self, old: u64) -> u64
+        ensures { result ≡ offset_of (joined_sites self.now) (joined_kept self.now) old }
+    {
+        old - dropped_before(&self.pieces, old)
     }
 
     /// How many passes over the sites there were.

@@ -4,8 +4,9 @@
 //! for a whole text at once: the sizes are the greatest with which no call has a shorter form that reaches, distances counted
 //! with every padding in full (`rv_layout_laws`, `IsGreatestClosed`). [`Plan`] takes the sites of a text ([`Placed`]) and finds
 //! them in passes, forwards and backwards in turn, over tables of numbers: no byte moves, and the passes are at most twice the
-//! calls and one. Where relaxation is off each call keeps its eight bytes. It tells how long each call is, how much is kept of
-//! each site, and where an offset of the line is afterwards, on which all paddings stay in full.
+//! calls and one. Where relaxation is off each call keeps its eight bytes. With these sizes each padding is then the least that
+//! aligns its end (`IsPadded`), where the text begins at a multiple of all alignments. A plan tells how long each call and each
+//! alignment is, whether an alignment would need more bytes than it has, and where an offset is afterwards.
 //!
 //! An alignment in code (R_RISCV_ALIGN) brings as much padding as it can ever need. Where its section starts at an address,
 //! the linker keeps the least of it that is needed, writes it anew as instructions without effect, and drops the rest; all
@@ -18,9 +19,10 @@
 //! It must not know symbols, values of relocations, or where sections come to stand.
 //!
 //! ```text
-//! let placed = Placed::of(sites);
+//! let placed = Placed::of(sites, starts);
 //! let calls = Plan::of(alloc, &placed, true)?;
-//! let bytes = calls.call_size(0);
+//! let bytes = calls.call_size(0) + calls.pad(0);
+//! let offset = calls.new_offset(offset);
 //!
 //! let plan = SectionPlan::of(alloc, section, 0x1_0000)?;
 //! let offset = plan.new_offset(relocation.place);
@@ -34,10 +36,12 @@ mod alignments;
 mod bytes;
 mod calls;
 mod law;
+mod layout;
 mod offsets;
 mod padding;
 mod paddings;
 mod passes;
+mod piece;
 mod placed;
 mod places;
 mod reach;
@@ -45,6 +49,6 @@ mod section_plan;
 
 pub use alignments::{asked_alignment, full_padding, has_padding};
 pub use calls::Plan;
-pub use law::{one_alignment, three_calls, two_alignments};
+pub use law::{call_and_alignment, one_alignment, three_calls, two_alignments, two_sections};
 pub use placed::Placed;
 pub use section_plan::SectionPlan;

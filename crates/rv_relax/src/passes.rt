@@ -6,8 +6,8 @@
 
 ghost use Rattle.std.specs.Prelude.{◌≡◌, ℕ, ◌+◌, ◌-◌, ◌*◌, ◌^◌, ◌<◌, ◌≤◌, ◌≤ℤ◌, pos, neg_ℤ, ◌+ℤ◌, ◌-ℤ◌, ltb, length, slice_index, if◌then◌else◌, IsTrue};
 ghost use Rattle.rv_layout_laws.specs.Offsets.{offset};
-ghost use Rattle.rv_layout_laws.specs.Calls.{IsClosed, IsFamily, IsGreatestClosed, Shortenings, calls, whole_sizes};
-ghost use Rattle.rv_relax.specs.Passes.{AreSums, AreTargets, CannotShrink, HasForm, IsInput, IsTable, IsTurn, IsVisit, drops, rest};
+ghost use Rattle.rv_layout_laws.specs.Calls.{IsClosed, IsGreatestClosed, Shortenings, calls, whole_sizes};
+ghost use Rattle.rv_relax.specs.Passes.{AreTargets, CannotShrink, HasForm, IsInput, IsTable, IsTurn, IsVisit, drops, rest};
 
 use crate::places::dropped_bytes;
 use crate::reach::judged_size;
@@ -268,19 +268,4 @@ pub(crate) fn settle(
             return rounds;
         }
     }
-}
-
-/// Fills a table with the bytes that are dropped before each site, and behind the last with those of all.
-pub(crate) fn sum_up(sites: &[Site], kept: &[u32], sums: &mut [u64])
-    requires input { IsInput sites.now }
-    requires family { IsFamily sites.now kept.now }
-    requires same_length { length sums.old ≡ length sites.now + 1 }
-    ensures { AreSums sites.now kept.now sums.new }
-{
-    let mut dropped = 0;
-    for i in 0..sites.len() {
-        sums[i] = dropped;
-        dropped += u64::from(dropped_bytes(&sites[i].kind, kept[i]));
-    }
-    sums[sites.len()] = dropped;
 }

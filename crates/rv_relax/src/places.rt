@@ -1,7 +1,7 @@
 //! Where offsets of a text lie among its sites.
 
 ghost use Rattle.std.specs.Prelude.{◌≡◌, ◌+◌, ◌-◌, nat_le, length, map, IfOk};
-ghost use Rattle.rv_layout_laws.specs.Calls.{InOrder, bytes_of, dropped_of as dropped_by, is_call as is_call_site, whole_sizes};
+ghost use Rattle.rv_layout_laws.specs.Calls.{InOrder, bytes_of, is_call as is_call_site, whole_sizes};
 ghost use Rattle.rv_relax.specs.Passes.{AreTargets, IsPlace, LeadsTo, end_of};
 
 use rv_layout_laws::{Site, SiteKind};
@@ -29,16 +29,6 @@ pub(crate) fn dropped_bytes(kind: &SiteKind, kept: u32) -> u32
     ensures { result ≡ bytes_of kind.now - kept }
 {
     whole_size(kind).saturating_sub(kept)
-}
-
-/// The bytes that a site drops before an offset.
-pub(crate) fn dropped_of(site: &Site, kept: u32, old: u64) -> u64
-    ensures { result ≡ dropped_by site.now kept old }
-{
-    let behind = old
-        .saturating_sub(site.offset)
-        .saturating_sub(u64::from(kept));
-    u64::from(dropped_bytes(&site.kind, kept)).min(behind)
 }
 
 /// Whether a site ends at an offset or before it.

@@ -1,7 +1,15 @@
-use Rattle.std.proofs.Common.{rules}
-use Rattle.rv_relax.specs.Plan.{sites_in, kept_of}
+use Rattle.std.proofs.Common.{◌-◌, ap, ◌∙◌}
+use Rattle.rv_relax.specs.Padded.{inner, joined, padded}
+use Rattle.rv_relax.specs.Pieces.{pieces_dropped}
+use Rattle.rv_relax.specs.Plan.{padded_of, sites_in, starts_in}
+use Rattle.rv_relax.proofs.Pieced.{same_dropped}
 use Rattle.rv_relax.proofs.calls.Plan.new_offset.Goals as goal
 
 pub returns : goal.returns
-unfolding sites_in kept_of
-returns c = search rules
+unfolding sites_in starts_in padded_of
+returns c =
+    let plan = c.args.self.now in
+    let sites = joined 0 plan.starts.now plan.sites.now in
+    let kept = inner plan.starts.now (padded 0 plan.sites.now plan.kept.items) in
+    ap (λ n. c.args.old - n)
+    (c.dropped_before.ensures.value ∙ ap (λ l. pieces_dropped l c.args.old) (c.deref.ensures.value ∙ plan.pieced) ∙ same_dropped 0 sites kept c.args.old)
