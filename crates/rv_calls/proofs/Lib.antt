@@ -7,3 +7,4 @@ pub mod Steps
 pub mod Changed
 pub mod Targets
 pub mod Walks
+pub mod Marks

@@ -1,6 +1,6 @@
 //! What may change of a section of text.
 
-ghost use Rattle.std.specs.Prelude.{◌≡◌, ◌+◌, ◌≤◌, ◌<◌, ◌^◌, ◌++◌, ◌∷◌, [], List, map, length, Some, None, IfOk, OnOk, if◌then◌else◌};
+ghost use Rattle.std.specs.Prelude.{◌≡◌, ◌+◌, ◌≤◌, ◌<◌, ◌^◌, ◌++◌, ◌∷◌, [], List, map, length, replicate, Some, None, false, IfOk, OnOk, if◌then◌else◌};
 ghost use Rattle.std.specs.Ordering.{nat_cmp};
 ghost use Rattle.std.specs.List.Sorted.{IsNonDecreasingBy, IsPermutation, IsStableByKey};
 ghost use Rattle.rv_isa.specs.Kinds.{width_of};
@@ -9,7 +9,7 @@ ghost use Rattle.rv_object.specs.Parts.{contents_of, relocation_of};
 ghost use Rattle.rv_object.specs.Sections.{section_of};
 ghost use Rattle.rv_object_laws.specs.Calls as laws;
 ghost use Rattle.rv_calls.specs.Between.{IsBefore, Rise};
-ghost use Rattle.rv_calls.specs.Line.{end_from, text_sites};
+ghost use Rattle.rv_calls.specs.Line.{end_from, text_sites, text_starts};
 ghost use Rattle.rv_calls.specs.Text.{call_of, can_shorten, input_of, objects_of, IsGiven, IsLaid, IsLying};
 
 use crate::between::{Before, is_allowed};
@@ -33,6 +33,15 @@ pub(crate) struct Input<'i> {
     pub(crate) section: &'i Section,
     /// What the symbols of its object name.
     pub(crate) entries: &'i Entries,
+}
+
+/// The sites of a text, as far as they are found.
+#[derive(Drop)]
+pub(crate) struct Marked {
+    /// In the order of the text.
+    pub(crate) sites: Vec<Site>,
+    /// Of each, whether it is the start of a section.
+    pub(crate) starts: Vec<bool>,
 }
 
 /// A padding.
@@ -198,10 +207,20 @@ fn put_changes(
     Ok(())
 }
 
+/// Marks that so many sites are no starts of sections.
+fn put_no_starts(starts: &mut Vec<bool>, count: usize) -> Result<(), AllocError>
+    ensures { OnOk result (starts.new.items ≡ starts.old.items ++ replicate count false) }
+{
+    for _ in 0..count {
+        starts.push(false)?;
+    }
+    Ok(())
+}
+
 /// Adds the sites of a section of text behind an end of the line: its start, and what may change of it. Gives the end after it.
 pub(crate) fn put_section(
     alloc: Global,
-    sites: &mut Vec<Site>,
+    marked: &mut Marked,
     text: &Text<'_, '_>,
     input: &Input<'_>,
     stop: u64,
@@ -210,13 +229,18 @@ pub(crate) fn put_section(
     requires given { IsGiven text.now input.now }
     requires low { end_from stop (section_of ((input.now).section).now) ≤ 2 ^ 62 }
     ensures end { IfOk result (λ end. end ≡ end_from stop (section_of ((input.now).section).now)) }
-    ensures sites { OnOk result (sites.new.items
-        ≡ sites.old.items ++ text_sites (objects_of text.now) stop (input_of input.now)) }
+    ensures sites { OnOk result (marked.new.sites.items
+        ≡ marked.old.sites.items ++ text_sites (objects_of text.now) stop (input_of input.now)) }
+    ensures starts { OnOk result (marked.new.starts.items
+        ≡ marked.old.starts.items ++ text_starts (objects_of text.now) (input_of input.now)) }
 {
     let padding = start_padding(input.section);
     let site = padding_site(stop, padding, begins_at(input.section));
-    sites.push(site)?;
+    marked.sites.push(site)?;
+    marked.starts.push(true)?;
+    let before = marked.sites.len();
     let sorted = by_place(alloc, &input.section.relocations)?;
-    put_changes(sites, text, input, stop + padding, &sorted)?;
+    put_changes(&mut marked.sites, text, input, stop + padding, &sorted)?;
+    put_no_starts(&mut marked.starts, marked.sites.len() - before)?;
     Ok(stop + padding + full_size(&input.section.contents))
 }

@@ -1,5 +1,5 @@
 use Rattle.std.proofs.Common.{◌≡◌, ◌+◌, ◌++◌, drop}
-use Rattle.rv_calls.specs.Line.{ended_files, files_sites}
+use Rattle.rv_calls.specs.Line.{ended_files, files_sites, files_starts}
 use Rattle.rv_calls.specs.Text.{objects_of}
 use Rattle.rv_calls.proofs.walk.put_all.Given as goal
 
@@ -7,4 +7,8 @@ use Rattle.rv_calls.proofs.walk.put_all.Given as goal
 abbrev pub invariant-loop-file : goal.invariant-loop-file
 invariant-loop-file l =
     let os = objects_of l.text in
-    (l.sites.items ++ files_sites os (l.file + 1) l.stop (drop l.file os) ≡ l.fn.sites.items ++ files_sites os 1 0 os) × (ended_files l.stop (drop l.file os) ≡ ended_files 0 os)
+    record {
+      sites : l.marked.sites.items ++ files_sites os (l.file + 1) l.stop (drop l.file os) ≡ l.fn.marked.sites.items ++ files_sites os 1 0 os;
+      starts : l.marked.starts.items ++ files_starts os (l.file + 1) (drop l.file os) ≡ l.fn.marked.starts.items ++ files_starts os 1 os;
+      ends : ended_files l.stop (drop l.file os) ≡ ended_files 0 os;
+    }

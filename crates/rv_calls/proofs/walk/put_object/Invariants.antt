@@ -1,6 +1,6 @@
 use Rattle.std.proofs.Common.{◌≡◌, ◌+◌, ◌++◌, drop}
 use Rattle.rv_object.specs.View.{object_of}
-use Rattle.rv_calls.specs.Line.{ended, object_sites}
+use Rattle.rv_calls.specs.Line.{ended, object_sites, object_starts}
 use Rattle.rv_calls.specs.Text.{objects_of}
 use Rattle.rv_calls.proofs.walk.put_object.Given as goal
 
@@ -8,5 +8,9 @@ use Rattle.rv_calls.proofs.walk.put_object.Given as goal
 abbrev pub invariant-loop-index : goal.invariant-loop-index
 invariant-loop-index l =
     let o = object_of l.object in
-    (l.sites.items ++ object_sites (objects_of l.text) (l.file + 1) o l.index l.stop (drop l.index o.sections) ≡ l.fn.sites.items ++ object_sites (objects_of l.text) (l.file + 1) o 0 l.first o.sections)
-    × (ended l.stop (drop l.index o.sections) ≡ ended l.first o.sections)
+    let os = objects_of l.text in
+    record {
+      sites : l.marked.sites.items ++ object_sites os (l.file + 1) o l.index l.stop (drop l.index o.sections) ≡ l.fn.marked.sites.items ++ object_sites os (l.file + 1) o 0 l.first o.sections;
+      starts : l.marked.starts.items ++ object_starts os (l.file + 1) o l.index (drop l.index o.sections) ≡ l.fn.marked.starts.items ++ object_starts os (l.file + 1) o 0 o.sections;
+      ends : ended l.stop (drop l.index o.sections) ≡ ended l.first o.sections;
+    }
