@@ -25,7 +25,7 @@ const TAIL: [u8; 8] = [0x17, 0x03, 0, 0, 0x67, 0, 0x03, 0];
 const EXIT: [u8; 8] = [0x93, 0x08, 0xd0, 0x05, 0x73, 0, 0, 0];
 
 /// `_start: call f`, twice more, `li a7, 93`, `ecall`, and `f: ret`.
-const THREE: ObjectRow = (
+pub(crate) const THREE: ObjectRow = (
     &[(
         b".text",
         A | X,

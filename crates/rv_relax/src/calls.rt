@@ -157,12 +157,26 @@ impl<'p> Plan<'p> {
         &self.kept
     }
 
+    /// How many calls there are that may be shortened.
+    pub fn calls(&self) -> usize
+        ensures { result ≡ calls (sites_in self.now) }
+    {
+        self.sizes.len()
+    }
+
     /// The bytes of a call afterwards, by its place among the calls that may be shortened, from 0.
     pub fn call_size(&self, i: usize) -> u32
         requires { i < calls (sites_in self.now) }
         ensures { result ≡ slice_index (sizes_of (sites_in self.now) (kept_of self.now)) i }
     {
         self.sizes[i]
+    }
+
+    /// How many alignments there are, those that bring no bytes left out.
+    pub fn alignments(&self) -> usize
+        ensures { result ≡ alignments (joined_sites self.now) }
+    {
+        self.pads.len()
     }
 
     /// The bytes of an alignment afterwards, by its place among the alignments of the sections of text in order, from 0: the
