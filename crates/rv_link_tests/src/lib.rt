@@ -5,8 +5,8 @@
 //!
 //! `scripts/link_table.py` made the table in `gnu`, with GNU Binutils 2.40: objects as the assembler writes them, with
 //! relaxation where they have paddings, and the linked program by a script that lays the sections out in the order of
-//! regions. The rows in `faults`, `shapes`, `relaxed` and `plans` stand by hand, from the psABI's formulas and ranges: GNU's linker
-//! names neither fault, and shortens otherwise.
+//! regions. The rows in `faults`, `shapes`, `relaxed` and `plans` stand by hand, from the psABI's formulas and ranges: GNU's
+//! linker names neither fault, and shortens otherwise.
 #![tactic(auto)]
 
 #[cfg(test)]
