@@ -37,7 +37,7 @@ pub(crate) fn indices(
     ensures { IfOk result (λ indices. indices.items
         ≡ indices_of (map field_of fields.now) numbers.now) }
 {
-    let mut indices = Vec::new(alloc);
+    let mut indices = Vec::with_capacity(alloc, fields.len())?;
     let mut next = 0;
     for index in 0..fields.len() {
         indices.push(number(&fields[index], numbers, next))?;

@@ -12,7 +12,7 @@ pub(crate) fn rows(alloc: Global, items: &[Item]) -> Result<Vec<Row>, AllocError
     requires { length items.now < 2 ^ 32 }
     ensures { IfOk result (λ rows. rows.items ≡ rows_from 1 items.now) }
 {
-    let mut rows = Vec::new(alloc);
+    let mut rows = Vec::with_capacity(alloc, items.len())?;
     for (index, item) in items.iter().enumerate() {
         put_row(&mut rows, index as u32 + 1, *item)?;
     }

@@ -34,7 +34,7 @@ pub(crate) fn table<'a>(
 fn offsets(alloc: Global, items: &[Item]) -> Result<Vec<u32>, AllocError>
     ensures { IfOk result (λ offsets. offsets.items ≡ offsets_of items.now) }
 {
-    let mut offsets = Vec::new(alloc);
+    let mut offsets = Vec::with_capacity(alloc, items.len())?;
     for index in 0..items.len() {
         offsets.push(items[index].offset)?;
     }
@@ -59,7 +59,7 @@ fn put_use<'a>(uses: &mut Vec<SymbolUse<'a>>, field: &OpenField<'a>) -> Result<(
 fn uses<'a>(alloc: Global, fields: &[OpenField<'a>]) -> Result<Vec<SymbolUse<'a>>, AllocError>
     ensures { IfOk result (λ uses. uses_of uses.items ≡ flat_map use_of fields.now) }
 {
-    let mut uses = Vec::new(alloc);
+    let mut uses = Vec::with_capacity(alloc, fields.len())?;
     for index in 0..fields.len() {
         put_use(&mut uses, &fields[index])?;
     }

@@ -73,6 +73,7 @@ impl Placement {
             → IfOk result (λ _. rows.new.items ≡ rows.old.items
             ++ map (laws.row_in (starts_of self.now) (file + 1) (object_of object.now)) own.now) }
     {
+        rows.reserve(own.len())?;
         for row in own {
             match self.section(file, row.section) {
                 Some(place) => rows.push(map_row(file as u64 + 1, place, row))?,

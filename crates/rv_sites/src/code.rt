@@ -245,16 +245,20 @@ pub(crate) struct Coder {
 }
 
 impl Coder {
-    /// The code of `sections` sections before the first statement.
+    /// The code of `sections` sections before the first statement, with room for the sizes of `statements`.
     #[tactic(auto, using(crate::proofs::SoFar::begun))]
-    pub(crate) fn new(alloc: Global, sections: usize) -> Result<Self, AllocError>
+    pub(crate) fn new(
+        alloc: Global,
+        sections: usize,
+        statements: usize,
+    ) -> Result<Self, AllocError>
         ensures count { IfOk result (λ c. length c.sections.items ≡ sections) }
         ensures begun { IfOk result (λ c. (t : Tables) (all : List Located)
             → IsCodeSoFar t all all c) }
     {
         Ok(Coder {
             sections: empty_sections(alloc, sections)?,
-            sizes: Vec::new(alloc),
+            sizes: Vec::with_capacity(alloc, statements)?,
             full: None,
         })
     }
@@ -402,9 +406,9 @@ pub(crate) fn code(
         (λ c. length c.sections.items ≡ length (unit.now).tables.extents.items) }
     ensures code { IsSourceCode (said unit.now) lengths.now result }
 {
-    let mut coder = Coder::new(alloc, unit.sections().len())?;
-    let mut scope = Scope::new(unit);
     let statements = unit.statements();
+    let mut coder = Coder::new(alloc, unit.sections().len(), statements.len())?;
+    let mut scope = Scope::new(unit);
     let places = unit.places();
     let extents = unit.sections();
     for index in 0..statements.len() {

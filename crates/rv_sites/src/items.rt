@@ -353,7 +353,7 @@ pub(crate) fn items(
     let places = unit.places();
     let extents = unit.sections();
     let mut ends = no_bytes(alloc, extents.len())?;
-    let mut items = Vec::new(alloc);
+    let mut items = Vec::with_capacity(alloc, statements.len())?;
     for index in 0..statements.len() {
         let place = places[index];
         let extent = extent_at(extents, place.section);

@@ -147,7 +147,7 @@ fn measured(alloc: Global, unit: &Unit<'_>) -> Result<Vec<LayoutItem>, AllocErro
     let statements = unit.statements();
     let places = unit.places();
     let extents = unit.sections();
-    let mut items = Vec::new(alloc);
+    let mut items = Vec::with_capacity(alloc, statements.len())?;
     for index in 0..statements.len() {
         let place = places[index];
         let extent = extent_at(extents, place.section);

@@ -213,7 +213,7 @@ pub(crate) fn numbers<'a>(
         r.symbol (definition_in t r)) (uses_of uses.now)) }
 {
     let indices = Indices::of(alloc, source, own, missing)?;
-    let mut numbers = Vec::new(alloc);
+    let mut numbers = Vec::with_capacity(alloc, uses.len())?;
     for i in 0..uses.len() {
         numbers.push(indices.number(uses[i].symbol, definitions[i])?)?;
     }

@@ -80,7 +80,7 @@ pub(crate) fn definitions<'a>(
         ≡ map (definition_in (tables (said unit.now))) (uses_of uses.now)) }
     ensures len { IfOk result (λ x. length x.items ≡ length uses.now) }
 {
-    let mut found = Vec::new(alloc);
+    let mut found = Vec::with_capacity(alloc, uses.len())?;
     let mut scope = Scope::new(unit);
     let mut ordinal = 1;
     for symbol_use in uses {

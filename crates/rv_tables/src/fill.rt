@@ -261,8 +261,8 @@ impl<'a> Tables<'a> {
             → map options_of filled.options.items
             ≡ laws.all_options (map statement_of statements.now)) }
     {
-        let mut places = Vec::new(alloc);
-        let mut options = Vec::new(alloc);
+        let mut places = Vec::with_capacity(alloc, statements.len())?;
+        let mut options = Vec::with_capacity(alloc, statements.len())?;
         let mut ordinal: usize = 0;
         for statement in statements {
             ordinal += 1;

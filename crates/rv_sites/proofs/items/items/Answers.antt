@@ -28,11 +28,11 @@ loop-index-init c =
       unit = c.new-scope.ensures.unit;
       scope = c.new-scope.ensures.start;
       items =
-          subst (λ l. AreItemsSoFar ss 0 (λ j. slice_index c.in_ok-ends.ends.items j) l) (sym c.new-items.ensures.items)
+          subst (λ l. AreItemsSoFar ss 0 (λ j. slice_index c.in_ok-ends.ends.items j) l) (sym c.in_ok-items.ensures.items)
           (items_begin ss (λ j. slice_index c.in_ok-ends.ends.items j) none);
-      sized = subst (λ l. AreSizedSoFar (tables ss) ss c.args.sizes.now 0 l) (sym c.new-items.ensures.items) (sized_begin (tables ss) ss c.args.sizes.now);
+      sized = subst (λ l. AreSizedSoFar (tables ss) ss c.args.sizes.now 0 l) (sym c.in_ok-items.ensures.items) (sized_begin (tables ss) ss c.args.sizes.now);
       sections = c.in_ok-ends.ensures.count ∙ ap length c.sections-extents.ensures;
-      count = ap length c.new-items.ensures.items;
+      count = ap length c.in_ok-items.ensures.items;
       room = λ good sizes. rooms_begin ss c.args.sizes.now (λ j. slice_index c.in_ok-ends.ends.items j) sizes none;
       low = λ j. subst (λ n. n ≤ 2 ^ 28) (sym (none j)) (omega arith);
     }

@@ -17,7 +17,7 @@ use Rattle.rv_sites.proofs.measure.measured.Goals as goal
 
 pub loop-index-init : goal.loop-index-init
 loop-index-init c =
-    let none : c.new-items.result.items ≡ [] = search rules in
+    let none : c.in_ok-items.items.items ≡ [] = search rules in
     (c.new-scope.ensures.unit, c.new-scope.ensures.start, subst (λ l. MeasuredTo (said c.args.unit.now) 0 l) (sym none) (measured_begin (said c.args.unit.now)))
 
 pub seen-requires : goal.seen-requires
