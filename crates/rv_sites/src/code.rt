@@ -247,11 +247,7 @@ pub(crate) struct Coder {
 impl Coder {
     /// The code of `sections` sections before the first statement, with room for the sizes of `statements`.
     #[tactic(auto, using(crate::proofs::SoFar::begun))]
-    pub(crate) fn new(
-        alloc: Global,
-        sections: usize,
-        statements: usize,
-    ) -> Result<Self, AllocError>
+    pub(crate) fn new(alloc: Global, sections: usize, statements: usize) -> Result<Self, AllocError>
         ensures count { IfOk result (λ c. length c.sections.items ≡ sections) }
         ensures begun { IfOk result (λ c. (t : Tables) (all : List Located)
             → IsCodeSoFar t all all c) }
