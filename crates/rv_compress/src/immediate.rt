@@ -74,23 +74,6 @@ pub fn jump_offset(bits: u32) -> u32
     low | high << 7
 }
 
-/// imm[8|4:3] at 12:10, imm[7:6|2:1|5] at 6:2.
-#[inline]
-pub fn branch_offset(bits: u32) -> u32
-    ensures { result
-        ≡ bits_at bits 3 2 1
-        + bits_at bits 10 2 3
-        + bits_at bits 2 1 5
-        + bits_at bits 5 2 6
-        + bits_at bits 12 1 8 }
-{
-    (bits >> 3 & 3) << 1
-        | (bits >> 10 & 3) << 3
-        | (bits >> 2 & 1) << 5
-        | (bits >> 5 & 3) << 6
-        | (bits >> 12 & 1) << 8
-}
-
 /// uimm[5] at 12, uimm[4:2|7:6] at 6:2.
 #[inline]
 pub fn word_load(bits: u32) -> u32
@@ -123,26 +106,66 @@ pub fn double_store(bits: u32) -> u32
     (bits >> 10 & 7) << 3 | (bits >> 7 & 7) << 6
 }
 
-/// Six bits as a number with sign.
+/// imm[4:0] at 6:2.
 #[inline]
-pub fn signed_6(value: u32) -> i32
-    requires { value < 2 ^ 6 }
-    ensures low { negsuc 31 ≤ℤ result }
-    ensures high { result ≤ℤ pos 31 }
-    ensures same { field 6 result ≡ value }
+fn low_five(bits: u32) -> i32
+    ensures { result ≡ pos (bits_at bits 2 5 0) }
 {
-    (value << 26).cast_signed() >> 26
+    (bits >> 2 & 0x1f).cast_signed()
 }
 
-/// Nine bits as a number with sign.
+/// The worth of imm[5] at 12.
 #[inline]
-pub fn signed_9(value: u32) -> i32
-    requires { value < 2 ^ 9 }
+fn sixth(bits: u32) -> i32
+    ensures { result ≡ pos (bits_at bits 12 1 5) }
+{
+    ((bits >> 12 & 1) << 5).cast_signed()
+}
+
+/// imm[5] at 12, imm[4:0] at 6:2: the low five bits, less 32 where the sixth is set.
+#[inline]
+pub fn signed_six(bits: u32) -> i32
+    ensures low { negsuc 31 ≤ℤ result }
+    ensures high { result ≤ℤ pos 31 }
+    ensures same { field 6 result ≡ bits_at bits 2 5 0 + bits_at bits 12 1 5 }
+{
+    low_five(bits) - sixth(bits)
+}
+
+/// imm[4:3] at 11:10, imm[7:6|2:1|5] at 6:2.
+#[inline]
+fn low_eight(bits: u32) -> i32
+    ensures { result
+        ≡ pos (bits_at bits 3 2 1 + bits_at bits 10 2 3 + bits_at bits 2 1 5 + bits_at bits 5 2 6) }
+{
+    let low = (bits >> 3 & 3) << 1
+        | (bits >> 10 & 3) << 3
+        | (bits >> 2 & 1) << 5
+        | (bits >> 5 & 3) << 6;
+    low.cast_signed()
+}
+
+/// The worth of imm[8] at 12.
+#[inline]
+fn ninth(bits: u32) -> i32
+    ensures { result ≡ pos (bits_at bits 12 1 8) }
+{
+    ((bits >> 12 & 1) << 8).cast_signed()
+}
+
+/// imm[8|4:3] at 12:10, imm[7:6|2:1|5] at 6:2: the low bits, less 256 where the ninth is set.
+#[inline]
+pub fn branch_offset(bits: u32) -> i32
     ensures low { negsuc 255 ≤ℤ result }
     ensures high { result ≤ℤ pos 255 }
-    ensures same { field 9 result ≡ value }
+    ensures same { field 9 result
+        ≡ bits_at bits 3 2 1
+        + bits_at bits 10 2 3
+        + bits_at bits 2 1 5
+        + bits_at bits 5 2 6
+        + bits_at bits 12 1 8 }
 {
-    (value << 23).cast_signed() >> 23
+    low_eight(bits) - ninth(bits)
 }
 
 /// Ten bits as a number with sign.

@@ -5,9 +5,8 @@ ghost use Rattle.rv_compress.specs.Parcel.{HasOpcode, IsForm, IsRead, bits_at};
 
 use crate::form::Compressed;
 use crate::immediate::{
-    branch_offset, double_load, double_offset, double_store, jump_offset, signed_6, signed_9,
-    signed_10, signed_12, six, stack_address, stack_step, upper_20, word_load, word_offset,
-    word_store,
+    branch_offset, double_load, double_offset, double_store, jump_offset, signed_10, signed_12,
+    signed_six, six, stack_address, stack_step, upper_20, word_load, word_offset, word_store,
 };
 use rv_isa::Reg;
 
@@ -97,7 +96,7 @@ fn addi(bits: u32) -> Compressed
     requires { HasOpcode bits 1 0 }
     ensures { IsForm result bits }
 {
-    let (rd, immediate) = (any_7(bits), signed_6(six(bits)));
+    let (rd, immediate) = (any_7(bits), signed_six(bits));
     if rd.number() == 0 {
         Compressed::Nop { immediate }
     } else {
@@ -110,7 +109,7 @@ fn addiw(bits: u32) -> Option<Compressed>
     requires { HasOpcode bits 1 1 }
     ensures { IsRead result bits }
 {
-    let (rd, immediate) = (any_7(bits), signed_6(six(bits)));
+    let (rd, immediate) = (any_7(bits), signed_six(bits));
     if rd.number() == 0 {
         None
     } else {
@@ -123,7 +122,7 @@ fn li(bits: u32) -> Compressed
     requires { HasOpcode bits 1 2 }
     ensures { IsForm result bits }
 {
-    let (rd, immediate) = (any_7(bits), signed_6(six(bits)));
+    let (rd, immediate) = (any_7(bits), signed_six(bits));
     Compressed::Li { rd, immediate }
 }
 
@@ -202,7 +201,7 @@ fn andi(bits: u32) -> Compressed
     requires funct2 { bits / 2 ^ 10 % 4 ≡ 2 }
     ensures { IsForm result bits }
 {
-    let (rd, immediate) = (short_7(bits), signed_6(six(bits)));
+    let (rd, immediate) = (short_7(bits), signed_six(bits));
     Compressed::Andi { rd, immediate }
 }
 
@@ -252,7 +251,7 @@ fn beqz(bits: u32) -> Compressed
     requires { HasOpcode bits 1 6 }
     ensures { IsForm result bits }
 {
-    let (rs1, offset) = (short_7(bits), signed_9(branch_offset(bits)));
+    let (rs1, offset) = (short_7(bits), branch_offset(bits));
     Compressed::Beqz { rs1, offset }
 }
 
@@ -261,7 +260,7 @@ fn bnez(bits: u32) -> Compressed
     requires { HasOpcode bits 1 7 }
     ensures { IsForm result bits }
 {
-    let (rs1, offset) = (short_7(bits), signed_9(branch_offset(bits)));
+    let (rs1, offset) = (short_7(bits), branch_offset(bits));
     Compressed::Bnez { rs1, offset }
 }
 
@@ -361,13 +360,12 @@ fn sdsp(bits: u32) -> Compressed
     Compressed::Sdsp { rs2, offset }
 }
 
-/// The quadrant and funct3, each an octal digit.
+/// The quadrant and funct3, each an octal digit: a parcel turned by the three bits of funct3 has both at its low end.
 #[inline(always)]
-fn selector_of(bits: u32) -> u32
-    requires { bits < 2 ^ 16 }
-    ensures { result ≡ bits % 4 * 8 + bits / 2 ^ 13 }
+fn selector_of(parcel: u16) -> u16
+    ensures { result ≡ parcel % 4 * 8 + parcel / 2 ^ 13 }
 {
-    bits >> 13 | (bits & 3) << 3
+    (parcel >> 13 | parcel << 3) & 0x1f
 }
 
 /// The form that a parcel spells, with its operands; HINTs are forms, reserved parcels and 0 none.
@@ -378,7 +376,7 @@ pub fn read(parcel: u16) -> Option<Compressed>
     ensures { IsRead result parcel }
 {
     let bits = u32::from(parcel);
-    match selector_of(bits) {
+    match selector_of(parcel) {
         0o00 => addi4spn(bits),
         0o02 => Some(lw(bits)),
         0o03 => Some(ld(bits)),
