@@ -5,6 +5,11 @@ use Rattle.std.specs.List.{drop-map}
 use Rattle.std.proofs.Math.Seq.{drop-cons}
 use Rattle.std.proofs.lemmas.List.{at_drop_all, drop_more, get_or-map, length-map}
 use Rattle.std.specs.Prelude.{flat_map}
+use Rattle.rv_object.specs.Padding.{operations_in}
+use Rattle.rv_instruction.specs.declared.encoded.Encoded.{Encoded}
+use Rattle.rv_instruction.specs.declared.encoded.Encoded.TheVariants.{Parcel, Word, Pair}
+use Rattle.rv_instruction.specs.Code.{alone_coded, encoded_bytes, encoded_instructions}
+use Rattle.rv_sites.specs.Code.{code_bytes, size_of}
 
 pub flat_more : {X : Type 0} (f : X → List ℕ) (rest next : List X) (x : X) (old new all : List ℕ) → rest ≡ x ∷ next
     → new ≡ old ++ flat_map f (x ∷ []) → old ++ flat_map f rest ≡ all → new ++ flat_map f next ≡ all
@@ -49,3 +54,14 @@ same_more i xs ys x y so inside within same =
     let next : i + 1 ≡ suc i = omega arith in
     ap (λ n. take n xs) next ∙ take_next xs i x inside ∙ ap (λ l. l ++ get_or xs i x ∷ []) so ∙ ap (λ z. take i ys ++ z ∷ []) same ∙ sym (take_next ys i y within)
     ∙ ap (λ n. take n ys) (sym next)
+
+-- the code of one instruction without padding
+pub alone_bytes : (e : Encoded) → code_bytes 0 (alone_coded e).items ≡ encoded_bytes e
+alone_bytes e = append-nil (encoded_bytes e)
+
+-- its bytes, and its instructions
+pub alone_size : (padding : ℕ) (e : Encoded)
+    → size_of padding (alone_coded e).items ≡ record { bytes = padding + length (encoded_bytes e); instructions = operations_in padding + encoded_instructions e }
+alone_size padding (Parcel p) = refl
+alone_size padding (Word w) = refl
+alone_size padding (Pair v w) = refl

@@ -86,6 +86,36 @@ fn put_section(
     put_statement(&mut sections[section as usize], padding, code)
 }
 
+/// Adds the code of a statement that is one instruction: its part, after its padding if it has any.
+#[tactic(auto, using(crate::proofs::Joined::alone_bytes))]
+fn put_one(bytes: &mut Vec<u8>, padding: u32, encoded: Encoded) -> Result<(), AllocError>
+    ensures { OnOk result (bytes.new.items
+        ≡ bytes.old.items ++ laws.code_bytes padding (alone_coded encoded).items) }
+{
+    if padding == 0 {
+        return put(bytes, encoded);
+    }
+    let found = [Coded {
+        encoded,
+        kind: None,
+    }];
+    put_statement(bytes, padding, &found)
+}
+
+/// Adds the code of a statement that is one instruction to that of a section.
+fn put_one_in(
+    sections: &mut [Vec<u8>],
+    section: u32,
+    padding: u32,
+    encoded: Encoded,
+) -> Result<(), AllocError>
+    requires { section < length sections.old }
+    ensures { OnOk result (GrowsBy sections.old sections.new section
+        (laws.code_bytes padding (alone_coded encoded).items)) }
+{
+    put_one(&mut sections[section as usize], padding, encoded)
+}
+
 /// How many bytes a part has in memory.
 pub(crate) fn width(encoded: Encoded) -> u8
     ensures size { result ≡ length (encoded_bytes encoded) }
@@ -143,6 +173,18 @@ fn size_of(padding: u32, code: &[Coded]) -> CodeSize
     CodeSize {
         bytes: padding + u32::from(bytes_of(code)),
         instructions: operations(padding) + u32::from(instructions_in(code)),
+    }
+}
+
+/// How large the code of a statement is that is one instruction.
+#[tactic(auto, using(crate::proofs::Joined::alone_size))]
+fn size_of_one(padding: u32, encoded: Encoded) -> CodeSize
+    requires { padding ≤ 65535 }
+    ensures { result ≡ laws.size_of padding (alone_coded encoded).items }
+{
+    CodeSize {
+        bytes: padding + u32::from(width(encoded)),
+        instructions: operations(padding) + u32::from(count(encoded)),
     }
 }
 
@@ -355,11 +397,11 @@ impl Coder {
             → Adds self.old self.new section executable faults v rvc
             (statement_of statement.now) result }
     {
-        let found = [Coded {
-            encoded,
-            kind: None,
-        }];
-        self.add_found(statement, section, padding, &found)
+        put_one_in(self.sections.as_mut_slice(), section, padding, encoded)?;
+        self.sizes.push(size_of_one(padding, encoded))?;
+        let bytes = bytes_in(self.sections.as_slice(), section);
+        self.full = full_behind(self.full, bytes, statement.line);
+        Ok(())
     }
 
     /// Adds a statement that has this padding and these instructions.
