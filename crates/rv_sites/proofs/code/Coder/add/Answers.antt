@@ -1,4 +1,3 @@
-use Rattle.std.proofs.Common.{Ok}
 use Rattle.rv_statement.specs.View.{statement_of}
 use Rattle.rv_instruction.specs.Scoped.{values_at, faults_at}
 use Rattle.rv_sites.proofs.code.Coder.add.Goals as goal
