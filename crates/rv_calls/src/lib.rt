@@ -9,7 +9,7 @@
 //! shortened.
 //!
 //! ```text
-//! let names = Names::of(alloc, &objects)?;
+//! let names = Names::of(alloc, &whole(alloc, &objects)?)?;
 //! let Some(placed) = placed(alloc, &objects, &names)? else { .. };
 //! ```
 //!

@@ -1,11 +1,13 @@
 //! The text of objects, as what calls lead to.
 
-ghost use Rattle.std.specs.Prelude.{◌≡◌, ◌+◌, Some, map, false, IfOk, IfSome, IfNone};
+ghost use Rattle.std.specs.Prelude.{◌≡◌, ◌+◌, Some, map, option_map, option_and_then, false, IfOk, IfSome, IfNone};
 ghost use Rattle.std.specs.List.{slice_get};
+ghost use Rattle.rv_object.specs.Object.{Object as SaidObject};
 ghost use Rattle.rv_object.specs.Parts.{relocation_of};
 ghost use Rattle.rv_object.specs.View.{object_of};
 ghost use Rattle.rv_object_laws.specs.Inputs.{InputSection};
 ghost use Rattle.rv_object_laws.specs.Calls.{is_in_section, is_short_text, target_place};
+ghost use Rattle.rv_object_laws.specs.Names.{symbol_place};
 ghost use Rattle.rv_placement.specs.Placement.{section_at};
 ghost use Rattle.rv_resolve.specs.Names.{IsNames, place_of};
 ghost use Rattle.rv_calls.specs.Line.{base_at};
@@ -85,8 +87,20 @@ impl<'t, 'o> Text<'t, 'o> {
             (target_place (objects_of self.now) i (relocation_of relocation.now)) }
     {
         let index = relocation.symbol?;
-        let (file, section, offset) = self.names.place(self.objects, file, index)?;
+        let (file, section, offset) = self.place(file, index)?;
         self.offset(file, section as usize, offset)
+    }
+
+    /// Where the symbol at an index of a file stands, both from 0.
+    fn place(&self, file: usize, index: u32) -> Option<(usize, u32, u64)>
+        ensures { (o : SaidObject) → IsLaid self.now → slice_get (objects_of self.now) file ≡ Some o
+            → option_map place_of result
+            ≡ option_and_then (symbol_place (objects_of self.now) (file + 1))
+            (slice_get o.symbols index) }
+    {
+        let object = self.objects.get(file)?;
+        let symbol = object.symbols.get(index as usize)?;
+        self.names.place_of(file, index, symbol.definition)
     }
 
     /// Where an offset of a section stands, by its file and its index there, both from 0, if it is in text.

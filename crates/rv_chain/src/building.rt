@@ -17,7 +17,7 @@ use crate::fault::Fault;
 use rv_assemble::assemble;
 use rv_boundary_laws::{linked_objects_are_flagged, objects_of_sources_link};
 use rv_image::{Linked, write_exec};
-use rv_link::{LinkOptions, link_all, within_limits};
+use rv_link::{LinkOptions, link, within_limits};
 use rv_map::known;
 use rv_object::Object;
 use rv_text::SourceFault;
@@ -86,7 +86,7 @@ fn linked(alloc: Global, sources: &[&[u8]], options: LinkOptions) -> Result<Link
     // what they are linked to is the program of the sources
     objects_of_sources_link();
     linked_objects_are_flagged();
-    let linked = link_all(alloc, objects, options)?;
+    let linked = link(alloc, &objects, options)?;
     Ok(linked)
 }
 

@@ -11,7 +11,7 @@ ghost use Rattle.rv_chain.specs.Objects.{IsObjectIn, AreObjectsIn};
 use crate::built::Built;
 use crate::fault::Fault;
 use rv_image::FileFault;
-use rv_link::{LinkOptions, link_all, within_limits};
+use rv_link::{LinkOptions, link, within_limits};
 use rv_object::Object;
 use rv_object_reader::read;
 use std::alloc::Global;
@@ -27,7 +27,7 @@ pub fn link_objects(alloc: Global, objects: &[&[u8]], options: LinkOptions) -> R
 {
     within_limits(objects.len(), options.text_start)?;
     let read = read_objects(alloc, objects)?;
-    let linked = link_all(alloc, read, options)?;
+    let linked = link(alloc, &read, options)?;
     let built = Built::of(alloc, &linked)?;
     Ok(built)
 }

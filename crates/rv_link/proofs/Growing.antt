@@ -10,6 +10,7 @@ use Rattle.rv_object_laws.specs.Moves.{Move, moves, new_offset, kept, has_room, 
 use Rattle.rv_object_laws.specs.Inputs.{Starts, InputSection, goes_to_text, inputs_from, inputs_of, raised, begins_at, start_of, size, Stand, end_of, Holds, zeros, contents}
 use Rattle.rv_object_laws.specs.Names.{object_at, no_object}
 use Rattle.rv_object_laws.specs.Values.{patched_at, applied, initial_bytes}
+use Rattle.rv_shorten.specs.Sections.{short_section_of}
 use Rattle.rv_relax.specs.Plan.{moves_of}
 use Rattle.rv_placement.specs.declared.placement.Placement.{Placement}
 use Rattle.rv_placement.specs.Placement.{starts_of, section_in, section_at}
@@ -17,7 +18,6 @@ use Rattle.rv_isa.specs.declared.kind.Kind.{Kind}
 use Rattle.rv_isa.specs.Kinds.{width_of}
 use Rattle.rv_isa_laws.specs.Bytes.{little_endian}
 use Rattle.rv_reloc.specs.Fields.{patched}
-use Rattle.rv_object.specs.Sections.{section_of}
 use Rattle.rv_link.specs.declared.fixed.Input.{Input}
 use Rattle.rv_values.specs.Values.{IsInputAt}
 use Rattle.rv_link.proofs.Steps.{all_inside, kept_long}
@@ -185,9 +185,9 @@ applied_length ms w (r ∷ rs) bytes (one, h) =
 
 -- a section has as many bytes in the program as are left of it
 pub linked_long : (os : List Object) (p : Placement) (x : Input) → IsInput os p x
-    → length (linked_in os p (input_at os x.file x.index (section_of x.section.now))) ≡ size (starts_of p) (input_at os x.file x.index (section_of x.section.now))
+    → length (linked_in os p (input_at os x.file x.index (short_section_of x.section.now))) ≡ size (starts_of p) (input_at os x.file x.index (short_section_of x.section.now))
 linked_long os p x is =
-    let s : Section = section_of x.section.now in
+    let s : Section = short_section_of x.section.now in
     let i : InputSection = input_at os x.file x.index s in
     let base : ℕ = starts_of p (x.file + 1) x.index in
     let ms : List Move = moves base s in

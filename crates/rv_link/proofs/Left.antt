@@ -123,7 +123,3 @@ doubled ds start relax fault w h =
       relaxed = some.1;
       unlinked = doubled_unlinked (map object_of ds) some.0 start fault (alike relax (map object_of ds) some.0 some.1) (subst (λ n. AreWithin n start) (sym (length-map ds object_of)) w) h;
     }
-
--- for want of memory, whatever they are
-pub wanting : (ds : List DeclaredObject) (start : ℕ) (relax : Bool) → HasNoProgram (map object_of ds) start relax OutOfMemory
-wanting ds start relax = let some = some_left relax ds in record { left = some.0; relaxed = some.1; unlinked = tt }

@@ -14,6 +14,7 @@ use Rattle.rv_object.specs.declared.relocation.Relocation.{Relocation as Declare
 use Rattle.rv_object_laws.specs.Moves.{Move, moves, new_offset, kept, has_room}
 use Rattle.rv_object_laws.specs.Inputs.{InputSection, is_nobits}
 use Rattle.rv_object_laws.specs.Values.{applied, patched_at, value, is_low, initial_bytes}
+use Rattle.rv_shorten.specs.Cutting.{cut_relocation}
 use Rattle.rv_placement.specs.declared.placement.Placement.{Placement}
 use Rattle.rv_placement.specs.Placement.{starts_of}
 use Rattle.rv_resolve.specs.Shown.{shown_globals}
@@ -85,12 +86,15 @@ untaken_by os p i r v BadTextStart found alone h = absurd h
 untaken_by os p i r v TooManyFiles found alone h = absurd h
 untaken_by os p i r v OutOfMemory found alone h = absurd h
 
--- what is next of relocations of the code, which a loop reads from a list that is theirs
-pub relocation_next : (all items : List Declared) (n : ℕ) (d : Declared) → items ≡ all → n < length items
-    → drop n (map relocation_of all) ≡ relocation_of (get_or items n d) ∷ drop (n + 1) (map relocation_of all)
-relocation_next all items n d same h =
-    ap (λ l. drop n (map relocation_of l)) (sym same) ∙ next_of relocation_of items n (get_or items n d) h (get_or_default items n d (get_or items n d) h)
-    ∙ ap (λ l. relocation_of (get_or items n d) ∷ drop (n + 1) (map relocation_of l)) same
+-- what is next of the relocations of a section, as they have moved, which a loop reads from a list that is theirs
+pub moved_next : (ms : List Move) (all items : List Declared) (n : ℕ) (d q : Declared) → items ≡ all → n < length items → relocation_of q ≡ cut_relocation ms (relocation_of (get_or items n d))
+    → drop n (map (cut_relocation ms) (map relocation_of all)) ≡ relocation_of q ∷ drop (n + 1) (map (cut_relocation ms) (map relocation_of all))
+moved_next ms all items n d q same h is =
+    let r : Declared = get_or items n d in
+    let here : r ≡ get_or all n r = get_or_default items n d r h ∙ ap (λ l. get_or l n r) same in
+    let low : n < length all = subst (λ l. n < length l) same h in
+    next_of (cut_relocation ms) (map relocation_of all) n (relocation_of r) (subst (λ k. n < k) (sym (length-map all relocation_of)) low) (sym (get_or-map relocation_of all n r low here))
+    ∙ ap (λ x. x ∷ drop (n + 1) (map (cut_relocation ms) (map relocation_of all))) (sym is)
 
 pub inside_next : (os : List Object) (p : Placement) (i : InputSection) (ms : List Move) (all : List Relocation) (old : List ℕ)
     (from : List Relocation) (r : Relocation) (left : List Relocation) (bytes : List ℕ) → IsPatched os p i ms all old from bytes → from ≡ r ∷ left → IsInside ms (length bytes) r

@@ -6,11 +6,11 @@ use Rattle.std.specs.Global.{Vec}
 use Rattle.std.specs.List.{AllByRecursion}
 use Rattle.rv_map.specs.declared.map.Region.{Region}
 use Rattle.rv_object.specs.Object.{Section, Object}
-use Rattle.rv_object.specs.Sections.{section_of}
 use Rattle.rv_object_laws.specs.Inputs.{InputSection, is_nobits, goes_to_text, goes_to_rodata, goes_to_data, inputs_from, inputs_of, inputs, Stand, zeros}
 use Rattle.rv_object_laws.specs.Names.{object_at, no_object}
 use Rattle.std.proofs.lemmas.List.{drop_more, drop_all}
 use Rattle.rv_object_laws.specs.IsLinkOf.{is_loaded}
+use Rattle.rv_shorten.specs.Sections.{short_section_of}
 use Rattle.rv_placement.specs.declared.placement.Placement.{Placement}
 use Rattle.rv_placement.specs.Placement.{starts_of, IsPlacement}
 use Rattle.rv_link.specs.declared.fixed.Input.{Input}
@@ -23,79 +23,79 @@ use Rattle.rv_link.proofs.Growing.{later, grown_first, grown_next, grown_same, l
 
 module _ (os : List Object) (p : Placement) (x : Input) (is : IsInput os p x) where
   -- a region that a section goes to
-  one : (goes : Section → Bool) (region : Region) (out new : List ℕ) → goes (section_of x.section.now) ≡ true
+  one : (goes : Section → Bool) (region : Region) (out new : List ℕ) → goes (short_section_of x.section.now) ≡ true
       → IsGrown (linked_in os p) (starts_of p) region (inputs goes os) (left_from os x.file x.index goes) out
-      → new ≡ out ++ (zeros (x.placed.now.start - (region.start + length out)) ++ linked_in os p (input_at os x.file x.index (section_of x.section.now)))
+      → new ≡ out ++ (zeros (x.placed.now.start - (region.start + length out)) ++ linked_in os p (input_at os x.file x.index (short_section_of x.section.now)))
       → IsGrown (linked_in os p) (starts_of p) region (inputs goes os) (left_from os x.file (x.index + 1) goes) new
   one goes region out new e grown made =
-      grown_next (linked_in os p) (starts_of p) region (inputs goes os) (left_from os x.file x.index goes) (input_at os x.file x.index (section_of x.section.now)) (left_from os x.file (x.index + 1) goes) out new
-      grown (left_takes os x.file x.index (section_of x.section.now) goes is.stands e) (linked_long os p x is)
-      (made ∙ ap (λ n. out ++ (zeros (n - (region.start + length out)) ++ linked_in os p (input_at os x.file x.index (section_of x.section.now)))) (sym is.start))
+      grown_next (linked_in os p) (starts_of p) region (inputs goes os) (left_from os x.file x.index goes) (input_at os x.file x.index (short_section_of x.section.now)) (left_from os x.file (x.index + 1) goes) out new
+      grown (left_takes os x.file x.index (short_section_of x.section.now) goes is.stands e) (linked_long os p x is)
+      (made ∙ ap (λ n. out ++ (zeros (n - (region.start + length out)) ++ linked_in os p (input_at os x.file x.index (short_section_of x.section.now)))) (sym is.start))
 
   -- and one that it doesn't go to
-  other : (goes : Section → Bool) (region : Region) (out : List ℕ) → goes (section_of x.section.now) ≡ false
+  other : (goes : Section → Bool) (region : Region) (out : List ℕ) → goes (short_section_of x.section.now) ≡ false
       → IsGrown (linked_in os p) (starts_of p) region (inputs goes os) (left_from os x.file x.index goes) out
       → IsGrown (linked_in os p) (starts_of p) region (inputs goes os) (left_from os x.file (x.index + 1) goes) out
   other goes region out e grown =
-      grown_same (linked_in os p) (starts_of p) region (inputs goes os) (left_from os x.file x.index goes) (left_from os x.file (x.index + 1) goes) out (left_skips os x.file x.index (section_of x.section.now) goes is.stands e) grown
+      grown_same (linked_in os p) (starts_of p) region (inputs goes os) (left_from os x.file x.index goes) (left_from os x.file (x.index + 1) goes) out (left_skips os x.file x.index (short_section_of x.section.now) goes is.stands e) grown
 
-  judged : AreTaken os p (input_at os x.file x.index (section_of x.section.now)) → (section_of x.section.now).loaded ≡ true
+  judged : AreTaken os p (input_at os x.file x.index (short_section_of x.section.now)) → (short_section_of x.section.now).loaded ≡ true
       → (AllByRecursion (AreTaken os p) (left_from os x.file x.index is_loaded) → AllByRecursion (AreTaken os p) (inputs is_loaded os))
       → AllByRecursion (AreTaken os p) (left_from os x.file (x.index + 1) is_loaded) → AllByRecursion (AreTaken os p) (inputs is_loaded os)
-  judged here e so h = so (subst (λ l. AllByRecursion (AreTaken os p) l) (sym (left_takes os x.file x.index (section_of x.section.now) is_loaded is.stands e)) (here, h))
+  judged here e so h = so (subst (λ l. AllByRecursion (AreTaken os p) l) (sym (left_takes os x.file x.index (short_section_of x.section.now) is_loaded is.stands e)) (here, h))
 
   -- the first that fails of those behind it
-  past : AreTaken os p (input_at os x.file x.index (section_of x.section.now)) → (section_of x.section.now).loaded ≡ true
+  past : AreTaken os p (input_at os x.file x.index (short_section_of x.section.now)) → (short_section_of x.section.now).loaded ≡ true
       → (fault : LinkFault) → (IsFirstUntaken os p fault (left_from os x.file x.index is_loaded) → IsFirstUntaken os p fault (inputs is_loaded os))
       → IsFirstUntaken os p fault (left_from os x.file (x.index + 1) is_loaded) → IsFirstUntaken os p fault (inputs is_loaded os)
-  past here e fault so h = so (subst (λ l. IsFirstUntaken os p fault l) (sym (left_takes os x.file x.index (section_of x.section.now) is_loaded is.stands e)) (inr (here, h)))
+  past here e fault so h = so (subst (λ l. IsFirstUntaken os p fault l) (sym (left_takes os x.file x.index (short_section_of x.section.now) is_loaded is.stands e)) (inr (here, h)))
 
   -- where a region's section starts
-  pub starts_later : (goes : Section → Bool) (region : Region) (out : List ℕ) → goes (section_of x.section.now) ≡ true
+  pub starts_later : (goes : Section → Bool) (region : Region) (out : List ℕ) → goes (short_section_of x.section.now) ≡ true
       → IsGrown (linked_in os p) (starts_of p) region (inputs goes os) (left_from os x.file x.index goes) out → region.start + length out ≤ x.placed.now.start
   starts_later goes region out e grown =
       subst (λ n. region.start + length out ≤ n) is.start
-      (later (starts_of p) (region.start + length out) (input_at os x.file x.index (section_of x.section.now)) (left_from os x.file (x.index + 1) goes)
-      (subst (λ l. Stand (starts_of p) (region.start + length out) l) (left_takes os x.file x.index (section_of x.section.now) goes is.stands e) grown.stand))
+      (later (starts_of p) (region.start + length out) (input_at os x.file x.index (short_section_of x.section.now)) (left_from os x.file (x.index + 1) goes)
+      (subst (λ l. Stand (starts_of p) (region.start + length out) l) (left_takes os x.file x.index (short_section_of x.section.now) goes is.stands e) grown.stand))
 
   -- ---- the regions after a section
 
   module _ (r : Regions) (grown : AreGrown os p (left_from os x.file x.index) r) where
-    pub not_loaded : x.section.now.loaded ≡ false → AreGrown os p (left_from os x.file (x.index + 1)) r
+    pub not_loaded : x.section.now.whole.now.loaded ≡ false → AreGrown os p (left_from os x.file (x.index + 1)) r
     not_loaded e = record {
-      text = other goes_to_text p.text r.text.items (ap (λ b. b && x.section.now.executable) e) grown.text;
-      rodata = other goes_to_rodata p.rodata r.rodata.items (ap (λ b. b && not x.section.now.executable && not (is_nobits (section_of x.section.now).contents) && not x.section.now.writable) e) grown.rodata;
-      «data» = other goes_to_data p.data r.data.items (ap (λ b. b && not x.section.now.executable && not (is_nobits (section_of x.section.now).contents) && x.section.now.writable) e) grown.data;
-      taken = λ h. grown.taken (subst (λ l. AllByRecursion (AreTaken os p) l) (sym (left_skips os x.file x.index (section_of x.section.now) is_loaded is.stands e)) h);
-      first = λ fault h. grown.first fault (subst (λ l. IsFirstUntaken os p fault l) (sym (left_skips os x.file x.index (section_of x.section.now) is_loaded is.stands e)) h);
+      text = other goes_to_text p.text r.text.items (ap (λ b. b && x.section.now.whole.now.executable) e) grown.text;
+      rodata = other goes_to_rodata p.rodata r.rodata.items (ap (λ b. b && not x.section.now.whole.now.executable && not (is_nobits (short_section_of x.section.now).contents) && not x.section.now.whole.now.writable) e) grown.rodata;
+      «data» = other goes_to_data p.data r.data.items (ap (λ b. b && not x.section.now.whole.now.executable && not (is_nobits (short_section_of x.section.now).contents) && x.section.now.whole.now.writable) e) grown.data;
+      taken = λ h. grown.taken (subst (λ l. AllByRecursion (AreTaken os p) l) (sym (left_skips os x.file x.index (short_section_of x.section.now) is_loaded is.stands e)) h);
+      first = λ fault h. grown.first fault (subst (λ l. IsFirstUntaken os p fault l) (sym (left_skips os x.file x.index (short_section_of x.section.now) is_loaded is.stands e)) h);
     }
 
     -- it fails itself
-    pub failed : x.section.now.loaded ≡ true → (fault : LinkFault) → AreUntaken os p fault (input_at os x.file x.index (section_of x.section.now)) → IsFirstUntaken os p fault (inputs is_loaded os)
-    failed e fault h = grown.first fault (subst (λ l. IsFirstUntaken os p fault l) (sym (left_takes os x.file x.index (section_of x.section.now) is_loaded is.stands e)) (inl h))
+    pub failed : x.section.now.whole.now.loaded ≡ true → (fault : LinkFault) → AreUntaken os p fault (input_at os x.file x.index (short_section_of x.section.now)) → IsFirstUntaken os p fault (inputs is_loaded os)
+    failed e fault h = grown.first fault (subst (λ l. IsFirstUntaken os p fault l) (sym (left_takes os x.file x.index (short_section_of x.section.now) is_loaded is.stands e)) (inl h))
 
-    pub failed_or : x.section.now.loaded ≡ true → (fault : LinkFault) → OrMemory (λ f. AreUntaken os p f (input_at os x.file x.index (section_of x.section.now))) fault → AreUnfilled os p fault
+    pub failed_or : x.section.now.whole.now.loaded ≡ true → (fault : LinkFault) → OrMemory (λ f. AreUntaken os p f (input_at os x.file x.index (short_section_of x.section.now))) fault → AreUnfilled os p fault
     failed_or e fault (inl h) = inl h
     failed_or e fault (inr h) = inr (failed e fault h)
 
-    pub text_is : (a b : Bool) → x.section.now.loaded ≡ a → x.section.now.executable ≡ b → goes_to_text (section_of x.section.now) ≡ (a && b)
-    text_is a b e f = ap (λ l. l && x.section.now.executable) e ∙ ap (λ l. a && l) f
+    pub text_is : (a b : Bool) → x.section.now.whole.now.loaded ≡ a → x.section.now.whole.now.executable ≡ b → goes_to_text (short_section_of x.section.now) ≡ (a && b)
+    text_is a b e f = ap (λ l. l && x.section.now.whole.now.executable) e ∙ ap (λ l. a && l) f
 
-    pub rodata_is : (a b n w : Bool) → x.section.now.loaded ≡ a → x.section.now.executable ≡ b → is_nobits (section_of x.section.now).contents ≡ n → x.section.now.writable ≡ w
-        → goes_to_rodata (section_of x.section.now) ≡ (a && not b && not n && not w)
+    pub rodata_is : (a b n w : Bool) → x.section.now.whole.now.loaded ≡ a → x.section.now.whole.now.executable ≡ b → is_nobits (short_section_of x.section.now).contents ≡ n → x.section.now.whole.now.writable ≡ w
+        → goes_to_rodata (short_section_of x.section.now) ≡ (a && not b && not n && not w)
     rodata_is a b n w e f g h =
-        ap (λ l. l && not x.section.now.executable && not (is_nobits (section_of x.section.now).contents) && not x.section.now.writable) e
-        ∙ ap (λ l. a && not l && not (is_nobits (section_of x.section.now).contents) && not x.section.now.writable) f
-        ∙ ap (λ l. a && not b && not l && not x.section.now.writable) g ∙ ap (λ l. a && not b && not n && not l) h
+        ap (λ l. l && not x.section.now.whole.now.executable && not (is_nobits (short_section_of x.section.now).contents) && not x.section.now.whole.now.writable) e
+        ∙ ap (λ l. a && not l && not (is_nobits (short_section_of x.section.now).contents) && not x.section.now.whole.now.writable) f
+        ∙ ap (λ l. a && not b && not l && not x.section.now.whole.now.writable) g ∙ ap (λ l. a && not b && not n && not l) h
 
-    pub data_is : (a b n w : Bool) → x.section.now.loaded ≡ a → x.section.now.executable ≡ b → is_nobits (section_of x.section.now).contents ≡ n → x.section.now.writable ≡ w
-        → goes_to_data (section_of x.section.now) ≡ (a && not b && not n && w)
+    pub data_is : (a b n w : Bool) → x.section.now.whole.now.loaded ≡ a → x.section.now.whole.now.executable ≡ b → is_nobits (short_section_of x.section.now).contents ≡ n → x.section.now.whole.now.writable ≡ w
+        → goes_to_data (short_section_of x.section.now) ≡ (a && not b && not n && w)
     data_is a b n w e f g h =
-        ap (λ l. l && not x.section.now.executable && not (is_nobits (section_of x.section.now).contents) && x.section.now.writable) e
-        ∙ ap (λ l. a && not l && not (is_nobits (section_of x.section.now).contents) && x.section.now.writable) f
-        ∙ ap (λ l. a && not b && not l && x.section.now.writable) g ∙ ap (λ l. a && not b && not n && l) h
+        ap (λ l. l && not x.section.now.whole.now.executable && not (is_nobits (short_section_of x.section.now).contents) && x.section.now.whole.now.writable) e
+        ∙ ap (λ l. a && not l && not (is_nobits (short_section_of x.section.now).contents) && x.section.now.whole.now.writable) f
+        ∙ ap (λ l. a && not b && not l && x.section.now.whole.now.writable) g ∙ ap (λ l. a && not b && not n && l) h
 
-    module _ (loaded : x.section.now.loaded ≡ true) (here : AreTaken os p (input_at os x.file x.index (section_of x.section.now))) where
+    module _ (loaded : x.section.now.whole.now.loaded ≡ true) (here : AreTaken os p (input_at os x.file x.index (short_section_of x.section.now))) where
       so : AllByRecursion (AreTaken os p) (left_from os x.file (x.index + 1) is_loaded) → AllByRecursion (AreTaken os p) (inputs is_loaded os)
       so = judged here loaded grown.taken
 
@@ -103,8 +103,8 @@ module _ (os : List Object) (p : Placement) (x : Input) (is : IsInput os p x) wh
       behind fault = past here loaded fault (grown.first fault)
 
       module _ (out : Vec ℕ) where
-        pub in_text : x.section.now.executable ≡ true
-            → out.items ≡ r.text.items ++ (zeros (x.placed.now.start - (p.text.start + length r.text.items)) ++ linked_in os p (input_at os x.file x.index (section_of x.section.now)))
+        pub in_text : x.section.now.whole.now.executable ≡ true
+            → out.items ≡ r.text.items ++ (zeros (x.placed.now.start - (p.text.start + length r.text.items)) ++ linked_in os p (input_at os x.file x.index (short_section_of x.section.now)))
             → AreGrown os p (left_from os x.file (x.index + 1)) (record { text = out; rodata = r.rodata; «data» = r.data })
         in_text e made = record {
           text = one goes_to_text p.text r.text.items out.items (text_is true true loaded e) grown.text made;
@@ -114,8 +114,8 @@ module _ (os : List Object) (p : Placement) (x : Input) (is : IsInput os p x) wh
           first = behind;
         }
 
-        pub in_rodata : x.section.now.executable ≡ false → is_nobits (section_of x.section.now).contents ≡ false → x.section.now.writable ≡ false
-            → out.items ≡ r.rodata.items ++ (zeros (x.placed.now.start - (p.rodata.start + length r.rodata.items)) ++ linked_in os p (input_at os x.file x.index (section_of x.section.now)))
+        pub in_rodata : x.section.now.whole.now.executable ≡ false → is_nobits (short_section_of x.section.now).contents ≡ false → x.section.now.whole.now.writable ≡ false
+            → out.items ≡ r.rodata.items ++ (zeros (x.placed.now.start - (p.rodata.start + length r.rodata.items)) ++ linked_in os p (input_at os x.file x.index (short_section_of x.section.now)))
             → AreGrown os p (left_from os x.file (x.index + 1)) (record { text = r.text; rodata = out; «data» = r.data })
         in_rodata e n w made = record {
           text = other goes_to_text p.text r.text.items (text_is true false loaded e) grown.text;
@@ -125,8 +125,8 @@ module _ (os : List Object) (p : Placement) (x : Input) (is : IsInput os p x) wh
           first = behind;
         }
 
-        pub in_data : x.section.now.executable ≡ false → is_nobits (section_of x.section.now).contents ≡ false → x.section.now.writable ≡ true
-            → out.items ≡ r.data.items ++ (zeros (x.placed.now.start - (p.data.start + length r.data.items)) ++ linked_in os p (input_at os x.file x.index (section_of x.section.now)))
+        pub in_data : x.section.now.whole.now.executable ≡ false → is_nobits (short_section_of x.section.now).contents ≡ false → x.section.now.whole.now.writable ≡ true
+            → out.items ≡ r.data.items ++ (zeros (x.placed.now.start - (p.data.start + length r.data.items)) ++ linked_in os p (input_at os x.file x.index (short_section_of x.section.now)))
             → AreGrown os p (left_from os x.file (x.index + 1)) (record { text = r.text; rodata = r.rodata; «data» = out })
         in_data e n w made = record {
           text = other goes_to_text p.text r.text.items (text_is true false loaded e) grown.text;
@@ -136,7 +136,7 @@ module _ (os : List Object) (p : Placement) (x : Input) (is : IsInput os p x) wh
           first = behind;
         }
 
-      pub in_bss : x.section.now.executable ≡ false → is_nobits (section_of x.section.now).contents ≡ true → AreGrown os p (left_from os x.file (x.index + 1)) r
+      pub in_bss : x.section.now.whole.now.executable ≡ false → is_nobits (short_section_of x.section.now).contents ≡ true → AreGrown os p (left_from os x.file (x.index + 1)) r
       in_bss e n = record {
         text = other goes_to_text p.text r.text.items (text_is true false loaded e) grown.text;
         rodata = other goes_to_rodata p.rodata r.rodata.items (rodata_is true false true _ loaded e n refl) grown.rodata;

@@ -5,13 +5,12 @@ use Rattle.std.specs.List.{AllByRecursion, list_all}
 use Rattle.rv_isa.specs.Kinds.{width_of}
 use Rattle.rv_reloc.specs.Ranges.{Takes}
 use Rattle.rv_object.specs.Object.{Relocation, Section, Object}
-use Rattle.rv_object.specs.Parts.{relocation_of}
-use Rattle.rv_object.specs.Sections.{section_of}
-use Rattle.rv_object.specs.View.{object_of}
 use Rattle.rv_object_laws.specs.Moves.{Move, moves, new_offset, has_room}
 use Rattle.rv_object_laws.specs.Inputs.{InputSection}
 use Rattle.rv_object_laws.specs.Names.{object_at}
 use Rattle.rv_object_laws.specs.Values.{is_low, value, linked_bytes}
+use Rattle.rv_shorten.specs.Sections.{short_section_of}
+use Rattle.rv_shorten.specs.View.{short_object_of}
 use Rattle.rv_relax.specs.Plan.{moves_of}
 use Rattle.rv_placement.specs.declared.placement.Placement.{Placement}
 use Rattle.rv_placement.specs.Placement.{starts_of, section_at}
@@ -20,7 +19,7 @@ use Rattle.rv_link.specs.declared.fixed.Fixed.{Fixed}
 use Rattle.rv_resolve.specs.Shown.{shown_globals}
 
 abbrev pub objects_of : Fixed → List Object
-objects_of f = map object_of f.objects.now
+objects_of f = map short_object_of f.objects.now
 
 -- a section at an index of a file, both from 0
 abbrev pub input_at : List Object → ℕ → ℕ → Section → InputSection
@@ -28,14 +27,14 @@ input_at os file index s =
     record { file = file + 1; object = object_at os (file + 1); index = index; section = s }
 
 abbrev pub input_of : Fixed → Input → InputSection
-input_of f x = input_at (objects_of f) x.file x.index (section_of x.section.now)
+input_of f x = input_at (objects_of f) x.file x.index (short_section_of x.section.now)
 
 -- the section is one of the objects, and what is placed for it is where it starts, with room for
 -- its paddings
 pub record IsInput (os : List Object) (p : Placement) (x : Input) : Type 0 where
-  pub stands : section_at os x.file x.index ≡ Some (section_of x.section.now)
+  pub stands : section_at os x.file x.index ≡ Some (short_section_of x.section.now)
   pub start : starts_of p (x.file + 1) x.index ≡ x.placed.now.start
-  pub planned : moves_of x.placed.now.plan ≡ moves x.placed.now.start (section_of x.section.now)
+  pub planned : moves_of x.placed.now.plan ≡ moves x.placed.now.start (short_section_of x.section.now)
   pub room : IsTrue (list_all has_room (moves_of x.placed.now.plan))
 
 abbrev pub IsInputOf : Fixed → Input → Type 0
@@ -67,4 +66,4 @@ bytes_of f x = linked_in (objects_of f) f.placement.now (input_of f x)
 abbrev pub AreTakenOf : Fixed → Input → Type 0
 AreTakenOf f x =
     AllByRecursion (IsTaken (objects_of f) f.placement.now (input_of f x))
-    (map relocation_of x.section.now.relocations.items)
+    (short_section_of x.section.now).relocations

@@ -2,15 +2,16 @@
 
 ghost use Rattle.std.specs.Prelude.{◌≡◌, ◌+◌, ◌-◌, ◌++◌, ◌<◌, ◌≤◌, IsTrue, IfOk, IfErr, OnOk, Some, pos, true, length, map};
 ghost use Rattle.std.specs.List.{AllByRecursion};
-ghost use Rattle.rv_object.specs.Parts.{contents_of, relocation_of};
+ghost use Rattle.rv_object.specs.Parts.{relocation_of};
 ghost use Rattle.rv_object_laws.specs.Inputs.{is_nobits, zeros};
 ghost use Rattle.rv_object_laws.specs.Moves.{kept, new_offset};
 ghost use Rattle.rv_object_laws.specs.Values.{applied, initial_bytes, is_low, value};
 ghost use Rattle.rv_object_laws.specs.Names.{object_at};
+ghost use Rattle.rv_shorten.specs.Sections.{short_section_of};
+ghost use Rattle.rv_relax.specs.Plan.{moves_of};
 ghost use Rattle.rv_placement.specs.Placement.{starts_of};
 ghost use Rattle.rv_link.specs.Regions.{IsFixed};
 ghost use Rattle.rv_link.specs.Untaken.{IsUntaken, AreUntakenOf, OrMemory};
-ghost use Rattle.rv_relax.specs.Plan.{moves_of};
 ghost use Rattle.rv_resolve.specs.Shown.{shown_globals};
 ghost use Rattle.rv_link.specs.Filled.{
   AreTakenOf,
@@ -24,34 +25,35 @@ ghost use Rattle.rv_link.specs.Filled.{
 
 use crate::fault::LinkFault;
 use crate::fields::apply;
-use rv_object::{Contents, Object, Relocation, Section};
+use rv_object::{Contents, Relocation};
 use rv_placement::{PlacedSection, Placement};
 use rv_relax::SectionPlan;
+use rv_shorten::{LeftBytes, ShortObject, ShortSection};
 use rv_values::{ValueFault, Values};
 use std::alloc::{AllocError, Global};
 
 /// A section of an object, and where it stands.
 #[derive(Drop)]
-pub(crate) struct Input<'o> {
+pub(crate) struct Input<'p, 'o> {
     /// The place of its object, from 0.
     pub(crate) file: usize,
     /// Its own place there.
     pub(crate) index: usize,
-    pub(crate) section: &'o Section,
-    pub(crate) placed: &'o PlacedSection,
+    pub(crate) section: &'p ShortSection<'o>,
+    pub(crate) placed: &'p PlacedSection,
 }
 
 /// Objects whose sections and names have their addresses.
 #[derive(Drop)]
-pub(crate) struct Fixed<'o, 'n> {
-    pub(crate) objects: &'o [Object],
-    pub(crate) placement: &'o Placement,
-    pub(crate) values: &'o Values<'o, 'n>,
+pub(crate) struct Fixed<'p, 'o> {
+    pub(crate) objects: &'p [ShortObject<'o>],
+    pub(crate) placement: &'p Placement,
+    pub(crate) values: &'p Values<'p, 'o>,
 }
 
-impl<'o, 'n> Fixed<'o, 'n> {
+impl<'p, 'o> Fixed<'p, 'o> {
     /// The section at an index of an object, both from 0.
-    pub(crate) fn input(&self, file: usize, index: usize) -> Input<'o>
+    pub(crate) fn input(&self, file: usize, index: usize) -> Input<'p, 'o>
         requires fixed { IsFixed self.now }
         requires section { index < length (object_at (objects_of self.now) (file + 1)).sections }
         ensures input { IsInputOf self.now result }
@@ -65,8 +67,8 @@ impl<'o, 'n> Fixed<'o, 'n> {
         }
     }
 
-    /// The value of a relocation of a section.
-    fn value(&self, input: &Input<'_>, relocation: &Relocation) -> Result<i64, LinkFault>
+    /// The value of a relocation of a section, as it has moved.
+    fn value(&self, input: &Input<'_, '_>, relocation: &Relocation) -> Result<i64, LinkFault>
         requires fixed { IsFixed self.now }
         requires input { IsInputOf self.now input.now }
         ensures found { IfOk result
@@ -86,22 +88,23 @@ impl<'o, 'n> Fixed<'o, 'n> {
     }
 
     /// Writes the values of a section's relocations to their fields in what is kept of it.
-    pub(crate) fn relocate(&self, input: &Input<'_>, bytes: &mut [u8]) -> Result<(), LinkFault>
+    pub(crate) fn relocate(&self, input: &Input<'_, '_>, bytes: &mut [u8]) -> Result<(), LinkFault>
         requires fixed { IsFixed self.now }
         requires input { IsInputOf self.now input.now }
         requires inside { AllByRecursion
             (IsInside (moves_of (input.now).placed.now.plan) (length bytes.old))
-            (map relocation_of (input.now).section.now.relocations.items) }
+            (short_section_of (input.now).section.now).relocations }
         ensures applied { OnOk result
             (bytes.new ≡ applied (new_offset (moves_of (input.now).placed.now.plan))
             (worth (objects_of self.now) (self.now).placement.now (input_of self.now input.now))
-            (map relocation_of (input.now).section.now.relocations.items) bytes.old) }
+            (short_section_of (input.now).section.now).relocations bytes.old) }
         // each of its relocations has a value, which its field takes
         ensures taken { OnOk result (AreTakenOf self.now input.now) }
         ensures refuses { IfErr result (λ fault. AreUntakenOf self.now input.now fault) }
     {
-        for relocation in &input.section.relocations {
-            let value = self.value(input, relocation)?;
+        for relocation in &input.section.whole.relocations {
+            let relocation = input.section.relocation(relocation);
+            let value = self.value(input, &relocation)?;
             let place = input.placed.plan.new_offset(relocation.place);
             apply(bytes, place, relocation.kind, value)?;
         }
@@ -109,10 +112,10 @@ impl<'o, 'n> Fixed<'o, 'n> {
     }
 
     /// Judges the relocations of a section without bytes.
-    pub(crate) fn judge(&self, input: &Input<'_>) -> Result<(), LinkFault>
+    pub(crate) fn judge(&self, input: &Input<'_, '_>) -> Result<(), LinkFault>
         requires fixed { IsFixed self.now }
         requires input { IsInputOf self.now input.now }
-        requires zeroed { is_nobits (contents_of (input.now).section.now.contents) ≡ true }
+        requires zeroed { is_nobits (short_section_of (input.now).section.now).contents ≡ true }
         ensures taken { OnOk result (AreTakenOf self.now input.now) }
         ensures refuses { IfErr result (λ fault. AreUntakenOf self.now input.now fault) }
     {
@@ -124,7 +127,7 @@ impl<'o, 'n> Fixed<'o, 'n> {
     fn put_bytes(
         &self,
         alloc: Global,
-        input: &Input<'_>,
+        input: &Input<'_, '_>,
         out: &mut Vec<u8>,
     ) -> Result<(), LinkFault>
         requires fixed { IsFixed self.now }
@@ -135,7 +138,7 @@ impl<'o, 'n> Fixed<'o, 'n> {
         ensures refuses { IfErr result (OrMemory (AreUntakenOf self.now input.now)) }
     {
         let from = out.len();
-        put_contents(alloc, &input.placed.plan, &input.section.contents, out)?;
+        put_contents(alloc, &input.placed.plan, input.section, out)?;
         self.relocate(input, &mut out[from..])?;
         Ok(())
     }
@@ -144,7 +147,7 @@ impl<'o, 'n> Fixed<'o, 'n> {
     pub(crate) fn put(
         &self,
         alloc: Global,
-        input: &Input<'_>,
+        input: &Input<'_, '_>,
         region: u64,
         out: &mut Vec<u8>,
     ) -> Result<(), LinkFault>
@@ -177,19 +180,18 @@ fn put_zeros(out: &mut Vec<u8>, count: u64) -> Result<(), AllocError>
 fn put_contents(
     alloc: Global,
     plan: &SectionPlan,
-    contents: &Contents,
+    section: &ShortSection<'_>,
     out: &mut Vec<u8>,
 ) -> Result<(), AllocError>
-    ensures { OnOk result (out.new.items
-        ≡ out.old.items ++ kept 0 (moves_of plan.now) (initial_bytes (contents_of contents.now))) }
+    ensures { OnOk result (out.new.items ≡ out.old.items
+        ++ kept 0 (moves_of plan.now) (initial_bytes (short_section_of section.now).contents)) }
 {
-    match contents {
-        Contents::Progbits(bytes) => plan.put_kept(out, bytes.as_slice()),
-        Contents::Note(bytes) => plan.put_kept(out, bytes.as_slice()),
+    match &section.whole.contents {
+        Contents::Progbits(_) | Contents::Note(_) => plan.put_kept(out, section.bytes()),
         Contents::Nobits(size) => {
             let mut bytes = Vec::new(alloc);
             put_zeros(&mut bytes, *size)?;
-            plan.put_kept(out, bytes.as_slice())
+            plan.put_kept(out, LeftBytes::of(&bytes))
         }
     }
 }

@@ -6,7 +6,8 @@
 //! Main contract: [`link`] answers only a program that `IsProgramOf` the objects (`rv_object_laws`): the link of what relaxation
 //! leaves of them, where it is on. First, calls become short: which may (`rv_calls`), which do (`rv_relax`), and what is left
 //! of the objects then (`rv_shorten`). No size changes after that, and the work is that of the crates below, pass by pass:
-//! names (`rv_resolve`), places (`rv_placement`), values (`rv_values`), fields (`rv_reloc`).
+//! names (`rv_resolve`), places (`rv_placement`), values (`rv_values`), fields (`rv_reloc`). The objects are lent: each byte
+//! moves once, from its object into the program.
 //!
 //! ```text
 //! let options = LinkOptions { text_start: 0x1_0000, relax: true };
@@ -19,7 +20,6 @@
 //! Source: System V gABI, "Sections", "Symbol Table", "Relocation"; RISC-V ELF psABI, "Relocations", "Linker Relaxation"; GNU ld.
 #![tactic(auto)]
 
-mod copies;
 mod fault;
 mod fields;
 mod fixed;
@@ -32,4 +32,4 @@ mod relaxation;
 pub use fault::LinkFault;
 pub use options::LinkOptions;
 pub use passes::{MOST_FILES, within_limits};
-pub use programs::{link, link_all};
+pub use programs::link;

@@ -5,9 +5,9 @@ ghost use Rattle.std.specs.List.{list_any};
 ghost use Rattle.rv_isa_laws.specs.Platform.{stack_start};
 ghost use Rattle.rv_image.specs.Linked.{linked_of};
 ghost use Rattle.rv_object.specs.Object.{Object as SaidObject};
-ghost use Rattle.rv_object.specs.View.{object_of};
 ghost use Rattle.rv_object_laws.specs.IsLinkOf.{IsLinkOf};
 ghost use Rattle.rv_object_laws.specs.Names.{AreDistinct, global_names, entry_of};
+ghost use Rattle.rv_shorten.specs.View.{short_object_of};
 ghost use Rattle.rv_placement.specs.Placement.{IsPlacement, starts_of};
 ghost use Rattle.rv_map.specs.Limits.{IsMap};
 ghost use Rattle.rv_link.specs.Made.{made};
@@ -24,9 +24,9 @@ use crate::fixed::Fixed;
 use crate::regions::Regions;
 use rv_image::{Linked, STACK_START};
 use rv_map::{Map, known};
-use rv_object::Object;
 use rv_placement::{Placement, PlacementFault};
 use rv_resolve::{Names, ResolveFault};
+use rv_shorten::ShortObject;
 use rv_values::Values;
 use std::alloc::Global;
 
@@ -36,12 +36,12 @@ pub const MOST_FILES: usize = 1024;
 /// Links objects with their calls as they are into a program, whose text starts at an address.
 pub(crate) fn link_as_they_are(
     alloc: Global,
-    objects: &[Object],
+    objects: &[ShortObject<'_>],
     start: u64,
 ) -> Result<Linked, LinkFault>
     ensures links { IfOk result
-        (λ l. IsLinkOf (map object_of objects.now) start (linked_of l)) }
-    ensures refuses { IfErr result (IsUnlinked (map object_of objects.now) start) }
+        (λ l. IsLinkOf (map short_object_of objects.now) start (linked_of l)) }
+    ensures refuses { IfErr result (IsUnlinked (map short_object_of objects.now) start) }
 {
     within_limits(objects.len(), start)?;
     // the start of the text is fixed from here on
@@ -77,9 +77,9 @@ pub fn within_limits(files: usize, text_start: u64) -> Result<(), LinkFault>
 }
 
 /// What the names of objects mean: each has one definition for all files at most, and no reference is without one.
-fn resolve<'o>(alloc: Global, objects: &'o [Object]) -> Result<Names<'o>, LinkFault>
-    ensures named { IfOk result (IsNamed (map object_of objects.now)) }
-    ensures refuses { IfErr result (AreUnnamed (map object_of objects.now)) }
+fn resolve<'o>(alloc: Global, objects: &[ShortObject<'o>]) -> Result<Names<'o>, LinkFault>
+    ensures named { IfOk result (IsNamed (map short_object_of objects.now)) }
+    ensures refuses { IfErr result (AreUnnamed (map short_object_of objects.now)) }
 {
     let names = match Names::of(alloc, objects) {
         Ok(names) => names,
@@ -117,11 +117,11 @@ fn undefined(alloc: Global, name: &[u8]) -> LinkFault
 }
 
 /// Where the sections of objects stand.
-fn place(alloc: Global, objects: &[Object], start: u64) -> Result<Placement, LinkFault>
+fn place(alloc: Global, objects: &[ShortObject<'_>], start: u64) -> Result<Placement, LinkFault>
     requires page { start % 4096 ≡ 0 }
     requires low { start < stack_start }
-    ensures placed { IfOk result (IsPlacement (map object_of objects.now) start) }
-    ensures refuses { IfErr result (AreUnplaced (map object_of objects.now) start) }
+    ensures placed { IfOk result (IsPlacement (map short_object_of objects.now) start) }
+    ensures refuses { IfErr result (AreUnplaced (map short_object_of objects.now) start) }
 {
     match Placement::of(alloc, objects, start) {
         Ok(placement) => Ok(placement),
@@ -132,13 +132,17 @@ fn place(alloc: Global, objects: &[Object], start: u64) -> Result<Placement, Lin
 }
 
 /// Where a run begins: at an even address, as that of each even place of code is.
-fn entry(names: &Names<'_>, objects: &[Object], placement: &Placement) -> Result<u64, LinkFault>
-    requires { IsPlaced (map object_of objects.now) names.now placement.now }
+fn entry(
+    names: &Names<'_>,
+    objects: &[ShortObject<'_>],
+    placement: &Placement,
+) -> Result<u64, LinkFault>
+    requires { IsPlaced (map short_object_of objects.now) names.now placement.now }
     ensures entry { IfOk result
-        (λ a. entry_of (starts_of placement.now) 1 (map object_of objects.now) ≡ Some a) }
+        (λ a. entry_of (starts_of placement.now) 1 (map short_object_of objects.now) ≡ Some a) }
     ensures even { IfOk result (λ a. a % 2 ≡ 0) }
     ensures refuses { IfErr result (λ fault. (fault ≡ EntryMissing)
-        × IsOddEntry (map object_of objects.now) placement.now) }
+        × IsOddEntry (map short_object_of objects.now) placement.now) }
 {
     match names.entry(objects, placement) {
         Some(entry) => {
@@ -153,16 +157,16 @@ fn entry(names: &Names<'_>, objects: &[Object], placement: &Placement) -> Result
 }
 
 /// The bytes of the regions of placed objects.
-fn fill(
+fn fill<'o>(
     alloc: Global,
-    objects: &[Object],
+    objects: &[ShortObject<'o>],
     placement: &Placement,
-    names: &Names<'_>,
+    names: &Names<'o>,
 ) -> Result<Regions, LinkFault>
-    requires { IsReady (map object_of objects.now) names.now placement.now }
+    requires { IsReady (map short_object_of objects.now) names.now placement.now }
     ensures filled { IfOk result
-        (AreGrown (map object_of objects.now) placement.now (λ goes. [])) }
-    ensures refuses { IfErr result (AreUnfilled (map object_of objects.now) placement.now) }
+        (AreGrown (map short_object_of objects.now) placement.now (λ goes. [])) }
+    ensures refuses { IfErr result (AreUnfilled (map short_object_of objects.now) placement.now) }
 {
     let values = Values::of(alloc, objects, placement, names)?;
     let fixed = Fixed {
@@ -176,17 +180,17 @@ fn fill(
 /// The program of placed objects, whose regions are filled, and its map.
 fn finish(
     alloc: Global,
-    objects: &[Object],
+    objects: &[ShortObject<'_>],
     names: &Names<'_>,
     placement: Placement,
     entry: u64,
     regions: Regions,
 ) -> Result<Linked, LinkFault>
-    requires placed { IsPlaced (map object_of objects.now) names.now placement }
-    requires grown { AreGrown (map object_of objects.now) placement (λ goes. []) regions }
+    requires placed { IsPlaced (map short_object_of objects.now) names.now placement }
+    requires grown { AreGrown (map short_object_of objects.now) placement (λ goes. []) regions }
     requires even { entry % 2 ≡ 0 }
     ensures made { IfOk result
-        (λ l. linked_of l ≡ made (map object_of objects.now) placement entry regions) }
+        (λ l. linked_of l ≡ made (map short_object_of objects.now) placement entry regions) }
     ensures readable { IfOk result (λ l. IsMap (linked_of l).map) }
     ensures refuses { IfErr result (λ fault. fault ≡ OutOfMemory) }
 {
@@ -213,11 +217,11 @@ fn finish(
 }
 
 /// Whether an object has compressed code.
-fn has_compressed(objects: &[Object]) -> bool
-    ensures { result ≡ list_any (λ o. o.rvc) (map object_of objects.now) }
+fn has_compressed(objects: &[ShortObject<'_>]) -> bool
+    ensures { result ≡ list_any (λ o. o.rvc) (map short_object_of objects.now) }
 {
     for object in objects {
-        if object.rvc {
+        if object.whole.rvc {
             return true;
         }
     }

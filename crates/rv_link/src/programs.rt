@@ -6,7 +6,6 @@ ghost use Rattle.rv_object.specs.View.{object_of};
 ghost use Rattle.rv_object_laws.specs.Shortened.{IsProgramOf};
 ghost use Rattle.rv_link.specs.Refusals.{HasNoProgram};
 
-use crate::copies::copied;
 use crate::fault::LinkFault;
 use crate::options::LinkOptions;
 use crate::passes::{link_as_they_are, within_limits};
@@ -15,41 +14,18 @@ use rv_image::Linked;
 use rv_object::Object;
 use std::alloc::Global;
 
-/// Links objects into a program, whose text starts at an address. Relaxation, where it is on, remakes the objects, which are
-/// copied for it: [`link_all`] takes them.
-///
-/// # Errors
-///
-/// As those of [`link_all`].
-pub fn link(alloc: Global, objects: &[Object], options: LinkOptions) -> Result<Linked, LinkFault>
-    ensures links { IfOk result (λ l. IsProgramOf (map object_of objects.now)
-        options.text_start options.relax (linked_of l)) }
-    ensures refuses { IfErr result
-        (HasNoProgram (map object_of objects.now) options.text_start options.relax) }
-{
-    if !options.relax {
-        return link_as_they_are(alloc, objects, options.text_start);
-    }
-    within_limits(objects.len(), options.text_start)?;
-    link_all(alloc, copied(alloc, objects)?, options)
-}
-
-/// Links objects into a program, whose text starts at an address, and gives them up.
+/// Links objects into a program, whose text starts at an address. The objects are lent.
 ///
 /// # Errors
 ///
 /// The first fault of the objects that relaxation leaves, in the order of the passes: too many of them, a bad start of the text,
 /// names that are defined twice or not at all, a missing entry, paddings without room, too much memory, and then fields that
 /// cannot hold their values, by file, section and relocation.
-pub fn link_all(
-    alloc: Global,
-    objects: Vec<Object>,
-    options: LinkOptions,
-) -> Result<Linked, LinkFault>
-    ensures links { IfOk result (λ l. IsProgramOf (map object_of objects.items)
+pub fn link(alloc: Global, objects: &[Object], options: LinkOptions) -> Result<Linked, LinkFault>
+    ensures links { IfOk result (λ l. IsProgramOf (map object_of objects.now)
         options.text_start options.relax (linked_of l)) }
     ensures refuses { IfErr result
-        (HasNoProgram (map object_of objects.items) options.text_start options.relax) }
+        (HasNoProgram (map object_of objects.now) options.text_start options.relax) }
 {
     within_limits(objects.len(), options.text_start)?;
     let left = relaxed(alloc, objects, options.relax)?;

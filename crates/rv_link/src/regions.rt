@@ -1,9 +1,9 @@
 //! The bytes of the regions.
 
 ghost use Rattle.std.specs.Prelude.{◌≡◌, ◌+◌, ◌<◌, [], length, IfOk, IfErr, OnOk};
-ghost use Rattle.rv_object.specs.Parts.{contents_of};
 ghost use Rattle.rv_object_laws.specs.Inputs as laws;
 ghost use Rattle.rv_object_laws.specs.Names.{object_at};
+ghost use Rattle.rv_shorten.specs.Sections.{short_section_of};
 ghost use Rattle.rv_link.specs.Filled.{IsInputOf, objects_of};
 ghost use Rattle.rv_link.specs.Untaken.{AreUnfilled};
 ghost use Rattle.rv_link.specs.Regions.{AreGrown, IsFixed, left_files, left_from};
@@ -11,6 +11,7 @@ ghost use Rattle.rv_link.specs.Regions.{AreGrown, IsFixed, left_files, left_from
 use crate::fault::LinkFault;
 use crate::fixed::{Fixed, Input};
 use rv_object::Contents;
+use rv_shorten::ShortSection;
 use std::alloc::Global;
 
 /// What the regions of a program hold so far.
@@ -22,10 +23,10 @@ pub(crate) struct Regions {
 }
 
 /// Whether a section has no bytes in the file.
-fn is_nobits(contents: &Contents) -> bool
-    ensures { result ≡ laws.is_nobits (contents_of contents.now) }
+fn is_nobits(section: &ShortSection<'_>) -> bool
+    ensures { result ≡ laws.is_nobits (short_section_of section.now).contents }
 {
-    match contents {
+    match &section.whole.contents {
         Contents::Nobits(_) => true,
         Contents::Progbits(_) | Contents::Note(_) => false,
     }
@@ -99,7 +100,7 @@ impl Regions {
         &mut self,
         alloc: Global,
         fixed: &Fixed<'_, '_>,
-        input: &Input<'_>,
+        input: &Input<'_, '_>,
     ) -> Result<(), LinkFault>
         requires fixed { IsFixed fixed.now }
         requires input { IsInputOf fixed.now input.now }
@@ -111,18 +112,18 @@ impl Regions {
             (fixed.now).placement.now) }
     {
         let section = input.section;
-        if !section.loaded {
+        if !section.whole.loaded {
             return Ok(());
         }
-        if section.executable {
+        if section.whole.executable {
             fixed.put(alloc, input, fixed.placement.text.start, &mut self.text)?;
             return Ok(());
         }
-        if is_nobits(&section.contents) {
+        if is_nobits(section) {
             fixed.judge(input)?;
             return Ok(());
         }
-        if section.writable {
+        if section.whole.writable {
             fixed.put(alloc, input, fixed.placement.data.start, &mut self.data)?;
             return Ok(());
         }

@@ -4,6 +4,7 @@ ghost use Rattle.std.specs.Prelude.{◌≡◌, true, false, map, IfOk, IfErr, If
 ghost use Rattle.rv_object.specs.View.{object_of};
 ghost use Rattle.rv_object_laws.specs.Calls.{is_short_text, sites_of};
 ghost use Rattle.rv_object_laws.specs.Shortened.{Relaxes};
+ghost use Rattle.rv_shorten.specs.View.{short_object_of};
 ghost use Rattle.rv_relax.specs.Plan.{kept_of, placed_sites};
 ghost use Rattle.rv_link.specs.Refusals.{AreDoubled};
 
@@ -13,11 +14,16 @@ use rv_calls::placed;
 use rv_object::Object;
 use rv_relax::{Placed, Plan};
 use rv_resolve::Names;
-use rv_shorten::shorten;
+use rv_shorten::{ShortObject, shorten, whole};
 use std::alloc::Global;
 
-/// The text of objects; nothing where it is too long for memory.
-fn text(alloc: Global, objects: &[Object]) -> Result<Option<Placed>, LinkFault>
+/// The text of objects, of which these are lent and none is cut; nothing where it is too long for memory.
+fn text(
+    alloc: Global,
+    objects: &[Object],
+    lent: &[ShortObject<'_>],
+) -> Result<Option<Placed>, LinkFault>
+    requires { map short_object_of lent.now ≡ map object_of objects.now }
     ensures sites { IfOk result
         (λ text. IfSome text (λ p. placed_sites p ≡ sites_of (map object_of objects.now))) }
     ensures short { IfOk result
@@ -26,31 +32,32 @@ fn text(alloc: Global, objects: &[Object]) -> Result<Option<Placed>, LinkFault>
         (λ text. IfNone text (is_short_text (map object_of objects.now) ≡ false)) }
     ensures refuses { IfErr result (AreDoubled (map object_of objects.now)) }
 {
-    let names = match Names::of(alloc, objects) {
+    let names = match Names::of(alloc, lent) {
         Ok(names) => names,
         Err(fault) => return Err(of_names(alloc, fault)),
     };
     Ok(placed(alloc, objects, &names)?)
 }
 
-/// What relaxation, where it is on, leaves of objects.
-pub(crate) fn relaxed(
+/// What relaxation, where it is on, leaves of objects. They are lent: no byte of them moves before the program.
+pub(crate) fn relaxed<'o>(
     alloc: Global,
-    objects: Vec<Object>,
+    objects: &'o [Object],
     relax: bool,
-) -> Result<Vec<Object>, LinkFault>
+) -> Result<Vec<ShortObject<'o>>, LinkFault>
     ensures relaxes { IfOk result
-        (λ left. Relaxes relax (map object_of objects.items) (map object_of left.items)) }
-    ensures refuses { IfErr result (AreDoubled (map object_of objects.items)) }
+        (λ left. Relaxes relax (map object_of objects.now) (map short_object_of left.items)) }
+    ensures refuses { IfErr result (AreDoubled (map object_of objects.now)) }
 {
+    let lent = whole(alloc, objects)?;
     if !relax {
-        return Ok(objects);
+        return Ok(lent);
     }
-    match text(alloc, &objects)? {
+    match text(alloc, objects, &lent)? {
         Some(text) => {
             let plan = Plan::of(alloc, &text, true)?;
             Ok(shorten(alloc, objects, text.sites(), plan.kept())?)
         }
-        None => Ok(objects),
+        None => Ok(lent),
     }
 }

@@ -2,7 +2,7 @@
 
 use crate::objects::{ObjectRow, objects};
 use rv_image::Linked;
-use rv_link::{LinkFault, LinkOptions, link, link_all};
+use rv_link::{LinkFault, LinkOptions, link};
 use rv_object::Object;
 use std::alloc::{AllocError, Global};
 
@@ -36,12 +36,12 @@ pub(crate) fn link_objects(alloc: Global, objects: &[Object], text_start: u64) -
 }
 
 /// What the link of objects comes to at the usual start of the text, with their calls shortened or not.
-pub(crate) fn link_relaxed(alloc: Global, objects: Vec<Object>, relax: bool) -> Answer {
+pub(crate) fn link_relaxed(alloc: Global, objects: &[Object], relax: bool) -> Answer {
     let options = LinkOptions {
         text_start: 0x1_0000,
         relax,
     };
-    of_link(link_all(alloc, objects, options))
+    of_link(link(alloc, objects, options))
 }
 
 fn of_link(found: Result<Linked, LinkFault>) -> Answer {

@@ -5,9 +5,10 @@ use crate::objects::{A, ObjectRow, X, objects};
 use crate::relaxed::{START, THREE};
 use rv_calls::placed;
 use rv_isa::Kind;
-use rv_object::{Binding, Definition};
-use rv_relax::Plan;
+use rv_object::{Binding, Definition, Object};
+use rv_relax::{Placed, Plan};
 use rv_resolve::Names;
+use rv_shorten::whole;
 use std::alloc::{AllocError, Global};
 use std::test::Fail;
 
@@ -64,6 +65,15 @@ const SHORT: ObjectRow = (
     &[START],
 );
 
+/// The text of objects; none where a name has two definitions, or where it is too long.
+pub(crate) fn text(alloc: Global, objects: &[Object]) -> Result<Option<Placed>, AllocError> {
+    let lent = whole(alloc, objects)?;
+    let Ok(names) = Names::of(alloc, &lent) else {
+        return Ok(None);
+    };
+    placed(alloc, objects, &names)
+}
+
 /// The bytes of each call.
 fn sizes(alloc: Global, plan: &Plan<'_>) -> Result<Vec<u32>, AllocError> {
     let mut sizes = Vec::new(alloc);
@@ -95,10 +105,7 @@ fn tells(
     let Some(objects) = objects(alloc, &[row])? else {
         return Ok(false);
     };
-    let Ok(names) = Names::of(alloc, &objects) else {
-        return Ok(false);
-    };
-    let Some(text) = placed(alloc, &objects, &names)? else {
+    let Some(text) = text(alloc, &objects)? else {
         return Ok(false);
     };
     let plan = Plan::of(alloc, &text, true)?;

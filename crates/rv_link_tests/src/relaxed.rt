@@ -105,7 +105,7 @@ fn linked_row(
     let Some(objects) = objects(alloc, &[row])? else {
         return Ok(None);
     };
-    match link_relaxed(alloc, objects, relax) {
+    match link_relaxed(alloc, &objects, relax) {
         Answer::Linked(linked) => Ok(Some((linked.text, linked.data))),
         Answer::Fault(_) | Answer::Neither => Ok(None),
     }
@@ -230,7 +230,7 @@ fn length(alloc: Global, row: &Code) -> Result<Option<usize>, AllocError> {
     };
     let mut objects = Vec::new(alloc);
     objects.push(object)?;
-    match link_relaxed(alloc, objects, true) {
+    match link_relaxed(alloc, &objects, true) {
         Answer::Linked(linked) => Ok(Some(linked.text.len())),
         Answer::Fault(_) | Answer::Neither => Ok(None),
     }
@@ -249,7 +249,7 @@ fn calls_are_whole(rt: HostRuntime) -> Result<(), Fail> {
 fn f_in(alloc: Global, object: Object, relax: bool) -> Result<Option<u64>, AllocError> {
     let mut objects = Vec::new(alloc);
     objects.push(object)?;
-    match link_relaxed(alloc, objects, relax) {
+    match link_relaxed(alloc, &objects, relax) {
         Answer::Linked(linked) => Ok(
             linked
                 .map

@@ -1,12 +1,11 @@
 //! How many passes relaxation takes over calls of which each reaches only once its neighbour is shortened. The counts stand by
 //! hand: passes go forwards and backwards in turn, and the last shortens nothing.
 
+use crate::plans::text;
 use crate::relaxed::{CALL, START, code};
-use rv_calls::placed;
 use rv_isa::Kind;
 use rv_object::{Binding, Definition, Object};
 use rv_relax::Plan;
-use rv_resolve::Names;
 use std::alloc::{AllocError, Global};
 use std::test::Fail;
 
@@ -25,10 +24,7 @@ fn passes(alloc: Global, object: Option<Object>) -> Result<Option<(usize, bool)>
     };
     let mut objects = Vec::new(alloc);
     objects.push(object)?;
-    let Ok(names) = Names::of(alloc, &objects) else {
-        return Ok(None);
-    };
-    let Some(text) = placed(alloc, &objects, &names)? else {
+    let Some(text) = text(alloc, &objects)? else {
         return Ok(None);
     };
     let plan = Plan::of(alloc, &text, true)?;

@@ -18,7 +18,7 @@ use Rattle.rv_object_laws.proofs.TextLine.{text}
 use Rattle.rv_shorten.specs.Cutting.{AreCuts, AllCut, cut_section, cut_sections, cut_object}
 use Rattle.rv_shorten.specs.Walk.{AreWalked, walked, object_moves, passed_all}
 use Rattle.rv_shorten.proofs.Short.{size_left, fit_stays, paddings_stay}
-use Rattle.rv_shorten.proofs.Whole.{all_fit, as_many, rows_stay}
+use Rattle.rv_shorten.proofs.Stays.{all_fit, as_many, rows_stay}
 use Rattle.rv_shorten.proofs.Line.{AreSound, AllSound}
 use Rattle.rv_shorten.proofs.Laid.{walk_is}
 use Rattle.rv_one_link_laws.specs.Asked.{LeavesEven, LeavesBelow, IsSound, IsSmall}

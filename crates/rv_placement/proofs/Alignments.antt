@@ -1,13 +1,15 @@
 -- The multiple at which a section begins, whatever the order of its relocations.
 
 use Rattle.std.proofs.Common.{◌≡◌, ◌<◌, ◌≤◌, ◌+◌, ℕ, Bool, true, false, List, [], ◌∷◌, length, drop, get_or, map, max, nat_le, refl, sym, ap, ◌∙◌, arith}
-use Rattle.std.specs.Prelude.{filter, if◌then◌else◌}
+use Rattle.std.specs.Prelude.{filter, ◌&&◌, nat_lt, if◌then◌else◌}
 use Rattle.std.proofs.lemmas.List.{drop_more}
 use Rattle.rv_object.specs.Object.{Relocation, Section, Object}
 use Rattle.rv_object.specs.declared.relocation.Relocation.{Relocation as Declared}
 use Rattle.rv_object.specs.Parts.{relocation_of}
-use Rattle.rv_object_laws.specs.Moves.{has_padding, alignment_of, alignments_of, inserted, by_place, full_padding}
+use Rattle.rv_object_laws.specs.Moves.{Move, has_padding, alignment_of, alignments_of, inserted, by_place, full_padding}
 use Rattle.rv_object_laws.specs.Inputs.{raised, begins_at, goes_to_text}
+use Rattle.rv_shorten.specs.Cutting.{cut_relocation, cut_section}
+use Rattle.rv_shorten.proofs.Paddings.{align_stays}
 use Rattle.rv_placement.specs.Alignments.{asked, raised_by}
 use Rattle.rv_placement.specs.Walk.{greatest_in, greatest_of}
 
@@ -51,6 +53,22 @@ pub begins_other : (s : Section) → goes_to_text s ≡ false → begins_at s �
 begins_other s e =
     ap (λ b. raised (if b then by_place (filter has_padding s.relocations) else []) (max (if b then 2 else 1) s.alignment)) e
     ∙ (let same : max 1 s.alignment ≡ max s.alignment 1 = omega arith in same)
+
+-- cuts make no alignment and change no padding, so that what is left of a section begins at the same
+-- multiple
+asked_left : (ms : List Move) (r : Relocation) → asked (cut_relocation ms r) ≡ asked r
+asked_left ms r = ap (λ b. if b && nat_lt 0 (full_padding r) then alignment_of r else 0) (align_stays ms r)
+
+raised_left : (ms : List Move) (rs : List Relocation) (a : ℕ) → raised_by (map (cut_relocation ms) rs) a ≡ raised_by rs a
+raised_left ms [] a = refl
+raised_left ms (r ∷ rs) a = ap (λ n. max n (raised_by (map (cut_relocation ms) rs) a)) (asked_left ms r) ∙ ap (max (asked r)) (raised_left ms rs a)
+
+pub begins_left : (ms : List Move) (s : Section) → begins_at (cut_section ms s) ≡ begins_at s
+begins_left ms s = go (goes_to_text s) refl
+  where
+    go : (b : Bool) → goes_to_text s ≡ b → begins_at (cut_section ms s) ≡ begins_at s
+    go true e = begins_text (cut_section ms s) e ∙ raised_left ms s.relocations (max s.alignment 2) ∙ sym (begins_text s e)
+    go false e = begins_other (cut_section ms s) e ∙ sym (begins_other s e)
 
 -- a section begins at a multiple of one or more
 raised_up : (rs : List Relocation) (a : ℕ) → a ≤ raised rs a

@@ -1,12 +1,17 @@
 -- What a section loses is bounded by the count of its relocations.
 
-use Rattle.std.proofs.Common.{◌≡◌, ◌<◌, ◌≤◌, ◌+◌, ◌-◌, ◌*◌, ◌%◌, ◌^◌, ℕ, Bool, true, false, Option, Some, None, List, [], ◌∷◌, length, nat_le, nat_lt, refl, ap, ◌∙◌, arith}
+use Rattle.std.proofs.Common.{◌≡◌, ◌<◌, ◌≤◌, ◌+◌, ◌-◌, ◌*◌, ◌%◌, ◌^◌, ℕ, Bool, true, false, Option, Some, None, List, [], ◌∷◌, length, map, nat_le, nat_lt, refl, ap, ◌∙◌, arith}
 use Rattle.std.specs.Prelude.{unwrap_or, filter, not, ◌&&◌, ◌||◌, ◌==◌, IsTrue, if◌then◌else◌}
 use Rattle.std.specs.List.{list_all}
 use Rattle.std.proofs.lemmas.Bool.{leb-true}
+use Rattle.std.proofs.lemmas.List.{length-map}
 use Rattle.rv_object.specs.Object.{Contents, Relocation, Section, size_of}
+use Rattle.rv_object.specs.Parts.{relocation_of}
 use Rattle.rv_object.specs.Valid.{is_align, is_padding, is_padding_of, are_paddings, are_all_apart, padding_of}
 use Rattle.rv_object_laws.specs.Moves.{has_padding, aligned, alignment_of, dropped, new_offset, plan, moves, inserted, by_place, full_padding}
+use Rattle.rv_shorten.specs.declared.section.ShortSection.{ShortSection}
+use Rattle.rv_shorten.specs.Cutting.{cut_relocation}
+use Rattle.rv_shorten.specs.Sections.{moves_in, short_section_of}
 
 -- the bytes of paddings
 abbrev total : List Relocation → ℕ
@@ -88,3 +93,8 @@ pub huge_far : (s : Section) (start : ℕ) → IsTrue (are_paddings s.executable
 huge_far s start h few large =
     let most = most_dropped s start (size_of s.contents) h in
     omega arith
+
+-- cuts leave all relocations
+pub many_left : (s : ShortSection) → length (short_section_of s).relocations ≡ length s.whole.now.relocations.items
+many_left s =
+    length-map (map relocation_of s.whole.now.relocations.items) (cut_relocation (moves_in s)) ∙ length-map s.whole.now.relocations.items relocation_of

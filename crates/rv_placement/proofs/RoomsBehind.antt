@@ -4,13 +4,13 @@ use Rattle.std.proofs.Common.{◌≡◌, ◌<◌, ◌≤◌, ◌+◌, ℕ, Bool,
 use Rattle.std.specs.Prelude.{◌&&◌, ◌||◌, ◌⊎◌, not}
 use Rattle.std.specs.List.{list_all}
 use Rattle.std.proofs.lemmas.Bool.{le-leb, leb-true, leb-false}
-use Rattle.rv_object.specs.declared.object.Object.{Object as DeclaredObject}
-use Rattle.rv_object.specs.declared.section.Section.{Section as DeclaredSection}
 use Rattle.rv_object.specs.Object.{Section, Object}
-use Rattle.rv_object.specs.Sections.{section_of}
-use Rattle.rv_object.specs.View.{object_of}
 use Rattle.rv_object_laws.specs.Moves.{moves, has_room}
 use Rattle.rv_object_laws.specs.Inputs.{goes_to_text, begins_at}
+use Rattle.rv_shorten.specs.declared.section.ShortSection.{ShortSection}
+use Rattle.rv_shorten.specs.declared.object.ShortObject.{ShortObject}
+use Rattle.rv_shorten.specs.Sections.{short_section_of}
+use Rattle.rv_shorten.specs.View.{short_object_of}
 use Rattle.rv_placement.specs.Placement.{farthest}
 use Rattle.rv_placement.specs.Walk.{start_behind, end_from, next, ended, capped, is_roomy_from, is_roomy_behind, are_roomy_behind, are_files_roomy}
 use Rattle.rv_placement.proofs.Alignments.{begins_some}
@@ -81,35 +81,35 @@ files_capped n os = either_way (λ m. are_files_roomy m os) true n (λ m far. fi
 
 -- ---- the steps of loops
 
-module _ (stop i : ℕ) (sections : List DeclaredSection) (x : DeclaredSection) (inside : i < length sections) (is : x ≡ get_or sections i x) where
+module _ (stop i : ℕ) (sections : List ShortSection) (x : ShortSection) (inside : i < length sections) (is : x ≡ get_or sections i x) where
   abbrev rest : List Section
-  rest = map section_of (drop (i + 1) sections)
+  rest = map short_section_of (drop (i + 1) sections)
 
-  here : map section_of (drop i sections) ≡ section_of x ∷ rest
-  here = ap (map section_of) (left sections i x inside is)
+  here : map short_section_of (drop i sections) ≡ short_section_of x ∷ rest
+  here = ap (map short_section_of) (left sections i x inside is)
 
-  pub section_roomy : (end : ℕ) (whole : Bool) → end ≡ capped (next goes_to_text stop (section_of x)) → is_roomy_behind stop (section_of x) ≡ true → are_roomy_behind stop (map section_of (drop i sections)) ≡ whole
+  pub section_roomy : (end : ℕ) (whole : Bool) → end ≡ capped (next goes_to_text stop (short_section_of x)) → is_roomy_behind stop (short_section_of x) ≡ true → are_roomy_behind stop (map short_section_of (drop i sections)) ≡ whole
       → are_roomy_behind end rest ≡ whole
   section_roomy end whole ends roomy h =
-      ap (λ n. are_roomy_behind n rest) ends ∙ roomy_capped (next goes_to_text stop (section_of x)) rest
-      ∙ sym (ap (λ b. b && are_roomy_behind (next goes_to_text stop (section_of x)) rest) roomy) ∙ ap (are_roomy_behind stop) (sym here) ∙ h
+      ap (λ n. are_roomy_behind n rest) ends ∙ roomy_capped (next goes_to_text stop (short_section_of x)) rest
+      ∙ sym (ap (λ b. b && are_roomy_behind (next goes_to_text stop (short_section_of x)) rest) roomy) ∙ ap (are_roomy_behind stop) (sym here) ∙ h
 
-  pub section_capped : (end whole : ℕ) → end ≡ capped (next goes_to_text stop (section_of x)) → capped (ended goes_to_text stop (map section_of (drop i sections))) ≡ whole
+  pub section_capped : (end whole : ℕ) → end ≡ capped (next goes_to_text stop (short_section_of x)) → capped (ended goes_to_text stop (map short_section_of (drop i sections))) ≡ whole
       → capped (ended goes_to_text end rest) ≡ whole
   section_capped end whole ends h =
-      ap (λ n. capped (ended goes_to_text n rest)) ends ∙ ended_capped (next goes_to_text stop (section_of x)) rest ∙ ap (λ l. capped (ended goes_to_text stop l)) (sym here) ∙ h
+      ap (λ n. capped (ended goes_to_text n rest)) ends ∙ ended_capped (next goes_to_text stop (short_section_of x)) rest ∙ ap (λ l. capped (ended goes_to_text stop l)) (sym here) ∙ h
 
-module _ (stop i : ℕ) (objects : List DeclaredObject) (o : DeclaredObject) (inside : i < length objects) (is : o ≡ get_or objects i o) where
+module _ (stop i : ℕ) (objects : List ShortObject) (o : ShortObject) (inside : i < length objects) (is : o ≡ get_or objects i o) where
   abbrev others : List Object
-  others = map object_of (drop (i + 1) objects)
+  others = map short_object_of (drop (i + 1) objects)
 
   abbrev mine : List Section
-  mine = map section_of o.sections.items
+  mine = map short_section_of o.sections.items
 
-  there : map object_of (drop i objects) ≡ object_of o ∷ others
-  there = ap (map object_of) (left objects i o inside is)
+  there : map short_object_of (drop i objects) ≡ short_object_of o ∷ others
+  there = ap (map short_object_of) (left objects i o inside is)
 
-  pub object_roomy : (end : ℕ) (whole : Bool) → end ≡ capped (ended goes_to_text stop mine) → are_roomy_behind stop mine ≡ true → are_files_roomy stop (map object_of (drop i objects)) ≡ whole
+  pub object_roomy : (end : ℕ) (whole : Bool) → end ≡ capped (ended goes_to_text stop mine) → are_roomy_behind stop mine ≡ true → are_files_roomy stop (map short_object_of (drop i objects)) ≡ whole
       → are_files_roomy end others ≡ whole
   object_roomy end whole ends roomy h =
       ap (λ n. are_files_roomy n others) ends ∙ files_capped (ended goes_to_text stop mine) others

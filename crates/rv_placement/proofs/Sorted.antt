@@ -7,6 +7,8 @@ use Rattle.std.specs.List.{list_all}
 use Rattle.std.specs.List.Sorted.{ties, IsNonDecreasingBy, IsStableByKey}
 use Rattle.rv_object.specs.declared.row.Row.{Row}
 use Rattle.rv_object_laws.specs.IsLinkOf.{inserted_row, by_ordinal}
+use Rattle.rv_shorten.specs.declared.object.ShortObject.{ShortObject}
+use Rattle.rv_placement.specs.Moved.{moved_row, moved_rows}
 
 abbrev pub ordinal : Row → ℕ
 ordinal r = r.ordinal
@@ -170,3 +172,22 @@ all_ordered p [] h = refl
 all_ordered p (r ∷ rs) h =
     let both = and_parts (p r) (list_all p rs) h in
     all_inserted p r (by_ordinal rs) both.0 (all_ordered p rs both.1)
+
+-- ---- rows that have moved
+
+-- they keep their ordinals
+inserted_moved : (o : ShortObject) (r : Row) (qs : List Row) → inserted_row (moved_row o r) (moved_rows o qs) ≡ moved_rows o (inserted_row r qs)
+inserted_moved o r [] = refl
+inserted_moved o r (q ∷ qs) = by (nat_le r.ordinal q.ordinal) (inserted_moved o r qs)
+  where
+    by : (b : Bool) → inserted_row (moved_row o r) (moved_rows o qs) ≡ moved_rows o (inserted_row r qs)
+        → cond b (moved_row o r ∷ moved_row o q ∷ moved_rows o qs) (moved_row o q ∷ inserted_row (moved_row o r) (moved_rows o qs)) ≡ moved_rows o (cond b (r ∷ q ∷ qs) (q ∷ inserted_row r qs))
+    by true h = refl
+    by false h = ap (λ l. moved_row o q ∷ l) h
+
+ordered_moved : (o : ShortObject) (rs : List Row) → by_ordinal (moved_rows o rs) ≡ moved_rows o (by_ordinal rs)
+ordered_moved o [] = refl
+ordered_moved o (r ∷ rs) = ap (inserted_row (moved_row o r)) (ordered_moved o rs) ∙ inserted_moved o r (by_ordinal rs)
+
+pub sorted_moved : (o : ShortObject) (own rows : List Row) → own ≡ by_ordinal rows → moved_rows o own ≡ by_ordinal (moved_rows o rows)
+sorted_moved o own rows e = ap (moved_rows o) e ∙ sym (ordered_moved o rows)

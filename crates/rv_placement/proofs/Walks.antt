@@ -5,13 +5,13 @@ use Rattle.std.specs.Prelude.{if◌then◌else◌, IfNone}
 use Rattle.std.specs.Global.{Vec}
 use Rattle.std.proofs.lemmas.List.{drop_more, take_more_set, drop-set-lt, map-set, length-map}
 use Rattle.std.specs.List.{drop-map}
-use Rattle.rv_object.specs.declared.object.Object.{Object as DeclaredObject}
-use Rattle.rv_object.specs.declared.section.Section.{Section as DeclaredSection}
 use Rattle.rv_object.specs.Object.{Section, Object}
-use Rattle.rv_object.specs.Sections.{section_of}
-use Rattle.rv_object.specs.View.{object_of}
 use Rattle.rv_object_laws.specs.Moves.{aligned}
 use Rattle.rv_object_laws.specs.Inputs.{begins_at}
+use Rattle.rv_shorten.specs.declared.section.ShortSection.{ShortSection}
+use Rattle.rv_shorten.specs.declared.object.ShortObject.{ShortObject}
+use Rattle.rv_shorten.specs.Sections.{short_section_of}
+use Rattle.rv_shorten.specs.View.{short_object_of}
 use Rattle.rv_placement.specs.declared.placement.PlacedSection.{PlacedSection}
 use Rattle.rv_placement.specs.Walk.{end_behind, next, ended, ended_files, started, started_files, lists_of}
 use Rattle.rv_placement.proofs.Alignments.{begins_some}
@@ -47,12 +47,12 @@ left xs i x inside is = drop_more xs i x inside ∙ ap (λ y. y ∷ drop (i + 1)
 -- ---- the sections of a file
 
 -- one that passes a limit is in a walk that passes it
-pub file_far : (to : Section → Bool) (limit stop whole : ℕ) (sections : List DeclaredSection) (i : ℕ) (x : DeclaredSection) → i < length sections → x ≡ get_or sections i x
-    → limit < next to stop (section_of x) → ended to stop (map section_of (drop i sections)) ≡ whole → limit < whole
+pub file_far : (to : Section → Bool) (limit stop whole : ℕ) (sections : List ShortSection) (i : ℕ) (x : ShortSection) → i < length sections → x ≡ get_or sections i x
+    → limit < next to stop (short_section_of x) → ended to stop (map short_section_of (drop i sections)) ≡ whole → limit < whole
 file_far to limit stop whole sections i x inside is far h =
-    let rest = map section_of (drop (i + 1) sections) in
-    let e : ended to (next to stop (section_of x)) rest ≡ whole = ap (λ l. ended to stop (map section_of l)) (sym (left sections i x inside is)) ∙ h in
-    let more = grows to (next to stop (section_of x)) rest in
+    let rest = map short_section_of (drop (i + 1) sections) in
+    let e : ended to (next to stop (short_section_of x)) rest ≡ whole = ap (λ l. ended to stop (map short_section_of l)) (sym (left sections i x inside is)) ∙ h in
+    let more = grows to (next to stop (short_section_of x)) rest in
     omega arith
 
 -- ---- the files
@@ -60,23 +60,23 @@ file_far to limit stop whole sections i x inside is far h =
 lengths_of : List (List PlacedSection) → List ℕ
 lengths_of fs = map length fs
 
-pub each_file : (fs : List (Vec PlacedSection)) (objects : List DeclaredObject) (i : ℕ) (f : Vec PlacedSection) (o : DeclaredObject) → map length (lists_of fs) ≡ map (λ o. length o.sections) (map object_of objects)
+pub each_file : (fs : List (Vec PlacedSection)) (objects : List ShortObject) (i : ℕ) (f : Vec PlacedSection) (o : ShortObject) → map length (lists_of fs) ≡ map (λ o. length o.sections) (map short_object_of objects)
     → i < length fs → i < length objects → f ≡ get_or fs i f → o ≡ get_or objects i o → length f.items ≡ length o.sections.items
 each_file [] objects i f o each inside within is at = absurd (omega arith)
 each_file (g ∷ fs) [] i f o each inside within is at = absurd (omega arith)
 each_file (g ∷ fs) (p ∷ objects) zero f o each inside within is at =
-    let same : length g.items ≡ length (map section_of p.sections.items) = cc in
-    ap (λ (v : Vec PlacedSection). length v.items) is ∙ same ∙ length-map p.sections.items section_of ∙ ap (λ (x : DeclaredObject). length x.sections.items) (sym at)
+    let same : length g.items ≡ length (map short_section_of p.sections.items) = cc in
+    ap (λ (v : Vec PlacedSection). length v.items) is ∙ same ∙ length-map p.sections.items short_section_of ∙ ap (λ (x : ShortObject). length x.sections.items) (sym at)
 each_file (g ∷ fs) (p ∷ objects) (suc i) f o each inside within is at =
-    let rest : map length (lists_of fs) ≡ map (λ o. length o.sections) (map object_of objects) = cc in
+    let rest : map length (lists_of fs) ≡ map (λ o. length o.sections) (map short_object_of objects) = cc in
     each_file fs objects i f o rest (omega arith) (omega arith) is at
 
-pub files_far : (to : Section → Bool) (limit stop whole : ℕ) (objects : List DeclaredObject) (i : ℕ) (x : DeclaredObject) → i < length objects → x ≡ get_or objects i x
-    → limit < ended to stop (map section_of x.sections.items) → ended_files to stop (map object_of (drop i objects)) ≡ whole → limit < whole
+pub files_far : (to : Section → Bool) (limit stop whole : ℕ) (objects : List ShortObject) (i : ℕ) (x : ShortObject) → i < length objects → x ≡ get_or objects i x
+    → limit < ended to stop (map short_section_of x.sections.items) → ended_files to stop (map short_object_of (drop i objects)) ≡ whole → limit < whole
 files_far to limit stop whole objects i x inside is far h =
-    let rest = map object_of (drop (i + 1) objects) in
-    let e : ended_files to (ended to stop (map section_of x.sections.items)) rest ≡ whole = ap (λ l. ended_files to stop (map object_of l)) (sym (left objects i x inside is)) ∙ h in
-    let more = grows_files to (ended to stop (map section_of x.sections.items)) rest in
+    let rest = map short_object_of (drop (i + 1) objects) in
+    let e : ended_files to (ended to stop (map short_section_of x.sections.items)) rest ≡ whole = ap (λ l. ended_files to stop (map short_object_of l)) (sym (left objects i x inside is)) ∙ h in
+    let more = grows_files to (ended to stop (map short_section_of x.sections.items)) rest in
     omega arith
 
 pub length-started : (to : Section → Bool) (stop : ℕ) (qs : List PlacedSection) (ss : List Section) → length (started to stop qs ss) ≡ length qs
@@ -94,37 +94,37 @@ left_lists fs i f inside =
     drop-map (λ (v : Vec PlacedSection). v.items) i fs ∙ ap lists_of (drop_more fs i f inside)
     ∙ ap (λ l. (get_or fs i f).items ∷ l) (sym (drop-map (λ (v : Vec PlacedSection). v.items) (i + 1) fs))
 
-module _ (to : Section → Bool) (stop : ℕ) (fs : List (Vec PlacedSection)) (objects : List DeclaredObject) (i : ℕ) (f g : Vec PlacedSection) (o : DeclaredObject) (inside : i < length fs) (within : i < length objects)
-    (at : o ≡ get_or objects i o) (moved : g.items ≡ started to stop (get_or fs i f).items (map section_of o.sections.items)) where
+module _ (to : Section → Bool) (stop : ℕ) (fs : List (Vec PlacedSection)) (objects : List ShortObject) (i : ℕ) (f g : Vec PlacedSection) (o : ShortObject) (inside : i < length fs) (within : i < length objects)
+    (at : o ≡ get_or objects i o) (moved : g.items ≡ started to stop (get_or fs i f).items (map short_section_of o.sections.items)) where
   -- a file more is moved
-  pub files_moved : (end : ℕ) (all : List (List PlacedSection)) → end ≡ ended to stop (map section_of o.sections.items)
-      → take i (lists_of fs) ++ started_files to stop (drop i (lists_of fs)) (map object_of (drop i objects)) ≡ all
-      → take (i + 1) (lists_of (set fs i g)) ++ started_files to end (drop (i + 1) (lists_of (set fs i g))) (map object_of (drop (i + 1) objects)) ≡ all
+  pub files_moved : (end : ℕ) (all : List (List PlacedSection)) → end ≡ ended to stop (map short_section_of o.sections.items)
+      → take i (lists_of fs) ++ started_files to stop (drop i (lists_of fs)) (map short_object_of (drop i objects)) ≡ all
+      → take (i + 1) (lists_of (set fs i g)) ++ started_files to end (drop (i + 1) (lists_of (set fs i g))) (map short_object_of (drop (i + 1) objects)) ≡ all
   files_moved end all ends h =
       let fits : i < length (lists_of fs) = subst (λ n. i < n) (sym (length-map fs (λ (v : Vec PlacedSection). v.items))) inside in
-      let rest = map object_of (drop (i + 1) objects) in
+      let rest = map short_object_of (drop (i + 1) objects) in
       let behind = drop (i + 1) (lists_of fs) in
-      let new = ended to stop (map section_of o.sections.items) in
+      let new = ended to stop (map short_section_of o.sections.items) in
       ap (λ l. take (i + 1) l ++ started_files to end (drop (i + 1) l) rest) (map-set (λ (v : Vec PlacedSection). v.items) fs i g)
       ∙ ap (λ l. take (i + 1) (set (lists_of fs) i g.items) ++ started_files to end l rest) (drop-set-lt (i + 1) (lists_of fs) i g.items (omega arith))
       ∙ ap (λ l. l ++ started_files to end behind rest) (take_more_set (lists_of fs) i g.items fits)
       ∙ append_assoc (take i (lists_of fs)) (g.items ∷ []) (started_files to end behind rest)
       ∙ ap (λ n. take i (lists_of fs) ++ (g.items ∷ started_files to n behind rest)) ends
       ∙ ap (λ x. take i (lists_of fs) ++ (x ∷ started_files to new behind rest)) moved
-      ∙ ap (λ l. take i (lists_of fs) ++ started_files to stop l (object_of o ∷ rest)) (sym (left_lists fs i f inside))
-      ∙ ap (λ l. take i (lists_of fs) ++ started_files to stop (drop i (lists_of fs)) (map object_of l)) (sym (left objects i o within at)) ∙ h
+      ∙ ap (λ l. take i (lists_of fs) ++ started_files to stop l (short_object_of o ∷ rest)) (sym (left_lists fs i f inside))
+      ∙ ap (λ l. take i (lists_of fs) ++ started_files to stop (drop i (lists_of fs)) (map short_object_of l)) (sym (left objects i o within at)) ∙ h
 
-  pub files_ended : (end whole : ℕ) → end ≡ ended to stop (map section_of o.sections.items) → ended_files to stop (map object_of (drop i objects)) ≡ whole → ended_files to end (map object_of (drop (i + 1) objects)) ≡ whole
+  pub files_ended : (end whole : ℕ) → end ≡ ended to stop (map short_section_of o.sections.items) → ended_files to stop (map short_object_of (drop i objects)) ≡ whole → ended_files to end (map short_object_of (drop (i + 1) objects)) ≡ whole
   files_ended end whole ends h =
-      ap (λ n. ended_files to n (map object_of (drop (i + 1) objects))) ends ∙ ap (λ l. ended_files to stop (map object_of l)) (sym (left objects i o within at)) ∙ h
+      ap (λ n. ended_files to n (map short_object_of (drop (i + 1) objects))) ends ∙ ap (λ l. ended_files to stop (map short_object_of l)) (sym (left objects i o within at)) ∙ h
 
   pub files_each : (all : List ℕ) → map length (lists_of fs) ≡ all → map length (lists_of (set fs i g)) ≡ all
   files_each all h =
-      each_set fs i f g (ap length moved ∙ length-started to stop (get_or fs i f).items (map section_of o.sections.items)) inside ∙ h
+      each_set fs i f g (ap length moved ∙ length-started to stop (get_or fs i f).items (map short_section_of o.sections.items)) inside ∙ h
 
 -- there are as many files as objects
-pub as_many : (fs : List (Vec PlacedSection)) (objects : List DeclaredObject) → map length (lists_of fs) ≡ map (λ o. length o.sections) (map object_of objects) → length fs ≡ length objects
+pub as_many : (fs : List (Vec PlacedSection)) (objects : List ShortObject) → map length (lists_of fs) ≡ map (λ o. length o.sections) (map short_object_of objects) → length fs ≡ length objects
 as_many [] [] each = refl
 as_many [] (o ∷ objects) each = absurd (cc)
 as_many (f ∷ fs) [] each = absurd (cc)
-as_many (f ∷ fs) (o ∷ objects) each = ap (λ n. suc n) (as_many fs objects (let rest : map length (lists_of fs) ≡ map (λ o. length o.sections) (map object_of objects) = cc in rest))
+as_many (f ∷ fs) (o ∷ objects) each = ap (λ n. suc n) (as_many fs objects (let rest : map length (lists_of fs) ≡ map (λ o. length o.sections) (map short_object_of objects) = cc in rest))

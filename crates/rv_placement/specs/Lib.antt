@@ -1,3 +1,4 @@
+pub mod Moved
 pub mod Placement
 pub mod Alignments
 pub mod Walk

@@ -3,15 +3,17 @@
 ghost use Rattle.std.specs.Prelude.{◌≡◌, ◌<◌, ◌≤◌, ◌^◌, map, max};
 ghost use Rattle.rv_object.specs.Parts.{relocation_of};
 ghost use Rattle.rv_object.specs.Sections.{section_of};
-ghost use Rattle.rv_object.specs.View.{object_of};
 ghost use Rattle.rv_object_laws.specs.Moves as moves;
 ghost use Rattle.rv_object_laws.specs.Inputs as inputs;
+ghost use Rattle.rv_shorten.specs.Sections.{short_section_of};
+ghost use Rattle.rv_shorten.specs.View.{short_object_of};
 ghost use Rattle.rv_placement.specs.Alignments as laws;
 ghost use Rattle.rv_placement.specs.Walk as walk;
 
 use crate::destination::{Destination, goes_to, is_text};
-use rv_object::{Object, Relocation, Section};
+use rv_object::{Relocation, Section};
 use rv_relax::{asked_alignment, has_padding};
+use rv_shorten::{ShortObject, ShortSection};
 
 /// The least multiple of an alignment that is not below an address.
 pub(crate) fn next_multiple(alignment: u64, address: u64) -> u64
@@ -62,23 +64,32 @@ pub fn begins_at(section: &Section) -> u64
     }
 }
 
+/// The multiple at which what is left of a section begins: that of the section as it was.
+pub(crate) fn multiple_of(section: &ShortSection<'_>) -> u64
+    ensures value { result ≡ inputs.begins_at (short_section_of section.now) }
+    ensures some { 0 < result }
+    ensures small { result ≤ 4096 }
+{
+    begins_at(section.whole)
+}
+
 /// The multiple of a section that goes to a region; 1 of others.
-fn weight(destination: Destination, section: &Section) -> u64
-    ensures value { result ≡ walk.weight (walk.goes destination) (section_of section.now) }
+fn weight(destination: Destination, section: &ShortSection<'_>) -> u64
+    ensures value { result ≡ walk.weight (walk.goes destination) (short_section_of section.now) }
     ensures some { 0 < result }
     ensures small { result ≤ 4096 }
 {
     if goes_to(destination, section) {
-        begins_at(section)
+        multiple_of(section)
     } else {
         1
     }
 }
 
 /// The greatest multiple of the sections of a file that go to a region.
-fn greatest_in(destination: Destination, sections: &[Section]) -> u64
+fn greatest_in(destination: Destination, sections: &[ShortSection<'_>]) -> u64
     ensures value { result
-        ≡ walk.greatest_in (walk.goes destination) (map section_of sections.now) }
+        ≡ walk.greatest_in (walk.goes destination) (map short_section_of sections.now) }
     ensures some { 0 < result }
     ensures small { result ≤ 4096 }
 {
@@ -90,8 +101,9 @@ fn greatest_in(destination: Destination, sections: &[Section]) -> u64
 }
 
 /// The greatest multiple of the sections that go to a region.
-pub(crate) fn greatest_of(destination: Destination, objects: &[Object]) -> u64
-    ensures value { result ≡ walk.greatest_of (walk.goes destination) (map object_of objects.now) }
+pub(crate) fn greatest_of(destination: Destination, objects: &[ShortObject<'_>]) -> u64
+    ensures value { result
+        ≡ walk.greatest_of (walk.goes destination) (map short_object_of objects.now) }
     ensures some { 0 < result }
     ensures small { result ≤ 4096 }
 {

@@ -5,9 +5,11 @@ ghost use Rattle.rv_object.specs.Object.{size_of};
 ghost use Rattle.rv_object.specs.Parts.{contents_of};
 ghost use Rattle.rv_object.specs.Sections.{section_of};
 ghost use Rattle.rv_object_laws.specs.Inputs.{is_nobits, goes_to_text};
+ghost use Rattle.rv_shorten.specs.Sections.{short_section_of};
 ghost use Rattle.rv_placement.specs.Walk.{goes};
 
 use rv_object::{Contents, Section};
+use rv_shorten::ShortSection;
 
 /// A region behind the text to which sections go.
 #[derive(Clone, Copy, Drop)]
@@ -18,10 +20,10 @@ pub(crate) enum Destination {
 }
 
 /// Whether a section has no bytes in the file.
-fn has_no_bytes(contents: &Contents) -> bool
-    ensures { result ≡ is_nobits (contents_of contents.now) }
+fn has_no_bytes(section: &ShortSection<'_>) -> bool
+    ensures { result ≡ is_nobits (short_section_of section.now).contents }
 {
-    match contents {
+    match &section.whole.contents {
         Contents::Progbits(_) => false,
         Contents::Note(_) => false,
         Contents::Nobits(_) => true,
@@ -47,15 +49,15 @@ pub fn is_text(section: &Section) -> bool
 }
 
 /// Whether a section goes to a region.
-pub(crate) fn goes_to(destination: Destination, section: &Section) -> bool
-    ensures { result ≡ goes destination (section_of section.now) }
+pub(crate) fn goes_to(destination: Destination, section: &ShortSection<'_>) -> bool
+    ensures { result ≡ goes destination (short_section_of section.now) }
 {
-    if !section.loaded || section.executable {
+    if !section.whole.loaded || section.whole.executable {
         return false;
     }
     match destination {
-        Destination::Bss => has_no_bytes(&section.contents),
-        Destination::Data => !has_no_bytes(&section.contents) && section.writable,
-        Destination::Rodata => !has_no_bytes(&section.contents) && !section.writable,
+        Destination::Bss => has_no_bytes(section),
+        Destination::Data => !has_no_bytes(section) && section.whole.writable,
+        Destination::Rodata => !has_no_bytes(section) && !section.whole.writable,
     }
 }

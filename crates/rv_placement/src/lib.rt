@@ -1,7 +1,7 @@
 //! Where the sections of objects stand in memory.
 //!
-//! It takes a list of objects (`rv_object`) and the address at which the text begins, and gives the [`Placement`]: where each
-//! section starts, what is kept of it, the regions, and the gaps of the text.
+//! It takes a list of objects as calls that are cut short leave them (`rv_shorten`) and the address at which the text begins, and
+//! gives the [`Placement`]: where each section starts, what is kept of it, the regions, and the gaps of the text.
 //!
 //! Main contracts: of `Placement::of`, that the regions hold the sections of all files as `rv_object_laws` says (`IsPlacement`),
 //! or that these are too large for memory wherever they stand so (`IsTooLarge`; by `sections_stand` they stand so somewhere), and

@@ -4,9 +4,9 @@ ghost use Rattle.std.specs.Prelude.{◌≡◌, ◌+◌, ◌%◌, ◌<◌, ◌≤
 ghost use Rattle.std.specs.List.{slice_get};
 ghost use Rattle.rv_isa_laws.specs.Platform.{stack_start};
 ghost use Rattle.rv_object.specs.Object.{Object as PlainObject};
-ghost use Rattle.rv_object.specs.Sections.{section_of};
-ghost use Rattle.rv_object.specs.View.{object_of};
 ghost use Rattle.rv_object_laws.specs.Names.{offset_address};
+ghost use Rattle.rv_shorten.specs.Sections.{short_section_of};
+ghost use Rattle.rv_shorten.specs.View.{short_object_of};
 ghost use Rattle.rv_placement.specs.Placement as laws;
 ghost use Rattle.rv_placement.specs.Placement.{starts_of, placed_at, are_roomy_in, are_roomy, IsPlacement, AreRoomy, IsUnplaced};
 
@@ -16,8 +16,8 @@ use crate::room::unplaced;
 use crate::text::put_files;
 use rv_image::MEMORY_LIMIT;
 use rv_map::Region;
-use rv_object::{Object, Section};
 use rv_relax::SectionPlan;
+use rv_shorten::{ShortObject, ShortSection};
 use std::alloc::Global;
 
 /// A section with its address, and what is kept of it.
@@ -58,9 +58,13 @@ fn memory_of(text: Region, behind: Regions) -> u64
 }
 
 /// The section of an object, by that one's place, from 0, and its own index there.
-pub(crate) fn section_at(objects: &[Object], file: usize, index: u32) -> Option<&Section>
-    ensures { option_map (λ s. section_of s.now) result
-        ≡ laws.section_at (map object_of objects.now) file index }
+pub(crate) fn section_at<'s, 'o>(
+    objects: &'s [ShortObject<'o>],
+    file: usize,
+    index: u32,
+) -> Option<&'s ShortSection<'o>>
+    ensures { option_map (λ s. short_section_of s.now) result
+        ≡ laws.section_at (map short_object_of objects.now) file index }
 {
     let object = objects.get(file)?;
     object.sections.get(index as usize)
@@ -82,13 +86,13 @@ impl Placement {
     /// Places the sections of objects whose text begins at an address.
     pub fn of(
         alloc: Global,
-        objects: &[Object],
+        objects: &[ShortObject<'_>],
         text_start: u64,
     ) -> Result<Placement, PlacementFault>
         requires page { text_start % 4096 ≡ 0 }
         requires low { text_start < stack_start }
-        ensures placement { IfOk result (IsPlacement (map object_of objects.now) text_start) }
-        ensures refuses { IfErr result (IsUnplaced (map object_of objects.now) text_start) }
+        ensures placement { IfOk result (IsPlacement (map short_object_of objects.now) text_start) }
+        ensures refuses { IfErr result (IsUnplaced (map short_object_of objects.now) text_start) }
     {
         let mut files = Vec::new(alloc);
         let mut gaps = Vec::new(alloc);
@@ -126,16 +130,22 @@ impl Placement {
 
     /// The address of an old offset in a section, by its object, from 0, and its index there; none
     /// where it has no place in memory.
-    pub fn address(&self, objects: &[Object], file: usize, section: u32, offset: u64) -> Option<u64>
+    pub fn address(
+        &self,
+        objects: &[ShortObject<'_>],
+        file: usize,
+        section: u32,
+        offset: u64,
+    ) -> Option<u64>
         ensures { (start : ℕ) (o : PlainObject)
-            → IsPlacement (map object_of objects.now) start self.now
-            → slice_get (map object_of objects.now) file ≡ Some o
+            → IsPlacement (map short_object_of objects.now) start self.now
+            → slice_get (map short_object_of objects.now) file ≡ Some o
             → result ≡ offset_address (starts_of self.now (file + 1) section) offset
             (slice_get o.sections section) }
     {
         let stands = section_at(objects, file, section)?;
         let place = self.section(file, section)?;
-        if !stands.loaded {
+        if !stands.whole.loaded {
             return None;
         }
         Some(place.start.wrapping_add(place.plan.new_offset(offset)))

@@ -3,17 +3,17 @@
 ghost use Rattle.std.specs.Prelude.{◌≡◌, ◌+◌, ◌<◌, ◌≤◌, map, length, IfSome, IfNone};
 ghost use Rattle.rv_isa_laws.specs.Platform.{stack_start};
 ghost use Rattle.rv_object.specs.Object.{size_of};
-ghost use Rattle.rv_object.specs.Sections.{section_of};
-ghost use Rattle.rv_object.specs.View.{object_of};
+ghost use Rattle.rv_shorten.specs.Sections.{short_section_of};
+ghost use Rattle.rv_shorten.specs.View.{short_object_of};
 ghost use Rattle.rv_placement.specs.Walk.{goes, next, ended, ended_files, start_behind, moved_to, started, started_files};
 ghost use Rattle.rv_placement.specs.Walk.{lists_of, AreBehind, behind_files, AreFar};
 
-use crate::alignment::{begins_at, greatest_of, next_multiple};
-use crate::destination::{Destination, full_size, goes_to};
+use crate::alignment::{greatest_of, multiple_of, next_multiple};
+use crate::destination::{Destination, goes_to};
 use crate::placement::PlacedSection;
 use rv_image::STACK_START;
 use rv_map::Region;
-use rv_object::{Object, Section};
+use rv_shorten::{ShortObject, ShortSection};
 
 /// Regions with different rights begin at multiples of this.
 const PAGE: u64 = 4096;
@@ -31,16 +31,18 @@ pub(crate) struct Regions {
 
 /// Where a section starts and ends that loses no byte and comes after an end; `None` where it
 /// passes the end of memory.
-fn behind(section: &Section, stop: u64) -> Option<(u64, u64)>
+fn behind(section: &ShortSection<'_>, stop: u64) -> Option<(u64, u64)>
     requires { stop ≤ stack_start }
-    ensures found { IfSome result (λ found. (found.0 ≡ start_behind stop (section_of section.now))
-        × (found.1 ≡ found.0 + size_of (section_of section.now).contents)
+    ensures found { IfSome result (λ found.
+        (found.0 ≡ start_behind stop (short_section_of section.now))
+        × (found.1 ≡ found.0 + size_of (short_section_of section.now).contents)
         × (found.1 ≤ stack_start)) }
-    ensures far { IfNone result (stack_start
-        < start_behind stop (section_of section.now) + size_of (section_of section.now).contents) }
+    ensures far { IfNone result
+        (let s = short_section_of section.now in
+        stack_start < start_behind stop s + size_of s.contents) }
 {
-    let start = next_multiple(begins_at(section), stop);
-    let end = start.checked_add(full_size(&section.contents))?;
+    let start = next_multiple(multiple_of(section), stop);
+    let end = start.checked_add(section.size())?;
     if end > STACK_START {
         return None;
     }
@@ -51,16 +53,17 @@ fn behind(section: &Section, stop: u64) -> Option<(u64, u64)>
 /// passes the end of memory.
 fn move_section(
     place: &mut PlacedSection,
-    section: &Section,
+    section: &ShortSection<'_>,
     destination: Destination,
     stop: u64,
 ) -> Option<u64>
     requires { stop ≤ stack_start }
     ensures moved { IfSome result (λ end.
-        (place.new ≡ moved_to (goes destination) stop place.old (section_of section.now))
-        × (end ≡ next (goes destination) stop (section_of section.now)) × (end ≤ stack_start)) }
+        (place.new ≡ moved_to (goes destination) stop place.old (short_section_of section.now))
+        × (end ≡ next (goes destination) stop (short_section_of section.now))
+        × (end ≤ stack_start)) }
     ensures far { IfNone result
-        (stack_start < next (goes destination) stop (section_of section.now)) }
+        (stack_start < next (goes destination) stop (short_section_of section.now)) }
 {
     if !goes_to(destination, section) {
         return Some(stop);
@@ -73,18 +76,19 @@ fn move_section(
 /// Moves the sections of a file that go to a region, one behind another. Gives their end.
 fn move_file(
     places: &mut [PlacedSection],
-    sections: &[Section],
+    sections: &[ShortSection<'_>],
     destination: Destination,
     first: u64,
 ) -> Option<u64>
     requires each { length places.old ≡ length sections.now }
     requires low { first ≤ stack_start }
     ensures moved { IfSome result (λ end.
-        (places.new ≡ started (goes destination) first places.old (map section_of sections.now))
-        × (end ≡ ended (goes destination) first (map section_of sections.now))
+        (places.new
+        ≡ started (goes destination) first places.old (map short_section_of sections.now))
+        × (end ≡ ended (goes destination) first (map short_section_of sections.now))
         × (end ≤ stack_start)) }
     ensures far { IfNone result
-        (stack_start < ended (goes destination) first (map section_of sections.now)) }
+        (stack_start < ended (goes destination) first (map short_section_of sections.now)) }
 {
     let mut stop = first;
     for i in 0..sections.len() {
@@ -96,19 +100,20 @@ fn move_file(
 /// Moves the sections of all files that go to a region. Gives their end.
 fn move_files(
     files: &mut [Vec<PlacedSection>],
-    objects: &[Object],
+    objects: &[ShortObject<'_>],
     destination: Destination,
     first: u64,
 ) -> Option<u64>
     requires each { map length (lists_of files.old)
-        ≡ map (λ o. length o.sections) (map object_of objects.now) }
+        ≡ map (λ o. length o.sections) (map short_object_of objects.now) }
     requires low { first ≤ stack_start }
     ensures moved { IfSome result (λ end. (lists_of files.new
-        ≡ started_files (goes destination) first (lists_of files.old) (map object_of objects.now))
-        × (end ≡ ended_files (goes destination) first (map object_of objects.now))
+        ≡ started_files (goes destination) first (lists_of files.old)
+        (map short_object_of objects.now))
+        × (end ≡ ended_files (goes destination) first (map short_object_of objects.now))
         × (end ≤ stack_start)) }
     ensures far { IfNone result
-        (stack_start < ended_files (goes destination) first (map object_of objects.now)) }
+        (stack_start < ended_files (goes destination) first (map short_object_of objects.now)) }
 {
     let mut stop = first;
     for i in 0..objects.len() {
@@ -122,18 +127,19 @@ fn move_files(
 /// memory.
 fn region(
     files: &mut [Vec<PlacedSection>],
-    objects: &[Object],
+    objects: &[ShortObject<'_>],
     destination: Destination,
     start: u64,
 ) -> Option<Region>
     requires { map length (lists_of files.old)
-        ≡ map (λ o. length o.sections) (map object_of objects.now) }
+        ≡ map (λ o. length o.sections) (map short_object_of objects.now) }
     ensures moved { IfSome result (λ r. (r.start ≡ start) × (lists_of files.new
-        ≡ started_files (goes destination) start (lists_of files.old) (map object_of objects.now))
-        × (r.end ≡ ended_files (goes destination) start (map object_of objects.now))
+        ≡ started_files (goes destination) start (lists_of files.old)
+        (map short_object_of objects.now))
+        × (r.end ≡ ended_files (goes destination) start (map short_object_of objects.now))
         × (r.end ≤ stack_start)) }
     ensures far { IfNone result
-        (stack_start < ended_files (goes destination) start (map object_of objects.now)) }
+        (stack_start < ended_files (goes destination) start (map short_object_of objects.now)) }
 {
     if start > STACK_START {
         return None;
@@ -146,18 +152,19 @@ fn region(
 /// after data. `None` where they pass the end of memory.
 pub(crate) fn regions_behind(
     files: &mut [Vec<PlacedSection>],
-    objects: &[Object],
+    objects: &[ShortObject<'_>],
     text_end: u64,
 ) -> Option<Regions>
     requires each { map length (lists_of files.old)
-        ≡ map (λ o. length o.sections) (map object_of objects.now) }
+        ≡ map (λ o. length o.sections) (map short_object_of objects.now) }
     requires low { text_end ≤ stack_start }
     ensures behind { IfSome result
-        (λ r. AreBehind (map object_of objects.now) text_end r.rodata r.data r.bss) }
+        (λ r. AreBehind (map short_object_of objects.now) text_end r.rodata r.data r.bss) }
     ensures moved { IfSome result (λ r. lists_of files.new
-        ≡ behind_files (lists_of files.old) r.rodata r.data r.bss (map object_of objects.now)) }
+        ≡ behind_files (lists_of files.old) r.rodata r.data r.bss
+        (map short_object_of objects.now)) }
     ensures low { IfSome result (λ r. r.bss.end ≤ stack_start) }
-    ensures far { IfNone result (AreFar (map object_of objects.now) text_end) }
+    ensures far { IfNone result (AreFar (map short_object_of objects.now) text_end) }
 {
     let rodata = region(
         files,

@@ -2,18 +2,18 @@
 
 ghost use Rattle.std.specs.Prelude.{◌≡◌, ◌<◌, ◌≤◌, true, false, map, IfOk, IfSome, IfNone};
 ghost use Rattle.rv_isa_laws.specs.Platform.{stack_start};
-ghost use Rattle.rv_object.specs.Sections.{section_of};
-ghost use Rattle.rv_object.specs.View.{object_of};
 ghost use Rattle.rv_object_laws.specs.Inputs.{goes_to_text};
+ghost use Rattle.rv_shorten.specs.Sections.{short_section_of};
+ghost use Rattle.rv_shorten.specs.View.{short_object_of};
 ghost use Rattle.rv_placement.specs.Placement.{farthest, IsTooLarge, IsUnplaced};
 ghost use Rattle.rv_placement.specs.Walk.{next, ended, capped, is_roomy_behind, are_roomy_behind, are_files_roomy};
 
-use crate::alignment::{begins_at, next_multiple};
-use crate::destination::{full_size, is_text};
+use crate::alignment::{multiple_of, next_multiple};
+use crate::destination::is_text;
 use crate::fault::PlacementFault;
 use crate::text::MANY;
-use rv_object::{Object, Section};
 use rv_relax::SectionPlan;
+use rv_shorten::{ShortObject, ShortSection};
 use std::alloc::{AllocError, Global};
 
 /// Sections are looked at that start below this.
@@ -25,22 +25,26 @@ const HUGE: u64 = 1 << 63;
 
 /// The end after a section that comes after an end, `FARTHEST` at most; `None` where a padding of
 /// it has no room.
-fn room_behind(alloc: Global, section: &Section, stop: u64) -> Result<Option<u64>, AllocError>
+fn room_behind(
+    alloc: Global,
+    section: &ShortSection<'_>,
+    stop: u64,
+) -> Result<Option<u64>, AllocError>
     requires { stop ≤ farthest }
     ensures roomy { IfOk result (λ found. IfSome found (λ end.
-        (end ≡ capped (next goes_to_text stop (section_of section.now)))
-        × (is_roomy_behind stop (section_of section.now) ≡ true))) }
+        (end ≡ capped (next goes_to_text stop (short_section_of section.now)))
+        × (is_roomy_behind stop (short_section_of section.now) ≡ true))) }
     ensures short { IfOk result (λ found. IfNone found
-        (is_roomy_behind stop (section_of section.now) ≡ false)) }
+        (is_roomy_behind stop (short_section_of section.now) ≡ false)) }
 {
-    if !is_text(section) {
+    if !is_text(section.whole) {
         return Ok(Some(stop));
     }
-    let start = next_multiple(begins_at(section), stop);
+    let start = next_multiple(multiple_of(section), stop);
     if start >= FARTHEST {
         return Ok(Some(FARTHEST));
     }
-    let size = full_size(&section.contents);
+    let size = section.size();
     let plan = SectionPlan::of(alloc, section, start)?;
     if !plan.is_roomy() {
         return Ok(None);
@@ -48,7 +52,7 @@ fn room_behind(alloc: Global, section: &Section, stop: u64) -> Result<Option<u64
     if size <= HUGE {
         return Ok(Some((start + plan.new_offset(size)).min(FARTHEST)));
     }
-    if section.relocations.len() as u64 > MANY {
+    if section.whole.relocations.len() as u64 > MANY {
         return Err(AllocError);
     }
     Ok(Some(FARTHEST))
@@ -56,13 +60,17 @@ fn room_behind(alloc: Global, section: &Section, stop: u64) -> Result<Option<u64
 
 /// The end after the sections of a file that come after an end, `FARTHEST` at most; `None` where a
 /// padding of the text has no room.
-fn room_in(alloc: Global, sections: &[Section], first: u64) -> Result<Option<u64>, AllocError>
+fn room_in(
+    alloc: Global,
+    sections: &[ShortSection<'_>],
+    first: u64,
+) -> Result<Option<u64>, AllocError>
     requires { first ≤ farthest }
     ensures roomy { IfOk result (λ found. IfSome found (λ end.
-        (end ≡ capped (ended goes_to_text first (map section_of sections.now)))
-        × (are_roomy_behind first (map section_of sections.now) ≡ true))) }
+        (end ≡ capped (ended goes_to_text first (map short_section_of sections.now)))
+        × (are_roomy_behind first (map short_section_of sections.now) ≡ true))) }
     ensures short { IfOk result (λ found. IfNone found
-        (are_roomy_behind first (map section_of sections.now) ≡ false)) }
+        (are_roomy_behind first (map short_section_of sections.now) ≡ false)) }
 {
     let mut stop = first;
     for section in sections {
@@ -75,9 +83,14 @@ fn room_in(alloc: Global, sections: &[Section], first: u64) -> Result<Option<u64
 }
 
 /// Whether each padding of the text has room in a section that starts below `FARTHEST`.
-fn is_roomy_below(alloc: Global, objects: &[Object], first: u64) -> Result<bool, AllocError>
+fn is_roomy_below(
+    alloc: Global,
+    objects: &[ShortObject<'_>],
+    first: u64,
+) -> Result<bool, AllocError>
     requires { first ≤ farthest }
-    ensures { IfOk result (λ roomy. roomy ≡ are_files_roomy first (map object_of objects.now)) }
+    ensures { IfOk result
+        (λ roomy. roomy ≡ are_files_roomy first (map short_object_of objects.now)) }
 {
     let mut stop = first;
     for object in objects {
@@ -90,10 +103,14 @@ fn is_roomy_below(alloc: Global, objects: &[Object], first: u64) -> Result<bool,
 }
 
 /// Why sections that are too large cannot be placed.
-pub(crate) fn unplaced(alloc: Global, objects: &[Object], text_start: u64) -> PlacementFault
+pub(crate) fn unplaced(
+    alloc: Global,
+    objects: &[ShortObject<'_>],
+    text_start: u64,
+) -> PlacementFault
     requires { text_start < stack_start }
-    ensures { IsTooLarge (map object_of objects.now) text_start
-        → IsUnplaced (map object_of objects.now) text_start result }
+    ensures { IsTooLarge (map short_object_of objects.now) text_start
+        → IsUnplaced (map short_object_of objects.now) text_start result }
 {
     match is_roomy_below(alloc, objects, text_start) {
         Ok(roomy) => {

@@ -5,14 +5,16 @@ ghost use Rattle.std.specs.Bool.{OnTrue};
 ghost use Rattle.std.specs.List.{slice_get};
 ghost use Rattle.rv_object.specs.Object.{Object as PlainObject};
 ghost use Rattle.rv_object.specs.Valid.{are_rows};
-ghost use Rattle.rv_object.specs.View.{object_of};
 ghost use Rattle.rv_object_laws.specs.IsLinkOf as laws;
+ghost use Rattle.rv_shorten.specs.View.{short_object_of};
 ghost use Rattle.rv_relax.specs.Plan.{moves_of};
+ghost use Rattle.rv_placement.specs.Moved.{moved_rows};
 ghost use Rattle.rv_placement.specs.Placement.{starts_of, IsPlacement};
 
 use crate::placement::{PlacedSection, Placement};
 use rv_map::Row as MapRow;
-use rv_object::{Object, Row};
+use rv_object::Row;
+use rv_shorten::ShortObject;
 use std::alloc::{AllocError, Global};
 
 /// The row of a map for a row of an object: it moves with the bytes that are kept, and loses the
@@ -58,25 +60,28 @@ fn by_ordinal(alloc: Global, rows: &[Row]) -> Result<Vec<Row>, AllocError>
 }
 
 impl Placement {
-    /// Adds rows of an object, by its place, from 0.
+    /// Adds rows of an object, by its place, from 0, as its cuts have moved them.
     fn put_rows(
         &self,
         rows: &mut Vec<MapRow>,
-        object: &Object,
+        object: &ShortObject<'_>,
         file: usize,
         own: &[Row],
     ) -> Result<(), AllocError>
         requires file { file + 1 < 2 ^ 64 }
-        requires own { IsTrue (are_rows (object_of object.now).sections own.now) }
+        requires own { IsTrue
+            (are_rows (short_object_of object.now).sections (moved_rows object.now own.now)) }
         ensures { (os : List PlainObject) (start : ℕ) → IsPlacement os start self.now
-            → slice_get os file ≡ Some (object_of object.now)
+            → slice_get os file ≡ Some (short_object_of object.now)
             → IfOk result (λ _. rows.new.items ≡ rows.old.items
-            ++ map (laws.row_in (starts_of self.now) (file + 1) (object_of object.now)) own.now) }
+            ++ map (laws.row_in (starts_of self.now) (file + 1) (short_object_of object.now))
+            (moved_rows object.now own.now)) }
     {
         rows.reserve(own.len())?;
         for row in own {
+            let moved = object.row(row);
             match self.section(file, row.section) {
-                Some(place) => rows.push(map_row(file as u64 + 1, place, row))?,
+                Some(place) => rows.push(map_row(file as u64 + 1, place, &moved))?,
                 None => return Ok(()),
             }
         }
@@ -88,28 +93,33 @@ impl Placement {
         &self,
         alloc: Global,
         rows: &mut Vec<MapRow>,
-        object: &Object,
+        object: &ShortObject<'_>,
         file: usize,
     ) -> Result<(), AllocError>
         requires { file + 1 < 2 ^ 64 }
         ensures { (os : List PlainObject) (start : ℕ) → IsPlacement os start self.now
-            → slice_get os file ≡ Some (object_of object.now)
+            → slice_get os file ≡ Some (short_object_of object.now)
             → IfOk result (λ _. rows.new.items ≡ rows.old.items
-            ++ map (laws.row_in (starts_of self.now) (file + 1) (object_of object.now))
-            (laws.by_ordinal (object.now).rows.items)) }
+            ++ map (laws.row_in (starts_of self.now) (file + 1) (short_object_of object.now))
+            (laws.by_ordinal (short_object_of object.now).rows)) }
     {
-        if are_ordered(object.rows.as_slice()) {
-            return self.put_rows(rows, object, file, object.rows.as_slice());
+        let own = object.whole.rows.as_slice();
+        if are_ordered(own) {
+            return self.put_rows(rows, object, file, own);
         }
-        let own = by_ordinal(alloc, object.rows.as_slice())?;
-        self.put_rows(rows, object, file, own.as_slice())
+        let sorted = by_ordinal(alloc, own)?;
+        self.put_rows(rows, object, file, sorted.as_slice())
     }
 
     /// The rows of a map, by object and then by ordinal.
-    pub fn rows(&self, alloc: Global, objects: &[Object]) -> Result<Vec<MapRow>, AllocError>
-        ensures { (start : ℕ) → IsPlacement (map object_of objects.now) start self.now
+    pub fn rows(
+        &self,
+        alloc: Global,
+        objects: &[ShortObject<'_>],
+    ) -> Result<Vec<MapRow>, AllocError>
+        ensures { (start : ℕ) → IsPlacement (map short_object_of objects.now) start self.now
             → IfOk result (λ rows. rows.items
-            ≡ laws.rows_of (starts_of self.now) 1 (map object_of objects.now)) }
+            ≡ laws.rows_of (starts_of self.now) 1 (map short_object_of objects.now)) }
     {
         let mut rows = Vec::new(alloc);
         for i in 0..objects.len() {

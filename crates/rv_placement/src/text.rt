@@ -3,18 +3,18 @@
 ghost use Rattle.std.specs.Prelude.{◌≡◌, ◌+◌, ◌++◌, ◌<◌, ◌≤◌, [], map, IfOk, IfSome, IfNone};
 ghost use Rattle.std.specs.List.{AllZip};
 ghost use Rattle.rv_isa_laws.specs.Platform.{stack_start};
-ghost use Rattle.rv_object.specs.Sections.{section_of};
-ghost use Rattle.rv_object.specs.View.{object_of};
 ghost use Rattle.rv_object_laws.specs.Inputs.{goes_to_text};
+ghost use Rattle.rv_shorten.specs.Sections.{short_section_of};
+ghost use Rattle.rv_shorten.specs.View.{short_object_of};
 ghost use Rattle.rv_placement.specs.Walk.{end_from, start_from, next, ended, ended_files, lists_of, text_starts, text_files, gap_between, gap_behind, gapped, gapped_files, IsKept, AreKept, IsPut};
 
-use crate::alignment::{begins_at, next_multiple};
-use crate::destination::{full_size, is_text};
+use crate::alignment::{multiple_of, next_multiple};
+use crate::destination::is_text;
 use crate::placement::PlacedSection;
 use rv_image::STACK_START;
 use rv_map::Region;
-use rv_object::{Object, Section};
 use rv_relax::SectionPlan;
+use rv_shorten::{ShortObject, ShortSection};
 use std::alloc::{AllocError, Global};
 
 /// A section with more bytes than this passes the end of memory whatever is dropped of it, unless
@@ -28,12 +28,12 @@ pub(crate) const MANY: u64 = 1 << 40;
 fn put_other(
     alloc: Global,
     places: &mut Vec<PlacedSection>,
-    section: &Section,
+    section: &ShortSection<'_>,
 ) -> Result<(), AllocError>
     ensures { IfOk result
-        (λ _. IsPut (section_of section.now) 0 places.old.items places.new.items) }
+        (λ _. IsPut (short_section_of section.now) 0 places.old.items places.new.items) }
 {
-    let _size = full_size(&section.contents);
+    let _size = section.size();
     let plan = SectionPlan::of(alloc, section, 0)?;
     places.push(PlacedSection { start: 0, plan })?;
     Ok(())
@@ -44,19 +44,19 @@ fn put_other(
 fn put_code(
     alloc: Global,
     places: &mut Vec<PlacedSection>,
-    section: &Section,
+    section: &ShortSection<'_>,
     start: u64,
 ) -> Result<Option<u64>, AllocError>
     requires { start ≤ stack_start }
     ensures placed { IfOk result (λ found. IfSome found (λ end.
-        (end ≡ end_from start (section_of section.now)) × (end ≤ stack_start)
-        × IsPut (section_of section.now) start places.old.items places.new.items)) }
+        (end ≡ end_from start (short_section_of section.now)) × (end ≤ stack_start)
+        × IsPut (short_section_of section.now) start places.old.items places.new.items)) }
     ensures far { IfOk result (λ found. IfNone found
-        (stack_start < end_from start (section_of section.now))) }
+        (stack_start < end_from start (short_section_of section.now))) }
 {
-    let size = full_size(&section.contents);
+    let size = section.size();
     if size > HUGE {
-        if section.relocations.len() as u64 > MANY {
+        if section.whole.relocations.len() as u64 > MANY {
             return Err(AllocError);
         }
         return Ok(None);
@@ -89,23 +89,24 @@ fn put_section(
     alloc: Global,
     places: &mut Vec<PlacedSection>,
     gaps: &mut Vec<Region>,
-    section: &Section,
+    section: &ShortSection<'_>,
     stop: u64,
 ) -> Result<Option<u64>, AllocError>
     requires { stop ≤ stack_start }
     ensures placed { IfOk result (λ found. IfSome found (λ end.
-        (end ≡ next goes_to_text stop (section_of section.now)) × (end ≤ stack_start)
-        × IsPut (section_of section.now) (start_from goes_to_text stop 0 (section_of section.now))
+        (end ≡ next goes_to_text stop (short_section_of section.now)) × (end ≤ stack_start)
+        × IsPut (short_section_of section.now)
+        (start_from goes_to_text stop 0 (short_section_of section.now))
         places.old.items places.new.items
-        × (gaps.new.items ≡ gaps.old.items ++ gap_behind stop (section_of section.now)))) }
+        × (gaps.new.items ≡ gaps.old.items ++ gap_behind stop (short_section_of section.now)))) }
     ensures far { IfOk result (λ found. IfNone found
-        (stack_start < next goes_to_text stop (section_of section.now))) }
+        (stack_start < next goes_to_text stop (short_section_of section.now))) }
 {
-    if !is_text(section) {
+    if !is_text(section.whole) {
         put_other(alloc, places, section)?;
         return Ok(Some(stop));
     }
-    let start = next_multiple(begins_at(section), stop);
+    let start = next_multiple(multiple_of(section), stop);
     if start > STACK_START {
         return Ok(None);
     }
@@ -122,18 +123,19 @@ fn put_file(
     alloc: Global,
     places: &mut Vec<PlacedSection>,
     gaps: &mut Vec<Region>,
-    sections: &[Section],
+    sections: &[ShortSection<'_>],
     first: u64,
 ) -> Result<Option<u64>, AllocError>
     requires empty { places.old.items ≡ [] }
     requires low { first ≤ stack_start }
     ensures placed { IfOk result (λ found. IfSome found (λ end.
-        (end ≡ ended goes_to_text first (map section_of sections.now)) × (end ≤ stack_start)
-        × (map (λ q. q.start) places.new.items ≡ text_starts first (map section_of sections.now))
-        × AllZip IsKept (map section_of sections.now) places.new.items
-        × (gaps.new.items ≡ gaps.old.items ++ gapped first (map section_of sections.now)))) }
+        (end ≡ ended goes_to_text first (map short_section_of sections.now)) × (end ≤ stack_start)
+        × (map (λ q. q.start) places.new.items
+        ≡ text_starts first (map short_section_of sections.now))
+        × AllZip IsKept (map short_section_of sections.now) places.new.items
+        × (gaps.new.items ≡ gaps.old.items ++ gapped first (map short_section_of sections.now)))) }
     ensures far { IfOk result (λ found. IfNone found
-        (stack_start < ended goes_to_text first (map section_of sections.now))) }
+        (stack_start < ended goes_to_text first (map short_section_of sections.now))) }
 {
     let mut stop = first;
     for section in sections {
@@ -151,19 +153,21 @@ pub(crate) fn put_files(
     alloc: Global,
     files: &mut Vec<Vec<PlacedSection>>,
     gaps: &mut Vec<Region>,
-    objects: &[Object],
+    objects: &[ShortObject<'_>],
     first: u64,
 ) -> Result<Option<u64>, AllocError>
     requires empty { files.old.items ≡ [] }
     requires low { first ≤ stack_start }
     ensures placed { IfOk result (λ found. IfSome found (λ end.
-        (end ≡ ended_files goes_to_text first (map object_of objects.now)) × (end ≤ stack_start)
+        (end ≡ ended_files goes_to_text first (map short_object_of objects.now))
+        × (end ≤ stack_start)
         × (map (λ f. map (λ q. q.start) f) (lists_of files.new.items)
-        ≡ text_files first (map object_of objects.now))
-        × AllZip AreKept (map object_of objects.now) (lists_of files.new.items)
-        × (gaps.new.items ≡ gaps.old.items ++ gapped_files first (map object_of objects.now)))) }
+        ≡ text_files first (map short_object_of objects.now))
+        × AllZip AreKept (map short_object_of objects.now) (lists_of files.new.items)
+        × (gaps.new.items
+        ≡ gaps.old.items ++ gapped_files first (map short_object_of objects.now)))) }
     ensures far { IfOk result (λ found. IfNone found
-        (stack_start < ended_files goes_to_text first (map object_of objects.now))) }
+        (stack_start < ended_files goes_to_text first (map short_object_of objects.now))) }
 {
     let mut stop = first;
     for object in objects {

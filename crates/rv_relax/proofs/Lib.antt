@@ -1,11 +1,9 @@
-pub mod Order
-pub mod Losses
 pub mod Aligned
 pub mod Sorting
+pub mod Moved
 pub mod Stable
 pub mod Planned
 pub mod Kept
-pub mod Rooms
 pub mod Apart
 pub mod ByPlace
 pub mod Dropping
@@ -16,4 +14,6 @@ pub mod Laid
 pub mod Placing
 pub mod Sizing
 pub mod Pieced
+pub mod Order
+pub mod Losing
 pub mod Spread

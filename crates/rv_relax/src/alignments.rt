@@ -1,13 +1,16 @@
 //! The alignments of a section.
 
-ghost use Rattle.std.specs.Prelude.{◌≡◌, ◌<◌, ◌≤◌, ◌++◌, [], ◌∷◌, true, map, reverse, IfOk, OnOk, if◌then◌else◌};
+ghost use Rattle.std.specs.Prelude.{◌≡◌, ◌-◌, ◌<◌, ◌≤◌, ◌++◌, [], ◌∷◌, true, map, reverse, IfOk, OnOk, if◌then◌else◌};
 ghost use Rattle.std.specs.List.{filter};
 ghost use Rattle.rv_object.specs.Parts.{relocation_of};
 ghost use Rattle.rv_object.specs.Valid.{are_all_apart};
-ghost use Rattle.rv_object_laws.specs.Moves.{alignment_of, by_place, full_padding as full_padding_of, has_padding as has_padding_of};
+ghost use Rattle.rv_object_laws.specs.Moves.{aligned, alignment_of, by_place, full_padding as full_padding_of, has_padding as has_padding_of};
+ghost use Rattle.rv_shorten.specs.Cutting.{cut_relocation};
+ghost use Rattle.rv_shorten.specs.Sections.{moves_in, short_section_of};
 
 use rv_isa::Kind;
 use rv_object::Relocation;
+use rv_shorten::ShortSection;
 use std::alloc::{AllocError, Global};
 
 /// The bytes of the padding that stands at an alignment.
@@ -39,6 +42,19 @@ pub fn asked_alignment(alignment: &Relocation) -> u64
     4096
 }
 
+/// The bytes from an address to the next multiple of an alignment.
+pub(crate) fn least_padding(alignment: u32, address: u64) -> u32
+    requires { 0 < alignment }
+    ensures value { result ≡ aligned alignment address - address }
+    ensures low { result < alignment }
+{
+    let over = address % u64::from(alignment);
+    if over == 0 {
+        return 0;
+    }
+    (u64::from(alignment) - over) as u32
+}
+
 /// Whether a relocation is an alignment with bytes of padding.
 pub fn has_padding(relocation: &Relocation) -> bool
     ensures { result ≡ has_padding_of (relocation_of relocation.now) }
@@ -46,42 +62,49 @@ pub fn has_padding(relocation: &Relocation) -> bool
     matches!(relocation.kind, Kind::Align) && full_padding(relocation) > 0
 }
 
-/// Adds a relocation, if it is an alignment with bytes of padding.
-fn put(found: &mut Vec<Relocation>, relocation: &Relocation) -> Result<(), AllocError>
-    ensures { OnOk result (map relocation_of found.new.items
-        ≡ (if has_padding_of (relocation_of relocation.now)
-        then map relocation_of found.old.items ++ relocation_of relocation.now ∷ []
+/// Adds a relocation of a section as it has moved, if it is an alignment with bytes of padding.
+fn put(
+    found: &mut Vec<Relocation>,
+    section: &ShortSection<'_>,
+    relocation: &Relocation,
+) -> Result<(), AllocError>
+    ensures { OnOk result
+        (let moved = cut_relocation (moves_in section.now) (relocation_of relocation.now) in
+        map relocation_of found.new.items
+        ≡ (if has_padding_of moved
+        then map relocation_of found.old.items ++ moved ∷ []
         else map relocation_of found.old.items)) }
 {
+    // a move makes no alignment of another relocation, nor the reverse
     if !has_padding(relocation) {
         return Ok(());
     }
-    found.push(*relocation)?;
+    found.push(section.relocation(relocation))?;
     Ok(())
 }
 
-/// The alignments with bytes of padding among relocations.
-fn with_padding(alloc: Global, relocations: &[Relocation]) -> Result<Vec<Relocation>, AllocError>
+/// The alignments with bytes of padding of a section.
+fn with_padding(alloc: Global, section: &ShortSection<'_>) -> Result<Vec<Relocation>, AllocError>
     ensures { IfOk result (λ found. map relocation_of found.items
-        ≡ filter has_padding_of (map relocation_of relocations.now)) }
+        ≡ filter has_padding_of (short_section_of section.now).relocations) }
 {
     let mut found = Vec::new(alloc);
-    for relocation in relocations {
-        put(&mut found, relocation)?;
+    for relocation in &section.whole.relocations {
+        put(&mut found, section, relocation)?;
     }
     Ok(found)
 }
 
-/// The alignments with bytes of padding among relocations of code, from the last to the first.
+/// The alignments with bytes of padding of a section of code, from the last to the first.
 pub(crate) fn alignments(
     alloc: Global,
-    relocations: &[Relocation],
+    section: &ShortSection<'_>,
 ) -> Result<Vec<Relocation>, AllocError>
-    requires { are_all_apart (map relocation_of relocations.now) ≡ true }
+    requires { are_all_apart (short_section_of section.now).relocations ≡ true }
     ensures { IfOk result (λ sorted. reverse (map relocation_of sorted.items)
-        ≡ by_place (filter has_padding_of (map relocation_of relocations.now))) }
+        ≡ by_place (filter has_padding_of (short_section_of section.now).relocations)) }
 {
-    let mut sorted = with_padding(alloc, relocations)?;
+    let mut sorted = with_padding(alloc, section)?;
     // linear where they stand in order already
     sorted.sort_by_key(|alignment| alignment.place)?;
     sorted.reverse();

@@ -8,9 +8,10 @@ ghost use Rattle.rv_relax.specs.Passes.{IsInput, are_laid};
 ghost use Rattle.rv_relax.specs.Pieces.{are_pieces, pieces_of};
 ghost use Rattle.rv_relax.specs.Sizes.{IsPlanned, call_sizes as sizes_of};
 
-use crate::layout::{Layout, dropped_before, have_room, laid_out};
+use crate::layout::{Layout, laid_out};
 use crate::passes::settle;
 use crate::piece::Piece;
+use crate::pieces::{dropped_before, have_room};
 use crate::placed::Placed;
 use crate::places::{is_call, targets, whole};
 use rv_layout_laws::{Site, SiteKind};

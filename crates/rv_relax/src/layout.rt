@@ -2,32 +2,18 @@
 //!
 //! A text begins at a multiple of every alignment, so that an offset counted from there is aligned as its address is.
 
-ghost use Rattle.std.specs.Prelude.{◌≡◌, ◌-◌, ◌≤◌, ◌<◌, ◌++◌, [], ◌∷◌, ℕ, true, nat_lt, nat_le, length, IfOk, OnOk, if◌then◌else◌};
-ghost use Rattle.std.specs.List.{list_all};
-ghost use Rattle.std.specs.List.Sorted.{IsPartitionPoint};
+ghost use Rattle.std.specs.Prelude.{◌≡◌, ◌++◌, [], ◌∷◌, ℕ, true, length, IfOk, OnOk, if◌then◌else◌};
 ghost use Rattle.rv_layout_laws.specs.Calls.{is_call as is_call_site, site_at};
-ghost use Rattle.rv_object_laws.specs.Moves.{aligned};
 ghost use Rattle.rv_relax.specs.Padded.{inner, joined, kept_at as kept_of_site, padded, pads as pads_of};
 ghost use Rattle.rv_relax.specs.Passes.{IsInput};
-ghost use Rattle.rv_relax.specs.Pieces.{are_pieces, pieces_dropped, pieces_of};
+ghost use Rattle.rv_relax.specs.Pieces.{pieces_of};
 ghost use Rattle.rv_relax.specs.Placed.{is_aligning};
 
+use crate::alignments::least_padding;
 use crate::piece::Piece;
 use crate::places::{is_call, whole_size};
 use rv_layout_laws::{Site, SiteKind};
 use std::alloc::{AllocError, Global};
-
-/// The bytes from an offset to the next multiple of an alignment.
-fn least_padding(alignment: u32, start: u64) -> u32
-    requires { 0 < alignment }
-    ensures { result ≡ aligned alignment start - start }
-{
-    let over = start % u64::from(alignment);
-    if over == 0 {
-        return 0;
-    }
-    (u64::from(alignment) - over) as u32
-}
 
 /// What is kept of a site that begins at a new offset: of a call its size, of a padding the least that aligns its end.
 fn kept_at(kind: &SiteKind, sized: u32, start: u64) -> u32
@@ -102,41 +88,4 @@ pub(crate) fn laid_out(
         gone += cut;
     }
     Ok(Layout { pieces, pads })
-}
-
-/// How many pieces begin before an offset.
-fn count_before(pieces: &[Piece], old: u64) -> usize
-    requires { are_pieces 0 0 pieces.now ≡ true }
-    ensures bound { result ≤ length pieces.now }
-    ensures point { IsPartitionPoint (λ p. p.place < old) (λ p. old ≤ p.place) pieces.now result }
-{
-    pieces.partition_point(
-        |piece: &Piece| -> bool
-            ensures { result ≡ nat_lt (piece.now).place old }
-        { piece.place < old },
-    )
-}
-
-/// The bytes before an offset that are dropped.
-pub(crate) fn dropped_before(pieces: &[Piece], old: u64) -> u64
-    requires { are_pieces 0 0 pieces.now ≡ true }
-    ensures value { result ≡ pieces_dropped pieces.now old }
-    ensures within { result ≤ old }
-{
-    match count_before(pieces, old).checked_sub(1) {
-        Some(last) => pieces[last].all_dropped_before(old),
-        None => 0,
-    }
-}
-
-/// Whether each piece is as long as what is needed of it.
-pub(crate) fn have_room(pieces: &[Piece]) -> bool
-    ensures { result ≡ list_all (λ p. nat_le p.left p.full) pieces.now }
-{
-    for piece in pieces {
-        if piece.left > piece.full {
-            return false;
-        }
-    }
-    true
 }

@@ -12,9 +12,9 @@
 //! the linker keeps the least of it that is needed, writes it anew as instructions without effect, and drops the rest; all
 //! that stands behind it moves.
 //!
-//! It takes a section (`rv_object`) and the address where it starts, and gives a [`SectionPlan`], of which `moves_of`
-//! (`specs/Plan`) is `moves start section` (`rv_object_laws`): the new offsets, the bytes that are kept, and the instructions
-//! that go.
+//! It takes a section, less what is cut of its calls (`rv_shorten`), and the address where it starts, and gives a
+//! [`SectionPlan`], of which `moves_of` (`specs/Plan`) is `moves start section` (`rv_object_laws`): the new offsets, the bytes
+//! that are kept, and the instructions that go. The bytes that are kept go straight to where they are wanted, each once.
 //!
 //! It must not know symbols, values of relocations, or where sections come to stand.
 //!
@@ -25,8 +25,8 @@
 //! let offset = calls.new_offset(offset);
 //!
 //! let plan = SectionPlan::of(alloc, section, 0x1_0000)?;
-//! let offset = plan.new_offset(relocation.place);
-//! plan.put_kept(&mut text, bytes)?;
+//! let offset = plan.new_offset(section.relocation(relocation).place);
+//! plan.put_kept(&mut text, section.bytes())?;
 //! ```
 //!
 //! Source: RISC-V ELF psABI, "Linker Relaxation", function call relaxation and R_RISCV_ALIGN.
@@ -37,11 +37,11 @@ mod bytes;
 mod calls;
 mod law;
 mod layout;
-mod offsets;
-mod padding;
+mod losses;
 mod paddings;
 mod passes;
 mod piece;
+mod pieces;
 mod placed;
 mod places;
 mod reach;

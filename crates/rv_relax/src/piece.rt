@@ -1,8 +1,8 @@
-//! Calls and alignments of a text, in the order in which they stand.
+//! Calls and alignments, in the order in which they stand.
 
-ghost use Rattle.std.specs.Prelude.{◌≡◌, ◌+◌, ◌-◌, ◌≤◌, min};
+ghost use Rattle.std.specs.Prelude.{◌≡◌, ◌+◌, ◌-◌, ◌^◌, ◌<◌, ◌≤◌, min, nat_le};
 
-/// A call or an alignment, and what is kept of it. Offsets count the sections' bytes end to end.
+/// A call or an alignment, and what is kept of it. Offsets are those of a section, or count the bytes of sections end to end.
 #[derive(Clone, Copy, Drop)]
 pub(crate) struct Piece {
     /// The offset of its first byte.
@@ -16,15 +16,31 @@ pub(crate) struct Piece {
 }
 
 impl Piece {
+    /// The offset of the byte after it.
+    pub fn end(&self) -> u64
+        requires { (self.now).place + (self.now).full < 2 ^ 64 }
+        ensures { result ≡ (self.now).place + (self.now).full }
+    {
+        self.place + u64::from(self.full)
+    }
+
+    /// Whether it ends at an offset or before it.
+    pub fn ends_by(&self, offset: u64) -> bool
+        ensures { result ≡ nat_le ((self.now).place + (self.now).full) offset }
+    {
+        self.place <= offset && u64::from(self.full) <= offset - self.place
+    }
+
     /// The bytes of it and of those before it that are dropped before an offset.
-    pub fn all_dropped_before(&self, old: u64) -> u64
+    pub fn all_dropped_before(&self, offset: u64) -> u64
         requires { (self.now).gone ≤ (self.now).place }
         ensures { result
             ≡ (self.now).gone
-            + min ((self.now).full - (self.now).left) (old - ((self.now).place + (self.now).left)) }
+            + min ((self.now).full - (self.now).left)
+            (offset - ((self.now).place + (self.now).left)) }
     {
         let dropped = self.full.saturating_sub(self.left);
-        let behind = old.saturating_sub(self.place);
+        let behind = offset.saturating_sub(self.place);
         self.gone + u64::from(dropped).min(behind.saturating_sub(u64::from(self.left)))
     }
 }

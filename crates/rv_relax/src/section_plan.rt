@@ -3,45 +3,54 @@
 ghost use Rattle.std.specs.Prelude.{◌≡◌, ◌+◌, ◌^◌, ◌<◌, ◌++◌, IsTrue, IfOk, OnOk};
 ghost use Rattle.std.specs.List.{list_all};
 ghost use Rattle.rv_object.specs.Object.{size_of};
-ghost use Rattle.rv_object.specs.Parts.{contents_of};
-ghost use Rattle.rv_object.specs.Sections.{section_of};
 ghost use Rattle.rv_object_laws.specs.Moves.{moves, has_room, kept, lost as lost_of, new_offset as offset_of};
-ghost use Rattle.rv_relax.specs.Paddings.{are_in_order, are_summed};
+ghost use Rattle.rv_relax.specs.Paddings.{are_in_order, lost_sums};
+ghost use Rattle.rv_shorten.specs.Bytes.{left_bytes};
+ghost use Rattle.rv_shorten.specs.Sections.{short_section_of};
 
 use crate::alignments::alignments;
 use crate::bytes::put_kept;
-use crate::offsets::{dropped_before, lost};
-use crate::padding::Padding;
-use crate::paddings::{have_room, paddings};
-use rv_object::Section;
+use crate::losses::{lost, sums};
+use crate::paddings::paddings;
+use crate::piece::Piece;
+use crate::pieces::{dropped_before, have_room};
+use rv_shorten::{LeftBytes, ShortSection};
 use std::alloc::{AllocError, Global};
 
 /// The paddings of a section that starts at an address: what is kept of each.
 #[derive(Drop)]
 pub struct SectionPlan {
-    paddings: Vec<Padding>,
-    /// They stand one behind the other.
+    paddings: Vec<Piece>,
+    /// Of each, the instructions that it and those before it lose.
+    sums: Vec<u64>,
+    /// The paddings stand one behind the other.
     ghost order: { IsTrue (are_in_order 0 0 paddings.items) },
-    /// Each has what it and those before it lose.
-    ghost sums: { IsTrue (are_summed 0 paddings.items) },
+    /// The sums are theirs.
+    ghost summed: { sums.items ≡ lost_sums 0 paddings.items },
 }
 
 impl SectionPlan {
     ghost use Rattle.rv_relax.specs.Plan.{moves_of};
 
     /// What is kept of a section that starts at an address.
-    pub fn of(alloc: Global, section: &Section, start: u64) -> Result<SectionPlan, AllocError>
-        requires low { size_of (contents_of (section.now).contents) < 2 ^ 64 }
-        ensures { IfOk result (λ p. moves_of p ≡ moves start (section_of section.now)) }
+    pub fn of(
+        alloc: Global,
+        section: &ShortSection<'_>,
+        start: u64,
+    ) -> Result<SectionPlan, AllocError>
+        requires low { size_of (short_section_of section.now).contents < 2 ^ 64 }
+        ensures { IfOk result (λ p. moves_of p ≡ moves start (short_section_of section.now)) }
     {
-        if !section.loaded || !section.executable {
+        if !section.whole.loaded || !section.whole.executable {
             return Ok(SectionPlan {
                 paddings: Vec::new(alloc),
+                sums: Vec::new(alloc),
             });
         }
-        let alignments = alignments(alloc, &section.relocations)?;
+        let alignments = alignments(alloc, section)?;
         let paddings = paddings(alloc, &alignments, start)?;
-        Ok(SectionPlan { paddings })
+        let sums = sums(alloc, &paddings)?;
+        Ok(SectionPlan { paddings, sums })
     }
 
     /// Where a byte of the section stands afterwards: its new offset.
@@ -62,13 +71,13 @@ impl SectionPlan {
     pub fn lost(&self, offset: u64, bytes: u32) -> u64
         ensures { result ≡ lost_of (moves_of self.now) offset bytes }
     {
-        lost(&self.paddings, offset, bytes)
+        lost(&self.paddings, &self.sums, offset, bytes)
     }
 
     /// Adds what is kept of the section's bytes.
-    pub fn put_kept(&self, out: &mut Vec<u8>, bytes: &[u8]) -> Result<(), AllocError>
+    pub fn put_kept(&self, out: &mut Vec<u8>, bytes: LeftBytes<'_>) -> Result<(), AllocError>
         ensures { OnOk result
-            (out.new.items ≡ out.old.items ++ kept 0 (moves_of self.now) bytes.now) }
+            (out.new.items ≡ out.old.items ++ kept 0 (moves_of self.now) (left_bytes bytes.entry)) }
     {
         put_kept(out, &self.paddings, bytes)
     }

@@ -1,4 +1,5 @@
 mod Adding
+mod Cuts
 mod Distinct
 mod Entry
 mod FirstSome

@@ -48,7 +48,7 @@ kept_held os name x is = by (export_of os name) refl is
         (e, f, same, ap (λ (y : Exported). slice_get os y.file) (sym same) ∙ held_at os name e f)
 
 module _ (os : List Object) (file : ℕ) (o : Object) (name : List ℕ) where
-  abbrev meant_at : Definition → Option Exported
+  abbrev pub meant_at : Definition → Option Exported
   meant_at d = if is_defined d then Some (record { file = file; definition = d }) else option_map kept_of (export_of os name)
 
   -- a definition that a symbol means is that of an object, and gives its address

@@ -4,3 +4,4 @@ pub mod Shown
 pub mod Resolved
 pub mod Undefined
 pub mod Entry
+pub mod Moved

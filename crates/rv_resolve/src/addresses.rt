@@ -2,40 +2,41 @@
 
 ghost use Rattle.std.specs.Prelude.{◌≡◌, ◌+◌, ℕ, List, Some, map, option_map, option_and_then};
 ghost use Rattle.std.specs.List.{slice_get};
-ghost use Rattle.rv_object.specs.Object.{Object as SaidObject};
-ghost use Rattle.rv_object.specs.Parts.{symbol_of};
-ghost use Rattle.rv_object.specs.View.{object_of};
+ghost use Rattle.rv_object.specs.Object.{Object as SaidObject, Symbol as SaidSymbol};
 ghost use Rattle.rv_object_laws.specs.Names as laws;
 ghost use Rattle.rv_placement.specs.Placement.{starts_of, IsPlacement};
 ghost use Rattle.rv_resolve.specs.Entry.{has_entry};
+ghost use Rattle.rv_resolve.specs.Moved.{with_definition};
 ghost use Rattle.rv_resolve.specs.Names.{IsNames, place_of};
 ghost use Rattle.rv_resolve.specs.Shown.{shown_globals, regions_of};
+ghost use Rattle.rv_shorten.specs.View.{short_object_of};
 
 use crate::definitions::Exported;
 use crate::names::Names;
-use rv_object::{Definition, Object, Symbol};
+use rv_object::{Definition, Symbol};
 use rv_placement::Placement;
+use rv_shorten::ShortObject;
 
 impl<'o> Names<'o> {
     /// What the symbol at an index of a file means, both from 0: its address; none where it has none, or there is no
     /// symbol.
     pub fn address(
         &self,
-        objects: &[Object],
+        objects: &[ShortObject<'_>],
         placement: &Placement,
         file: usize,
         index: u32,
     ) -> Option<u64>
-        ensures { (start : ℕ) (o : SaidObject) → IsNames (map object_of objects.now) self.now
-            → IsPlacement (map object_of objects.now) start placement.now
-            → slice_get (map object_of objects.now) file ≡ Some o
+        ensures { (start : ℕ) (o : SaidObject) → IsNames (map short_object_of objects.now) self.now
+            → IsPlacement (map short_object_of objects.now) start placement.now
+            → slice_get (map short_object_of objects.now) file ≡ Some o
             → result ≡ option_and_then
-            (laws.symbol_address (shown_globals (map object_of objects.now) placement.now)
+            (laws.symbol_address (shown_globals (map short_object_of objects.now) placement.now)
             (starts_of placement.now (file + 1)) o)
             (slice_get o.symbols index) }
     {
-        let symbol = symbol_at(objects, file, index)?;
-        match self.meant(file, index, symbol) {
+        let (symbol, definition) = symbol_at(objects, file, index)?;
+        match self.meant(file, index, definition) {
             Some(exported) => {
                 defined_address(objects, placement, exported.file, exported.definition)
             }
@@ -43,26 +44,46 @@ impl<'o> Names<'o> {
         }
     }
 
-    /// Where the symbol at an index of a file stands, both from 0: a file, from 0, a section there, and an offset that has
-    /// not moved. None where it is a number or the linker's, or there is no symbol.
-    pub fn place(&self, objects: &[Object], file: usize, index: u32) -> Option<(usize, u32, u64)>
-        ensures { (o : SaidObject) → IsNames (map object_of objects.now) self.now
-            → slice_get (map object_of objects.now) file ≡ Some o
+    /// Where the symbol at an index of a file stands, both from 0: a file, from 0, a section there, and an offset there
+    /// with the paddings whole. None where it is a number or the linker's, or there is no symbol.
+    pub fn place(
+        &self,
+        objects: &[ShortObject<'_>],
+        file: usize,
+        index: u32,
+    ) -> Option<(usize, u32, u64)>
+        ensures { (o : SaidObject) → IsNames (map short_object_of objects.now) self.now
+            → slice_get (map short_object_of objects.now) file ≡ Some o
             → option_map place_of result
-            ≡ option_and_then (laws.symbol_place (map object_of objects.now) (file + 1))
+            ≡ option_and_then (laws.symbol_place (map short_object_of objects.now) (file + 1))
             (slice_get o.symbols index) }
     {
-        let symbol = symbol_at(objects, file, index)?;
-        match self.meant(file, index, symbol) {
+        let (_, definition) = symbol_at(objects, file, index)?;
+        self.place_of(file, index, definition)
+    }
+
+    /// Where the symbol at an index of a file stands, both from 0, by its own definition: what [`Names::place`] gives.
+    pub fn place_of(
+        &self,
+        file: usize,
+        index: u32,
+        definition: Definition,
+    ) -> Option<(usize, u32, u64)>
+        ensures { (os : List SaidObject) (o : SaidObject) (s : SaidSymbol) → IsNames os self.now
+            → slice_get os file ≡ Some o → slice_get o.symbols index ≡ Some s
+            → s.definition ≡ definition
+            → option_map place_of result ≡ laws.symbol_place os (file + 1) s }
+    {
+        match self.meant(file, index, definition) {
             Some(exported) => placed(exported),
             None => None,
         }
     }
 
     /// Whether a run can begin: the global `_start` stands at an even place of a section of text, wherever that stands.
-    pub fn has_entry(&self, objects: &[Object]) -> bool
-        ensures { IsNames (map object_of objects.now) self.now
-            → result ≡ has_entry (map object_of objects.now) }
+    pub fn has_entry(&self, objects: &[ShortObject<'_>]) -> bool
+        ensures { IsNames (map short_object_of objects.now) self.now
+            → result ≡ has_entry (map short_object_of objects.now) }
     {
         match self.definitions.by_name.get(b"_start".as_slice()).copied() {
             Some(exported) => can_begin(objects, exported.file, exported.definition),
@@ -71,10 +92,10 @@ impl<'o> Names<'o> {
     }
 
     /// Where a run begins: the address of the global `_start`, if that stands at an even place of a section of text.
-    pub fn entry(&self, objects: &[Object], placement: &Placement) -> Option<u64>
-        ensures { (start : ℕ) → IsNames (map object_of objects.now) self.now
-            → IsPlacement (map object_of objects.now) start placement.now
-            → result ≡ laws.entry_of (starts_of placement.now) 1 (map object_of objects.now) }
+    pub fn entry(&self, objects: &[ShortObject<'_>], placement: &Placement) -> Option<u64>
+        ensures { (start : ℕ) → IsNames (map short_object_of objects.now) self.now
+            → IsPlacement (map short_object_of objects.now) start placement.now
+            → result ≡ laws.entry_of (starts_of placement.now) 1 (map short_object_of objects.now) }
     {
         match self.definitions.by_name.get(b"_start".as_slice()).copied() {
             Some(exported) => {
@@ -89,13 +110,18 @@ impl<'o> Names<'o> {
     }
 }
 
-/// The symbol at an index of a file, both from 0.
-fn symbol_at(objects: &[Object], file: usize, index: u32) -> Option<&Symbol>
-    ensures { (o : SaidObject) → slice_get (map object_of objects.now) file ≡ Some o
-        → option_map (λ s. symbol_of s.now) result ≡ slice_get o.symbols index }
+/// The symbol at an index of a file, both from 0, and its definition as it has moved.
+fn symbol_at<'o>(
+    objects: &[ShortObject<'o>],
+    file: usize,
+    index: u32,
+) -> Option<(&'o Symbol, Definition)>
+    ensures { (o : SaidObject) → slice_get (map short_object_of objects.now) file ≡ Some o
+        → option_map with_definition result ≡ slice_get o.symbols index }
 {
     let object = objects.get(file)?;
-    object.symbols.get(index as usize)
+    let symbol = object.whole.symbols.get(index as usize)?;
+    Some((symbol, object.definition(symbol.definition)))
 }
 
 /// The file, section and offset of a definition.
@@ -110,14 +136,14 @@ fn placed(exported: Exported) -> Option<(usize, u32, u64)>
 
 /// The address of what a file defines.
 pub(crate) fn defined_address(
-    objects: &[Object],
+    objects: &[ShortObject<'_>],
     placement: &Placement,
     file: usize,
     definition: Definition,
 ) -> Option<u64>
     ensures { (start : ℕ) (o : SaidObject)
-        → IsPlacement (map object_of objects.now) start placement.now
-        → slice_get (map object_of objects.now) file ≡ Some o
+        → IsPlacement (map short_object_of objects.now) start placement.now
+        → slice_get (map short_object_of objects.now) file ≡ Some o
         → result ≡ laws.defined_address (starts_of placement.now (file + 1)) o definition }
 {
     match definition {
@@ -129,8 +155,8 @@ pub(crate) fn defined_address(
 }
 
 /// Whether a run can begin at a definition of a file: at an even place of a section of text, whatever becomes of its address.
-fn can_begin(objects: &[Object], file: usize, definition: Definition) -> bool
-    ensures { (o : SaidObject) → slice_get (map object_of objects.now) file ≡ Some o
+fn can_begin(objects: &[ShortObject<'_>], file: usize, definition: Definition) -> bool
+    ensures { (o : SaidObject) → slice_get (map short_object_of objects.now) file ≡ Some o
         → result ≡ laws.can_begin o definition }
 {
     match definition {
@@ -142,13 +168,13 @@ fn can_begin(objects: &[Object], file: usize, definition: Definition) -> bool
 }
 
 /// Whether a section of a file is one of text.
-fn goes_to_text(objects: &[Object], file: usize, section: u32) -> bool
-    ensures { (o : SaidObject) → slice_get (map object_of objects.now) file ≡ Some o
+fn goes_to_text(objects: &[ShortObject<'_>], file: usize, section: u32) -> bool
+    ensures { (o : SaidObject) → slice_get (map short_object_of objects.now) file ≡ Some o
         → result ≡ laws.is_in_text (slice_get o.sections section) }
 {
     match objects.get(file) {
         Some(object) => match object.sections.get(section as usize) {
-            Some(section) => section.loaded && section.executable,
+            Some(section) => section.whole.loaded && section.whole.executable,
             None => false,
         },
         None => false,

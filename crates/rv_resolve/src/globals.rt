@@ -5,19 +5,20 @@ ghost use Rattle.std.specs.List.{slice_get};
 ghost use Rattle.rv_map.specs.Map.{global_of};
 ghost use Rattle.rv_map.specs.Name.{is_name};
 ghost use Rattle.rv_object.specs.Object.{Object as SaidObject};
-ghost use Rattle.rv_object.specs.Parts.{symbol_of};
-ghost use Rattle.rv_object.specs.View.{object_of};
 ghost use Rattle.rv_object_laws.specs.Names as laws;
 ghost use Rattle.rv_placement.specs.Placement.{starts_of, IsPlacement};
+ghost use Rattle.rv_resolve.specs.Moved.{moved_in, symbols_of};
 ghost use Rattle.rv_resolve.specs.Names.{IsNames};
 ghost use Rattle.rv_resolve.specs.Shown.{shown_globals, regions_of, shown_symbols};
+ghost use Rattle.rv_shorten.specs.View.{short_object_of};
 
 use crate::addresses::{defined_address, global_pointer};
 use crate::names::Names;
 use crate::symbol::is_exported;
 use rv_map::Global;
-use rv_object::{Object, Symbol};
+use rv_object::Symbol;
 use rv_placement::Placement;
+use rv_shorten::ShortObject;
 use std::alloc::{AllocError, Global as Allocator};
 
 impl<'o> Names<'o> {
@@ -26,13 +27,13 @@ impl<'o> Names<'o> {
     pub fn globals(
         &self,
         alloc: Allocator,
-        objects: &[Object],
+        objects: &[ShortObject<'_>],
         placement: &Placement,
     ) -> Result<Vec<Global>, AllocError>
-        ensures { (start : ℕ) → IsNames (map object_of objects.now) self.now
-            → IsPlacement (map object_of objects.now) start placement.now
+        ensures { (start : ℕ) → IsNames (map short_object_of objects.now) self.now
+            → IsPlacement (map short_object_of objects.now) start placement.now
             → IfOk result (λ globals. map global_of globals.items
-            ≡ shown_globals (map object_of objects.now) placement.now) }
+            ≡ shown_globals (map short_object_of objects.now) placement.now) }
     {
         let mut globals = Vec::new(alloc);
         for file in 0..objects.len() {
@@ -42,7 +43,7 @@ impl<'o> Names<'o> {
                 objects,
                 placement,
                 file,
-                objects[file].symbols.as_slice(),
+                &objects[file],
             )?;
         }
         self.put_linker_symbols(alloc, &mut globals, placement)?;
@@ -101,19 +102,19 @@ impl<'o> Names<'o> {
 fn put_globals(
     alloc: Allocator,
     globals: &mut Vec<Global>,
-    objects: &[Object],
+    objects: &[ShortObject<'_>],
     placement: &Placement,
     file: usize,
-    symbols: &[Symbol],
+    object: &ShortObject<'_>,
 ) -> Result<(), AllocError>
     ensures { OnOk result ((start : ℕ) (o : SaidObject)
-        → IsPlacement (map object_of objects.now) start placement.now
-        → slice_get (map object_of objects.now) file ≡ Some o
+        → IsPlacement (map short_object_of objects.now) start placement.now
+        → slice_get (map short_object_of objects.now) file ≡ Some o
         → map global_of globals.new.items ≡ map global_of globals.old.items
-        ++ shown_symbols (starts_of placement.now (file + 1)) o (map symbol_of symbols.now)) }
+        ++ shown_symbols (starts_of placement.now (file + 1)) o (symbols_of object.now)) }
 {
-    for symbol in symbols {
-        put_global(alloc, globals, objects, placement, file, symbol)?;
+    for symbol in &object.whole.symbols {
+        put_global(alloc, globals, objects, placement, file, object, symbol)?;
     }
     Ok(())
 }
@@ -122,21 +123,24 @@ fn put_globals(
 fn put_global(
     alloc: Allocator,
     globals: &mut Vec<Global>,
-    objects: &[Object],
+    objects: &[ShortObject<'_>],
     placement: &Placement,
     file: usize,
+    object: &ShortObject<'_>,
     symbol: &Symbol,
 ) -> Result<(), AllocError>
     ensures { OnOk result ((start : ℕ) (o : SaidObject)
-        → IsPlacement (map object_of objects.now) start placement.now
-        → slice_get (map object_of objects.now) file ≡ Some o
+        → IsPlacement (map short_object_of objects.now) start placement.now
+        → slice_get (map short_object_of objects.now) file ≡ Some o
         → map global_of globals.new.items ≡ map global_of globals.old.items
-        ++ shown_symbols (starts_of placement.now (file + 1)) o (symbol_of symbol.now ∷ [])) }
+        ++ shown_symbols (starts_of placement.now (file + 1)) o
+        (moved_in object.now symbol.now ∷ [])) }
 {
     if !is_exported(symbol) {
         return Ok(());
     }
-    match defined_address(objects, placement, file, symbol.definition) {
+    let definition = object.definition(symbol.definition);
+    match defined_address(objects, placement, file, definition) {
         Some(address) => {
             let name = Vec::from_slice(alloc, symbol.name.as_slice())?;
             globals.push(Global { name, address })?;

@@ -3,13 +3,14 @@
 ghost use Rattle.std.specs.Prelude.{◌≡◌, ◌++◌, List, map, IfOk, OnOk};
 ghost use Rattle.rv_object.specs.Object.{Object as SaidObject};
 ghost use Rattle.rv_object.specs.Parts.{symbol_of};
-ghost use Rattle.rv_object.specs.View.{object_of};
 ghost use Rattle.rv_resolve.specs.declared.definitions.Exported.{Exported as Kept};
 ghost use Rattle.rv_resolve.specs.Exports.{exports_from};
 ghost use Rattle.rv_resolve.specs.Names.{Answers, outside, meant_at, numbered, AreMeanings, HaveMeanings, Grows};
+ghost use Rattle.rv_shorten.specs.View.{short_object_of};
 
 use crate::definitions::{Definitions, Exported};
-use rv_object::{Definition, Object, Symbol};
+use rv_object::{Definition, Symbol};
+use rv_shorten::ShortObject;
 use std::alloc::{AllocError, Global};
 
 /// What symbols mean that their own objects do not define. A name is looked up once for each of its symbols, however many
@@ -27,17 +28,17 @@ impl Meanings {
     /// What the symbols of objects mean, of which these are the global definitions.
     pub(crate) fn of(
         alloc: Global,
-        objects: &[Object],
+        objects: &[ShortObject<'_>],
         definitions: &Definitions<'_>,
     ) -> Result<Meanings, AllocError>
-        ensures { Answers (exports_from 0 (map object_of objects.now)) definitions.now
-            → IfOk result (AreMeanings (map object_of objects.now)) }
+        ensures { Answers (exports_from 0 (map short_object_of objects.now)) definitions.now
+            → IfOk result (AreMeanings (map short_object_of objects.now)) }
     {
         let mut meant = Vec::new(alloc);
         let mut numbers = Vec::new(alloc);
         for file in 0..objects.len() {
-            let symbols = objects[file].symbols.as_slice();
-            let row = file_numbers(alloc, &mut meant, definitions, symbols)?;
+            let whole = objects[file].whole;
+            let row = file_numbers(alloc, &mut meant, definitions, whole.symbols.as_slice())?;
             numbers.push(row)?;
         }
         Ok(Meanings { meant, numbers })

@@ -1,30 +1,35 @@
 //! References without a meaning.
 
-ghost use Rattle.std.specs.Prelude.{◌≡◌, ◌++◌, Some, map, option_map, IfNone};
+ghost use Rattle.std.specs.Prelude.{◌≡◌, ◌++◌, Some, List, map, option_map, IfNone};
 ghost use Rattle.std.specs.List.{slice_get};
 ghost use Rattle.rv_map.specs.Map.{Map};
-ghost use Rattle.rv_object.specs.Object.{Object as SaidObject};
+ghost use Rattle.rv_object.specs.declared.symbol.Definition.TheVariants.{Undefined};
+ghost use Rattle.rv_object.specs.Object.{Object as SaidObject, Symbol as SaidSymbol};
 ghost use Rattle.rv_object.specs.Parts.{relocation_of, symbol_of};
-ghost use Rattle.rv_object.specs.View.{object_of};
 ghost use Rattle.rv_object_laws.specs.Inputs.{Starts};
+ghost use Rattle.rv_object_laws.specs.Moves.{Move};
 ghost use Rattle.rv_object_laws.specs.Names.{globals_of, is_one_of, shown_linker_symbols};
+ghost use Rattle.rv_resolve.specs.Exports.{export_of};
 ghost use Rattle.rv_resolve.specs.Names.{IsNames, bytes_of};
 ghost use Rattle.rv_resolve.specs.Resolved.{AreResolved};
 ghost use Rattle.rv_resolve.specs.Undefined as laws;
+ghost use Rattle.rv_shorten.specs.Cutting.{cut_symbol};
+ghost use Rattle.rv_shorten.specs.View.{short_object_of};
 
 use crate::names::Names;
-use rv_object::{Definition, Object, Relocation, Symbol};
+use rv_object::{Definition, Relocation, Symbol};
+use rv_shorten::ShortObject;
 
 impl<'o> Names<'o> {
     /// The first reference without a meaning, by object, section and relocation: the name of its symbol.
-    pub fn undefined(&self, objects: &'o [Object]) -> Option<&'o [u8]>
-        ensures first { IsNames (map object_of objects.now) self.now
-            → option_map bytes_of result ≡ laws.first_undefined (map object_of objects.now) }
-        ensures resolved { IfNone result (IsNames (map object_of objects.now) self.now
+    pub fn undefined(&self, objects: &[ShortObject<'o>]) -> Option<&'o [u8]>
+        ensures first { IsNames (map short_object_of objects.now) self.now
+            → option_map bytes_of result ≡ laws.first_undefined (map short_object_of objects.now) }
+        ensures resolved { IfNone result (IsNames (map short_object_of objects.now) self.now
             → (starts : Starts) (m : Map) → m.globals
-            ≡ globals_of starts 1 (map object_of objects.now)
-            ++ shown_linker_symbols (map object_of objects.now) m
-            → AreResolved starts (map object_of objects.now) m.globals) }
+            ≡ globals_of starts 1 (map short_object_of objects.now)
+            ++ shown_linker_symbols (map short_object_of objects.now) m
+            → AreResolved starts (map short_object_of objects.now) m.globals) }
     {
         for file in 0..objects.len() {
             match self.undefined_in(objects, file, &objects[file]) {
@@ -36,18 +41,25 @@ impl<'o> Names<'o> {
     }
 
     /// The first in an object.
-    fn undefined_in(&self, objects: &[Object], file: usize, object: &'o Object) -> Option<&'o [u8]>
-        ensures { IsNames (map object_of objects.now) self.now
-            → slice_get (map object_of objects.now) file ≡ Some (object_of object.now)
+    fn undefined_in(
+        &self,
+        objects: &[ShortObject<'_>],
+        file: usize,
+        object: &ShortObject<'o>,
+    ) -> Option<&'o [u8]>
+        ensures { IsNames (map short_object_of objects.now) self.now
+            → slice_get (map short_object_of objects.now) file ≡ Some (short_object_of object.now)
             → option_map bytes_of result
-            ≡ laws.first_some (laws.undefined_in (map object_of objects.now) (object_of object.now))
-            (object_of object.now).sections }
+            ≡ laws.first_some
+            (laws.undefined_in (map short_object_of objects.now) (short_object_of object.now))
+            (short_object_of object.now).sections }
     {
         for section in &object.sections {
-            if !section.loaded {
+            if !section.whole.loaded {
                 continue;
             }
-            match self.undefined_among(objects, file, object, section.relocations.as_slice()) {
+            let relocations = section.whole.relocations.as_slice();
+            match self.undefined_among(objects, file, object, relocations) {
                 Some(name) => return Some(name),
                 None => (),
             }
@@ -58,16 +70,17 @@ impl<'o> Names<'o> {
     /// The first of relocations of an object.
     fn undefined_among(
         &self,
-        objects: &[Object],
+        objects: &[ShortObject<'_>],
         file: usize,
-        object: &'o Object,
+        object: &ShortObject<'o>,
         relocations: &[Relocation],
     ) -> Option<&'o [u8]>
-        ensures { IsNames (map object_of objects.now) self.now
-            → slice_get (map object_of objects.now) file ≡ Some (object_of object.now)
+        ensures { IsNames (map short_object_of objects.now) self.now
+            → slice_get (map short_object_of objects.now) file ≡ Some (short_object_of object.now)
             → option_map bytes_of result
             ≡ laws.first_some
-            (λ r. laws.undefined_name (map object_of objects.now) (object_of object.now) r.symbol)
+            (λ r. laws.undefined_name (map short_object_of objects.now)
+            (short_object_of object.now) r.symbol)
             (map relocation_of relocations.now) }
     {
         for relocation in relocations {
@@ -82,19 +95,19 @@ impl<'o> Names<'o> {
     /// The name of a relocation's symbol, if that has no address.
     fn undefined_name(
         &self,
-        objects: &[Object],
+        objects: &[ShortObject<'_>],
         file: usize,
-        object: &'o Object,
+        object: &ShortObject<'o>,
         relocation: &Relocation,
     ) -> Option<&'o [u8]>
-        ensures { IsNames (map object_of objects.now) self.now
-            → slice_get (map object_of objects.now) file ≡ Some (object_of object.now)
+        ensures { IsNames (map short_object_of objects.now) self.now
+            → slice_get (map short_object_of objects.now) file ≡ Some (short_object_of object.now)
             → option_map bytes_of result
-            ≡ laws.undefined_name (map object_of objects.now) (object_of object.now)
+            ≡ laws.undefined_name (map short_object_of objects.now) (short_object_of object.now)
             (relocation.now).symbol }
     {
         let index = relocation.symbol?;
-        match object.symbols.get(index as usize) {
+        match object.whole.symbols.get(index as usize) {
             Some(symbol) => {
                 if self.is_resolved(objects, file, index, symbol) {
                     None
@@ -106,23 +119,45 @@ impl<'o> Names<'o> {
         }
     }
 
-    /// Whether the symbol at an index of an object has an address, wherever sections stand.
-    fn is_resolved(&self, objects: &[Object], file: usize, index: u32, symbol: &Symbol) -> bool
-        ensures { (o : SaidObject) → IsNames (map object_of objects.now) self.now
-            → slice_get (map object_of objects.now) file ≡ Some o
-            → slice_get o.symbols index ≡ Some (symbol_of symbol.now)
-            → result ≡ laws.is_resolved (map object_of objects.now) o (symbol_of symbol.now) }
+    /// Whether the symbol at an index of an object has an address, wherever sections stand and whatever is cut of them.
+    fn is_resolved(
+        &self,
+        objects: &[ShortObject<'_>],
+        file: usize,
+        index: u32,
+        symbol: &Symbol,
+    ) -> bool
+        ensures { (o : SaidObject) (cuts : List (List Move))
+            → IsNames (map short_object_of objects.now) self.now
+            → slice_get (map short_object_of objects.now) file ≡ Some o
+            → slice_get o.symbols index ≡ Some (cut_symbol cuts (symbol_of symbol.now))
+            → result ≡ laws.is_resolved (map short_object_of objects.now) o
+            (cut_symbol cuts (symbol_of symbol.now)) }
     {
-        match self.meant(file, index, symbol) {
+        match symbol.definition {
+            Definition::Undefined => self.is_known(objects, file, index, symbol.name.as_slice()),
+            definition => has_address(objects, file, definition),
+        }
+    }
+
+    /// Whether the symbol at an index of an object, which does not define it, means what has an address.
+    fn is_known(&self, objects: &[ShortObject<'_>], file: usize, index: u32, name: &[u8]) -> bool
+        ensures { (o : SaidObject) (s : SaidSymbol)
+            → IsNames (map short_object_of objects.now) self.now
+            → slice_get (map short_object_of objects.now) file ≡ Some o
+            → slice_get o.symbols index ≡ Some s → s.definition ≡ Undefined → s.name ≡ name.now
+            → result ≡ laws.is_known s.name (export_of (map short_object_of objects.now) s.name) }
+    {
+        match self.meant(file, index, Definition::Undefined) {
             Some(exported) => has_address(objects, exported.file, exported.definition),
-            None => is_linker_name(symbol.name.as_slice()),
+            None => is_linker_name(name),
         }
     }
 }
 
 /// Whether a definition of a file has an address, wherever sections stand.
-fn has_address(objects: &[Object], file: usize, definition: Definition) -> bool
-    ensures { (o : SaidObject) → slice_get (map object_of objects.now) file ≡ Some o
+fn has_address(objects: &[ShortObject<'_>], file: usize, definition: Definition) -> bool
+    ensures { (o : SaidObject) → slice_get (map short_object_of objects.now) file ≡ Some o
         → result ≡ laws.has_address o definition }
 {
     match definition {
@@ -134,13 +169,13 @@ fn has_address(objects: &[Object], file: usize, definition: Definition) -> bool
 }
 
 /// Whether a section of a file has a place in memory.
-fn is_loaded(objects: &[Object], file: usize, section: u32) -> bool
-    ensures { (o : SaidObject) → slice_get (map object_of objects.now) file ≡ Some o
+fn is_loaded(objects: &[ShortObject<'_>], file: usize, section: u32) -> bool
+    ensures { (o : SaidObject) → slice_get (map short_object_of objects.now) file ≡ Some o
         → result ≡ laws.is_loaded_at (slice_get o.sections section) }
 {
     match objects.get(file) {
         Some(object) => match object.sections.get(section as usize) {
-            Some(section) => section.loaded,
+            Some(section) => section.whole.loaded,
             None => false,
         },
         None => false,

@@ -1,14 +1,14 @@
 pub mod Order
 pub mod Losses
-pub mod Kept
 pub mod CutKinds
 pub mod CallKinds
-pub mod Mapped
 pub mod Shifts
+pub mod Running
 pub mod Fields
 pub mod Paddings
 pub mod Short
-pub mod Whole
+pub mod Stays
+pub mod Uncut
 pub mod Steps
 pub mod Lists
 pub mod Changes

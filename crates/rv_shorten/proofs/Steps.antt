@@ -2,21 +2,20 @@
 
 use Rattle.std.proofs.Common.{◌≡◌, ℕ, ◌+◌, ◌-◌, ◌*◌, ◌%◌, ◌^◌, ◌<◌, ◌≤◌, Bool, true, false, cond, ◌&&◌, nat_le, nat_lt, List, [], ◌∷◌, ◌++◌, length, map, drop, slice_index_or, pos, refl, sym, ap, subst, ◌∙◌, arith}
 use Rattle.std.specs.Prelude.{◌==◌}
-use Rattle.std.specs.Global.{Vec}
 use Rattle.std.proofs.lemmas.List.{append_assoc, append-nil, map-append, drop_more}
-use Rattle.std.proofs.lemmas.Bool.{le-leb, lt-ltb, eq-eqb, and_from, and_parts}
+use Rattle.std.proofs.lemmas.Bool.{le-leb, lt-ltb, eq-eqb, and_from}
 use Rattle.rv_isa_laws.specs.Bytes.{little_endian}
 use Rattle.rv_layout_laws.specs.declared.site.Site.{Site}
 use Rattle.rv_layout_laws.specs.declared.site.SiteKind.TheVariants.{Call}
-use Rattle.rv_object.specs.Object.{Contents, Progbits, Note, Nobits, Section, size_of, stored}
+use Rattle.rv_object.specs.Object.{Contents, Progbits, Note, Nobits, Section, Object, size_of, stored}
 use Rattle.rv_object.specs.Valid.{fit_inside}
-use Rattle.rv_object_laws.specs.Moves.{Move}
+use Rattle.rv_object_laws.specs.Moves.{Move, kept}
 use Rattle.rv_object_laws.specs.Calls.{link_register}
-use Rattle.rv_object_laws.specs.Shortened.{short_call}
+use Rattle.rv_object_laws.specs.Shortened.{short_call, shortened_contents}
 use Rattle.rv_shorten.specs.declared.cut.Cut.{Cut}
-use Rattle.rv_shorten.specs.Cut.{left_of, move_of, is_next, are_in_order, are_all_in_order}
-use Rattle.rv_shorten.specs.Cutting.{are_cuts, AreCuts}
-use Rattle.rv_shorten.specs.Walk.{moves_of, cut_of, is_cut_site, cuts_of, gone_of, passed, section_moves, object_moves}
+use Rattle.rv_shorten.specs.Cut.{left_of, move_of, is_next, are_in_order}
+use Rattle.rv_shorten.specs.Cutting.{are_cuts, AreCuts, cut_section, cut_sections, cut_object}
+use Rattle.rv_shorten.specs.Walk.{moves_of, cut_of, is_cut_site, cuts_of, gone_of, passed, passed_all, section_moves, object_moves, walked}
 use Rattle.rv_shorten.proofs.Shifts.{first_cut, other_cuts}
 use Rattle.rv_shorten.proofs.Short.{none_in_zeros}
 
@@ -136,8 +135,29 @@ one_of_object s rest ys ks n new made whole is now h =
     ∙ ap (λ m. made ++ (section_moves s ys ks ∷ object_moves rest (drop m ys) (drop m ks))) is
     ∙ h
 
-pub pushed_in_order : (css : List (Vec Cut)) (cs : Vec Cut) → are_all_in_order css ≡ true → are_in_order 0 0 cs.items ≡ true → are_all_in_order (css ++ cs ∷ []) ≡ true
-pushed_in_order [] cs h one = and_from (are_in_order 0 0 cs.items) true one refl
-pushed_in_order (d ∷ css) cs h one =
-    let both = and_parts (are_in_order 0 0 d.items) (are_all_in_order css) h in
-    and_from (are_in_order 0 0 d.items) (are_all_in_order (css ++ cs ∷ [])) both.0 (pushed_in_order css cs both.1 one)
+pub one_left : (s : Section) (rest : List Section) (ys : List Site) (ks : List ℕ) (n : ℕ) (new : Section) (made whole : List Section) → n ≡ passed s ys → new ≡ cut_section (section_moves s ys ks) s
+    → made ++ cut_sections (object_moves (s ∷ rest) ys ks) (s ∷ rest) ≡ whole → (made ++ new ∷ []) ++ cut_sections (object_moves rest (drop n ys) (drop n ks)) rest ≡ whole
+one_left s rest ys ks n new made whole is now h =
+    append_assoc made (new ∷ []) (cut_sections (object_moves rest (drop n ys) (drop n ks)) rest)
+    ∙ ap (λ l. made ++ (l ∷ cut_sections (object_moves rest (drop n ys) (drop n ks)) rest)) now
+    ∙ ap (λ m. made ++ (cut_section (section_moves s ys ks) s ∷ cut_sections (object_moves rest (drop m ys) (drop m ks)) rest)) is
+    ∙ h
+
+pub one_walked : (o : Object) (rest : List Object) (ys : List Site) (ks : List ℕ) (n : ℕ) (new : Object) (made whole : List Object) → n ≡ passed_all o.sections ys → new ≡ cut_object (object_moves o.sections ys ks) o
+    → made ++ walked (o ∷ rest) ys ks ≡ whole → (made ++ new ∷ []) ++ walked rest (drop n ys) (drop n ks) ≡ whole
+one_walked o rest ys ks n new made whole is now h =
+    append_assoc made (new ∷ []) (walked rest (drop n ys) (drop n ks))
+    ∙ ap (λ l. made ++ (l ∷ walked rest (drop n ys) (drop n ks))) now
+    ∙ ap (λ m. made ++ (cut_object (object_moves o.sections ys ks) o ∷ walked rest (drop m ys) (drop m ks))) is
+    ∙ h
+
+-- ---- a section's own bytes
+
+no_room : (ms : List Move) → are_cuts 0 0 ms ≡ true → kept 0 ms [] ≡ []
+no_room [] h = refl
+no_room (m ∷ ms) h = let one = first_cut 0 0 m ms h in absurd (omega (arith, one.ends))
+
+pub stored_left : (ms : List Move) (c : Contents) → are_cuts 0 (length (stored c)) ms ≡ true → kept 0 ms (stored c) ≡ stored (shortened_contents ms c)
+stored_left ms (Progbits bytes) h = refl
+stored_left ms (Note bytes) h = refl
+stored_left ms (Nobits size) h = no_room ms h

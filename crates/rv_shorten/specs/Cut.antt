@@ -1,8 +1,6 @@
 -- Calls that are cut short.
 
-use Rattle.std.specs.Prelude.{ℕ, ◌+◌, ◌-◌, ◌%◌, ◌^◌, Bool, true, ◌&&◌, ◌==◌, nat_le, nat_lt, List, [], ◌∷◌, map, if◌then◌else◌}
-use Rattle.std.specs.Global.{Vec}
-use Rattle.std.specs.List.{list_all}
+use Rattle.std.specs.Prelude.{ℕ, ◌+◌, ◌-◌, ◌%◌, ◌^◌, Bool, true, ◌&&◌, ◌==◌, nat_le, nat_lt, List, [], ◌∷◌, if◌then◌else◌}
 use Rattle.rv_shorten.specs.declared.cut.Cut.{Cut}
 use Rattle.rv_object_laws.specs.Moves.{Move}
 use Rattle.rv_object_laws.specs.Shortened.{short_call}
@@ -26,11 +24,3 @@ abbrev pub are_in_order : (stop gone : ℕ) → List Cut → Bool
 are_in_order stop gone [] = true
 are_in_order stop gone (c ∷ cs) =
     is_next stop gone c && are_in_order (c.place + 8) (gone + (8 - left_of c)) cs
-
--- ---- of all sections of an object
-
-abbrev pub moves_of_all : List (Vec Cut) → List (List Move)
-moves_of_all css = map (λ cs. map move_of cs.items) css
-
-abbrev pub are_all_in_order : List (Vec Cut) → Bool
-are_all_in_order css = list_all (λ cs. are_in_order 0 0 cs.items) css

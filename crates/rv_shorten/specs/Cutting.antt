@@ -8,6 +8,7 @@ use Rattle.rv_object.specs.declared.symbol.Definition.{Definition}
 use Rattle.rv_object.specs.declared.symbol.Definition.TheVariants as definitions
 use Rattle.rv_object.specs.declared.row.Row.{Row}
 use Rattle.rv_object.specs.Object.{Relocation, Section, Symbol, Object, size_of}
+use Rattle.rv_object.specs.Valid.{fit_inside, are_paddings}
 use Rattle.rv_object_laws.specs.Moves.{Move, new_offset, lost}
 use Rattle.rv_object_laws.specs.Calls.{is_call, meets}
 use Rattle.rv_object_laws.specs.Shortened.{shortened_contents}
@@ -68,6 +69,16 @@ cut_section ms s = record s {
   relocations = map (cut_relocation ms) s.relocations;
 }
 
+-- ---- what sections keep
+
+-- each field lies in the section's bytes
+abbrev pub fits : Section → Bool
+fits s = fit_inside s.contents s.relocations
+
+-- each padding lies there, and in code meets no field
+abbrev pub keeps_paddings : Section → Bool
+keeps_paddings s = are_paddings s.executable s.contents s.relocations
+
 -- ---- objects, by the moves of each section
 
 abbrev pub moves_at : List (List Move) → ℕ → List Move
@@ -95,11 +106,15 @@ cut_row ms r = record r {
   instructions = r.instructions - lost ms r.offset r.bytes;
 }
 
+-- by the moves of its section
+abbrev pub cut_row_of : List (List Move) → Row → Row
+cut_row_of mss r = cut_row (moves_at mss r.section) r
+
 abbrev pub cut_object : List (List Move) → Object → Object
 cut_object mss o = record {
   sections = cut_sections mss o.sections;
   symbols = map (cut_symbol mss) o.symbols;
-  rows = map (λ r. cut_row (moves_at mss r.section) r) o.rows;
+  rows = map (cut_row_of mss) o.rows;
   rvc = o.rvc;
 }
 

@@ -4,12 +4,17 @@
 //! objects that are left (`rv_object_laws/specs/Shortened`): a call of which fewer than 8 bytes are kept is `jal`, or `c.j`
 //! where 2 are, with an empty field that the link fills in.
 //!
-//! Each byte is moved once, and only in sections in which a call is cut short.
+//! The objects are lent, and nothing of them is copied: [`ShortObject`] and [`ShortSection`] tell what becomes of a relocation,
+//! a symbol or a row when they are asked, and [`LeftBytes`] gives the bytes that are left, from the front. So a byte moves once,
+//! when the link takes it into its program. What is cut of a section is a table by old offset, and an offset is looked up in it
+//! by halves.
 //!
 //! It must not know how the family is found, nor addresses.
 //!
 //! ```text
-//! let left = shorten(alloc, objects, &sites, plan.kept())?;
+//! let left = shorten(alloc, &objects, &sites, plan.kept())?;
+//! let place = left[0].sections[0].relocation(&relocation).place;
+//! left[0].sections[0].bytes().put_all(&mut out)?;
 //! ```
 //!
 //! Source: RISC-V ELF psABI, "Linker Relaxation"; Unprivileged ISA, "Unconditional Jumps" and "C.J".
@@ -17,6 +22,7 @@
 
 mod bytes;
 mod cut;
+mod lent;
 mod object;
 mod objects;
 mod offsets;
@@ -25,4 +31,8 @@ mod section;
 mod sites;
 mod words;
 
+pub use bytes::LeftBytes;
+pub use lent::whole;
+pub use object::ShortObject;
 pub use objects::shorten;
+pub use section::ShortSection;

@@ -1,73 +1,38 @@
 //! An object of which calls are cut short.
 
-ghost use Rattle.std.specs.Prelude.{◌≡◌, true, map, IfOk};
-ghost use Rattle.rv_object.specs.Parts.{symbol_of};
+ghost use Rattle.std.specs.Prelude.{◌≡◌, true, IsTrue, map};
+ghost use Rattle.rv_object.specs.Valid.{are_rows};
 ghost use Rattle.rv_object.specs.Sections.{section_of};
 ghost use Rattle.rv_object.specs.View.{object_of};
+ghost use Rattle.rv_shorten.specs.Cut.{are_in_order, move_of};
 ghost use Rattle.rv_shorten.specs.Cutting as cutting;
-ghost use Rattle.rv_shorten.specs.Cut.{are_all_in_order, are_in_order, move_of, moves_of_all};
+ghost use Rattle.rv_shorten.specs.Sections.{moves_in_all, short_section_of};
 
 use crate::cut::Cut;
 use crate::offsets::{dropped_before, lost, new_offset};
-use crate::section::short_section;
-use rv_object::{Definition, Object, Row, Section, Symbol};
-use std::alloc::{AllocError, Global};
+use crate::section::ShortSection;
+use rv_object::{Definition, Object, Row};
+
+/// An object, less what is cut of its calls. It is lent, and nothing of it is copied: what moves is told when it is asked for.
+#[derive(Drop)]
+pub struct ShortObject<'o> {
+    /// The object as it was. The names and bindings of its symbols stay, and whether it has compressed code.
+    pub whole: &'o Object,
+    /// Its sections, less what is cut of them.
+    pub sections: Vec<ShortSection<'o>>,
+    /// Each row lies in a section that has a place in memory.
+    pub ghost lie: { IsTrue (are_rows (map short_section_of sections.items)
+        (map (cutting.cut_row_of (moves_in_all sections.items)) (whole.now).rows.items)) },
+}
 
 /// The cuts of the section of an index; none past the end.
-fn cuts_of(cuts: &[Vec<Cut>], section: u32) -> &[Cut]
-    requires { are_all_in_order cuts.now ≡ true }
+fn cuts_of<'s>(sections: &'s [ShortSection<'_>], index: u32) -> &'s [Cut]
     ensures order { are_in_order 0 0 result.now ≡ true }
-    ensures value { map move_of result.now ≡ cutting.moves_at (moves_of_all cuts.now) section }
+    ensures value { map move_of result.now ≡ cutting.moves_at (moves_in_all sections.now) index }
 {
-    match cuts.get(section as usize) {
-        Some(cuts) => cuts.as_slice(),
+    match sections.get(index as usize) {
+        Some(section) => section.cuts.as_slice(),
         None => &[],
-    }
-}
-
-/// The sections that are left.
-fn short_sections(
-    alloc: Global,
-    sections: Vec<Section>,
-    cuts: &[Vec<Cut>],
-) -> Result<Vec<Section>, AllocError>
-    requires order { are_all_in_order cuts.now ≡ true }
-    requires cuts { cutting.AllCut (map section_of sections.items) (moves_of_all cuts.now) }
-    ensures { IfOk result (λ v. map section_of v.items
-        ≡ cutting.cut_sections (moves_of_all cuts.now) (map section_of sections.items)) }
-{
-    let mut left = Vec::with_capacity(alloc, sections.len())?;
-    let mut index = 0;
-    for section in sections {
-        left.push(short_section(alloc, section, &cuts[index])?)?;
-        index += 1;
-    }
-    Ok(left)
-}
-
-/// What a symbol is afterwards.
-fn moved(definition: Definition, cuts: &[Vec<Cut>]) -> Definition
-    requires { are_all_in_order cuts.now ≡ true }
-    ensures { result ≡ cutting.cut_definition (moves_of_all cuts.now) definition }
-{
-    match definition {
-        Definition::InSection(section, offset) => {
-            Definition::InSection(section, new_offset(cuts_of(cuts, section), offset))
-        }
-        Definition::Undefined => Definition::Undefined,
-        Definition::Absolute(number) => Definition::Absolute(number),
-        Definition::Skipped(value) => Definition::Skipped(value),
-    }
-}
-
-/// Moves symbols with the bytes that are left.
-fn move_symbols(symbols: &mut [Symbol], cuts: &[Vec<Cut>])
-    requires { are_all_in_order cuts.now ≡ true }
-    ensures { map symbol_of symbols.new
-        ≡ map (cutting.cut_symbol (moves_of_all cuts.now)) (map symbol_of symbols.old) }
-{
-    for symbol in symbols.iter_mut() {
-        symbol.definition = moved(symbol.definition, cuts);
     }
 }
 
@@ -90,41 +55,44 @@ fn moved_row(row: Row, cuts: &[Cut]) -> Row
     }
 }
 
-/// Moves rows with the bytes that are left.
-fn move_rows(rows: &mut [Row], cuts: &[Vec<Cut>])
-    requires { are_all_in_order cuts.now ≡ true }
-    ensures { rows.new
-        ≡ map (λ r. cutting.cut_row (cutting.moves_at (moves_of_all cuts.now) r.section) r) rows.old }
-{
-    for row in rows.iter_mut() {
-        *row = moved_row(*row, cuts_of(cuts, row.section));
-    }
-}
+impl<'o> ShortObject<'o> {
+    ghost use Rattle.rv_shorten.specs.View.{short_object_of};
 
-/// The object that is left.
-pub(crate) fn short_object(
-    alloc: Global,
-    object: Object,
-    cuts: &[Vec<Cut>],
-) -> Result<Object, AllocError>
-    requires order { are_all_in_order cuts.now ≡ true }
-    requires cuts { cutting.AllCut (object_of object).sections (moves_of_all cuts.now) }
-    ensures { IfOk result (λ o. object_of o
-        ≡ cutting.cut_object (moves_of_all cuts.now) (object_of object)) }
-{
-    let Object {
-        sections,
-        mut symbols,
-        mut rows,
-        rvc,
-    } = object;
-    let sections = short_sections(alloc, sections, cuts)?;
-    move_symbols(&mut symbols, cuts);
-    move_rows(&mut rows, cuts);
-    Ok(Object {
-        sections,
-        symbols,
-        rows,
-        rvc,
-    })
+    /// An object of which these sections are left.
+    pub(crate) fn of(whole: &'o Object, sections: Vec<ShortSection<'o>>) -> ShortObject<'o>
+        requires cuts { cutting.AllCut (object_of whole.now).sections
+            (moves_in_all sections.items) }
+        requires left { map short_section_of sections.items
+            ≡ cutting.cut_sections (moves_in_all sections.items) (object_of whole.now).sections }
+        ensures { short_object_of result
+            ≡ cutting.cut_object (moves_in_all sections.entry.items) (object_of whole.now) }
+    {
+        ShortObject { whole, sections }
+    }
+
+    /// What one of its symbols is afterwards.
+    pub fn definition(&self, definition: Definition) -> Definition
+        ensures { result
+            ≡ cutting.cut_definition (moves_in_all (self.now).sections.items) definition }
+    {
+        match definition {
+            Definition::InSection(section, offset) => {
+                Definition::InSection(
+                    section,
+                    new_offset(cuts_of(&self.sections, section), offset),
+                )
+            }
+            Definition::Undefined => Definition::Undefined,
+            Definition::Absolute(number) => Definition::Absolute(number),
+            Definition::Skipped(value) => Definition::Skipped(value),
+        }
+    }
+
+    /// Where one of its rows stands afterwards.
+    pub fn row(&self, row: &Row) -> Row
+        ensures { result
+            ≡ cutting.cut_row_of (moves_in_all (self.now).sections.items) row.now }
+    {
+        moved_row(*row, cuts_of(&self.sections, row.section))
+    }
 }

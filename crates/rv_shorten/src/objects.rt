@@ -5,53 +5,54 @@ ghost use Rattle.rv_layout_laws.specs.Calls.{IsText};
 ghost use Rattle.rv_object.specs.View.{object_of};
 ghost use Rattle.rv_object_laws.specs.Calls.{sites_of};
 ghost use Rattle.rv_object_laws.specs.Shortened.{shortened};
+ghost use Rattle.rv_shorten.specs.View.{short_object_of};
 ghost use Rattle.rv_shorten.specs.Walk.{AreWalked, walked};
 
-use crate::object::short_object;
-use crate::sites::object_cuts;
+use crate::object::ShortObject;
+use crate::sites::short_sections;
 use rv_layout_laws::Site;
 use rv_object::Object;
 use std::alloc::{AllocError, Global};
 
 /// The objects that are left, as the sites of the text go by.
-fn shorten_all(
+fn shorten_all<'o>(
     alloc: Global,
-    objects: Vec<Object>,
+    objects: &'o [Object],
     sites: &[Site],
     kept: &[u32],
-) -> Result<Vec<Object>, AllocError>
+) -> Result<Vec<ShortObject<'o>>, AllocError>
     requires many { length kept.now ≡ length sites.now }
-    requires walked { AreWalked (map object_of objects.items) sites.now kept.now }
-    ensures { IfOk result (λ left. map object_of left.items
-        ≡ walked (map object_of objects.items) sites.now kept.now) }
+    requires walked { AreWalked (map object_of objects.now) sites.now kept.now }
+    ensures { IfOk result (λ left. map short_object_of left.items
+        ≡ walked (map object_of objects.now) sites.now kept.now) }
 {
     let mut left = Vec::with_capacity(alloc, objects.len())?;
     let mut at = 0;
     for object in objects {
-        let (cuts, count) = object_cuts(alloc, &object.sections, &sites[at..], &kept[at..])?;
-        left.push(short_object(alloc, object, &cuts)?)?;
+        let (sections, count) = short_sections(alloc, &object.sections, &sites[at..], &kept[at..])?;
+        left.push(ShortObject::of(object, sections))?;
         at += count;
     }
     Ok(left)
 }
 
 /// Shortens the calls of objects: of each site of their text so many bytes are kept, of a call 2 or 4 if it is shortened.
-/// Bytes, relocations, symbols and rows move with what is kept.
+/// Bytes, relocations, symbols and rows move with what is kept. The objects are lent.
 ///
 /// # Errors
 ///
 /// Want of memory.
-pub fn shorten(
+pub fn shorten<'o>(
     alloc: Global,
-    objects: Vec<Object>,
+    objects: &'o [Object],
     sites: &[Site],
     kept: &[u32],
-) -> Result<Vec<Object>, AllocError>
-    requires sites { sites.now ≡ sites_of (map object_of objects.items) }
+) -> Result<Vec<ShortObject<'o>>, AllocError>
+    requires sites { sites.now ≡ sites_of (map object_of objects.now) }
     requires text { IsText sites.now }
     requires family { length kept.now ≡ length sites.now }
-    ensures { IfOk result (λ left. map object_of left.items
-        ≡ shortened kept.now (map object_of objects.items)) }
+    ensures { IfOk result (λ left. map short_object_of left.items
+        ≡ shortened kept.now (map object_of objects.now)) }
 {
     shorten_all(alloc, objects, sites, kept)
 }

@@ -38,7 +38,7 @@ fn new_kind(cuts: &[Cut], relocation: &Relocation) -> Kind
 }
 
 /// What a relocation is afterwards.
-fn moved(relocation: &Relocation, cuts: &[Cut]) -> Relocation
+pub(crate) fn moved(relocation: &Relocation, cuts: &[Cut]) -> Relocation
     requires { are_in_order 0 0 cuts.now ≡ true }
     ensures { relocation_of result
         ≡ cut_relocation (map move_of cuts.now) (relocation_of relocation.now) }
@@ -48,16 +48,5 @@ fn moved(relocation: &Relocation, cuts: &[Cut]) -> Relocation
         kind: new_kind(cuts, relocation),
         symbol: relocation.symbol,
         addend: relocation.addend,
-    }
-}
-
-/// Moves relocations with the bytes that are left.
-pub(crate) fn move_relocations(relocations: &mut [Relocation], cuts: &[Cut])
-    requires { are_in_order 0 0 cuts.now ≡ true }
-    ensures { map relocation_of relocations.new
-        ≡ map (cut_relocation (map move_of cuts.now)) (map relocation_of relocations.old) }
-{
-    for relocation in relocations.iter_mut() {
-        *relocation = moved(relocation, cuts);
     }
 }

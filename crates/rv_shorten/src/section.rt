@@ -1,75 +1,76 @@
 //! A section of which calls are cut short.
 
-ghost use Rattle.std.specs.Prelude.{◌≡◌, true, map, IfOk};
-ghost use Rattle.rv_object.specs.Object.{Contents as SaidContents};
-ghost use Rattle.rv_object.specs.Parts.{contents_of};
+ghost use Rattle.std.specs.Prelude.{◌≡◌, true, IsTrue, length, map};
+ghost use Rattle.rv_object.specs.Object.{size_of as said_size, stored};
+ghost use Rattle.rv_object.specs.Parts.{relocation_of};
 ghost use Rattle.rv_object.specs.Sections.{section_of};
-ghost use Rattle.rv_object_laws.specs.Moves.{kept};
-ghost use Rattle.rv_object_laws.specs.Shortened.{shortened_contents};
+ghost use Rattle.rv_object_laws.specs.Moves.{new_offset as offset_of};
 ghost use Rattle.rv_shorten.specs.Cut.{are_in_order, move_of};
-ghost use Rattle.rv_shorten.specs.Cutting.{AreCuts, cut_section};
+ghost use Rattle.rv_shorten.specs.Cutting.{AreCuts, are_cuts, cut_relocation, cut_section, fits, keeps_paddings};
 
-use crate::bytes::put_kept;
+use crate::bytes::LeftBytes;
 use crate::cut::Cut;
-use crate::relocations::move_relocations;
-use rv_object::{Contents, Section};
-use std::alloc::{AllocError, Global};
+use crate::offsets::new_offset;
+use crate::relocations::moved;
+use crate::sites::{size_of, stored};
+use rv_object::{Relocation, Section};
 
-/// The bytes that are left.
-fn short_bytes(alloc: Global, bytes: &[u8], cuts: &[Cut]) -> Result<Vec<u8>, AllocError>
-    requires { are_in_order 0 0 cuts.now ≡ true }
-    ensures { IfOk result (λ v. v.items ≡ kept 0 (map move_of cuts.now) bytes.now) }
-{
-    let mut out = Vec::with_capacity(alloc, bytes.len())?;
-    put_kept(&mut out, cuts, bytes)?;
-    Ok(out)
+/// A section, less what is cut of its calls. It is lent, and nothing of it is copied: what moves is told when it is asked for.
+#[derive(Drop)]
+pub struct ShortSection<'o> {
+    /// The section as it was. Its name, its flags and its alignment stay.
+    pub whole: &'o Section,
+    /// Its calls that are cut short.
+    pub(crate) cuts: Vec<Cut>,
+    /// They stand one behind the other.
+    ghost order: { IsTrue (are_in_order 0 0 cuts.items) },
+    /// They lie in the bytes that the section has in the file.
+    ghost within: { IsTrue
+        (are_cuts 0 (length (stored (section_of whole.now).contents)) (map move_of cuts.items)) },
+    /// Its bytes are what is left of them.
+    ghost sized: { said_size (cut_section (map move_of cuts.items) (section_of whole.now)).contents
+        ≡ offset_of (map move_of cuts.items) (said_size (section_of whole.now).contents) },
+    /// Each field lies in the bytes that are left.
+    pub ghost inside: { IsTrue (fits (cut_section (map move_of cuts.items) (section_of whole.now))) },
+    /// Each padding lies there as well, in code at an even offset, and meets no field.
+    pub ghost paddings: { IsTrue
+        (keeps_paddings (cut_section (map move_of cuts.items) (section_of whole.now))) },
 }
 
-/// The contents that are left.
-fn short_contents(alloc: Global, contents: Contents, cuts: &[Cut]) -> Result<Contents, AllocError>
-    requires { are_in_order 0 0 cuts.now ≡ true }
-    ensures { IfOk result (λ c. contents_of c
-        ≡ shortened_contents (map move_of cuts.now) (contents_of contents)) }
-{
-    match contents {
-        Contents::Progbits(bytes) => Ok(Contents::Progbits(short_bytes(alloc, &bytes, cuts)?)),
-        Contents::Note(bytes) => Ok(Contents::Note(short_bytes(alloc, &bytes, cuts)?)),
-        Contents::Nobits(size) => Ok(Contents::Nobits(size)),
-    }
-}
+impl<'o> ShortSection<'o> {
+    ghost use Rattle.rv_shorten.specs.Bytes.{left_bytes};
+    ghost use Rattle.rv_shorten.specs.Sections.{moves_in, short_section_of};
 
-/// The section that is left: where nothing is cut, the same.
-pub(crate) fn short_section(
-    alloc: Global,
-    section: Section,
-    cuts: &[Cut],
-) -> Result<Section, AllocError>
-    requires order { are_in_order 0 0 cuts.now ≡ true }
-    requires cuts { AreCuts (section_of section) (map move_of cuts.now) }
-    ensures { IfOk result (λ s. section_of s
-        ≡ cut_section (map move_of cuts.now) (section_of section)) }
-{
-    if cuts.is_empty() {
-        return Ok(section);
+    /// A section of which these calls are cut short.
+    pub(crate) fn of(whole: &'o Section, cuts: Vec<Cut>) -> ShortSection<'o>
+        requires order { are_in_order 0 0 cuts.items ≡ true }
+        requires cuts { AreCuts (section_of whole.now) (map move_of cuts.items) }
+        ensures cuts { moves_in result ≡ map move_of cuts.items }
+        ensures left { short_section_of result
+            ≡ cut_section (map move_of cuts.items) (section_of whole.now) }
+    {
+        ShortSection { whole, cuts }
     }
-    let Section {
-        name,
-        loaded,
-        executable,
-        writable,
-        contents,
-        alignment,
-        mut relocations,
-    } = section;
-    let contents = short_contents(alloc, contents, cuts)?;
-    move_relocations(&mut relocations, cuts);
-    Ok(Section {
-        name,
-        loaded,
-        executable,
-        writable,
-        contents,
-        alignment,
-        relocations,
-    })
+
+    /// Its bytes in memory.
+    pub fn size(&self) -> u64
+        ensures { result ≡ said_size (short_section_of self.now).contents }
+    {
+        new_offset(&self.cuts, size_of(&self.whole.contents))
+    }
+
+    /// What one of its relocations is afterwards.
+    pub fn relocation(&self, relocation: &Relocation) -> Relocation
+        ensures { relocation_of result
+            ≡ cut_relocation (moves_in self.now) (relocation_of relocation.now) }
+    {
+        moved(relocation, &self.cuts)
+    }
+
+    /// The bytes that are left of those that it has in the file.
+    pub fn bytes(&self) -> LeftBytes<'_>
+        ensures { left_bytes result ≡ stored (short_section_of self.now).contents }
+    {
+        LeftBytes::behind(&self.cuts, stored(&self.whole.contents))
+    }
 }

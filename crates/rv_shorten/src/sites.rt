@@ -6,11 +6,13 @@ ghost use Rattle.rv_object.specs.Parts.{contents_of};
 ghost use Rattle.rv_object.specs.Sections.{section_of};
 ghost use Rattle.rv_object_laws.specs.Inputs.{goes_to_text};
 ghost use Rattle.rv_layout_laws.specs.Calls as calls;
-ghost use Rattle.rv_shorten.specs.Cut.{are_all_in_order, are_in_order, move_of, moves_of_all};
-ghost use Rattle.rv_shorten.specs.Cutting.{AllCut, are_cuts};
+ghost use Rattle.rv_shorten.specs.Cut.{are_in_order, move_of};
+ghost use Rattle.rv_shorten.specs.Cutting.{AllCut, are_cuts, cut_sections};
+ghost use Rattle.rv_shorten.specs.Sections.{moves_in_all, short_section_of};
 ghost use Rattle.rv_shorten.specs.Walk as walk;
 
 use crate::cut::Cut;
+use crate::section::ShortSection;
 use crate::words::link_register;
 use rv_layout_laws::{Site, SiteKind};
 use rv_object::{Contents, Section};
@@ -24,7 +26,7 @@ fn is_text(section: &Section) -> bool
 }
 
 /// The bytes of a section in memory.
-fn size_of(contents: &Contents) -> u64
+pub(crate) fn size_of(contents: &Contents) -> u64
     ensures { result ≡ said.size_of (contents_of contents.now) }
 {
     match contents {
@@ -35,7 +37,7 @@ fn size_of(contents: &Contents) -> u64
 }
 
 /// The bytes that a section has in the file.
-fn stored(contents: &Contents) -> &[u8]
+pub(crate) fn stored(contents: &Contents) -> &[u8]
     ensures { result.now ≡ said.stored (contents_of contents.now) }
 {
     match contents {
@@ -194,35 +196,37 @@ fn section_cuts(
     }
 }
 
-/// The cuts of each section of an object, to whose text the first sites belong, and how many these are.
-pub(crate) fn object_cuts(
+/// The sections of an object that are left, to whose text the first sites belong, and how many these are.
+pub(crate) fn short_sections<'o>(
     alloc: Global,
-    sections: &[Section],
+    sections: &'o [Section],
     sites: &[Site],
     kept: &[u32],
-) -> Result<(Vec<Vec<Cut>>, usize), AllocError>
+) -> Result<(Vec<ShortSection<'o>>, usize), AllocError>
     requires many { length kept.now ≡ length sites.now }
     requires cuts { AllCut (map section_of sections.now)
         (walk.object_moves (map section_of sections.now) sites.now kept.now) }
-    ensures moves { IfOk result (λ found. moves_of_all found.0.items
+    ensures moves { IfOk result (λ found. moves_in_all found.0.items
         ≡ walk.object_moves (map section_of sections.now) sites.now kept.now) }
-    ensures order { IfOk result (λ found. are_all_in_order found.0.items ≡ true) }
+    ensures left { IfOk result (λ found. map short_section_of found.0.items
+        ≡ cut_sections (walk.object_moves (map section_of sections.now) sites.now kept.now)
+        (map section_of sections.now)) }
     ensures passed { IfOk result
         (λ found. found.1 ≡ walk.passed_all (map section_of sections.now) sites.now) }
     ensures low { IfOk result (λ found. found.1 ≤ length sites.now) }
 {
-    let mut all = Vec::with_capacity(alloc, sections.len())?;
+    let mut left = Vec::with_capacity(alloc, sections.len())?;
     let mut at = 0;
     for section in sections {
         let count = passed(section, &sites[at..]);
-        let own = section_cuts(
+        let cuts = section_cuts(
             alloc,
             section,
             &sites[at..at + count],
             &kept[at..at + count],
         )?;
-        all.push(own)?;
+        left.push(ShortSection::of(section, cuts))?;
         at += count;
     }
-    Ok((all, at))
+    Ok((left, at))
 }

@@ -7,10 +7,15 @@ use Rattle.std.specs.declared.cmp.Ordering.{Ordering}
 use Rattle.std.specs.declared.cmp.Ordering.TheVariants.{Less, Equal, Greater}
 use Rattle.std.proofs.lemmas.Bool.Decides.{nat_tests}
 use Rattle.std.proofs.lemmas.List.{take_more, take_all}
+use Rattle.rv_isa.specs.declared.kind.Kind.{Kind}
+use Rattle.rv_isa.specs.declared.kind.Kind.TheVariants as kinds
 use Rattle.rv_object.specs.declared.relocation.Relocation.{Relocation as DeclaredRelocation}
 use Rattle.rv_object.specs.Object.{Relocation}
 use Rattle.rv_object.specs.Parts.{relocation_of}
+use Rattle.rv_object_laws.specs.Calls.{is_call}
+use Rattle.rv_object_laws.specs.Moves.{Move}
 use Rattle.rv_object_laws.specs.Values.{is_high}
+use Rattle.rv_shorten.specs.Cutting.{cut_at, cut_kind, kind_left}
 use Rattle.rv_values.specs.declared.high.HighPlace.{HighPlace}
 use Rattle.rv_values.specs.Highs.{else_found, high_to, place_cmp}
 
@@ -34,6 +39,27 @@ same_place p q =
     ∙ ap (λ b. (p.file == q.file) && ((p.section == q.section) && b)) (same_number p.offset q.offset)
 
 -- ---- one relocation
+
+calls_low : (k : Kind) → is_call k ≡ true → is_high k ≡ false
+calls_low kinds.Call is = refl
+calls_low kinds.CallPlt is = refl
+calls_low _ is = absurd (cc)
+
+jumps_low : (b : Bool) → is_high (if b then kinds.RvcJump else kinds.Jal) ≡ false
+jumps_low true = refl
+jumps_low false = refl
+
+left_high : (k : Kind) (m : Option Move) → is_call k ≡ true → is_high (kind_left k m) ≡ is_high k
+left_high k None is = refl
+left_high k (Some m) is = jumps_low (length m.text == 2) ∙ sym (calls_low k is)
+
+-- a relocation that moves with the calls that are cut short is a high part where it was one
+pub stays_high : (ms : List Move) (r : Relocation) → is_high (cut_kind ms r) ≡ is_high r.kind
+stays_high ms r = by (is_call r.kind) refl
+  where
+    by : (b : Bool) → is_call r.kind ≡ b → is_high (if b then kind_left r.kind (cut_at ms r.place) else r.kind) ≡ is_high r.kind
+    by true is = left_high r.kind (cut_at ms r.place) is
+    by false other = refl
 
 -- one relocation, put where another may stand
 pub put_found : (h a b e : Bool) (r : DeclaredRelocation) (old : Option DeclaredRelocation) → true ≡ h

@@ -5,9 +5,9 @@ use Rattle.std.specs.Prelude.{◌≡◌, ◌⊎◌, ℕ, ◌+◌, ℤ, pos, true
 use Rattle.std.specs.List.{slice_get}
 use Rattle.rv_map.specs.Map.{Global}
 use Rattle.rv_object.specs.Object.{Relocation, Object}
-use Rattle.rv_object.specs.View.{object_of}
 use Rattle.rv_object_laws.specs.Inputs.{Starts, InputSection}
 use Rattle.rv_object_laws.specs.Values.{is_low, value}
+use Rattle.rv_shorten.specs.View.{short_object_of}
 use Rattle.rv_placement.specs.declared.placement.Placement.{Placement}
 use Rattle.rv_placement.specs.Placement.{IsPlacement}
 use Rattle.rv_resolve.specs.Names.{IsNames}
@@ -34,7 +34,7 @@ IsDangling globals starts os i r =
 
 -- these are the values of objects that are placed so
 pub record IsValues (os : List Object) (p : Placement) (v : Values) : Type 0 where
-  pub objects : map object_of v.objects.now ≡ os
+  pub objects : map short_object_of v.objects.now ≡ os
   pub placement : v.placement.now ≡ p
   pub names : IsNames os v.names.now
   -- the text begins anywhere

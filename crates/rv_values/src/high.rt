@@ -3,18 +3,20 @@
 ghost use Rattle.std.specs.Prelude.{◌≡◌, ℕ, [], ◌∷◌, Some, map, option_map, IfOk, OnOk};
 ghost use Rattle.std.specs.List.{slice_get};
 ghost use Rattle.rv_object.specs.Parts.{relocation_of};
-ghost use Rattle.rv_object.specs.Sections.{section_of};
-ghost use Rattle.rv_object.specs.View.{object_of};
-ghost use Rattle.rv_placement.specs.Placement.{placed_at};
 ghost use Rattle.rv_object_laws.specs.Moves.{new_offset};
 ghost use Rattle.rv_object_laws.specs.Values.{is_high};
+ghost use Rattle.rv_shorten.specs.Cutting.{cut_relocation};
+ghost use Rattle.rv_shorten.specs.Sections.{moves_in, short_section_of};
+ghost use Rattle.rv_shorten.specs.View.{short_object_of};
 ghost use Rattle.rv_relax.specs.Plan.{moves_of};
+ghost use Rattle.rv_placement.specs.Placement.{placed_at};
 ghost use Rattle.rv_values.specs.Highs.{found, high_to, high_in, high_of, HasBefore, HasFileBefore};
 
 use rv_isa::Kind;
-use rv_object::{Object, Relocation, Section};
+use rv_object::Relocation;
 use rv_placement::{PlacedSection, Placement};
 use rv_relax::SectionPlan;
+use rv_shorten::{ShortObject, ShortSection};
 use std::alloc::{AllocError, Global};
 use std::collections::BTreeMap;
 
@@ -44,11 +46,11 @@ impl Highs {
     /// The high parts of objects.
     pub(crate) fn of(
         alloc: Global,
-        objects: &[Object],
+        objects: &[ShortObject<'_>],
         placement: &Placement,
     ) -> Result<Highs, AllocError>
         ensures { IfOk result (λ h. (file section offset : ℕ) → found h file section offset
-            ≡ high_of placement.now (map object_of objects.now) file section offset) }
+            ≡ high_of placement.now (map short_object_of objects.now) file section offset) }
     {
         let mut highs = Highs {
             by_place: BTreeMap::new(alloc),
@@ -76,12 +78,12 @@ impl Highs {
     fn add_object(
         &mut self,
         file: usize,
-        object: &Object,
+        object: &ShortObject<'_>,
         placement: &Placement,
     ) -> Result<(), AllocError>
         ensures { OnOk result (HasFileBefore self.old self.new file (λ s offset.
-            high_in (placed_at placement.now file s) (slice_get (object_of object.now).sections s)
-            offset)) }
+            high_in (placed_at placement.now file s)
+            (slice_get (short_object_of object.now).sections s) offset)) }
     {
         let Some(places) = placement.files.get(file) else {
             return Ok(());
@@ -97,14 +99,14 @@ impl Highs {
         &mut self,
         file: usize,
         index: usize,
-        section: &Section,
+        section: &ShortSection<'_>,
         places: &[PlacedSection],
     ) -> Result<(), AllocError>
         ensures { OnOk result (HasBefore self.old self.new file index
-            (high_in (slice_get places.now index) (Some (section_of section.now)))) }
+            (high_in (slice_get places.now index) (Some (short_section_of section.now)))) }
     {
         match places.get(index) {
-            Some(place) => self.add_all(file, index, &place.plan, &section.relocations),
+            Some(place) => self.add_all(file, index, section, &place.plan),
             None => Ok(()),
         }
     }
@@ -114,41 +116,46 @@ impl Highs {
     fn add_all(
         &mut self,
         file: usize,
-        section: usize,
+        index: usize,
+        section: &ShortSection<'_>,
         plan: &SectionPlan,
-        relocations: &[Relocation],
     ) -> Result<(), AllocError>
-        ensures { OnOk result (HasBefore self.old self.new file section (λ offset.
-            high_to (new_offset (moves_of plan.now)) offset (map relocation_of relocations.now))) }
+        ensures { OnOk result (HasBefore self.old self.new file index (λ offset.
+            high_to (new_offset (moves_of plan.now)) offset
+            (short_section_of section.now).relocations)) }
     {
-        let mut left = relocations;
+        let mut left = section.whole.relocations.as_slice();
         while let [front @ .., last] = left {
-            self.add(file, section, plan, last)?;
+            self.add(file, index, section, plan, last)?;
             left = front;
         }
         Ok(())
     }
 
-    /// Adds a relocation, if it is a high part, in place of another that stands where it does.
+    /// Adds a relocation of a section, if it is a high part, in place of another that stands where it does.
     fn add(
         &mut self,
         file: usize,
-        section: usize,
+        index: usize,
+        section: &ShortSection<'_>,
         plan: &SectionPlan,
         relocation: &Relocation,
     ) -> Result<(), AllocError>
-        ensures { OnOk result (HasBefore self.old self.new file section (λ offset.
-            high_to (new_offset (moves_of plan.now)) offset (relocation_of relocation.now ∷ []))) }
+        ensures { OnOk result (HasBefore self.old self.new file index (λ offset.
+            high_to (new_offset (moves_of plan.now)) offset
+            (cut_relocation (moves_in section.now) (relocation_of relocation.now) ∷ []))) }
     {
+        // no call becomes a high part, so only those have to be moved
         if !is_high(relocation.kind) {
             return Ok(());
         }
+        let relocation = section.relocation(relocation);
         let place = HighPlace {
             file,
-            section,
+            section: index,
             offset: plan.new_offset(relocation.place),
         };
-        self.by_place.insert(place, *relocation)?;
+        self.by_place.insert(place, relocation)?;
         Ok(())
     }
 }

@@ -1,8 +1,8 @@
 //! What the relocations of placed objects are worth.
 //!
-//! It takes objects (`rv_object`), where their sections stand (`rv_placement`) and what their names mean (`rv_resolve`), and
-//! gives the [`Values`] of their relocations: that of the psABI's calculation (`rv_reloc`), and for the low part of a distance
-//! that of the high part to which its symbol points.
+//! It takes objects, less what is cut of their calls (`rv_shorten`), where their sections stand (`rv_placement`) and what their
+//! names mean (`rv_resolve`), and gives the [`Values`] of their relocations: that of the psABI's calculation (`rv_reloc`), and for
+//! the low part of a distance that of the high part to which its symbol points.
 //!
 //! Main contract: `Values::value` answers the value that `rv_object_laws` defines (`specs/Values`, `value`), or refuses exactly a
 //! low part that has no high part, or an addend (`IsDangling`). It must not know whether a field takes its value, what bytes
@@ -10,7 +10,8 @@
 //!
 //! ```text
 //! let values = Values::of(alloc, &objects, &placement, &names)?;     // finds the high parts, once
-//! let relocation = objects[0].sections[0].relocations[0];
+//! let section = &objects[0].sections[0];
+//! let relocation = section.relocation(&section.whole.relocations[0]);
 //! let value = values.value(0, 0, &relocation)?;                      // Err(Dangling), if it has none
 //! rv_reloc::patch(&mut field, relocation.kind, value)?;
 //! ```

@@ -4,9 +4,9 @@ ghost use Rattle.std.specs.Prelude.{◌≡◌, ◌+◌, ◌%◌, ◌^◌, ℕ, L
 ghost use Rattle.std.specs.List.{slice_get};
 ghost use Rattle.rv_object.specs.Object.{Object as PlainObject};
 ghost use Rattle.rv_object.specs.Parts.{relocation_of};
-ghost use Rattle.rv_object.specs.View.{object_of};
 ghost use Rattle.rv_object_laws.specs.Inputs.{InputSection};
 ghost use Rattle.rv_object_laws.specs.Values as laws;
+ghost use Rattle.rv_shorten.specs.View.{short_object_of};
 ghost use Rattle.rv_placement.specs.declared.placement.Placement.{Placement as Placed};
 ghost use Rattle.rv_placement.specs.Placement.{placed_at, starts_of, IsPlacement};
 ghost use Rattle.rv_resolve.specs.Names.{IsNames, place_of};
@@ -16,15 +16,16 @@ ghost use Rattle.rv_values.specs.Values.{IsInputAt, IsValueOf, IsDangling, IsVal
 use crate::fault::ValueFault;
 use crate::high::Highs;
 use rv_isa::Kind;
-use rv_object::{Object, Relocation};
+use rv_object::Relocation;
 use rv_placement::{PlacedSection, Placement};
 use rv_resolve::Names;
+use rv_shorten::ShortObject;
 use std::alloc::{AllocError, Global};
 
 /// What the relocations of placed objects are worth.
 #[derive(Drop)]
 pub struct Values<'p, 'o> {
-    pub(crate) objects: &'p [Object],
+    pub(crate) objects: &'p [ShortObject<'o>],
     pub(crate) placement: &'p Placement,
     pub(crate) names: &'p Names<'o>,
     pub(crate) highs: Highs,
@@ -49,13 +50,13 @@ impl<'p, 'o> Values<'p, 'o> {
     /// Those of objects, with their sections placed, and of what their names mean.
     pub fn of(
         alloc: Global,
-        objects: &'p [Object],
+        objects: &'p [ShortObject<'o>],
         placement: &'p Placement,
         names: &'p Names<'o>,
     ) -> Result<Values<'p, 'o>, AllocError>
-        ensures { (start : ℕ) → IsNames (map object_of objects.now) names.now
-            → IsPlacement (map object_of objects.now) start placement.now
-            → IfOk result (IsValues (map object_of objects.now) placement.now) }
+        ensures { (start : ℕ) → IsNames (map short_object_of objects.now) names.now
+            → IsPlacement (map short_object_of objects.now) start placement.now
+            → IfOk result (IsValues (map short_object_of objects.now) placement.now) }
     {
         let highs = Highs::of(alloc, objects, placement)?;
         Ok(Values {
@@ -66,7 +67,8 @@ impl<'p, 'o> Values<'p, 'o> {
         })
     }
 
-    /// The value of a relocation of a section, by its file and its index there, both from 0.
+    /// The value of a relocation of a section, by its file and its index there, both from 0. The relocation stands where calls
+    /// that are cut short have moved it.
     ///
     /// `Dangling`: it is the low part of a distance (`PcrelLo12I`, `PcrelLo12S`), and has no high part,
     /// or an addend.

@@ -3,7 +3,8 @@ use Rattle.std.proofs.lemmas.List.{length-map}
 use Rattle.rv_statement.specs.View.{now_of}
 use Rattle.rv_image.specs.Linked.{linked_of}
 use Rattle.rv_object.specs.View.{object_of}
-use Rattle.rv_link.specs.Refusals.{AreWithin}
+use Rattle.rv_object_laws.specs.Shortened.{IsProgramOf}
+use Rattle.rv_link.specs.Refusals.{AreWithin, HasNoProgram}
 use Rattle.rv_chain.specs.Refusals.{IsRefusedFor}
 use Rattle.rv_chain.proofs.Gathered.{err_given, gathered, link_refused}
 use Rattle.rv_chain.proofs.building.linked.Goals as goal
@@ -14,8 +15,9 @@ returns-in_err-linked-clause-refuses c =
     let start = c.args.options.text_start in
     let relax = c.args.options.relax in
     let os = map object_of c.in_ok-objects.objects.items in
+    let refused : HasNoProgram os start relax c.in_err-linked.field-0.0 = subst (λ l. HasNoProgram (map object_of l) start relax c.in_err-linked.field-0.0) c.deref.ensures.value c.in_err-linked.ensures.refuses in
     err_given c.from_residual-in_err-linked.result (IsRefusedFor texts start relax) _ c.from_residual-in_err-linked.ensures.1
-    (λ f is. subst (IsRefusedFor texts start relax) (sym is) (link_refused texts start relax c.in_err-linked.field-0.0 (os, c.in_ok-objects.ensures.objects, c.in_err-linked.ensures.refuses)))
+    (λ f is. subst (IsRefusedFor texts start relax) (sym is) (link_refused texts start relax c.in_err-linked.field-0.0 (os, c.in_ok-objects.ensures.objects, refused)))
 
 pub returns-clause-program : goal.returns-clause-program
 returns-clause-program c =
@@ -25,19 +27,23 @@ returns-clause-program c =
     let relax = c.args.options.relax in
     let l = linked_of c.in_ok-linked.linked in
     let g = gathered texts os c.in_ok-objects.ensures.objects in
+    let links : IsProgramOf os start relax l = subst (λ items. IsProgramOf (map object_of items) start relax l) c.deref.ensures.value c.in_ok-linked.ensures.links in
     record {
       sources = g.0;
       read = g.1;
-      linked = c.objects_of_sources_link.ensures g.0 os start relax l g.2 c.in_ok-linked.ensures.links;
-      flag = c.linked_objects_are_flagged.ensures g.0 os start relax l g.2 c.in_ok-linked.ensures.links;
+      linked = c.objects_of_sources_link.ensures g.0 os start relax l g.2 links;
+      flag = c.linked_objects_are_flagged.ensures g.0 os start relax l g.2 links;
     }
 
 pub returns-clause-links : goal.returns-clause-links
-returns-clause-links c = (
-  map object_of c.in_ok-objects.objects.items,
-  c.in_ok-objects.ensures.objects,
-  c.in_ok-linked.ensures.links,
-)
+returns-clause-links c =
+    let start = c.args.options.text_start in
+    let relax = c.args.options.relax in
+    let l = linked_of c.in_ok-linked.linked in (
+      map object_of c.in_ok-objects.objects.items,
+      c.in_ok-objects.ensures.objects,
+      subst (λ items. IsProgramOf (map object_of items) start relax l) c.deref.ensures.value c.in_ok-linked.ensures.links,
+    )
 
 pub returns-clause-good : goal.returns-clause-good
 returns-clause-good c =

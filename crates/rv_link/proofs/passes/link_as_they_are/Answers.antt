@@ -3,7 +3,7 @@ use Rattle.std.proofs.lemmas.Result.{err_from_is_err_and}
 use Rattle.std.proofs.lemmas.List.{length-map}
 use Rattle.rv_map.specs.Limits.{IsMap}
 use Rattle.rv_image.specs.Linked.{linked_of}
-use Rattle.rv_object.specs.View.{object_of}
+use Rattle.rv_shorten.specs.View.{short_object_of}
 use Rattle.rv_object_laws.specs.IsLinkOf.{IsLinkOf}
 use Rattle.rv_resolve.specs.Entry.{has_entry}
 use Rattle.rv_placement.specs.Placement.{starts_of, AreRoomy}
@@ -14,12 +14,12 @@ use Rattle.rv_link.proofs.passes.link_as_they_are.Goals as goal
 
 pub returns-clause-links : goal.returns-clause-links
 returns-clause-links c =
-    let os = map object_of c.args.objects.now in
+    let os = map short_object_of c.args.objects.now in
     let p = c.in_ok-placement.placement in
     let r = c.in_ok-regions.regions in
     let l = linked_of c.in_ok-linked.linked in
     let e = c.in_ok-linked.ensures.made in
-    let n : length (map object_of c.args.objects.now) ≡ length c.args.objects.now = length-map c.args.objects.now object_of in
+    let n : length (map short_object_of c.args.objects.now) ≡ length c.args.objects.now = length-map c.args.objects.now short_object_of in
     let w = c.in_ok-within_limits.ensures.within in
     subst (λ x. IsLinkOf os c.args.start x) (sym e)
     (is_link os c.args.start c.in_ok-names.names p c.in_ok-entry.entry r (omega (arith, w.0, n)) w.1.0 w.1.1 c.in_ok-names.ensures.named c.in_ok-placement.ensures.placed (search rules)
@@ -27,9 +27,9 @@ returns-clause-links c =
 
 pub returns-in_err-entry-clause-refuses : goal.returns-in_err-entry-clause-refuses
 returns-in_err-entry-clause-refuses c =
-    let os = map object_of c.args.objects.now in
+    let os = map short_object_of c.args.objects.now in
     let p = c.in_ok-placement.placement in
-    let n : length os ≡ length c.args.objects.now = length-map c.args.objects.now object_of in
+    let n : length os ≡ length c.args.objects.now = length-map c.args.objects.now short_object_of in
     let w = c.in_ok-within_limits.ensures.within in
     let named = c.in_ok-names.ensures.named in
     let begins : has_entry os ≡ true = sym (c.has_entry.ensures named.table) ∙ c.if-not-has_entry.false in
@@ -40,9 +40,9 @@ returns-in_err-entry-clause-refuses c =
 
 pub returns-then-not-is_roomy-clause-refuses : goal.returns-then-not-is_roomy-clause-refuses
 returns-then-not-is_roomy-clause-refuses c =
-    let os = map object_of c.args.objects.now in
+    let os = map short_object_of c.args.objects.now in
     let p = c.in_ok-placement.placement in
-    let n : length os ≡ length c.args.objects.now = length-map c.args.objects.now object_of in
+    let n : length os ≡ length c.args.objects.now = length-map c.args.objects.now short_object_of in
     let w = c.in_ok-within_limits.ensures.within in
     let named = c.in_ok-names.ensures.named in
     let begins : has_entry os ≡ true = sym (c.has_entry.ensures named.table) ∙ c.if-not-has_entry.false in
@@ -53,9 +53,9 @@ returns-then-not-is_roomy-clause-refuses c =
 
 pub returns-in_err-regions-clause-refuses : goal.returns-in_err-regions-clause-refuses
 returns-in_err-regions-clause-refuses c =
-    let os = map object_of c.args.objects.now in
+    let os = map short_object_of c.args.objects.now in
     let p = c.in_ok-placement.placement in
-    let n : length os ≡ length c.args.objects.now = length-map c.args.objects.now object_of in
+    let n : length os ≡ length c.args.objects.now = length-map c.args.objects.now short_object_of in
     let w = c.in_ok-within_limits.ensures.within in
     let named = c.in_ok-names.ensures.named in
     let begins : has_entry os ≡ true = sym (c.has_entry.ensures named.table) ∙ c.if-not-has_entry.false in

@@ -7,5 +7,5 @@ use Rattle.rv_link.proofs.relaxation.relaxed.Goals as goal
 
 pub shorten-requires-clause-text : goal.shorten-requires-clause-text
 shorten-requires-clause-text c =
-    let same : c.sites.result.now ≡ sites_of (map object_of c.args.objects.items) = search rules in
-    subst IsText (sym same) (sites_text c.args.objects.items)
+    let same : c.sites.result.now ≡ sites_of (map object_of c.args.objects.now) = search rules in
+    subst IsText (sym same) (sites_text c.args.objects.now)

@@ -1,8 +1,8 @@
 use Rattle.std.proofs.Common.{◌<◌, ◌≡◌, ◌∙◌, length, map, get_or, sym, ap, subst}
 use Rattle.std.specs.Vec.{with_items}
 use Rattle.std.proofs.lemmas.List.{with_items_is}
-use Rattle.rv_object.specs.View.{object_of}
-use Rattle.rv_object.specs.Sections.{section_of}
+use Rattle.rv_shorten.specs.Sections.{short_section_of}
+use Rattle.rv_shorten.specs.View.{short_object_of}
 use Rattle.rv_placement.specs.Walk.{goes, started, ended, ended_files}
 use Rattle.rv_placement.proofs.Walks.{files_far, each_file, files_moved, files_ended, files_each, as_many, length-started, if_none}
 use Rattle.rv_placement.proofs.regions.move_files.Goals as goal
@@ -17,10 +17,10 @@ pub returns-in_err-stop-clause-far : goal.returns-in_err-stop-clause-far
 returns-in_err-stop-clause-far c =
     let o = c.index-objects-i.result in
     let here = c.as_slice-sections.ensures.value ∙ ap (λ o. o.sections.items) (sym c.index-objects-i.is) in
-    let far = ap (λ l. ended (goes c.args.destination) c.loop-i.stop (map section_of l)) here in
+    let far = ap (λ l. ended (goes c.args.destination) c.loop-i.stop (map short_section_of l)) here in
     if_none c.from_residual.result
-    (files_far (goes c.args.destination) 0x3ff0_0000 c.loop-i.stop (ended_files (goes c.args.destination) c.args.first (map object_of c.args.objects.now)) c.args.objects.now c.loop-i.i o c.loop-i-test.true c.index-objects-i.is
-    (subst (λ l. 0x3ff0_0000 < ended (goes c.args.destination) c.loop-i.stop (map section_of l)) here c.in_err-stop.ensures.far) c.loop-i.invariant.1)
+    (files_far (goes c.args.destination) 0x3ff0_0000 c.loop-i.stop (ended_files (goes c.args.destination) c.args.first (map short_object_of c.args.objects.now)) c.args.objects.now c.loop-i.i o c.loop-i-test.true c.index-objects-i.is
+    (subst (λ l. 0x3ff0_0000 < ended (goes c.args.destination) c.loop-i.stop (map short_section_of l)) here c.in_err-stop.ensures.far) c.loop-i.invariant.1)
 
 pub loop-i-preserved : goal.loop-i-preserved
 loop-i-preserved c =
@@ -34,11 +34,11 @@ loop-i-preserved c =
     let here = c.as_slice-sections.ensures.value ∙ ap (λ o. o.sections.items) (sym c.index-objects-i.is) in
     let v = get_or fs i f in
     let g = with_items v c.move_file.new.places in
-    let came : c.move_file.new.places ≡ started to c.loop-i.stop (get_or fs i f).items (map section_of o.sections.items) =
-    c.in_ok-stop.ensures.moved.0 ∙ ap (λ l. started to c.loop-i.stop l (map section_of c.as_slice-sections.result.now)) c.as_mut_slice.ensures.value ∙ ap (λ l. started to c.loop-i.stop (get_or fs i f).items (map section_of l)) here in
-    let long : length c.move_file.new.places ≡ v.len = ap length came ∙ length-started to c.loop-i.stop v.items (map section_of o.sections.items) ∙ sym v.ok.0 in
-    let moved : g.items ≡ started to c.loop-i.stop v.items (map section_of o.sections.items) = with_items_is v c.move_file.new.places long ∙ came in
-    let ends : c.in_ok-stop.stop ≡ ended to c.loop-i.stop (map section_of o.sections.items) = c.in_ok-stop.ensures.moved.1 ∙ ap (λ l. ended to c.loop-i.stop (map section_of l)) here in (
+    let came : c.move_file.new.places ≡ started to c.loop-i.stop (get_or fs i f).items (map short_section_of o.sections.items) =
+    c.in_ok-stop.ensures.moved.0 ∙ ap (λ l. started to c.loop-i.stop l (map short_section_of c.as_slice-sections.result.now)) c.as_mut_slice.ensures.value ∙ ap (λ l. started to c.loop-i.stop (get_or fs i f).items (map short_section_of l)) here in
+    let long : length c.move_file.new.places ≡ v.len = ap length came ∙ length-started to c.loop-i.stop v.items (map short_section_of o.sections.items) ∙ sym v.ok.0 in
+    let moved : g.items ≡ started to c.loop-i.stop v.items (map short_section_of o.sections.items) = with_items_is v c.move_file.new.places long ∙ came in
+    let ends : c.in_ok-stop.stop ≡ ended to c.loop-i.stop (map short_section_of o.sections.items) = c.in_ok-stop.ensures.moved.1 ∙ ap (λ l. ended to c.loop-i.stop (map short_section_of l)) here in (
       files_moved to c.loop-i.stop fs objects i f g o inside c.loop-i-test.true c.index-objects-i.is moved c.in_ok-stop.stop _ ends c.loop-i.invariant.0,
       files_ended to c.loop-i.stop fs objects i f g o inside c.loop-i-test.true c.index-objects-i.is moved c.in_ok-stop.stop _ ends c.loop-i.invariant.1,
       c.in_ok-stop.ensures.moved.2,

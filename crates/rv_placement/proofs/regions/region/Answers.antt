@@ -1,8 +1,8 @@
 use Rattle.std.proofs.Common.{arith, map}
-use Rattle.rv_object.specs.View.{object_of}
+use Rattle.rv_shorten.specs.View.{short_object_of}
 use Rattle.rv_placement.specs.Walk.{goes}
 use Rattle.rv_placement.proofs.Walks.{grows_files}
 use Rattle.rv_placement.proofs.regions.region.Goals as goal
 
 pub returns-then-start-gt-STACK_START-clause-far : goal.returns-then-start-gt-STACK_START-clause-far
-returns-then-start-gt-STACK_START-clause-far c = omega (grows_files (goes c.args.destination) c.args.start (map object_of c.args.objects.now), arith)
+returns-then-start-gt-STACK_START-clause-far c = omega (grows_files (goes c.args.destination) c.args.start (map short_object_of c.args.objects.now), arith)

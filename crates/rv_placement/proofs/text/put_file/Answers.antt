@@ -1,6 +1,6 @@
 use Rattle.std.proofs.Common.{map}
-use Rattle.rv_object.specs.Sections.{section_of}
 use Rattle.rv_object_laws.specs.Inputs.{goes_to_text}
+use Rattle.rv_shorten.specs.Sections.{short_section_of}
 use Rattle.rv_placement.specs.Walk.{ended}
 use Rattle.rv_placement.proofs.Walks.{file_far}
 use Rattle.rv_placement.proofs.Texts.{told, told_none, section_ends, section_starts, section_gaps, section_kept}
@@ -8,7 +8,7 @@ use Rattle.rv_placement.proofs.text.put_file.Goals as goal
 
 pub returns-in-None-clause-far : goal.returns-in-None-clause-far
 returns-in-None-clause-far c =
-    file_far goes_to_text 0x3ff0_0000 c.loop-section.stop (ended goes_to_text c.args.first (map section_of c.args.sections.now)) c.args.sections.now c.loop-section.section-index c.section-item.result c.loop-section-test.true
+    file_far goes_to_text 0x3ff0_0000 c.loop-section.stop (ended goes_to_text c.args.first (map short_section_of c.args.sections.now)) c.args.sections.now c.loop-section.section-index c.section-item.result c.loop-section-test.true
     c.section-item.is (told_none _ c.in_ok-end.field-0 c.in-None.is c.in_ok-end.ensures.far) c.loop-section.invariant.1
 
 pub loop-section-preserved : goal.loop-section-preserved

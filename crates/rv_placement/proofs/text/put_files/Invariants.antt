@@ -1,15 +1,15 @@
 use Rattle.std.proofs.Common.{◌≡◌, ◌++◌, ◌≤◌, take, drop, map}
 use Rattle.std.specs.List.{AllZip}
-use Rattle.rv_object.specs.View.{object_of}
 use Rattle.rv_object_laws.specs.Inputs.{goes_to_text}
+use Rattle.rv_shorten.specs.View.{short_object_of}
 use Rattle.rv_placement.specs.Walk.{ended_files, text_files, gapped_files, lists_of, AreKept}
 use Rattle.rv_placement.proofs.text.put_files.Given as goal
 
 -- what is placed so far, and what is left, make up the whole
 abbrev pub invariant-loop-object : goal.invariant-loop-object
 invariant-loop-object l =
-    (map (λ f. map (λ q. q.start) f) (lists_of l.files.items) ++ text_files l.stop (map object_of (drop l.object-index l.objects)) ≡ text_files l.first (map object_of l.objects))
-    × (ended_files goes_to_text l.stop (map object_of (drop l.object-index l.objects)) ≡ ended_files goes_to_text l.first (map object_of l.objects))
+    (map (λ f. map (λ q. q.start) f) (lists_of l.files.items) ++ text_files l.stop (map short_object_of (drop l.object-index l.objects)) ≡ text_files l.first (map short_object_of l.objects))
+    × (ended_files goes_to_text l.stop (map short_object_of (drop l.object-index l.objects)) ≡ ended_files goes_to_text l.first (map short_object_of l.objects))
     × (l.stop ≤ 0x3ff0_0000)
-    × AllZip AreKept (map object_of (take l.object-index l.objects)) (lists_of l.files.items)
-    × (l.gaps.items ++ gapped_files l.stop (map object_of (drop l.object-index l.objects)) ≡ l.initial.gaps.items ++ gapped_files l.first (map object_of l.objects))
+    × AllZip AreKept (map short_object_of (take l.object-index l.objects)) (lists_of l.files.items)
+    × (l.gaps.items ++ gapped_files l.stop (map short_object_of (drop l.object-index l.objects)) ≡ l.initial.gaps.items ++ gapped_files l.first (map short_object_of l.objects))

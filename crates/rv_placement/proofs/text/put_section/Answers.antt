@@ -1,14 +1,14 @@
 use Rattle.std.proofs.Common.{rules, ◌≡◌, ◌∙◌, ap, true, false}
-use Rattle.rv_object.specs.Sections.{section_of}
 use Rattle.rv_object_laws.specs.Inputs.{goes_to_text}
 use Rattle.rv_object_laws.specs.Moves.{aligned}
+use Rattle.rv_shorten.specs.Sections.{short_section_of}
 use Rattle.rv_placement.specs.Walk.{start_behind}
 use Rattle.rv_placement.proofs.Texts.{told, put_at, put_text, next_other, start_other, gap_other}
 use Rattle.rv_placement.proofs.text.put_section.Goals as goal
 
 pub returns-then-not-is_text-clause-placed : goal.returns-then-not-is_text-clause-placed
 returns-then-not-is_text-clause-placed c =
-    let s = section_of c.args.section.now in
+    let s = short_section_of c.args.section.now in
     let other : goes_to_text s ≡ false = search rules in (
       next_other c.args.stop s other,
       c.requires,
@@ -18,10 +18,10 @@ returns-then-not-is_text-clause-placed c =
 
 pub returns-in-Some-clause-placed : goal.returns-in-Some-clause-placed
 returns-in-Some-clause-placed c =
-    let s = section_of c.args.section.now in
+    let s = short_section_of c.args.section.now in
     let text : goes_to_text s ≡ true = search rules in
     let start = c.next_multiple-start.result in
-    let is : start ≡ start_behind c.args.stop s = c.next_multiple-start.ensures ∙ ap (λ a. aligned a c.args.stop) c.begins_at.ensures.value in
+    let is : start ≡ start_behind c.args.stop s = c.next_multiple-start.ensures ∙ ap (λ a. aligned a c.args.stop) c.multiple_of.ensures.value in
     let placed = told _ c.in_ok-end.field-0 c.in-Some.end c.in-Some.is c.in_ok-end.ensures.placed in
     let all = put_text c.args.stop start c.in-Some.end s c.args.places.now.items c.put_code.new.places.items c.args.gaps.now.items c.put_gap.new.gaps.items text is placed.0 placed.2 c.in_ok-put_gap.ensures in
     (all.0, placed.1, all.1, all.2)

@@ -2,6 +2,7 @@ use Rattle.std.proofs.Common.{◌∙◌, map, ap, rules, subst, sym}
 use Rattle.std.proofs.lemmas.List.Sorted.{answers_always, IsNonDecreasingBy-from_sort}
 use Rattle.rv_object.specs.Parts.{relocation_of}
 use Rattle.rv_object_laws.specs.Moves.{by_place}
+use Rattle.rv_shorten.specs.Sections.{short_section_of}
 use Rattle.rv_relax.proofs.ByPlace.{place_of, AreTold, all_told, map_ordered}
 use Rattle.rv_relax.proofs.Sorting.{backwards, backwards_back}
 use Rattle.rv_relax.proofs.Stable.{sorted_is}
@@ -10,7 +11,7 @@ use Rattle.rv_relax.proofs.alignments.alignments.Goals as goal
 pub returns : goal.returns
 returns c =
     let keys = answers_always _ _ _ (λ f a r next called. search rules) in
-    let rs = map relocation_of c.args.relocations.now in
+    let rs = (short_section_of c.args.section.now).relocations in
     let found = c.in_ok-sorted.sorted.items in
     let sorted = c.sort_by_key.new.self.items in
     let told : AreTold (map relocation_of found) = subst AreTold (sym c.in_ok-sorted.ensures) (all_told rs c.requires) in

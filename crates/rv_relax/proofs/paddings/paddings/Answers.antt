@@ -1,10 +1,7 @@
 use Rattle.std.proofs.Common.{◌≡◌, ◌+◌, ◌-◌, ◌%◌, ◌^◌, ◌<◌, ◌∷◌, [], ◌++◌, length, map, take, slice_index_or, refl, sym, ap, ◌∙◌, arith, append-nil}
 use Rattle.rv_object.specs.Parts.{relocation_of}
 use Rattle.rv_object_laws.specs.Moves.{aligned, alignment_of, full_padding, plan}
-use Rattle.rv_relax.specs.Paddings.{are_in_order, are_summed, loses, move_of}
-use Rattle.rv_object.specs.Padding.{operations_in}
-use Rattle.rv_relax.specs.declared.padding.Padding.{Padding}
-use Rattle.rv_relax.proofs.Losses.{one_summed}
+use Rattle.rv_relax.specs.Paddings.{are_in_order, move_of}
 use Rattle.rv_relax.proofs.Aligned.{same_least}
 use Rattle.rv_relax.proofs.Sorting.{nothing, backwards}
 use Rattle.rv_relax.proofs.Planned.{next_alignment, other_alignments, at_hand, plan_at, least_of, planned, one_behind}
@@ -66,27 +63,9 @@ overflow_add-dropped c =
     let one = next_alignment stop r rs all in
     omega (arith, one.from, one.low, c.loop-rest.invariant.2.3, c.full_padding-full.ensures, c.from-dropped.ensures, c.saturating_sub-in-loop-rest.ensures)
 
-pub overflow_add-lost : goal.overflow_add-lost
-overflow_add-lost c =
-    let xs = c.args.alignments.now in
-    let start = c.args.start in
-    let at = c.loop-rest.rest in
-    let is : at - 1 + 1 ≡ at = omega (arith, c.loop-rest-test.true) in
-    let inside : at - 1 < length xs = omega (arith, c.loop-rest.invariant.0, c.loop-rest-test.true) in
-    let r = relocation_of (slice_index_or xs (at - 1) nothing) in
-    let rs = backwards (take (at - 1) xs) in
-    let stop = c.loop-rest.invariant.2.0 in
-    let all = at_hand stop xs (at - 1) at is inside c.loop-rest.invariant.2.1 in
-    let one = next_alignment stop r rs all in
-    omega (arith, one.from, one.low, c.loop-rest.invariant.2.5, c.full_padding-full.ensures, c.loses-lost.ensures)
-
 pub returns-clause-order : goal.returns-clause-order
 returns-clause-order c =
     ap (are_in_order 0 0) (sym (append-nil c.loop-rest.paddings.items)) ∙ c.loop-rest.invariant.2.4 [] refl
-
-pub returns-clause-sums : goal.returns-clause-sums
-returns-clause-sums c =
-    ap (are_summed 0) (sym (append-nil c.loop-rest.paddings.items)) ∙ c.loop-rest.invariant.2.6 [] refl
 
 pub loop-rest-preserved : goal.loop-rest-preserved
 loop-rest-preserved c =
@@ -104,32 +83,26 @@ loop-rest-preserved c =
     let past = c.loop-rest.dropped in
     let ps = c.loop-rest.paddings.items in
     let least = c.least_padding-least.result in
-    let lost = c.loop-rest.lost + c.loses-lost.result in
     let full : c.full_padding-full.result ≡ full_padding r = c.full_padding-full.ensures in
     let above : c.asked_alignment.result ≡ alignment_of r = c.asked_alignment.ensures.value in
     let stands = start + (r.place - gone) in
     let wrapped = stands % 2 ^ 64 in
     let least_is : least ≡ least_of start gone r =
     c.least_padding-least.ensures.value ∙ ap (λ a. aligned a wrapped - wrapped) above ∙ same_least r stands in
-    let items : c.push.new.self.items ≡ ps ++ record { place = r.place; gone = past; full = full_padding r; left = least - least % 2; lost = lost } ∷ [] =
-    c.in_ok-push.ensures.items ∙ ap (λ n. ps ++ record { place = r.place; gone = past; full = n; left = least - least % 2; lost = lost } ∷ []) full in
-    let p : Padding = record { place = r.place; gone = past; full = full_padding r; left = least - least % 2; lost = lost } in
-    let loses_is : c.loses-lost.result ≡ loses p = c.loses-lost.ensures ∙ ap (λ n. operations_in n - operations_in (least - least % 2)) full in
+    let items : c.push.new.self.items ≡ ps ++ record { place = r.place; gone = past; full = full_padding r; left = least - least % 2 } ∷ [] =
+    c.in_ok-push.ensures.items ∙ ap (λ n. ps ++ record { place = r.place; gone = past; full = n; left = least - least % 2 } ∷ []) full in
     let more_gone : c.from-gone.result ≡ full_padding r - least = c.from-gone.ensures ∙ c.saturating_sub.ensures ∙ ap (λ n. n - least) full in
     let more_dropped : c.from-dropped.result ≡ full_padding r - (least - least % 2) = c.from-dropped.ensures ∙ c.saturating_sub-in-loop-rest.ensures ∙ ap (λ n. n - (least - least % 2)) full in (
       omega (arith, c.loop-rest.invariant.0),
       ap (λ l. map move_of l ++ plan start (gone + c.from-gone.result) rs) items
-          ∙ ap (λ n. map move_of (ps ++ record { place = r.place; gone = past; full = full_padding r; left = least - least % 2; lost = lost } ∷ []) ++ plan start (gone + n) rs) more_gone
-          ∙ planned start gone past least lost r rs ps (plan start 0 (backwards xs)) least_is (ap (λ l. map move_of ps ++ l) (plan_at start gone xs (at - 1) at is inside) ∙ c.loop-rest.invariant.1),
+          ∙ ap (λ n. map move_of (ps ++ record { place = r.place; gone = past; full = full_padding r; left = least - least % 2 } ∷ []) ++ plan start (gone + n) rs) more_gone
+          ∙ planned start gone past least r rs ps (plan start 0 (backwards xs)) least_is (ap (λ l. map move_of ps ++ l) (plan_at start gone xs (at - 1) at is inside) ∙ c.loop-rest.invariant.1),
       (
         r.place + full_padding r,
         other_alignments stop r rs all,
         omega (arith, one.from, c.loop-rest.invariant.2.2),
         omega (arith, one.from, c.loop-rest.invariant.2.3),
         (λ more h. ap (λ l. are_in_order 0 0 (l ++ more)) items
-            ∙ one_behind stop past least lost r ps one c.loop-rest.invariant.2.4 more (sym (ap (λ n. are_in_order (r.place + full_padding r) (past + n) more) more_dropped) ∙ h)),
-        omega (arith, one.from, one.low, c.loop-rest.invariant.2.5, c.full_padding-full.ensures, c.loses-lost.ensures),
-        (λ more h. ap (λ l. are_summed 0 (l ++ more)) items
-            ∙ one_summed c.loop-rest.lost p ps (ap (λ n. c.loop-rest.lost + n) loses_is) c.loop-rest.invariant.2.6 more (sym (ap (λ n. are_summed (c.loop-rest.lost + n) more) loses_is) ∙ h)),
+            ∙ one_behind stop past least r ps one c.loop-rest.invariant.2.4 more (sym (ap (λ n. are_in_order (r.place + full_padding r) (past + n) more) more_dropped) ∙ h)),
       ),
     )

@@ -1,7 +1,7 @@
 use Rattle.std.proofs.Common.{◌≡◌, ℕ, ◌≤◌, ◌++◌, true, length, map, take, List}
 use Rattle.rv_object_laws.specs.Moves.{plan}
-use Rattle.rv_relax.specs.declared.padding.Padding.{Padding}
-use Rattle.rv_relax.specs.Paddings.{are_alignments, are_in_order, are_summed, move_of}
+use Rattle.rv_relax.specs.declared.piece.Piece.{Piece}
+use Rattle.rv_relax.specs.Paddings.{are_alignments, are_in_order, move_of}
 use Rattle.rv_relax.proofs.Sorting.{backwards}
 use Rattle.rv_relax.proofs.paddings.paddings.Given as goal
 
@@ -11,9 +11,7 @@ invariant-loop-rest l =
     (l.rest ≤ length l.alignments)
     × (map move_of l.paddings.items ++ plan l.start l.gone (backwards (take l.rest l.alignments)) ≡ plan l.start 0 (backwards l.alignments))
     × ((stop : ℕ) × (are_alignments stop (backwards (take l.rest l.alignments)) ≡ true) × (l.gone ≤ stop) × (l.dropped ≤ stop)
-    × ((more : List Padding) → are_in_order stop l.dropped more ≡ true → are_in_order 0 0 (l.paddings.items ++ more) ≡ true)
-    × (l.lost ≤ stop)
-    × ((more : List Padding) → are_summed l.lost more ≡ true → are_summed 0 (l.paddings.items ++ more) ≡ true))
+    × ((more : List Piece) → are_in_order stop l.dropped more ≡ true → are_in_order 0 0 (l.paddings.items ++ more) ≡ true))
 
 abbrev pub decreases-loop-rest : goal.decreases-loop-rest
 decreases-loop-rest l = l.rest

@@ -4,6 +4,7 @@ use Rattle.rv_layout_laws.specs.declared.site.Site.{Site}
 use Rattle.rv_layout_laws.specs.Calls.{IsText}
 use Rattle.rv_object.specs.View.{object_of}
 use Rattle.rv_object_laws.specs.Shortened.{shortened}
+use Rattle.rv_shorten.specs.View.{short_object_of}
 use Rattle.rv_shorten.specs.Walk.{AreWalked, walked}
 use Rattle.rv_shorten.proofs.Line.{sound_objects}
 use Rattle.rv_shorten.proofs.Laid.{walk_is}
@@ -11,17 +12,17 @@ use Rattle.rv_shorten.proofs.objects.shorten.Goals as goal
 
 pub shorten_all-requires-clause-walked : goal.shorten_all-requires-clause-walked
 shorten_all-requires-clause-walked c =
-    let os = map object_of c.args.objects.items in
+    let os = map object_of c.args.objects.now in
     let kept = c.args.kept.now in
     let is = c.requires.sites in
-    let walk = walk_is os kept (sound_objects c.args.objects.items) (subst IsText is c.requires.text) (c.requires.family ∙ ap (λ (l : List Site). length l) is) in
+    let walk = walk_is os kept (sound_objects c.args.objects.now) (subst IsText is c.requires.text) (c.requires.family ∙ ap (λ (l : List Site). length l) is) in
     subst (λ (l : List Site). AreWalked os l kept) (sym is) walk.allowed
 
 pub returns : goal.returns
 returns c =
-    let os = map object_of c.args.objects.items in
+    let os = map object_of c.args.objects.now in
     let kept = c.args.kept.now in
     let is = c.requires.sites in
-    let walk = walk_is os kept (sound_objects c.args.objects.items) (subst IsText is c.requires.text) (c.requires.family ∙ ap (λ (l : List Site). length l) is) in
-    IfOk-weaker c.shorten_all.result (λ left. map object_of left.items ≡ walked os c.args.sites.now kept) (λ left. map object_of left.items ≡ shortened kept os)
+    let walk = walk_is os kept (sound_objects c.args.objects.now) (subst IsText is c.requires.text) (c.requires.family ∙ ap (λ (l : List Site). length l) is) in
+    IfOk-weaker c.shorten_all.result (λ left. map short_object_of left.items ≡ walked os c.args.sites.now kept) (λ left. map short_object_of left.items ≡ shortened kept os)
     (λ left made. made ∙ ap (λ (l : List Site). walked os l kept) is ∙ walk.same) c.shorten_all.ensures

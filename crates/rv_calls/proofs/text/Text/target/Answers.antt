@@ -14,11 +14,11 @@ returns-in_err-file c = λ i laid file at.
     let os = objects_of c.args.self.now in
     let is : c.args.relocation.now.symbol ≡ Some c.in_ok-index.index = search rules in
     c.from_residual-in_err-file.ensures
-    ∙ ap (text_target os) (c.in_err-file.ensures i.object laid.names at ∙ sym (target_is os i (relocation_of c.args.relocation.now) (c.args.file + 1) c.in_ok-index.index file is))
+    ∙ ap (text_target os) (c.in_err-file.ensures i.object laid at ∙ sym (target_is os i (relocation_of c.args.relocation.now) (c.args.file + 1) c.in_ok-index.index file is))
 
 pub returns : goal.returns
 returns c = λ i laid file at.
     let os = objects_of c.args.self.now in
     let is : c.args.relocation.now.symbol ≡ Some c.in_ok-index.index = search rules in
     c.offset.ensures laid
-    ∙ ap (text_target os) (c.in_ok-file.ensures i.object laid.names at ∙ sym (target_is os i (relocation_of c.args.relocation.now) (c.args.file + 1) c.in_ok-index.index file is))
+    ∙ ap (text_target os) (c.in_ok-file.ensures i.object laid at ∙ sym (target_is os i (relocation_of c.args.relocation.now) (c.args.file + 1) c.in_ok-index.index file is))

@@ -2,7 +2,7 @@ use Rattle.std.proofs.Common.{rules, ◌≡◌, ◌-◌, ◌++◌, [], length, t
 use Rattle.std.proofs.lemmas.List.{drop_all, length-drop}
 use Rattle.std.specs.List.{AllByRecursion}
 use borrow.Rule.Slice.PartMut.{post_of}
-use Rattle.rv_object.specs.Sections.{section_of}
+use Rattle.rv_shorten.specs.Sections.{short_section_of}
 use Rattle.rv_object_laws.specs.Moves.{Move, moves, kept, new_offset}
 use Rattle.rv_object_laws.specs.Values.{applied, initial_bytes}
 use Rattle.rv_relax.specs.Plan.{moves_of}
@@ -13,7 +13,7 @@ use Rattle.rv_link.proofs.fixed.Fixed.put_bytes.Goals as goal
 pub relocate-requires-clause-inside : goal.relocate-requires-clause-inside
 relocate-requires-clause-inside c =
     let x = c.args.input.now in
-    let s = section_of x.section.now in
+    let s = short_section_of x.section.now in
     let ms : List Move = moves_of x.placed.now.plan in
     let k : List ℕ = kept 0 ms (initial_bytes s.contents) in
     let from : c.len-from.result ≡ length c.args.out.now.items = search rules in
@@ -25,7 +25,7 @@ relocate-requires-clause-inside c =
 pub returns-clause-bytes : goal.returns-clause-bytes
 returns-clause-bytes c =
     let x = c.args.input.now in
-    let s = section_of x.section.now in
+    let s = short_section_of x.section.now in
     let ms : List Move = moves_of x.placed.now.plan in
     let k : List ℕ = kept 0 ms (initial_bytes s.contents) in
     let old = c.args.out.now.items in

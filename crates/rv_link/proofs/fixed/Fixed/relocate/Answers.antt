@@ -1,4 +1,4 @@
-use Rattle.std.proofs.Common.{rules, ◌≡◌, pos, None, get_or, subst, ap, ◌∙◌, arith, w64, FitsSigned, to_z, of_z}
+use Rattle.std.proofs.Common.{rules, ◌≡◌, pos, None, subst, ap, ◌∙◌, arith, w64, FitsSigned, to_z, of_z}
 use Rattle.std.proofs.lemmas.Int.{to_z-of_z}
 use Rattle.std.proofs.lemmas.Result.{err_from_is_err_and}
 use Rattle.rv_reloc.specs.Ranges.{Takes}
@@ -7,10 +7,11 @@ use Rattle.rv_object_laws.specs.Values.{patched_at}
 use Rattle.rv_isa.specs.declared.kind.Kind.TheVariants as kinds
 use Rattle.rv_object.specs.declared.relocation.Relocation.{Relocation}
 use Rattle.rv_object.specs.Parts.{relocation_of}
+use Rattle.rv_shorten.specs.Sections.{moves_in}
 use Rattle.rv_relax.specs.Plan.{moves_of}
 use Rattle.rv_link.specs.Fault.{IsOfPatch}
 use Rattle.rv_link.specs.Filled.{objects_of, input_of}
-use Rattle.rv_link.proofs.Steps.{relocation_next, patched_step, patched_failed, untaken_by, inside_next}
+use Rattle.rv_link.proofs.Steps.{moved_next, patched_step, patched_failed, untaken_by, inside_next}
 use Rattle.rv_link.proofs.fixed.Fixed.relocate.Goals as goal
 
 abbrev zeroed : Relocation
@@ -19,21 +20,19 @@ zeroed = record { place = 0; kind = kinds.None; symbol = None; addend = pos 0 }
 pub apply-requires : goal.apply-requires
 apply-requires c = λ has.
     let n = c.loop-relocation.relocation-index in
-    let items = c.deref-relocation-items.result.now in
-    let all = c.args.input.now.section.now.relocations.items in
-    let r = get_or items n zeroed in
-    let there = relocation_next all items n zeroed c.deref-relocation-items.ensures.value c.loop-relocation-test.true in
+    let s = c.args.input.now.section.now in
+    let r = c.relocation-relocation.result in
+    let there = moved_next (moves_in s) s.whole.now.relocations.items c.deref-relocation-items.result.now n zeroed r c.deref-relocation-items.ensures.value c.loop-relocation-test.true c.relocation-relocation.ensures in
     let fits = inside_next _ _ _ _ _ _ _ (relocation_of r) _ _ c.loop-relocation.invariant there has in
     omega (arith, fits, c.new_offset-place.ensures)
 
 pub loop-relocation-preserved : goal.loop-relocation-preserved
 loop-relocation-preserved c =
     let n = c.loop-relocation.relocation-index in
-    let items = c.deref-relocation-items.result.now in
-    let all = c.args.input.now.section.now.relocations.items in
-    let there = relocation_next all items n zeroed c.deref-relocation-items.ensures.value c.loop-relocation-test.true in
+    let s = c.args.input.now.section.now in
+    let r = c.relocation-relocation.result in
+    let there = moved_next (moves_in s) s.whole.now.relocations.items c.deref-relocation-items.result.now n zeroed r c.deref-relocation-items.ensures.value c.loop-relocation-test.true c.relocation-relocation.ensures in
     let v = c.in_ok-value.value in
-    let r = get_or items n zeroed in
     let fits : FitsSigned w64 v = search rules in
     let same : to_z w64 (of_z w64 v) ≡ v = to_z-of_z w64 v fits in
     let takes : Takes r.kind v = subst (λ x. Takes r.kind x) same c.in_ok-apply.ensures.takes in
@@ -46,20 +45,19 @@ loop-relocation-preserved c =
 pub returns-in_err-value-clause-refuses : goal.returns-in_err-value-clause-refuses
 returns-in_err-value-clause-refuses c =
     let n = c.loop-relocation.relocation-index in
-    let items = c.deref-relocation-items.result.now in
-    let all = c.args.input.now.section.now.relocations.items in
-    let there = relocation_next all items n zeroed c.deref-relocation-items.ensures.value c.loop-relocation-test.true in
+    let s = c.args.input.now.section.now in
+    let r = c.relocation-relocation.result in
+    let there = moved_next (moves_in s) s.whole.now.relocations.items c.deref-relocation-items.result.now n zeroed r c.deref-relocation-items.ensures.value c.loop-relocation-test.true c.relocation-relocation.ensures in
     let found = err_from_is_err_and c.from_residual.result c.from_residual.ensures.1 in
-    rw (found.1, found.2) (patched_failed _ _ _ _ _ _ _ (relocation_of (get_or items n zeroed)) _ _ c.in_err-value.field-0.0 c.loop-relocation.invariant there c.in_err-value.ensures.refuses)
+    rw (found.1, found.2) (patched_failed _ _ _ _ _ _ _ (relocation_of r) _ _ c.in_err-value.field-0.0 c.loop-relocation.invariant there c.in_err-value.ensures.refuses)
 
 pub returns-in_err-apply-clause-refuses : goal.returns-in_err-apply-clause-refuses
 returns-in_err-apply-clause-refuses c =
     let f = c.args.self.now in
     let n = c.loop-relocation.relocation-index in
-    let items = c.deref-relocation-items.result.now in
-    let all = c.args.input.now.section.now.relocations.items in
-    let there = relocation_next all items n zeroed c.deref-relocation-items.ensures.value c.loop-relocation-test.true in
-    let r = get_or items n zeroed in
+    let s = c.args.input.now.section.now in
+    let r = c.relocation-relocation.result in
+    let there = moved_next (moves_in s) s.whole.now.relocations.items c.deref-relocation-items.result.now n zeroed r c.deref-relocation-items.ensures.value c.loop-relocation-test.true c.relocation-relocation.ensures in
     let v = c.in_ok-value.value in
     let fault = c.in_err-apply.field-0.0 in
     let fits : FitsSigned w64 v = search rules in

@@ -1,6 +1,6 @@
 use Rattle.std.proofs.Common.{◌≡◌, [], length, subst, arith}
 use Rattle.std.proofs.lemmas.List.{length-map}
-use Rattle.rv_object.specs.View.{object_of}
+use Rattle.rv_shorten.specs.View.{short_object_of}
 use Rattle.rv_link.specs.Filled.{objects_of}
 use Rattle.rv_link.specs.Regions.{left_files, AreGrown}
 use Rattle.rv_link.proofs.Turns.{opens, grown_along, files_close}
@@ -15,6 +15,6 @@ pub returns-clause-grown : goal.returns-clause-grown
 returns-clause-grown c =
     let os = objects_of c.args.fixed.now in
     let p = c.args.fixed.now.placement.now in
-    let last : c.loop-file.file ≡ length os = omega (arith, length-map c.args.fixed.now.objects.now object_of) in
+    let last : c.loop-file.file ≡ length os = omega (arith, length-map c.args.fixed.now.objects.now short_object_of) in
     grown_along os p (left_files os (length os)) (λ goes. []) c.loop-file.regions (λ goes. files_close os goes)
     (subst (λ n. AreGrown os p (left_files os n) c.loop-file.regions) last c.loop-file.invariant)

@@ -1,7 +1,7 @@
 use Rattle.std.proofs.Common.{◌≡◌, ◌<◌, ◌+◌, length, sym, vec_len, ap, ◌∙◌, subst, arith}
 use Rattle.std.proofs.lemmas.List.{length-map}
-use Rattle.rv_object.specs.View.{object_of}
-use Rattle.rv_object.specs.Sections.{section_of}
+use Rattle.rv_shorten.specs.View.{short_object_of}
+use Rattle.rv_shorten.specs.Sections.{short_section_of}
 use Rattle.rv_object_laws.specs.Names.{object_at}
 use Rattle.rv_link.specs.Filled.{objects_of}
 use Rattle.rv_link.specs.Regions.{left_from, left_files, AreGrown}
@@ -13,7 +13,7 @@ use Rattle.rv_link.proofs.regions.Regions.put_object.Goals as goal
 pub loop-index-init : goal.loop-index-init
 loop-index-init c =
     let os = objects_of c.args.fixed.now in
-    let inside : c.args.file < length os = subst (λ n. c.args.file < n) (sym (length-map c.args.fixed.now.objects.now object_of)) c.requires.file in
+    let inside : c.args.file < length os = subst (λ n. c.args.file < n) (sym (length-map c.args.fixed.now.objects.now short_object_of)) c.requires.file in
     grown_along os c.args.fixed.now.placement.now (left_files os c.args.file) (left_from os c.args.file 0) c.args.self.now (λ goes. file_opens os c.args.file inside goes) c.requires.grown
 
 pub returns-clause-grown : goal.returns-clause-grown
@@ -23,8 +23,8 @@ returns-clause-grown c =
     let p = c.args.fixed.now.placement.now in
     let file = c.args.file in
     let o = c.index-fixed-file.result in
-    let there : object_at os (file + 1) ≡ object_of o = found_at os file (object_of o) (read object_of objects file o c.requires.file c.index-fixed-file.is) in
-    let long : length (object_at os (file + 1)).sections ≡ length o.sections.items = ap (λ x. length x.sections) there ∙ length-map o.sections.items section_of in
+    let there : object_at os (file + 1) ≡ short_object_of o = found_at os file (short_object_of o) (read short_object_of objects file o c.requires.file c.index-fixed-file.is) in
+    let long : length (object_at os (file + 1)).sections ≡ length o.sections.items = ap (λ x. length x.sections) there ∙ length-map o.sections.items short_section_of in
     let same : c.len-index-end.result ≡ vec_len o.sections = c.len-index-end.ensures ∙ ap (λ z. vec_len z.sections) (sym c.index-fixed-file.is) in
     let own : c.len-index-end.result ≡ length o.sections.items = omega (arith, same, o.sections.ok.0) in
     let last : c.loop-index.index ≡ length (object_at os (file + 1)).sections = omega (arith, own, long) in

@@ -1,22 +1,22 @@
 use Rattle.std.proofs.Common.{◌∙◌, sym, map}
-use Rattle.rv_object.specs.Sections.{section_of}
-use Rattle.rv_object.specs.View.{object_of}
+use Rattle.rv_shorten.specs.Sections.{short_section_of}
+use Rattle.rv_shorten.specs.View.{short_object_of}
 use Rattle.rv_placement.proofs.Found.{not_placed, address_none, address_unloaded, address_is}
 use Rattle.rv_placement.proofs.placement.Placement.address.Goals as goal
 
 pub returns-in_err-place : goal.returns-in_err-place
 returns-in_err-place c start o is at =
-    absurd (not_placed (map object_of c.args.objects.now) start c.args.self.now is c.args.file c.args.section (section_of c.in_ok-stands.stands.now) (sym c.in_ok-stands.ensures) (sym (c.in_err-place.ensures)))
+    absurd (not_placed (map short_object_of c.args.objects.now) start c.args.self.now is c.args.file c.args.section (short_section_of c.in_ok-stands.stands.now) (sym c.in_ok-stands.ensures) (sym (c.in_err-place.ensures)))
 
 pub returns-in_err-stands : goal.returns-in_err-stands
 returns-in_err-stands c start o is at =
-    c.from_residual.ensures ∙ address_none (map object_of c.args.objects.now) c.args.file c.args.section o _ c.args.offset at (c.in_err-stands.ensures)
+    c.from_residual.ensures ∙ address_none (map short_object_of c.args.objects.now) c.args.file c.args.section o _ c.args.offset at (c.in_err-stands.ensures)
 
 pub returns-then-not-stands : goal.returns-then-not-stands
 returns-then-not-stands c start o is at =
-    address_unloaded (map object_of c.args.objects.now) c.args.file c.args.section o _ c.args.offset (section_of c.in_ok-stands.stands.now) at c.in_ok-stands.ensures c.if-not-stands.true
+    address_unloaded (map short_object_of c.args.objects.now) c.args.file c.args.section o _ c.args.offset (short_section_of c.in_ok-stands.stands.now) at c.in_ok-stands.ensures c.if-not-stands.true
 
 pub returns : goal.returns
 returns c start o is at =
-    address_is (map object_of c.args.objects.now) start c.args.self.now is c.args.file c.args.section o c.args.offset c.new_offset.result (section_of c.in_ok-stands.stands.now) c.in_ok-place.place.now at
+    address_is (map short_object_of c.args.objects.now) start c.args.self.now is c.args.file c.args.section o c.args.offset c.new_offset.result (short_section_of c.in_ok-stands.stands.now) c.in_ok-place.place.now at
     c.in_ok-stands.ensures (c.in_ok-place.ensures) c.if-not-stands.false c.new_offset.ensures

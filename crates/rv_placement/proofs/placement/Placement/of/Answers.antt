@@ -2,7 +2,7 @@ use Rattle.std.proofs.Common.{◌≡◌, ◌∙◌, ◌≤◌, ◌<◌, ◌++◌
 use Rattle.std.specs.Vec.{with_items}
 use Rattle.std.proofs.lemmas.List.{with_items_is}
 use Rattle.rv_isa_laws.specs.Platform.{memory_limit}
-use Rattle.rv_object.specs.View.{object_of}
+use Rattle.rv_shorten.specs.View.{short_object_of}
 use Rattle.rv_placement.specs.Walk.{lists_of, behind_files, gapped_files}
 use Rattle.rv_placement.proofs.Behind.{data_up, bss_up}
 use Rattle.rv_placement.proofs.Texts.{told, told_none}
@@ -11,24 +11,24 @@ use Rattle.rv_placement.proofs.placement.Placement.of.Goals as goal
 
 pub returns-in_default-clause-refuses : goal.returns-in_default-clause-refuses
 returns-in_default-clause-refuses c =
-    c.unplaced.ensures (text_too_large (map object_of c.args.objects.now) c.args.text_start (told_none _ c.in_ok-found.found c.in_default.is c.in_ok-found.ensures.far))
+    c.unplaced.ensures (text_too_large (map short_object_of c.args.objects.now) c.args.text_start (told_none _ c.in_ok-found.found c.in_default.is c.in_ok-found.ensures.far))
 
 pub regions_behind-requires-clause-each : goal.regions_behind-requires-clause-each
 regions_behind-requires-clause-each c =
     let placed = told _ c.in_ok-found.found c.in-Some.end c.in-Some.is c.in_ok-found.ensures.placed in
-    ap (λ l. map length (lists_of l)) c.as_mut_slice.ensures.value ∙ each_list c.put_files.new.files.items (map object_of c.args.objects.now) placed.3
+    ap (λ l. map length (lists_of l)) c.as_mut_slice.ensures.value ∙ each_list c.put_files.new.files.items (map short_object_of c.args.objects.now) placed.3
 
 pub returns-in_default-regions_behind-clause-refuses : goal.returns-in_default-regions_behind-clause-refuses
 returns-in_default-regions_behind-clause-refuses c =
     let placed = told _ c.in_ok-found.found c.in-Some.end c.in-Some.is c.in_ok-found.ensures.placed in
-    c.unplaced-in_default-regions_behind.ensures (behind_too_large (map object_of c.args.objects.now) c.args.text_start c.in-Some.end placed.0 c.in_default-regions_behind.ensures.far)
+    c.unplaced-in_default-regions_behind.ensures (behind_too_large (map short_object_of c.args.objects.now) c.args.text_start c.in-Some.end placed.0 c.in_default-regions_behind.ensures.far)
 
 pub memory_of-requires : goal.memory_of-requires
 memory_of-requires c =
     let placed = told _ c.in_ok-found.found c.in-Some.end c.in-Some.is c.in_ok-found.ensures.placed in
     let r = c.in-Some-regions_behind.behind in
     let h = c.in-Some-regions_behind.ensures.behind in
-    let os = map object_of c.args.objects.now in
+    let os = map short_object_of c.args.objects.now in
     let low = c.in-Some-regions_behind.ensures.low in
     let x = data_up os c.in-Some.end r.rodata r.data r.bss h in
     let y = bss_up os c.in-Some.end r.rodata r.data r.bss h in
@@ -40,14 +40,14 @@ returns-then-memory_of-gt-MEMORY_LIMIT-clause-refuses c =
     let placed = told _ c.in_ok-found.found c.in-Some.end c.in-Some.is c.in_ok-found.ensures.placed in
     let r = c.in-Some-regions_behind.behind in
     c.unplaced-then-memory_of-gt-MEMORY_LIMIT.ensures
-    (memory_too_large (map object_of c.args.objects.now) c.args.text_start (record { start = c.args.text_start; end = c.in-Some.end }) r.rodata r.data r.bss refl placed.0 c.in-Some-regions_behind.ensures.behind
+    (memory_too_large (map short_object_of c.args.objects.now) c.args.text_start (record { start = c.args.text_start; end = c.in-Some.end }) r.rodata r.data r.bss refl placed.0 c.in-Some-regions_behind.ensures.behind
     (subst (λ n. memory_limit < n) c.memory_of.ensures c.if-memory_of-gt-MEMORY_LIMIT.true))
 
 pub returns-clause-placement : goal.returns-clause-placement
 returns-clause-placement c =
     let placed = told _ c.in_ok-found.found c.in-Some.end c.in-Some.is c.in_ok-found.ensures.placed in
     let r = c.in-Some-regions_behind.behind in
-    let os = map object_of c.args.objects.now in
+    let os = map short_object_of c.args.objects.now in
     let v = c.put_files.new.files in
     let long : length c.regions_behind.new.files ≡ v.len = omega (arith, c.regions_behind.auto.files, ap length c.as_mut_slice.ensures.value, v.ok.0) in
     let lists : lists_of (with_items v c.regions_behind.new.files).items ≡ behind_files (lists_of v.items) r.rodata r.data r.bss os =

@@ -1,5 +1,5 @@
 use Rattle.rv_object.specs.declared.row.Row.{Row}
-use Rattle.rv_placement.proofs.MapRows.{row_placed, row_low, row_more}
+use Rattle.rv_placement.proofs.MapRows.{row_placed, row_more}
 use Rattle.rv_placement.proofs.placement.Placement.put_rows.Goals as goal
 
 abbrev blank : Row
@@ -15,6 +15,5 @@ loop-row-preserved c os start is at =
     let lie = c.requires.own in
     let i = c.loop-row.row-index in
     let q = c.in-Some.place.now in
-    let low = row_low os start c.args.self.now is c.args.file c.args.object.now at rows lie i blank c.loop-row-test.true q c.in-Some.ensures in
-    row_more os start c.args.self.now is c.args.file c.args.object.now at rows lie i blank c.loop-row-test.true q c.map_row.result c.loop-row.rows.items _ _ c.in-Some.ensures (c.map_row.ensures low) c.in_ok-push-in-Some.ensures.items
-    (c.loop-row.invariant os start is at)
+    row_more os start c.args.self.now is c.args.file c.args.object.now at rows lie i blank c.loop-row-test.true q c.row-moved.result c.map_row.result c.loop-row.rows.items _ _ c.in-Some.ensures c.row-moved.ensures c.map_row.ensures
+    c.in_ok-push-in-Some.ensures.items (c.loop-row.invariant os start is at)

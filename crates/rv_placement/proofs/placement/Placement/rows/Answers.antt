@@ -1,5 +1,5 @@
 use Rattle.std.proofs.Common.{map}
-use Rattle.rv_object.specs.View.{object_of}
+use Rattle.rv_shorten.specs.View.{short_object_of}
 use Rattle.rv_placement.proofs.MapRows.{file_more, object_here}
 use Rattle.rv_placement.proofs.placement.Placement.rows.Goals as goal
 
@@ -9,4 +9,4 @@ loop-i-preserved c start is =
     let i = c.loop-i.i in
     let o = c.index-objects-i.result in
     let at = object_here objects i o c.loop-i-test.true c.index-objects-i.is in
-    file_more c.args.self.now objects i o c.loop-i.rows.items _ _ c.loop-i-test.true c.index-objects-i.is (c.in_ok-put_object.ensures (map object_of objects) start is at) (c.loop-i.invariant start is)
+    file_more c.args.self.now objects i o c.loop-i.rows.items _ _ c.loop-i-test.true c.index-objects-i.is (c.in_ok-put_object.ensures (map short_object_of objects) start is at) (c.loop-i.invariant start is)

@@ -1,11 +1,11 @@
 use Rattle.std.proofs.Common.{◌≡◌, ◌++◌, ◌+◌, ℕ, map, drop}
-use Rattle.rv_object.specs.View.{object_of}
 use Rattle.rv_object_laws.specs.IsLinkOf.{rows_of}
+use Rattle.rv_shorten.specs.View.{short_object_of}
 use Rattle.rv_placement.specs.Placement.{starts_of, IsPlacement}
 use Rattle.rv_placement.proofs.placement.Placement.rows.Given as goal
 
 -- the rows so far, and those of the files that are left, make up the whole
 abbrev pub invariant-loop-i : goal.invariant-loop-i
 invariant-loop-i l =
-    (start : ℕ) → IsPlacement (map object_of l.objects) start l.self
-    → l.rows.items ++ rows_of (starts_of l.self) (l.i + 1) (map object_of (drop l.i l.objects)) ≡ rows_of (starts_of l.self) 1 (map object_of l.objects)
+    (start : ℕ) → IsPlacement (map short_object_of l.objects) start l.self
+    → l.rows.items ++ rows_of (starts_of l.self) (l.i + 1) (map short_object_of (drop l.i l.objects)) ≡ rows_of (starts_of l.self) 1 (map short_object_of l.objects)

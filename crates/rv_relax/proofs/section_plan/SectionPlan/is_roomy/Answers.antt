@@ -1,7 +1,12 @@
-use Rattle.std.proofs.Common.{rules}
+use Rattle.std.proofs.Common.{ap, ◌∙◌}
+use Rattle.std.specs.List.{list_all}
 use Rattle.rv_relax.specs.Plan.{moves_of}
+use Rattle.rv_relax.proofs.Order.{moves_roomy}
+use Rattle.rv_relax.proofs.Pieced.{fits}
 use Rattle.rv_relax.proofs.section_plan.SectionPlan.is_roomy.Goals as goal
 
 pub returns : goal.returns
 unfolding moves_of
-returns c = search rules
+returns c =
+    let plan = c.args.self.now in
+    c.have_room.ensures ∙ ap (list_all fits) c.deref.ensures.value ∙ moves_roomy 0 0 plan.paddings.items plan.order

@@ -1,37 +1,37 @@
-use Rattle.std.proofs.Common.{◌≡◌, ◌+◌, Some, map, ap, sym, ◌∙◌}
+use Rattle.std.proofs.Common.{◌≡◌, ◌+◌, Some, map, refl, ap, sym, ◌∙◌}
 use Rattle.std.specs.Prelude.{option_and_then}
 use Rattle.std.specs.List.{slice_get}
-use Rattle.rv_object.specs.Parts.{symbol_of}
-use Rattle.rv_object.specs.View.{object_of}
 use Rattle.rv_object_laws.specs.Names.{global_address, linker_symbols, symbol_address}
 use Rattle.rv_placement.specs.Placement.{starts_of}
+use Rattle.rv_shorten.specs.View.{short_object_of}
+use Rattle.rv_resolve.specs.Moved.{with_definition}
 use Rattle.rv_resolve.specs.Shown.{shown_globals, regions_of}
 use Rattle.rv_resolve.proofs.Meant.{is_meant, address_none}
 use Rattle.rv_resolve.proofs.names.Names.address.Goals as goal
 
 pub returns-in_err-symbol : goal.returns-in_err-symbol
 returns-in_err-symbol c = λ start o h stands at.
-    let os = map object_of c.args.objects.now in
+    let os = map short_object_of c.args.objects.now in
     let p = c.args.placement.now in
     c.from_residual.ensures ∙ ap (option_and_then (symbol_address (shown_globals os p) (starts_of p (c.args.file + 1)) o)) (c.in_err-symbol.ensures o at)
 
 pub returns-in-Some : goal.returns-in-Some
 returns-in-Some c = λ start o h stands at.
-    let os = map object_of c.args.objects.now in
+    let os = map short_object_of c.args.objects.now in
     let p = c.args.placement.now in
-    let s = symbol_of c.in_ok-symbol.symbol.now in
+    let s = with_definition (c.in_ok-symbol.symbol, c.in_ok-symbol.definition) in
     let there : Some s ≡ slice_get o.symbols c.args.index = c.in_ok-symbol.ensures o at in
-    let m = is_meant os c.args.file o s.name at s.definition c.in-Some.exported (sym (c.meant.ensures os o h at (sym there)) ∙ c.in-Some.is) in
+    let m = is_meant os c.args.file o s.name at s.definition c.in-Some.exported (sym (c.meant.ensures os o s h at (sym there) refl) ∙ c.in-Some.is) in
     c.defined_address.ensures start m.holder stands m.at ∙ sym (m.address h.distinct (starts_of p) (regions_of p))
     ∙ ap (option_and_then (symbol_address (shown_globals os p) (starts_of p (c.args.file + 1)) o)) there
 
 pub returns-in-None : goal.returns-in-None
 returns-in-None c = λ start o h stands at.
-    let os = map object_of c.args.objects.now in
+    let os = map short_object_of c.args.objects.now in
     let p = c.args.placement.now in
-    let s = symbol_of c.in_ok-symbol.symbol.now in
+    let s = with_definition (c.in_ok-symbol.symbol, c.in_ok-symbol.definition) in
     let there : Some s ≡ slice_get o.symbols c.args.index = c.in_ok-symbol.ensures o at in
     c.linker_address.ensures os start stands
     ∙ ap (global_address (linker_symbols (regions_of p))) c.as_slice.ensures.value
-    ∙ sym (address_none os c.args.file o s.name s.definition (sym (c.meant.ensures os o h at (sym there)) ∙ c.in-None.is) h.distinct (starts_of p) (regions_of p))
+    ∙ sym (address_none os c.args.file o s.name s.definition (sym (c.meant.ensures os o s h at (sym there) refl) ∙ c.in-None.is) h.distinct (starts_of p) (regions_of p))
     ∙ ap (option_and_then (symbol_address (shown_globals os p) (starts_of p (c.args.file + 1)) o)) there

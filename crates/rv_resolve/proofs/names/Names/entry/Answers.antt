@@ -1,8 +1,8 @@
 use Rattle.std.proofs.Common.{◌≡◌, ◌+◌, ◌∙◌, Some, None, option_map, map, ap, sym}
 use Rattle.std.specs.Prelude.{option_and_then, if◌then◌else◌}
-use Rattle.rv_object.specs.View.{object_of}
 use Rattle.rv_object_laws.specs.Names.{defined_address, can_begin}
 use Rattle.rv_placement.specs.Placement.{starts_of}
+use Rattle.rv_shorten.specs.View.{short_object_of}
 use Rattle.rv_resolve.specs.declared.definitions.Exported.{Exported}
 use Rattle.rv_resolve.specs.Exports.{export_of}
 use Rattle.rv_resolve.specs.Names.{kept_of}
@@ -13,7 +13,7 @@ use Rattle.rv_resolve.proofs.names.Names.entry.Goals as goal
 
 pub returns-then-can_begin : goal.returns-then-can_begin
 returns-then-can_begin c = λ start h stands.
-    let os = map object_of c.args.objects.now in
+    let os = map short_object_of c.args.objects.now in
     let starts = starts_of c.args.placement.now in
     let x = c.in-Some.exported in
     let found : option_map kept_of (export_of os start_name) ≡ Some x =
@@ -27,7 +27,7 @@ returns-then-can_begin c = λ start h stands.
 
 pub returns-else-can_begin : goal.returns-else-can_begin
 returns-else-can_begin c = λ start h stands.
-    let os = map object_of c.args.objects.now in
+    let os = map short_object_of c.args.objects.now in
     let starts = starts_of c.args.placement.now in
     let x = c.in-Some.exported in
     let found : option_map kept_of (export_of os start_name) ≡ Some x =
@@ -40,7 +40,7 @@ returns-else-can_begin c = λ start h stands.
 
 pub returns-in-None : goal.returns-in-None
 returns-in-None c = λ start h stands.
-    let os = map object_of c.args.objects.now in
+    let os = map short_object_of c.args.objects.now in
     let starts = starts_of c.args.placement.now in
     let found : option_map kept_of (export_of os start_name) ≡ None =
     ap (λ n. option_map kept_of (export_of os n)) (sym c.as_slice.ensures) ∙ sym (h.answers c.as_slice.result.now) ∙ sym (c.copied.ensures ∙ c.get.ensures.value) ∙ c.in-None.is in

@@ -1,6 +1,6 @@
 use Rattle.std.proofs.Common.{◌≡◌, ◌∙◌, Some, None, option_map, map, ap, sym}
-use Rattle.rv_object.specs.View.{object_of}
 use Rattle.rv_object_laws.specs.Names.{can_begin}
+use Rattle.rv_shorten.specs.View.{short_object_of}
 use Rattle.rv_resolve.specs.declared.definitions.Exported.{Exported}
 use Rattle.rv_resolve.specs.Exports.{export_of}
 use Rattle.rv_resolve.specs.Names.{kept_of}
@@ -11,7 +11,7 @@ use Rattle.rv_resolve.proofs.names.Names.has_entry.Goals as goal
 
 pub returns-in-Some : goal.returns-in-Some
 returns-in-Some c = λ h.
-    let os = map object_of c.args.objects.now in
+    let os = map short_object_of c.args.objects.now in
     let x = c.in-Some.exported in
     let found : option_map kept_of (export_of os start_name) ≡ Some x =
     ap (λ n. option_map kept_of (export_of os n)) (sym c.as_slice.ensures) ∙ sym (h.answers c.as_slice.result.now) ∙ sym (c.copied.ensures ∙ c.get.ensures.value) ∙ c.in-Some.is in
@@ -20,7 +20,7 @@ returns-in-Some c = λ h.
 
 pub returns-in-None : goal.returns-in-None
 returns-in-None c = λ h.
-    let os = map object_of c.args.objects.now in
+    let os = map short_object_of c.args.objects.now in
     let found : option_map kept_of (export_of os start_name) ≡ None =
     ap (λ n. option_map kept_of (export_of os n)) (sym c.as_slice.ensures) ∙ sym (h.answers c.as_slice.result.now) ∙ sym (c.copied.ensures ∙ c.get.ensures.value) ∙ c.in-None.is in
     sym (entry_named os h.distinct ∙ ap can_one (none_kept (export_of os start_name) found))

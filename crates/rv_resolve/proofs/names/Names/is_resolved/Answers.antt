@@ -1,20 +1,19 @@
-use Rattle.std.proofs.Common.{map, ap, sym, ◌∙◌}
+use Rattle.std.proofs.Common.{◌≡◌, map, ap, sym, ◌∙◌}
+use Rattle.rv_object.specs.declared.symbol.Definition.TheVariants as definitions
 use Rattle.rv_object.specs.Parts.{symbol_of}
-use Rattle.rv_object.specs.View.{object_of}
-use Rattle.rv_object_laws.specs.Names.{is_one_of}
-use Rattle.rv_resolve.specs.Undefined.{linker_names}
-use Rattle.rv_resolve.proofs.Meant.{is_meant, resolved_none}
+use Rattle.rv_shorten.specs.Cutting.{cut_definition, cut_symbol}
+use Rattle.rv_shorten.specs.View.{short_object_of}
+use Rattle.rv_resolve.proofs.Cuts.{own_resolved, known_resolved}
 use Rattle.rv_resolve.proofs.names.Names.is_resolved.Goals as goal
 
-pub returns-in-Some : goal.returns-in-Some
-returns-in-Some c = λ o h at there.
-    let os = map object_of c.args.objects.now in
-    let s = symbol_of c.args.symbol.now in
-    let m = is_meant os c.args.file o s.name at s.definition c.in-Some.exported (sym (c.meant.ensures os o h at there) ∙ c.in-Some.is) in
-    c.has_address.ensures m.holder m.at ∙ sym m.resolved
+pub returns-in-Undefined : goal.returns-in-Undefined
+returns-in-Undefined c = λ o cuts h at there.
+    let os = map short_object_of c.args.objects.now in
+    let s = cut_symbol cuts (symbol_of c.args.symbol.now) in
+    let free : s.definition ≡ definitions.Undefined = ap (cut_definition cuts) c.in-Undefined.is in
+    c.is_known.ensures o s h at there free (sym c.as_slice.ensures.value) ∙ known_resolved os o s free
 
-pub returns-in-None : goal.returns-in-None
-returns-in-None c = λ o h at there.
-    let os = map object_of c.args.objects.now in
-    let s = symbol_of c.args.symbol.now in
-    c.is_linker_name.ensures ∙ ap (is_one_of linker_names) c.as_slice.ensures.value ∙ sym (resolved_none os c.args.file o s.name s.definition (sym (c.meant.ensures os o h at there) ∙ c.in-None.is))
+pub returns-in_default : goal.returns-in_default
+returns-in_default c = λ o cuts h at there.
+    c.has_address.ensures o at
+    ∙ own_resolved (map short_object_of c.args.objects.now) o cuts c.args.symbol.now.name.items c.args.symbol.now.definition c.in_default.not-Undefined

@@ -1,7 +1,7 @@
 use Rattle.std.proofs.Common.{◌≡◌, ◌<◌, ◌≤◌, ◌∙◌, None, length, map, option_map, rules, ap, sym, subst}
 use Rattle.std.proofs.lemmas.List.{at_drop_all}
 use Rattle.rv_object.specs.Object.{Object}
-use Rattle.rv_object.specs.View.{object_of}
+use Rattle.rv_shorten.specs.View.{short_object_of}
 use Rattle.rv_resolve.specs.Names.{bytes_of}
 use Rattle.rv_resolve.specs.Undefined.{first_some, undefined_in, first_undefined}
 use Rattle.rv_resolve.specs.Resolved.{AreResolved}
@@ -17,8 +17,8 @@ loop-file-preserved c = λ h.
     let x = c.index-objects-file.result in
     let is = c.index-objects-file.is in
     let inside : i < length xs = search rules in
-    none_here (λ (o : Object). first_some (undefined_in (map object_of xs) o) o.sections) object_of xs i x inside is
-    (sym (c.undefined_in.ensures h (there object_of xs i x inside is)) ∙ ap (option_map bytes_of) c.in-None.is)
+    none_here (λ (o : Object). first_some (undefined_in (map short_object_of xs) o) o.sections) short_object_of xs i x inside is
+    (sym (c.undefined_in.ensures h (there short_object_of xs i x inside is)) ∙ ap (option_map bytes_of) c.in-None.is)
     ∙ c.loop-file.invariant h
 
 pub returns-in-Some-clause-first : goal.returns-in-Some-clause-first
@@ -28,15 +28,15 @@ returns-in-Some-clause-first c = λ h.
     let x = c.index-objects-file.result in
     let is = c.index-objects-file.is in
     let inside : i < length xs = search rules in
-    one_here (λ (o : Object). first_some (undefined_in (map object_of xs) o) o.sections) object_of xs i x _ inside is
-    (sym (c.undefined_in.ensures h (there object_of xs i x inside is)) ∙ ap (option_map bytes_of) c.in-Some.is)
+    one_here (λ (o : Object). first_some (undefined_in (map short_object_of xs) o) o.sections) short_object_of xs i x _ inside is
+    (sym (c.undefined_in.ensures h (there short_object_of xs i x inside is)) ∙ ap (option_map bytes_of) c.in-Some.is)
     ∙ c.loop-file.invariant h
 
 pub returns-clause-resolved : goal.returns-clause-resolved
 returns-clause-resolved c = λ h starts m e.
     let n = c.loop-file.file in
     let xs = c.args.objects.now in
-    let os = map object_of xs in
+    let os = map short_object_of xs in
     let past : length xs ≤ n = search rules in
-    let none : first_undefined os ≡ None = sym (c.loop-file.invariant h) ∙ at_drop_all (λ l. first_some (λ (o : Object). first_some (undefined_in os o) o.sections) (map object_of l)) xs n past in
+    let none : first_undefined os ≡ None = sym (c.loop-file.invariant h) ∙ at_drop_all (λ l. first_some (λ (o : Object). first_some (undefined_in os o) o.sections) (map short_object_of l)) xs n past in
     subst (AreResolved starts os) (sym e) (all_resolved os starts m h.distinct none)

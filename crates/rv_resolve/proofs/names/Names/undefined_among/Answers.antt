@@ -4,7 +4,7 @@ use Rattle.rv_isa.specs.declared.kind.Kind.TheVariants as kinds
 use Rattle.rv_object.specs.declared.relocation.Relocation.{Relocation as DeclaredRelocation}
 use Rattle.rv_object.specs.Object.{Relocation}
 use Rattle.rv_object.specs.Parts.{relocation_of}
-use Rattle.rv_object.specs.View.{object_of}
+use Rattle.rv_shorten.specs.View.{short_object_of}
 use Rattle.rv_resolve.specs.Names.{bytes_of}
 use Rattle.rv_resolve.specs.Undefined.{undefined_name}
 use Rattle.rv_resolve.proofs.FirstSome.{none_here, one_here}
@@ -18,7 +18,7 @@ loop-relocation-preserved c = λ h at.
     let i = c.loop-relocation.relocation-index in
     let xs = c.args.relocations.now in
     let inside : i < length xs = search rules in
-    none_here (λ (r : Relocation). undefined_name (map object_of c.args.objects.now) (object_of c.args.object.now) r.symbol) relocation_of xs i (get_or xs i no_relocation) inside
+    none_here (λ (r : Relocation). undefined_name (map short_object_of c.args.objects.now) (short_object_of c.args.object.now) r.symbol) relocation_of xs i (get_or xs i no_relocation) inside
     (get_or_default xs i no_relocation (get_or xs i no_relocation) inside)
     (sym (c.undefined_name.ensures h at) ∙ ap (option_map bytes_of) c.in-None.is)
     ∙ c.loop-relocation.invariant h at
@@ -28,7 +28,7 @@ returns-in-Some c = λ h at.
     let i = c.loop-relocation.relocation-index in
     let xs = c.args.relocations.now in
     let inside : i < length xs = search rules in
-    one_here (λ (r : Relocation). undefined_name (map object_of c.args.objects.now) (object_of c.args.object.now) r.symbol) relocation_of xs i (get_or xs i no_relocation) _ inside
+    one_here (λ (r : Relocation). undefined_name (map short_object_of c.args.objects.now) (short_object_of c.args.object.now) r.symbol) relocation_of xs i (get_or xs i no_relocation) _ inside
     (get_or_default xs i no_relocation (get_or xs i no_relocation) inside)
     (sym (c.undefined_name.ensures h at) ∙ ap (option_map bytes_of) c.in-Some.is)
     ∙ c.loop-relocation.invariant h at

@@ -2,7 +2,7 @@ use Rattle.std.proofs.Common.{◌≡◌, ◌<◌, length, ◌∙◌, ◌==◌, �
 use Rattle.std.specs.Prelude.{if◌then◌else◌}
 use Rattle.std.specs.List.{slice_get}
 use Rattle.std.proofs.lemmas.Option.{slice_get_read}
-use Rattle.rv_object.specs.Sections.{section_of}
+use Rattle.rv_shorten.specs.Sections.{short_section_of}
 use Rattle.rv_placement.specs.Placement.{placed_at, placed_in}
 use Rattle.rv_values.specs.Highs.{else_found, high_in}
 use Rattle.rv_values.proofs.Steps.{section_step}
@@ -25,6 +25,6 @@ loop-index-preserved c = λ f s x.
     let is : t ≡ get_or ss i t = c.section-item.is ∙ ap (λ l. get_or l i t) sections in
     let inside : i < length ss = omega (arith, c.loop-index-test.true, ap length sections) in
     c.in_ok-add_section.ensures f s x
-    ∙ ap (λ o. if (file == f) && (i == s) then else_found (high_in (slice_get c.deref-in-loop-index.result.now i) (Some (section_of t)) x) o else o) (c.loop-index.invariant f s x)
+    ∙ ap (λ o. if (file == f) && (i == s) then else_found (high_in (slice_get c.deref-in-loop-index.result.now i) (Some (short_section_of t)) x) o else o) (c.loop-index.invariant f s x)
     ∙ section_step (slice_get c.deref-in-loop-index.result.now i) (placed_at p file s) ss i _ s x t (file == f) _ inside is (omega arith)
     (λ same here. at ∙ ap (placed_at p file) here)

@@ -1,0 +1,78 @@
+-- What names mean of an object of which calls are cut short.
+
+use Rattle.std.proofs.Common.{◌≡◌, ◌<◌, ◌≤◌, ℕ, Option, Some, None, option_map, List, [], ◌∷◌, length, map, slice_get, get_or, refl, sym, ap, ◌∙◌}
+use Rattle.std.specs.Prelude.{if◌then◌else◌}
+use Rattle.std.specs.Option.{option_or}
+use Rattle.std.proofs.lemmas.Option.{slice_get-map, slice_get_past, slice_get_read}
+use Rattle.rv_object.specs.declared.symbol.Definition.{Definition}
+use Rattle.rv_object.specs.declared.symbol.Definition.TheVariants as definitions
+use Rattle.rv_object.specs.declared.symbol.Symbol.{Symbol as DeclaredSymbol}
+use Rattle.rv_object.specs.Object.{Relocation, Symbol, Object}
+use Rattle.rv_object.specs.Parts.{symbol_of}
+use Rattle.rv_object_laws.specs.Moves.{Move}
+use Rattle.rv_object_laws.specs.Names.{is_defined}
+use Rattle.rv_shorten.specs.declared.object.ShortObject.{ShortObject}
+use Rattle.rv_shorten.specs.Cutting.{cut_definition, cut_relocation, cut_symbol}
+use Rattle.rv_shorten.specs.View.{moves_of, short_object_of}
+use Rattle.rv_resolve.specs.Exports.{export_of}
+use Rattle.rv_resolve.specs.Moved.{moved_in, symbols_of}
+use Rattle.rv_resolve.specs.Names.{kept_of, outside}
+use Rattle.rv_resolve.specs.Undefined.{first_some, has_address, is_known, is_resolved}
+
+-- ---- the symbols that it has
+
+map_twice : {X Y Z : Type 0} (f : Y → Z) (g : X → Y) (xs : List X) → map (λ x. f (g x)) xs ≡ map f (map g xs)
+map_twice f g [] = refl
+map_twice f g (x ∷ xs) = ap (λ l. f (g x) ∷ l) (map_twice f g xs)
+
+pub symbols_are : (o : ShortObject) → symbols_of o ≡ (short_object_of o).symbols
+symbols_are o = map_twice (cut_symbol (moves_of o)) symbol_of o.whole.now.symbols.items
+
+-- by its symbols as the code looks at them
+module _ (o : ShortObject) (xs : List DeclaredSymbol) (index : ℕ) (same : xs ≡ o.whole.now.symbols.items) where
+  looked_up : slice_get (short_object_of o).symbols index ≡ option_map (moved_in o) (slice_get xs index)
+  looked_up =
+      ap (λ l. slice_get l index) (sym (symbols_are o) ∙ ap (map (moved_in o)) (sym same)) ∙ slice_get-map (moved_in o) xs index
+
+  pub symbol_there : (x : DeclaredSymbol) → index < length xs → x ≡ get_or xs index x → slice_get (short_object_of o).symbols index ≡ Some (moved_in o x)
+  symbol_there x inside is = looked_up ∙ ap (option_map (moved_in o)) (slice_get_read xs (length xs) index x refl inside is)
+
+  pub symbol_past : length xs ≤ index → slice_get (short_object_of o).symbols index ≡ None
+  symbol_past past = looked_up ∙ ap (option_map (moved_in o)) (slice_get_past xs index past)
+
+-- ---- whether its symbols are its own does not depend on the cuts
+
+defined_cut : (cuts : List (List Move)) (d : Definition) → is_defined (cut_definition cuts d) ≡ is_defined d
+defined_cut cuts definitions.Undefined = refl
+defined_cut cuts (definitions.Absolute n) = refl
+defined_cut cuts (definitions.InSection section offset) = refl
+defined_cut cuts (definitions.Skipped n) = refl
+
+outside_cut : (os : List Object) (cuts : List (List Move)) (s : Symbol) → outside os (cut_symbol cuts s) ≡ outside os s
+outside_cut os cuts s = ap (λ b. if b then None else option_map kept_of (export_of os s.name)) (defined_cut cuts s.definition)
+
+pub all_outside : (os : List Object) (cuts : List (List Move)) (ss : List Symbol) → map (outside os) ss ≡ map (outside os) (map (cut_symbol cuts) ss)
+all_outside os cuts [] = refl
+all_outside os cuts (s ∷ ss) =
+    ap (λ m. m ∷ map (outside os) ss) (sym (outside_cut os cuts s)) ∙ ap (λ l. outside os (cut_symbol cuts s) ∷ l) (all_outside os cuts ss)
+
+-- ---- nor does whether they have addresses
+
+-- a symbol of its own
+pub own_resolved : (os : List Object) (o : Object) (cuts : List (List Move)) (name : List ℕ) (d : Definition) → (d ≡ definitions.Undefined → ⊥)
+    → has_address o d ≡ (if is_defined (cut_definition cuts d) then has_address o (cut_definition cuts d) else is_known name (export_of os name))
+own_resolved os o cuts name definitions.Undefined own = absurd (own refl)
+own_resolved os o cuts name (definitions.Absolute n) own = refl
+own_resolved os o cuts name (definitions.InSection section offset) own = refl
+own_resolved os o cuts name (definitions.Skipped n) own = refl
+
+-- and another's
+pub known_resolved : (os : List Object) (o : Object) (s : Symbol) → s.definition ≡ definitions.Undefined → is_known s.name (export_of os s.name) ≡ is_resolved os o s
+known_resolved os o s free = sym (ap (λ d. if is_defined d then has_address o d else is_known s.name (export_of os s.name)) free)
+
+-- ---- nor do the symbols of its relocations
+
+pub same_symbols : (name : Option ℕ → Option (List ℕ)) (ms : List Move) (rs : List Relocation)
+    → first_some (λ (r : Relocation). name r.symbol) (map (cut_relocation ms) rs) ≡ first_some (λ (r : Relocation). name r.symbol) rs
+same_symbols name ms [] = refl
+same_symbols name ms (r ∷ rs) = ap (option_or (name r.symbol)) (same_symbols name ms rs)

@@ -1,0 +1,23 @@
+-- The symbols of an object of which calls are cut short, as the code has them.
+
+use Rattle.std.specs.Prelude.{List, map}
+use Rattle.std.specs.Borrow.{Bor}
+use Rattle.rv_object.specs.declared.symbol.Definition.{Definition}
+use Rattle.rv_object.specs.declared.symbol.Symbol.{Symbol as DeclaredSymbol}
+use Rattle.rv_object.specs.Object.{Symbol}
+use Rattle.rv_object.specs.Parts.{symbol_of}
+use Rattle.rv_shorten.specs.declared.object.ShortObject.{ShortObject}
+use Rattle.rv_shorten.specs.Cutting.{cut_symbol}
+use Rattle.rv_shorten.specs.View.{moves_of}
+
+-- one of its symbols, as it has moved
+abbrev pub moved_in : ShortObject → DeclaredSymbol → Symbol
+moved_in o s = cut_symbol (moves_of o) (symbol_of s)
+
+-- all of them
+abbrev pub symbols_of : ShortObject → List Symbol
+symbols_of o = map (moved_in o) o.whole.now.symbols.items
+
+-- a symbol, with its definition as it has moved
+abbrev pub with_definition : Bor DeclaredSymbol × Definition → Symbol
+with_definition p = record (symbol_of p.0.now) { definition = p.1 }

@@ -1,0 +1,39 @@
+use Rattle.std.proofs.Common.{◌≡◌, ◌++◌, ◌∷◌, ◌+◌, List, [], map, drop, refl, sym, ap, subst, ◌∙◌}
+use Rattle.std.proofs.lemmas.List.{drop_more, map_push, append_assoc}
+use Rattle.rv_object.specs.Sections.{section_of}
+use Rattle.rv_object.specs.View.{object_of}
+use Rattle.rv_object_laws.specs.Moves.{Move}
+use Rattle.rv_shorten.specs.Cutting.{AllCut, cut_sections, cut_object}
+use Rattle.rv_shorten.specs.Sections.{moves_in_all}
+use Rattle.rv_shorten.specs.View.{short_object_of}
+use Rattle.rv_shorten.proofs.Uncut.{none_in, none_cut, same_sections, same_object}
+use Rattle.rv_shorten.proofs.lent.whole.Goals as goal
+
+pub of-requires-clause-cuts : goal.of-requires-clause-cuts
+of-requires-clause-cuts c =
+    let xs = c.object-item.result.sections.items in
+    let none : moves_in_all c.in_ok-sections.sections.items ≡ none_in xs = c.in_ok-sections.ensures.none ∙ ap (λ l. none_in l) c.deref.ensures.value in
+    subst (λ (l : List (List Move)). AllCut (map section_of xs) l) (sym none) (none_cut section_of xs)
+
+pub of-requires-clause-left : goal.of-requires-clause-left
+of-requires-clause-left c =
+    let xs = c.object-item.result.sections.items in
+    let none : moves_in_all c.in_ok-sections.sections.items ≡ none_in xs = c.in_ok-sections.ensures.none ∙ ap (λ l. none_in l) c.deref.ensures.value in
+    c.in_ok-sections.ensures.same ∙ ap (λ l. map section_of l) c.deref.ensures.value ∙ sym (same_sections section_of xs) ∙ sym (ap (λ (l : List (List Move)). cut_sections l (map section_of xs)) none)
+
+pub loop-object-preserved : goal.loop-object-preserved
+loop-object-preserved c =
+    let item = c.object-item.result in
+    let xs = item.sections.items in
+    let i = c.loop-object.object-index in
+    let left = c.loop-object.left.items in
+    let new = c.of.result in
+    let more = drop (i + 1) c.args.objects.now in
+    let now : drop i c.args.objects.now ≡ item ∷ more = drop_more c.args.objects.now i item c.loop-object-test.true ∙ ap (λ x. x ∷ more) (sym c.object-item.is) in
+    let none : moves_in_all c.in_ok-sections.sections.items ≡ none_in xs = c.in_ok-sections.ensures.none ∙ ap (λ l. none_in l) c.deref.ensures.value in
+    let is : short_object_of new ≡ object_of item = c.of.ensures ∙ ap (λ (l : List (List Move)). cut_object l (object_of item)) none ∙ same_object section_of xs (object_of item) refl in
+    let shown : map short_object_of c.push.new.self.items ≡ map short_object_of left ++ short_object_of new ∷ [] = ap (λ l. map short_object_of l) c.in_ok-push.ensures.items ∙ map_push short_object_of left new in
+    ap (λ l. l ++ map object_of more) shown
+    ∙ append_assoc (map short_object_of left) (short_object_of new ∷ []) (map object_of more)
+    ∙ ap (λ o. map short_object_of left ++ (o ∷ map object_of more)) is
+    ∙ sym (ap (λ l. map short_object_of left ++ map object_of l) now) ∙ c.loop-object.invariant

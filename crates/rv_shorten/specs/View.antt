@@ -1,0 +1,21 @@
+-- What an object stands for of which calls are cut short.
+
+use Rattle.std.specs.Prelude.{List, map}
+use Rattle.rv_object.specs.Object.{Object}
+use Rattle.rv_object.specs.Parts.{symbol_of}
+use Rattle.rv_object_laws.specs.Moves.{Move}
+use Rattle.rv_shorten.specs.declared.object.ShortObject.{ShortObject}
+use Rattle.rv_shorten.specs.Cutting.{cut_symbol, cut_row_of}
+use Rattle.rv_shorten.specs.Sections.{moves_in_all, short_section_of}
+
+-- the moves of its sections
+abbrev pub moves_of : ShortObject → List (List Move)
+moves_of o = moves_in_all o.sections.items
+
+abbrev pub short_object_of : ShortObject → Object
+short_object_of o = record {
+  sections = map short_section_of o.sections.items;
+  symbols = map (cut_symbol (moves_of o)) (map symbol_of o.whole.now.symbols.items);
+  rows = map (cut_row_of (moves_of o)) o.whole.now.rows.items;
+  rvc = o.whole.now.rvc;
+}
