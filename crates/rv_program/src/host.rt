@@ -1,8 +1,9 @@
 //! The system itself: the files of the disk and the standard streams of the process.
 
-use crate::system::{FILE_LIMIT, GuestInput, Purpose, ReadFault, System, read_whole};
+use crate::system::{FILE_LIMIT, GuestInput, Purpose, System};
 use rv_image::Image;
 use rv_machine::{End, Io, RunFault, run_io};
+use rv_streams::{ReadFault, read_whole};
 use std::alloc::Global;
 use std::fs::File;
 use std::io::{self, Write};

@@ -6,10 +6,11 @@ ghost use Rattle.rv_program.specs.Status.{run_status};
 use crate::disassembly::{dump, objdump};
 use crate::error::CliError;
 use crate::messages::{end_line, fault_line, run_line};
-use crate::system::{FILE_LIMIT, GuestInput, Purpose, ReadFault, System};
+use crate::system::{FILE_LIMIT, GuestInput, Purpose, System};
 use crate::words::default_options;
 use rv_chain::{Built, End, Fault, LinkOptions, assemble_object, build, build_exe, link_objects};
 use rv_image::{Image, load};
+use rv_streams::ReadFault;
 use std::alloc::{AllocError, Global};
 
 /// The exit status of a run that the guest did not end by an exit.

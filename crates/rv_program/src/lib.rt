@@ -33,5 +33,5 @@ pub use error::CliError;
 pub use host::Host;
 pub use messages::{end_line, fault_line, run_line};
 pub use status::{exit_status, report};
-pub use system::{GuestInput, Purpose, ReadFault, System, read_whole};
+pub use system::{GuestInput, Purpose, System};
 pub use words::{decimal, default_options, text_start};

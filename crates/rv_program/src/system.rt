@@ -1,37 +1,13 @@
 //! What the program asks of the system: files, and the standard streams, whole or as a guest asks.
 
-ghost use Rattle.std.specs.Prelude.{◌≤◌, length, IfOk};
-ghost use Rattle.std.specs.Io.KnownBytes.{Consumes, IsAtEnd};
-
 use rv_image::Image;
 use rv_machine::{End, RunFault};
-use std::alloc::{AllocError, AllocFailed, Global};
-use std::io::{self, Read};
+use rv_streams::ReadFault;
+use std::alloc::Global;
+use std::io;
 
 /// The most bytes of a file: 1 GiB.
 pub(crate) const FILE_LIMIT: usize = 1 << 30;
-/// The bytes of one read.
-const PIECE: usize = 1 << 16;
-
-/// Why bytes were not read.
-#[derive(Drop)]
-pub enum ReadFault {
-    /// The system refused, or there are too many.
-    Failed,
-    Memory,
-}
-
-impl From<AllocError> for ReadFault {
-    fn from(_: AllocError) -> Self {
-        ReadFault::Memory
-    }
-}
-
-impl<T: Drop> From<AllocFailed<T>> for ReadFault {
-    fn from(_: AllocFailed<T>) -> Self {
-        ReadFault::Memory
-    }
-}
 
 /// What a file that is written is for.
 #[derive(Clone, Copy, PartialEq, Eq)]
@@ -71,32 +47,4 @@ pub trait System {
 
     /// Writes a line to standard error, with `rv: ` before it.
     fn tell(&mut self, line: &str);
-}
-
-/// What a reader gives to its end, in pieces; `Failed` beyond the limit.
-pub fn read_whole<R: Read>(
-    alloc: Global,
-    reader: &mut R,
-    limit: usize,
-) -> Result<Vec<u8>, ReadFault>
-    ensures within { IfOk result (λ all. length all.items ≤ limit) }
-    ensures bytes { IfOk result (λ all.
-        Consumes (R.remaining reader.old) (R.remaining reader.new) all.items) }
-    ensures end { IfOk result (λ _. IsAtEnd (R.remaining reader.new)) }
-{
-    let mut all = Vec::new(alloc);
-    let mut piece = vec![in alloc; 0u8; PIECE]?;
-    for _ in 0..u64::MAX {
-        let Ok(count) = reader.read(piece.as_mut_slice()) else {
-            return Err(ReadFault::Failed);
-        };
-        if count == 0 {
-            return Ok(all);
-        }
-        if count > limit || all.len() > limit - count {
-            return Err(ReadFault::Failed);
-        }
-        all.extend_from_slice(&piece[..count])?;
-    }
-    Err(ReadFault::Failed)
 }

@@ -2,7 +2,8 @@
 
 use rv_image::Image;
 use rv_machine::{End, Io, RunFault, run_io};
-use rv_program::{GuestInput, Purpose, ReadFault, System, exit_status};
+use rv_program::{GuestInput, Purpose, System, exit_status};
+use rv_streams::ReadFault;
 use std::alloc::{AllocError, Global};
 use std::io::{self, ErrorKind, Read, Write};
 

@@ -2,7 +2,8 @@
 
 use super::fake::{Fake, Row, Scene, first_other, split};
 use super::runs::EXIT7;
-use rv_program::{Host, Purpose, ReadFault, exit_status, read_whole};
+use rv_program::{Host, Purpose, exit_status};
+use rv_streams::{ReadFault, read_whole};
 use std::alloc::{AllocError, Global};
 use std::fs;
 use std::io::{self, ErrorKind, Read};
