@@ -4,8 +4,8 @@ ghost use Rattle.std.specs.Prelude.{◌≡◌, ◌+◌, ◌≤◌, ◌<◌, ◌^
 ghost use Rattle.std.specs.Ordering.{nat_cmp};
 ghost use Rattle.std.specs.List.Sorted.{IsNonDecreasingBy, IsPermutation, IsStableByKey};
 ghost use Rattle.rv_isa.specs.Kinds.{width_of};
-ghost use Rattle.rv_object.specs.Object.{Relocation as SaidRelocation, size_of, stored as stored_of};
-ghost use Rattle.rv_object.specs.Parts.{contents_of, relocation_of};
+ghost use Rattle.rv_object.specs.Object.{Relocation as SaidRelocation, size_of, stored};
+ghost use Rattle.rv_object.specs.Parts.{relocation_of};
 ghost use Rattle.rv_object.specs.Sections.{section_of};
 ghost use Rattle.rv_object_laws.specs.Calls as laws;
 ghost use Rattle.rv_calls.specs.Between.{IsBefore, Rise};
@@ -19,8 +19,8 @@ use crate::order::by_place;
 use crate::text::Text;
 use crate::words::{are_call_words, link_register};
 use rv_layout_laws::{Call, Padding, Site, SiteKind};
-use rv_object::{Contents, Object, Relocation, Section};
-use rv_placement::{begins_at, full_size};
+use rv_object::{Object, Relocation, Section};
+use rv_placement::begins_at;
 use rv_relax::{asked_alignment, full_padding, has_padding};
 use std::alloc::{AllocError, Global};
 
@@ -59,29 +59,19 @@ fn padding_site(offset: u64, bytes: u64, alignment: u64) -> Site
     }
 }
 
-/// The bytes that a section has in its file.
-fn stored(contents: &Contents) -> &[u8]
-    ensures { result.now ≡ stored_of (contents_of contents.now) }
-{
-    match contents {
-        Contents::Progbits(bytes) => bytes.as_slice(),
-        Contents::Note(bytes) => bytes.as_slice(),
-        Contents::Nobits(_) => b"".as_slice(),
-    }
-}
-
 /// A call, if its words, its target and the symbols of its object allow that it is shortened.
 fn call(text: &Text<'_, '_>, input: &Input<'_>, relocation: &Relocation) -> Option<Call>
     requires laid { IsLaid text.now }
     requires given { IsGiven text.now input.now }
     requires within { (relocation.now).place + 8
-        ≤ length (stored_of (section_of ((input.now).section).now).contents) }
+        ≤ length (stored (section_of ((input.now).section).now).contents) }
     ensures { result
         ≡ (if can_shorten (objects_of text.now) (input_of input.now) (relocation_of relocation.now)
-        then Some (call_of (objects_of text.now) (input_of input.now) (relocation_of relocation.now))
+        then Some
+        (call_of (objects_of text.now) (input_of input.now) (relocation_of relocation.now))
         else None) }
 {
-    let bytes = stored(&input.section.contents);
+    let bytes = input.section.contents.stored();
     let place = relocation.place as usize;
     if !are_call_words(bytes, place) {
         return None;
@@ -110,7 +100,7 @@ fn put_call(
     requires given { IsGiven text.now input.now }
     requires low { first + (relocation.now).place < 2 ^ 64 }
     requires within { (relocation.now).place + 8
-        ≤ length (stored_of (section_of ((input.now).section).now).contents) }
+        ≤ length (stored (section_of ((input.now).section).now).contents) }
     ensures { OnOk result (sites.new.items ≡ sites.old.items
         ++ (if can_shorten (objects_of text.now) (input_of input.now) (relocation_of relocation.now)
         then laws.call_site (objects_of text.now) (input_of input.now)
@@ -242,5 +232,5 @@ pub(crate) fn put_section(
     let sorted = by_place(alloc, &input.section.relocations)?;
     put_changes(&mut marked.sites, text, input, stop + padding, &sorted)?;
     put_no_starts(&mut marked.starts, marked.sites.len() - before)?;
-    Ok(stop + padding + full_size(&input.section.contents))
+    Ok(stop + padding + input.section.contents.size())
 }

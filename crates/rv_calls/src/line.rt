@@ -7,7 +7,8 @@ ghost use Rattle.rv_object_laws.specs.Calls as laws;
 ghost use Rattle.rv_calls.specs.Line as walk;
 
 use rv_object::{Object, Section};
-use rv_placement::{begins_at, full_size, is_text};
+use rv_placement::begins_at;
+use rv_shorten::is_text;
 use std::alloc::{AllocError, Global};
 
 /// Offsets are looked at up to this.
@@ -33,7 +34,7 @@ fn stand(section: &Section, stop: u64) -> Option<(u64, u64)>
         return Some((0, stop));
     }
     let first = stop + start_padding(section);
-    let size = full_size(&section.contents);
+    let size = section.contents.size();
     if size > LIMIT || first + size > LIMIT {
         return None;
     }

@@ -15,8 +15,8 @@ ghost use Rattle.rv_calls.specs.Text.{IsLaid, objects_of, text_target};
 
 use crate::line::bases;
 use rv_object::{Object, Relocation};
-use rv_placement::{full_size, is_text};
 use rv_resolve::Names;
+use rv_shorten::is_text;
 use std::alloc::{AllocError, Global};
 
 /// The text of objects in one line.
@@ -35,7 +35,7 @@ fn is_in_text(objects: &[Object], file: usize, section: usize, offset: u64) -> b
 {
     match objects.get(file) {
         Some(object) => match object.sections.get(section) {
-            Some(section) => is_text(section) && offset <= full_size(&section.contents),
+            Some(section) => is_text(section) && offset <= section.contents.size(),
             None => false,
         },
         None => false,

@@ -17,9 +17,9 @@ use crate::changes::{Input, Marked, put_section};
 use crate::entries::Entries;
 use crate::text::Text;
 use rv_object::Object;
-use rv_placement::is_text;
 use rv_relax::Placed;
 use rv_resolve::Names;
+use rv_shorten::is_text;
 use std::alloc::{AllocError, Global};
 
 /// The text of objects, whose names mean this: its sites, and which of them are starts of sections. `None`: it is too long for

@@ -98,7 +98,8 @@ fn held<'a>(segment: &'a Segment, row: &Row) -> &'a [u8]
     requires before { row.now.address + row.now.bytes
         ≤ segment.now.address + length segment.now.bytes.items }
     ensures bytes { result.now
-        ≡ take row.now.bytes (drop (row.now.address - segment.now.address) segment.now.bytes.items) }
+        ≡ take row.now.bytes
+        (drop (row.now.address - segment.now.address) segment.now.bytes.items) }
     ensures ends { row.now.address + length result.now ≤ 2 ^ 64 }
 {
     let start = (row.address - segment.address) as usize;

@@ -1,6 +1,6 @@
 //! Objects whose addresses are fixed.
 
-ghost use Rattle.std.specs.Prelude.{◌≡◌, ◌+◌, ◌-◌, ◌++◌, ◌<◌, ◌≤◌, IsTrue, IfOk, IfErr, OnOk, Some, pos, true, length, map};
+ghost use Rattle.std.specs.Prelude.{◌≡◌, ◌+◌, ◌-◌, ◌++◌, ◌<◌, ◌≤◌, IfOk, IfErr, OnOk, Some, pos, true, length};
 ghost use Rattle.std.specs.List.{AllByRecursion};
 ghost use Rattle.rv_object.specs.Parts.{relocation_of};
 ghost use Rattle.rv_object_laws.specs.Inputs.{is_nobits, zeros};

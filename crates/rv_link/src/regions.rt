@@ -1,7 +1,6 @@
 //! The bytes of the regions.
 
 ghost use Rattle.std.specs.Prelude.{◌≡◌, ◌+◌, ◌<◌, [], length, IfOk, IfErr, OnOk};
-ghost use Rattle.rv_object_laws.specs.Inputs as laws;
 ghost use Rattle.rv_object_laws.specs.Names.{object_at};
 ghost use Rattle.rv_shorten.specs.Sections.{short_section_of};
 ghost use Rattle.rv_link.specs.Filled.{IsInputOf, objects_of};
@@ -10,7 +9,6 @@ ghost use Rattle.rv_link.specs.Regions.{AreGrown, IsFixed, left_files, left_from
 
 use crate::fault::LinkFault;
 use crate::fixed::{Fixed, Input};
-use rv_object::Contents;
 use rv_shorten::ShortSection;
 use std::alloc::Global;
 
@@ -20,16 +18,6 @@ pub(crate) struct Regions {
     pub(crate) text: Vec<u8>,
     pub(crate) rodata: Vec<u8>,
     pub(crate) data: Vec<u8>,
-}
-
-/// Whether a section has no bytes in the file.
-fn is_nobits(section: &ShortSection<'_>) -> bool
-    ensures { result ≡ laws.is_nobits (short_section_of section.now).contents }
-{
-    match &section.whole.contents {
-        Contents::Nobits(_) => true,
-        Contents::Progbits(_) | Contents::Note(_) => false,
-    }
 }
 
 impl Regions {
@@ -119,7 +107,7 @@ impl Regions {
             fixed.put(alloc, input, fixed.placement.text.start, &mut self.text)?;
             return Ok(());
         }
-        if is_nobits(section) {
+        if section.is_nobits() {
             fixed.judge(input)?;
             return Ok(());
         }

@@ -5,7 +5,7 @@ ghost use Rattle.rv_object.specs.View.{object_of};
 ghost use Rattle.rv_object_laws.specs.Calls.{is_short_text, sites_of};
 ghost use Rattle.rv_object_laws.specs.Shortened.{Relaxes};
 ghost use Rattle.rv_shorten.specs.View.{short_object_of};
-ghost use Rattle.rv_relax.specs.Plan.{kept_of, placed_sites};
+ghost use Rattle.rv_relax.specs.Plan.{placed_sites};
 ghost use Rattle.rv_link.specs.Refusals.{AreDoubled};
 
 use crate::fault::LinkFault;

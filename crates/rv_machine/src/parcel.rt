@@ -25,21 +25,25 @@ fn immediate(
     immediate: i32,
     hart: &Hart,
 ) -> Action
-    ensures { IsAsked (inst.of_immediate operation (record { immediate = immediate; rd = rd; rs1 = rs1 })) 2 hart.now result }
+    ensures { IsAsked (inst.of_immediate operation
+        (record { immediate = immediate; rd = rd; rs1 = rs1 })) 2
+        hart.now result }
 {
     formats::by_immediate(operation, IType { immediate, rd, rs1 }, hart)
 }
 
 #[inline(always)]
 fn registers(operation: RegisterOperation, rd: Reg, rs1: Reg, rs2: Reg, hart: &Hart) -> Action
-    ensures { IsAsked (inst.of_registers operation (record { rd = rd; rs1 = rs1; rs2 = rs2 })) 2 hart.now result }
+    ensures { IsAsked (inst.of_registers operation (record { rd = rd; rs1 = rs1; rs2 = rs2 })) 2
+        hart.now result }
 {
     formats::by_registers(operation, RType { rd, rs1, rs2 }, hart)
 }
 
 #[inline(always)]
 fn shift(operation: ShiftOperation, rd: Reg, amount: u8, hart: &Hart) -> Action
-    ensures { IsAsked (inst.of_shift operation (record { rd = rd; rs1 = rd; amount = amount })) 2 hart.now result }
+    ensures { IsAsked (inst.of_shift operation (record { rd = rd; rs1 = rd; amount = amount })) 2
+        hart.now result }
 {
     let rs1 = rd;
     formats::by_amount(operation, Shift { rd, rs1, amount }, hart)
@@ -48,7 +52,9 @@ fn shift(operation: ShiftOperation, rd: Reg, amount: u8, hart: &Hart) -> Action
 #[inline(always)]
 fn load(operation: LoadOperation, rd: Reg, rs1: Reg, offset: u32, hart: &Hart) -> Action
     requires { offset < 2 ^ 12 }
-    ensures { IsAsked (inst.of_load operation (record { immediate = pos offset; rd = rd; rs1 = rs1 })) 2 hart.now result }
+    ensures { IsAsked (inst.of_load operation
+        (record { immediate = pos offset; rd = rd; rs1 = rs1 })) 2
+        hart.now result }
 {
     let immediate = offset as i32;
     formats::load(operation, IType { immediate, rd, rs1 }, hart)
@@ -57,7 +63,9 @@ fn load(operation: LoadOperation, rd: Reg, rs1: Reg, offset: u32, hart: &Hart) -
 #[inline(always)]
 fn store(operation: StoreOperation, rs1: Reg, rs2: Reg, offset: u32, hart: &Hart) -> Action
     requires { offset < 2 ^ 12 }
-    ensures { IsAsked (inst.of_store operation (record { immediate = pos offset; rs1 = rs1; rs2 = rs2 })) 2 hart.now result }
+    ensures { IsAsked (inst.of_store operation
+        (record { immediate = pos offset; rs1 = rs1; rs2 = rs2 })) 2
+        hart.now result }
 {
     let immediate = offset as i32;
     formats::store(
@@ -73,7 +81,8 @@ fn store(operation: StoreOperation, rs1: Reg, rs2: Reg, offset: u32, hart: &Hart
 
 #[inline(always)]
 fn branch(operation: BranchOperation, rs1: Reg, offset: i32, hart: &Hart) -> Action
-    ensures { IsAsked (inst.of_branch operation (record { offset = offset; rs1 = rs1; rs2 = 0 })) 2 hart.now result }
+    ensures { IsAsked (inst.of_branch operation (record { offset = offset; rs1 = rs1; rs2 = 0 })) 2
+        hart.now result }
 {
     let rs2 = Reg::from_low_bits(0);
     formats::branch(operation, BType { offset, rs1, rs2 }, 2, hart)
@@ -81,7 +90,8 @@ fn branch(operation: BranchOperation, rs1: Reg, offset: i32, hart: &Hart) -> Act
 
 #[inline(always)]
 fn jump_register(rd: Reg, rs1: Reg, hart: &Hart) -> Action
-    ensures { IsAsked (isa.Jalr (record { immediate = pos 0; rd = rd; rs1 = rs1 })) 2 hart.now result }
+    ensures { IsAsked (isa.Jalr (record { immediate = pos 0; rd = rd; rs1 = rs1 })) 2
+        hart.now result }
 {
     formats::jump_register(
         IType {

@@ -27,7 +27,8 @@ fn load<M: Memory>(hart: &mut Hart, memory: &M, x: Load, bytes: u64) -> bool
     requires { IsWidth x.bytes }
     ensures { (input console : List ℕ) →
         let before = hart_of hart.old input console in
-        IsDone result (apply (effect_of (is.Load x) bytes before) (M.mem memory.now)) before (M.mem memory.now)
+        IsDone result (apply (effect_of (is.Load x) bytes before) (M.mem memory.now))
+        before (M.mem memory.now)
         (hart_of hart.new input console) (M.mem memory.now) }
 {
     match access::read(memory, x.address, x.bytes, x.signed) {
@@ -45,7 +46,8 @@ fn store<M: Memory>(hart: &mut Hart, memory: &mut M, x: Store, bytes: u64) -> bo
     requires { IsWidth x.bytes }
     ensures { (input console : List ℕ) →
         let before = hart_of hart.old input console in
-        IsDone result (apply (effect_of (is.Store x) bytes before) (M.mem memory.old)) before (M.mem memory.old)
+        IsDone result (apply (effect_of (is.Store x) bytes before) (M.mem memory.old))
+        before (M.mem memory.old)
         (hart_of hart.new input console) (M.mem memory.new) }
 {
     if !access::write(memory, x.address, x.bytes, x.value) {
@@ -62,7 +64,8 @@ fn goes_on<M: Memory>(action: Action, bytes: u64, hart: &mut Hart, memory: &mut 
     requires { HasWidth action }
     ensures { (input console : List ℕ) →
         let before = hart_of hart.old input console in
-        IsDone result (apply (effect_of action bytes before) (M.mem memory.old)) before (M.mem memory.old)
+        IsDone result (apply (effect_of action bytes before) (M.mem memory.old))
+        before (M.mem memory.old)
         (hart_of hart.new input console) (M.mem memory.new) }
 {
     match action {
@@ -89,7 +92,8 @@ fn by_word<M: Memory>(bits: u32, hart: &mut Hart, memory: &mut M) -> bool
     requires { bits % 4 ≡ 3 }
     ensures { (reader : Reader Spells StandsFor) (input console : List ℕ) →
         let before = hart_of hart.old input console in
-        IsDone result (done (spelled 4 (reader.word bits)) before (M.mem memory.old)) before (M.mem memory.old)
+        IsDone result (done (spelled 4 (reader.word bits)) before (M.mem memory.old))
+        before (M.mem memory.old)
         (hart_of hart.new input console) (M.mem memory.new) }
 {
     match asked_by_word(bits, hart) {
@@ -102,7 +106,8 @@ fn by_word<M: Memory>(bits: u32, hart: &mut Hart, memory: &mut M) -> bool
 fn by_parcel<M: Memory>(bits: u16, hart: &mut Hart, memory: &mut M) -> bool
     ensures { (reader : Reader Spells StandsFor) (input console : List ℕ) →
         let before = hart_of hart.old input console in
-        IsDone result (done (spelled 2 (reader.parcel bits)) before (M.mem memory.old)) before (M.mem memory.old)
+        IsDone result (done (spelled 2 (reader.parcel bits)) before (M.mem memory.old))
+        before (M.mem memory.old)
         (hart_of hart.new input console) (M.mem memory.new) }
 {
     match asked_by_parcel(bits, hart) {

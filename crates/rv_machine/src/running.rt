@@ -128,12 +128,14 @@ fn write<W: GuestOut, M: Memory>(
     ensures written { MatchResult result
         (λ _. Appends (W.written writer.old) (W.written writer.new)
         (bytes_at (M.mem memory.now) transfer.address transfer.count))
-        (λ _. (moved : ℕ) × (moved ≤ transfer.count) × Appends (W.written writer.old) (W.written writer.new)
+        (λ _. (moved : ℕ) × (moved ≤ transfer.count)
+        × Appends (W.written writer.old) (W.written writer.new)
         (bytes_at (M.mem memory.now) transfer.address moved)) }
     ensures done { MatchResult result
         (λ _. (input console : List ℕ) →
         writing transfer (hart_of hart.old input console) (M.mem memory.now)
-        ≡ On (hart_of hart.new input (console ++ bytes_at (M.mem memory.now) transfer.address transfer.count))
+        ≡ On (hart_of hart.new input
+        (console ++ bytes_at (M.mem memory.now) transfer.address transfer.count))
         (M.mem memory.now))
         (λ _. ⊤) }
     ensures failed { Fails result (W.out_failed writer.old) (W.out_failed writer.new) }

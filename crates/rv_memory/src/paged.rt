@@ -111,7 +111,8 @@ impl Paged {
         requires page { IsPageAt (pages_of self.old) (address / 4096) i }
         requires within { address % 4096 + length bytes.now ≤ 4096 }
         ensures { held_pages self.new
-            ≡ with_rights (held_pages self.old) (record { address = address; bytes = bytes.now; flags = flags }) }
+            ≡ with_rights (held_pages self.old)
+            (record { address = address; bytes = bytes.now; flags = flags }) }
     {
         let at = (address % PAGE_BYTES) as usize;
         let page = &mut self.pages[i];
@@ -128,7 +129,8 @@ impl Paged {
     ) -> Result<(), AllocError>
         requires { address % 4096 + length bytes.now ≤ 4096 }
         ensures { OnOk result (held_pages self.new
-            ≡ with_segment (held_pages self.old) (record { address = address; bytes = bytes.now; flags = flags })) }
+            ≡ with_segment (held_pages self.old)
+            (record { address = address; bytes = bytes.now; flags = flags })) }
     {
         let i = self.place(alloc, address)?;
         self.write(i, address, bytes);

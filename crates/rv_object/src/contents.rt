@@ -1,5 +1,9 @@
 //! What sections have in a file.
 
+ghost use Rattle.std.specs.Prelude.{◌≡◌};
+ghost use Rattle.rv_object.specs.Object as said;
+ghost use Rattle.rv_object.specs.Parts.{contents_of};
+
 /// What a section has in the file (gABI, "Sections", sh_type).
 #[derive(Debug, PartialEq, Eq, Drop)]
 pub enum Contents {
@@ -9,4 +13,28 @@ pub enum Contents {
     Note(Vec<u8>),
     /// No bytes in the file (SHT_NOBITS): the size of the zeros in memory.
     Nobits(u64),
+}
+
+impl Contents {
+    /// How many bytes of memory they take.
+    pub fn size(&self) -> u64
+        ensures { result ≡ said.size_of (contents_of self.now) }
+    {
+        match self {
+            Contents::Progbits(bytes) => bytes.len() as u64,
+            Contents::Note(bytes) => bytes.len() as u64,
+            Contents::Nobits(size) => *size,
+        }
+    }
+
+    /// The bytes that the file has of them.
+    pub fn stored(&self) -> &[u8]
+        ensures { result.now ≡ said.stored (contents_of self.now) }
+    {
+        match self {
+            Contents::Progbits(bytes) => bytes.as_slice(),
+            Contents::Note(bytes) => bytes.as_slice(),
+            Contents::Nobits(_) => &[],
+        }
+    }
 }

@@ -32,13 +32,16 @@ pub(crate) fn check_relocations(
     records: &[u8],
 ) -> Result<(), FileFault>
     ensures { (before : List Relocation)
-        → Holds header.now places.old.paddings.by_end.entries places.old.fields.by_start.entries before
+        → Holds header.now places.old.paddings.by_end.entries places.old.fields.by_start.entries
+        before
         → MatchResult result
-        (λ _. (first_true (relocations_tests header.now symbols before (relas_in records.now)) ≡ None)
+        (λ _. (first_true (relocations_tests header.now symbols before (relas_in records.now))
+        ≡ None)
         × Holds header.now places.new.paddings.by_end.entries places.new.fields.by_start.entries
         (before ++ relocations_in (relas_in records.now)))
         (λ fault. (fault ≡ OutOfMemory)
-        ⊎ (first_true (relocations_tests header.now symbols before (relas_in records.now)) ≡ Some fault)) }
+        ⊎ (first_true (relocations_tests header.now symbols before (relas_in records.now))
+        ≡ Some fault)) }
 {
     let Ok(count) = u32::try_from(records.len() / RELA_SIZE) else {
         return Err(FileFault::OutOfMemory);
@@ -59,7 +62,8 @@ fn check_relocation(
     rela: &Rela,
 ) -> Result<(), FileFault>
     ensures { (before : List Relocation)
-        → Holds header.now places.old.paddings.by_end.entries places.old.fields.by_start.entries before
+        → Holds header.now places.old.paddings.by_end.entries places.old.fields.by_start.entries
+        before
         → MatchResult result
         (λ _. (first_true (relocation_tests header.now symbols before rela.now) ≡ None)
         × Holds header.now places.new.paddings.by_end.entries places.new.fields.by_start.entries
@@ -95,7 +99,8 @@ fn is_placed(
     kind: Option<Kind>,
 ) -> Result<bool, AllocError>
     ensures { IfOk result (λ good. (before : List Relocation)
-        → Holds header.now places.old.paddings.by_end.entries places.old.fields.by_start.entries before
+        → Holds header.now places.old.paddings.by_end.entries places.old.fields.by_start.entries
+        before
         → MatchBool good
         ((is_misplaced header.now before (relocation_by rela.now kind) ≡ false)
         × Holds header.now places.new.paddings.by_end.entries places.new.fields.by_start.entries

@@ -76,7 +76,8 @@ fn check_records(
         × HoldBefore tables.now.names.view.file.now
         (before ++ record { index = i; header = header.now } ∷ []) held.new)
         (λ fault. (fault ≡ OutOfMemory)
-        ⊎ (first_true (records_tests tables.now.names.view.file.now before header.now) ≡ Some fault)) }
+        ⊎ (first_true (records_tests tables.now.names.view.file.now before header.now)
+        ≡ Some fault)) }
 {
     if is_symbol_table(header) {
         return check_symbols(&tables.names.view, header);

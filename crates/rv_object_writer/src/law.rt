@@ -37,11 +37,7 @@ fn section_known(section: &Section)
 fn contents_known(contents: &Contents)
     ensures { size_of (contents_of contents.now) < 2 ^ 64 }
 {
-    let _size = match contents {
-        Contents::Progbits(bytes) => bytes.len() as u64,
-        Contents::Note(bytes) => bytes.len() as u64,
-        Contents::Nobits(size) => *size,
-    };
+    let _size = contents.size();
 }
 
 fn relocations_known(relocations: &[Relocation])

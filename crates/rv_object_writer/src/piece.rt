@@ -1,7 +1,6 @@
 //! Sections as the file has them.
 
 ghost use Rattle.std.specs.Prelude.{◌≡◌};
-ghost use Rattle.rv_object.specs.Object.{stored, size_of};
 ghost use Rattle.rv_object.specs.Parts.{contents_of};
 ghost use Rattle.rv_object.specs.Sections.{section_of};
 ghost use Rattle.rv_object_file_laws.specs.Written.{kind_of, flags_of};
@@ -38,8 +37,8 @@ impl<'p> Piece<'p> {
             name: section.name.as_slice(),
             kind: kind(&section.contents),
             flags: flags(section),
-            bytes: stored(&section.contents),
-            size: size(&section.contents),
+            bytes: section.contents.stored(),
+            size: section.contents.size(),
             link: 0,
             info: 0,
             alignment: section.alignment,
@@ -80,28 +79,6 @@ fn kind(contents: &Contents) -> u32
         Contents::Progbits(_) => SHT_PROGBITS,
         Contents::Note(_) => SHT_NOTE,
         Contents::Nobits(_) => SHT_NOBITS,
-    }
-}
-
-/// The bytes that the file has of them.
-fn stored(contents: &Contents) -> &[u8]
-    ensures { result.now ≡ stored (contents_of contents.now) }
-{
-    match contents {
-        Contents::Progbits(bytes) => bytes.as_slice(),
-        Contents::Note(bytes) => bytes.as_slice(),
-        Contents::Nobits(_) => &[],
-    }
-}
-
-/// How many bytes of memory they are.
-fn size(contents: &Contents) -> u64
-    ensures { result ≡ size_of (contents_of contents.now) }
-{
-    match contents {
-        Contents::Progbits(bytes) => bytes.len() as u64,
-        Contents::Note(bytes) => bytes.len() as u64,
-        Contents::Nobits(size) => *size,
     }
 }
 

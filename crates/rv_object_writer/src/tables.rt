@@ -162,7 +162,8 @@ fn put_row_size(out: &mut ElfWriter, row: &Row) -> Result<(), AllocError>
 /// Writes the rest of a row: how many instructions it has, where, and how many bytes.
 fn put_row_extent(out: &mut ElfWriter, row: &Row) -> Result<(), AllocError>
     ensures { OnOk result (out.new ≡ out.old
-        ++ (bytes_of fields.instructions (row.now).instructions ++ (bytes_of fields.offset (row.now).offset
+        ++ (bytes_of fields.instructions (row.now).instructions
+        ++ (bytes_of fields.offset (row.now).offset
         ++ (bytes_of fields.bytes (row.now).bytes ++ bytes_of fields.reserved 0)))) }
 {
     put_word(out, row.instructions)?;

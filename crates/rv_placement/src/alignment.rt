@@ -10,10 +10,10 @@ ghost use Rattle.rv_shorten.specs.View.{short_object_of};
 ghost use Rattle.rv_placement.specs.Alignments as laws;
 ghost use Rattle.rv_placement.specs.Walk as walk;
 
-use crate::destination::{Destination, goes_to, is_text};
+use crate::destination::{Destination, goes_to};
 use rv_object::{Relocation, Section};
 use rv_relax::{asked_alignment, has_padding};
-use rv_shorten::{ShortObject, ShortSection};
+use rv_shorten::{ShortObject, ShortSection, is_text};
 
 /// The least multiple of an alignment that is not below an address.
 pub(crate) fn next_multiple(alignment: u64, address: u64) -> u64

@@ -29,7 +29,6 @@ mod rows;
 mod text;
 
 pub use alignment::begins_at;
-pub use destination::{full_size, is_text};
 pub use fault::PlacementFault;
 pub use law::sections_stand;
 pub use placement::{PlacedSection, Placement};

@@ -9,11 +9,10 @@ ghost use Rattle.rv_placement.specs.Placement.{farthest, IsTooLarge, IsUnplaced}
 ghost use Rattle.rv_placement.specs.Walk.{next, ended, capped, is_roomy_behind, are_roomy_behind, are_files_roomy};
 
 use crate::alignment::{multiple_of, next_multiple};
-use crate::destination::is_text;
 use crate::fault::PlacementFault;
 use crate::text::MANY;
 use rv_relax::SectionPlan;
-use rv_shorten::{ShortObject, ShortSection};
+use rv_shorten::{ShortObject, ShortSection, is_text};
 use std::alloc::{AllocError, Global};
 
 /// Sections are looked at that start below this.

@@ -9,12 +9,11 @@ ghost use Rattle.rv_shorten.specs.View.{short_object_of};
 ghost use Rattle.rv_placement.specs.Walk.{end_from, start_from, next, ended, ended_files, lists_of, text_starts, text_files, gap_between, gap_behind, gapped, gapped_files, IsKept, AreKept, IsPut};
 
 use crate::alignment::{multiple_of, next_multiple};
-use crate::destination::is_text;
 use crate::placement::PlacedSection;
 use rv_image::STACK_START;
 use rv_map::Region;
 use rv_relax::SectionPlan;
-use rv_shorten::{ShortObject, ShortSection};
+use rv_shorten::{ShortObject, ShortSection, is_text};
 use std::alloc::{AllocError, Global};
 
 /// A section with more bytes than this passes the end of memory whatever is dropped of it, unless

@@ -18,7 +18,8 @@ pub(crate) fn put_kept(
 ) -> Result<(), AllocError>
     requires { are_in_order 0 0 paddings.now ≡ true }
     ensures { OnOk result
-        (out.new.items ≡ out.old.items ++ kept 0 (map move_of paddings.now) (left_bytes bytes.entry)) }
+        (out.new.items ≡ out.old.items
+        ++ kept 0 (map move_of paddings.now) (left_bytes bytes.entry)) }
 {
     let mut at = 0;
     for padding in paddings {

@@ -36,3 +36,4 @@ pub use lent::whole;
 pub use object::ShortObject;
 pub use objects::shorten;
 pub use section::ShortSection;
+pub use sites::is_text;

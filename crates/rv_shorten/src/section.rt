@@ -1,9 +1,10 @@
 //! A section of which calls are cut short.
 
 ghost use Rattle.std.specs.Prelude.{◌≡◌, true, IsTrue, length, map};
-ghost use Rattle.rv_object.specs.Object.{size_of as said_size, stored};
+ghost use Rattle.rv_object.specs.Object.{size_of, stored};
 ghost use Rattle.rv_object.specs.Parts.{relocation_of};
 ghost use Rattle.rv_object.specs.Sections.{section_of};
+ghost use Rattle.rv_object_laws.specs.Inputs as inputs;
 ghost use Rattle.rv_object_laws.specs.Moves.{new_offset as offset_of};
 ghost use Rattle.rv_shorten.specs.Cut.{are_in_order, move_of};
 ghost use Rattle.rv_shorten.specs.Cutting.{AreCuts, are_cuts, cut_relocation, cut_section, fits, keeps_paddings};
@@ -12,8 +13,7 @@ use crate::bytes::LeftBytes;
 use crate::cut::Cut;
 use crate::offsets::new_offset;
 use crate::relocations::moved;
-use crate::sites::{size_of, stored};
-use rv_object::{Relocation, Section};
+use rv_object::{Contents, Relocation, Section};
 
 /// A section, less what is cut of its calls. It is lent, and nothing of it is copied: what moves is told when it is asked for.
 #[derive(Drop)]
@@ -28,10 +28,11 @@ pub struct ShortSection<'o> {
     ghost within: { IsTrue
         (are_cuts 0 (length (stored (section_of whole.now).contents)) (map move_of cuts.items)) },
     /// Its bytes are what is left of them.
-    ghost sized: { said_size (cut_section (map move_of cuts.items) (section_of whole.now)).contents
-        ≡ offset_of (map move_of cuts.items) (said_size (section_of whole.now).contents) },
+    ghost sized: { size_of (cut_section (map move_of cuts.items) (section_of whole.now)).contents
+        ≡ offset_of (map move_of cuts.items) (size_of (section_of whole.now).contents) },
     /// Each field lies in the bytes that are left.
-    pub ghost inside: { IsTrue (fits (cut_section (map move_of cuts.items) (section_of whole.now))) },
+    pub ghost inside: { IsTrue
+        (fits (cut_section (map move_of cuts.items) (section_of whole.now))) },
     /// Each padding lies there as well, in code at an even offset, and meets no field.
     pub ghost paddings: { IsTrue
         (keeps_paddings (cut_section (map move_of cuts.items) (section_of whole.now))) },
@@ -52,11 +53,21 @@ impl<'o> ShortSection<'o> {
         ShortSection { whole, cuts }
     }
 
+    /// Whether the file has no bytes of it.
+    pub fn is_nobits(&self) -> bool
+        ensures { result ≡ inputs.is_nobits (short_section_of self.now).contents }
+    {
+        match &self.whole.contents {
+            Contents::Progbits(_) | Contents::Note(_) => false,
+            Contents::Nobits(_) => true,
+        }
+    }
+
     /// Its bytes in memory.
     pub fn size(&self) -> u64
-        ensures { result ≡ said_size (short_section_of self.now).contents }
+        ensures { result ≡ size_of (short_section_of self.now).contents }
     {
-        new_offset(&self.cuts, size_of(&self.whole.contents))
+        new_offset(&self.cuts, self.whole.contents.size())
     }
 
     /// What one of its relocations is afterwards.
@@ -71,6 +82,6 @@ impl<'o> ShortSection<'o> {
     pub fn bytes(&self) -> LeftBytes<'_>
         ensures { left_bytes result ≡ stored (short_section_of self.now).contents }
     {
-        LeftBytes::behind(&self.cuts, stored(&self.whole.contents))
+        LeftBytes::behind(&self.cuts, self.whole.contents.stored())
     }
 }

@@ -2,7 +2,6 @@
 
 ghost use Rattle.std.specs.Prelude.{◌≡◌, ◌+◌, ◌-◌, ◌≤◌, ◌++◌, [], ◌∷◌, true, length, map, IfOk, OnOk};
 ghost use Rattle.rv_object.specs.Object as said;
-ghost use Rattle.rv_object.specs.Parts.{contents_of};
 ghost use Rattle.rv_object.specs.Sections.{section_of};
 ghost use Rattle.rv_object_laws.specs.Inputs.{goes_to_text};
 ghost use Rattle.rv_layout_laws.specs.Calls as calls;
@@ -15,36 +14,14 @@ use crate::cut::Cut;
 use crate::section::ShortSection;
 use crate::words::link_register;
 use rv_layout_laws::{Site, SiteKind};
-use rv_object::{Contents, Section};
+use rv_object::Section;
 use std::alloc::{AllocError, Global};
 
 /// Whether a section goes to the text.
-fn is_text(section: &Section) -> bool
+pub fn is_text(section: &Section) -> bool
     ensures { result ≡ goes_to_text (section_of section.now) }
 {
     section.loaded && section.executable
-}
-
-/// The bytes of a section in memory.
-pub(crate) fn size_of(contents: &Contents) -> u64
-    ensures { result ≡ said.size_of (contents_of contents.now) }
-{
-    match contents {
-        Contents::Progbits(bytes) => bytes.len() as u64,
-        Contents::Note(bytes) => bytes.len() as u64,
-        Contents::Nobits(size) => *size,
-    }
-}
-
-/// The bytes that a section has in the file.
-pub(crate) fn stored(contents: &Contents) -> &[u8]
-    ensures { result.now ≡ said.stored (contents_of contents.now) }
-{
-    match contents {
-        Contents::Progbits(bytes) => bytes.as_slice(),
-        Contents::Note(bytes) => bytes.as_slice(),
-        Contents::Nobits(_) => &[],
-    }
 }
 
 /// Whether a site is a call.
@@ -100,7 +77,7 @@ fn passed(section: &Section, sites: &[Site]) -> usize
         return 0;
     }
     match sites {
-        [start, own @ ..] => 1 + count_within(start, size_of(&section.contents), own),
+        [start, own @ ..] => 1 + count_within(start, section.contents.size(), own),
         [] => 0,
     }
 }
@@ -191,7 +168,7 @@ fn section_cuts(
     ensures order { IfOk result (λ v. are_in_order 0 0 v.items ≡ true) }
 {
     match sites {
-        [start, own @ ..] => cuts(alloc, stored(&section.contents), start, own, &kept[1..]),
+        [start, own @ ..] => cuts(alloc, section.contents.stored(), start, own, &kept[1..]),
         [] => Ok(Vec::new(alloc)),
     }
 }

@@ -1,6 +1,7 @@
 //! Objects of sources, linked: as the sources build, and refused as they are.
 
-use crate::sources::{CALLS, EXIT7, FIRST, FIRST_WITH_F, HELLO, KINDS, OPTIONS, SECOND};
+use crate::linked_sources::{CALLS, EXIT7, FIRST, FIRST_WITH_F, HELLO, KINDS, SECOND};
+use crate::sources::OPTIONS;
 use rv_chain::{
     Built, End, Fault, FileFault, LinkFault, LinkOptions, assemble_object, build, link_objects,
     run_exec,

@@ -1,13 +1,5 @@
 //! The sources whose objects are linked.
 
-use rv_chain::LinkOptions;
-
-/// The usual ones.
-pub(super) const OPTIONS: LinkOptions = LinkOptions {
-    text_start: 0x1_0000,
-    relax: true,
-};
-
 /// A program that exits with 7.
 pub(super) const EXIT7: &[u8] =
     b".option norvc\n.globl _start\n_start: li a0, 7\nli a7, 93\necall\n";

@@ -1,8 +1,9 @@
 //! Objects and executables of which bytes were changed, or cut off: each is refused by a fault's name, or taken as it
 //! now is.
 
+use crate::linked_sources::{EXIT7, HELLO};
 use crate::objects::file_fault;
-use crate::sources::{EXIT7, HELLO, OPTIONS};
+use crate::sources::OPTIONS;
 use rv_chain::{Fault, FileFault, assemble_object, build, link_objects, run_exec};
 use rv_image::load;
 use std::alloc::{AllocError, Global};
