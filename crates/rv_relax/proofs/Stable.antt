@@ -12,6 +12,12 @@ ties_at m n = (λ h. grind (arith, nat_tests), λ h. grind (arith, nat_tests))
 above : (m n : ℕ) → nat_le m n ≡ false → n < m
 above m n h = grind (arith, nat_tests)
 
+pub filter_kept : {X : Type 0} (p : X → Bool) (y : X) (ys : List X) → p y ≡ true → filter p (y ∷ ys) ≡ y ∷ filter p ys
+filter_kept p y ys h = cond-true _ _ _ h
+
+pub filter_dropped : {X : Type 0} (p : X → Bool) (y : X) (ys : List X) → p y ≡ false → filter p (y ∷ ys) ≡ filter p ys
+filter_dropped p y ys h = cond-false _ _ _ h
+
 module _ {X : Type 0} (key : X → ℕ) where
   -- one put before what has its key or a greater one
   abbrev pub inserted_by : X → List X → List X
@@ -23,20 +29,14 @@ module _ {X : Type 0} (key : X → ℕ) where
   ordered_by (c ∷ cs) = inserted_by c (ordered_by cs)
 
   -- what has one key
-  abbrev same : X → X → Bool
+  abbrev pub same : X → X → Bool
   same = ties (λ x y. is_lt (nat_cmp (key x) (key y)))
 
-  same_true : (x y : X) → same x y ≡ true → (key x) ≡ (key y)
+  pub same_true : (x y : X) → same x y ≡ true → (key x) ≡ (key y)
   same_true x y = (ties_at (key x) (key y)).0
 
   same_from : (x y : X) → (key x) ≡ (key y) → same x y ≡ true
   same_from x y = (ties_at (key x) (key y)).1
-
-  filter_kept : (p : X → Bool) (y : X) (ys : List X) → p y ≡ true → filter p (y ∷ ys) ≡ y ∷ filter p ys
-  filter_kept p y ys h = cond-true _ _ _ h
-
-  filter_dropped : (p : X → Bool) (y : X) (ys : List X) → p y ≡ false → filter p (y ∷ ys) ≡ filter p ys
-  filter_dropped p y ys h = cond-false _ _ _ h
 
   -- ---- one more
 
@@ -74,15 +74,15 @@ module _ {X : Type 0} (key : X → ℕ) where
 
   -- ---- in order
 
-  abbrev AreAtLeast : ℕ → List X → Type 0
+  abbrev pub AreAtLeast : ℕ → List X → Type 0
   AreAtLeast n [] = Unit {0}
   AreAtLeast n (y ∷ ys) = (n ≤ (key y)) × AreAtLeast n ys
 
-  abbrev Rises : List X → Type 0
+  abbrev pub Rises : List X → Type 0
   Rises [] = Unit {0}
   Rises (y ∷ ys) = AreAtLeast (key y) ys × Rises ys
 
-  at_least_lower : (n m : ℕ) (ys : List X) → n ≤ m → AreAtLeast m ys → AreAtLeast n ys
+  pub at_least_lower : (n m : ℕ) (ys : List X) → n ≤ m → AreAtLeast m ys → AreAtLeast n ys
   at_least_lower n m [] le h = tt
   at_least_lower n m (y ∷ ys) le h = let first = h.0 in (omega arith, at_least_lower n m ys le h.1)
 
@@ -115,7 +115,7 @@ module _ {X : Type 0} (key : X → ℕ) where
   at_least_at n [] d h = tt
   at_least_at n (y ∷ ys) d h = (h zero (suc-le-suc zero-le), at_least_at n ys d (λ j lt. h (suc j) (suc-le-suc lt)))
 
-  rises_sorted : (ys : List X) → IsNonDecreasingBy key ys → Rises ys
+  pub rises_sorted : (ys : List X) → IsNonDecreasingBy key ys → Rises ys
   rises_sorted [] h = tt
   rises_sorted (y ∷ ys) h = (
     at_least_at (key y) ys y (λ j lt. h zero (suc j) y zero-le (suc-le-suc lt)),
@@ -132,7 +132,7 @@ module _ {X : Type 0} (key : X → ℕ) where
         | inr without ↦ at_least_found n x ys w ws h.1 (sym (filter_dropped (same x) y ys without) ∙ e)
       ]
 
-  one_alone : (ys zs : List X) → Rises ys → Rises zs → ((x : X) → filter (same x) ys ≡ filter (same x) zs) → ys ≡ zs
+  pub one_alone : (ys zs : List X) → Rises ys → Rises zs → ((x : X) → filter (same x) ys ≡ filter (same x) zs) → ys ≡ zs
   one_alone [] [] left right each = refl
   one_alone [] (z ∷ zs) left right each =
       let clash = each z ∙ filter_kept (same z) z zs (same_from z z refl) in absurd (cc)
