@@ -1,6 +1,6 @@
 -- What is made of placed objects is their linked program.
 
-use Rattle.std.proofs.Common.{◌≤◌, ◌≡◌, ℕ, zero, suc, ◌+◌, ◌-◌, ◌%◌, ◌<◌, Bool, true, false, if◌then◌else◌, List, [], ◌∷◌, ◌++◌, length, map, refl, sym, ap, ◌∙◌, subst, arith, Some}
+use Rattle.std.proofs.Common.{◌≤◌, ◌≡◌, ℕ, zero, suc, ◌+◌, ◌-◌, ◌%◌, ◌<◌, Bool, true, false, if◌then◌else◌, List, [], ◌∷◌, length, map, refl, sym, ap, ◌∙◌, subst, arith, Some}
 use Rattle.std.proofs.lemmas.List.{append-nil}
 use Rattle.std.specs.Prelude.{IsTrue}
 use Rattle.std.specs.Global.{Vec}
@@ -12,6 +12,7 @@ use Rattle.rv_object_laws.specs.Moves.{moves, has_room}
 use Rattle.rv_object_laws.specs.Inputs.{InputSection, goes_to_text, inputs_from, inputs_of, inputs, start_of}
 use Rattle.rv_object_laws.specs.Names.{entry_of}
 use Rattle.rv_object_laws.specs.IsLinkOf.{most_files, IsLinkOf, is_loaded}
+use Rattle.rv_object_laws.proofs.TextInputs.{all_append}
 use Rattle.rv_isa_laws.specs.Platform.{stack_start}
 use Rattle.rv_relax.specs.Plan.{moves_of}
 use Rattle.rv_placement.specs.declared.placement.PlacedSection.{PlacedSection}
@@ -28,11 +29,7 @@ use Rattle.rv_link.proofs.Standing.{all_at}
 
 -- ---- every input section
 
-all_append : {A : Type 0} (P : A → Type 0) (xs ys : List A) → AllByRecursion P xs → AllByRecursion P ys → AllByRecursion P (xs ++ ys)
-all_append P [] ys h k = k
-all_append P (x ∷ xs) ys (one, h) k = (one, all_append P xs ys h k)
-
-all_both : {A : Type 0} (P Q R : A → Type 0) → ((x : A) → P x → Q x → R x) → (xs : List A) → AllByRecursion P xs → AllByRecursion Q xs → AllByRecursion R xs
+pub all_both : {A : Type 0} (P Q R : A → Type 0) → ((x : A) → P x → Q x → R x) → (xs : List A) → AllByRecursion P xs → AllByRecursion Q xs → AllByRecursion R xs
 all_both P Q R f [] h k = tt
 all_both P Q R f (x ∷ xs) (one, h) (two, k) = (f x one two, all_both P Q R f xs h k)
 

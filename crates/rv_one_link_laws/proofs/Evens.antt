@@ -13,10 +13,10 @@ use Rattle.rv_object.specs.Valid.{is_align, padding_of, is_padding, is_padding_o
 use Rattle.rv_object_laws.specs.Moves.{dropped, new_offset, aligned, full_padding, has_padding, alignment_of, inserted, by_place, alignments_of, plan, moves}
 use Rattle.rv_object_laws.specs.Inputs.{Starts, InputSection, goes_to_text, inputs_from, inputs_of, inputs, begins_at, start_of, size, Stand}
 use Rattle.rv_object_laws.specs.Names.{offset_address, defined_address, exported, is_in_text, can_begin, begins_run, entry_by, entry_of}
+use Rattle.rv_resolve.proofs.Entry.{found_passes}
 use Rattle.rv_one_link_laws.specs.Asked.{BeginsEven, IsSound}
 use Rattle.rv_one_link_laws.proofs.Found.{all_left, all_right, found_in}
 use Rattle.rv_one_link_laws.proofs.Values.{all_at}
-use Rattle.rv_one_link_laws.proofs.Entered.{found_passes}
 use Rattle.rv_one_link_laws.proofs.Multiples.{BeginsSo, aligned_even, all_begin}
 
 module _ (starts : Starts) where

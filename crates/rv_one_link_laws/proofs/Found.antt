@@ -5,6 +5,7 @@ use Rattle.std.specs.Prelude.{⊤, if◌then◌else◌}
 use Rattle.std.specs.List.{AllByRecursion, slice_get}
 use Rattle.rv_object.specs.Object.{Section, Object}
 use Rattle.rv_object_laws.specs.Inputs.{InputSection, inputs_from, inputs_of}
+use Rattle.rv_object_laws.proofs.TextInputs.{all_append}
 
 -- a section of an object
 abbrev pub input : ℕ → Object → ℕ → Section → InputSection
@@ -19,14 +20,6 @@ all_left P (x ∷ xs) ys (one, h) = (one, all_left P xs ys h)
 pub all_right : {A : Type 0} (P : A → Type 0) (xs ys : List A) → AllByRecursion P (xs ++ ys) → AllByRecursion P ys
 all_right P [] ys h = h
 all_right P (x ∷ xs) ys (one, h) = all_right P xs ys h
-
-pub all_append : {A : Type 0} (P : A → Type 0) (xs ys : List A) → AllByRecursion P xs → AllByRecursion P ys → AllByRecursion P (xs ++ ys)
-all_append P [] ys h k = k
-all_append P (x ∷ xs) ys (one, h) k = (one, all_append P xs ys h k)
-
-pub all_both : {A : Type 0} (P Q R : A → Type 0) → ((x : A) → P x → Q x → R x) → (xs : List A) → AllByRecursion P xs → AllByRecursion Q xs → AllByRecursion R xs
-all_both P Q R f [] h k = tt
-all_both P Q R f (x ∷ xs) (one, h) (two, k) = (f x one two, all_both P Q R f xs h k)
 
 pub all_map : {A : Type 0} (P Q : A → Type 0) → ((x : A) → P x → Q x) → (xs : List A) → AllByRecursion P xs → AllByRecursion Q xs
 all_map P Q f [] h = tt

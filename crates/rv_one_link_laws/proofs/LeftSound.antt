@@ -21,8 +21,9 @@ use Rattle.rv_shorten.proofs.Short.{size_left, fit_stays, paddings_stay}
 use Rattle.rv_shorten.proofs.Stays.{all_fit, as_many, rows_stay}
 use Rattle.rv_shorten.proofs.Line.{AreSound, AllSound}
 use Rattle.rv_shorten.proofs.Laid.{walk_is}
+use Rattle.rv_link.proofs.Links.{all_both}
 use Rattle.rv_one_link_laws.specs.Asked.{LeavesEven, LeavesBelow, IsSound, IsSmall}
-use Rattle.rv_one_link_laws.proofs.Found.{EachOf, all_both, all_of}
+use Rattle.rv_one_link_laws.proofs.Found.{EachOf, all_of}
 use Rattle.rv_one_link_laws.proofs.Values.{all_at}
 use Rattle.rv_one_link_laws.proofs.Evens.{begins_even}
 use Rattle.rv_one_link_laws.proofs.Below.{starts_below}

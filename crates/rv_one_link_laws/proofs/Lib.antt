@@ -1,7 +1,6 @@
 pub mod Found
 pub mod Agreed
 pub mod Addresses
-pub mod Exports
 pub mod Values
 pub mod Meant
 pub mod Distinct

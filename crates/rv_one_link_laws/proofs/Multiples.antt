@@ -9,6 +9,7 @@ use Rattle.rv_object.specs.Object.{Relocation, Section, Object}
 use Rattle.rv_object.specs.Valid.{is_alignment}
 use Rattle.rv_object_laws.specs.Moves.{aligned, full_padding, alignment_of, alignments_of}
 use Rattle.rv_object_laws.specs.Inputs.{InputSection, goes_to_text, inputs, raised, begins_at}
+use Rattle.rv_relax.proofs.Aligned.{alignments}
 use Rattle.rv_one_link_laws.specs.Asked.{IsSound}
 use Rattle.rv_one_link_laws.proofs.Found.{EachOf, all_of}
 use Rattle.rv_one_link_laws.proofs.Values.{all_at}
@@ -23,9 +24,6 @@ one_of P full (a ∷ xs) most each = by (nat_lt full a) (one_of P full xs most e
     by : (b : Bool) → P (unwrap_or (find (λ a. nat_lt full a) xs) 4096) → P (unwrap_or (cond b (Some a) (find (λ a. nat_lt full a) xs)) 4096)
     by true more = each.0
     by false more = more
-
-abbrev alignments : List ℕ
-alignments = 2 ∷ 4 ∷ 8 ∷ 16 ∷ 32 ∷ 64 ∷ 128 ∷ 256 ∷ 512 ∷ 1024 ∷ 2048 ∷ 4096 ∷ []
 
 multiple_of : (r : Relocation) → IsMultiple (alignment_of r)
 multiple_of r =

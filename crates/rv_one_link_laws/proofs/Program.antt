@@ -13,8 +13,9 @@ use Rattle.rv_object_laws.specs.Names.{globals_of, shown_linker_symbols}
 use Rattle.rv_object_laws.specs.Values.{target, value, IsRelocated, linked_bytes}
 use Rattle.rv_object_laws.specs.IsLinkOf.{is_loaded, IsLinkOf}
 use Rattle.rv_resolve.specs.Undefined.{first_undefined}
+use Rattle.rv_link.proofs.Links.{all_both}
 use Rattle.rv_one_link_laws.specs.Asked.{HavePlacedRows}
-use Rattle.rv_one_link_laws.proofs.Found.{all_both, all_map}
+use Rattle.rv_one_link_laws.proofs.Found.{all_map}
 use Rattle.rv_one_link_laws.proofs.Agreed.{StartsSame, AreAgreed, AreLaid, AreOne, gaps_same, contents_same, laid_same}
 use Rattle.rv_one_link_laws.proofs.Addresses.{all_globals, all_entries, all_rows}
 use Rattle.rv_one_link_laws.proofs.Values.{ValuesSame, all_values, bytes_same}

@@ -19,9 +19,9 @@ use Rattle.rv_link.specs.declared.fault.LinkFault.TheVariants.{Overflow, OddTarg
 use Rattle.rv_link.specs.Fault.{number_of}
 use Rattle.rv_link.specs.Untaken.{IsFirstUntaken}
 use Rattle.rv_link.specs.Refusals.{IsTextStart, AreWithin, LacksRoom, LacksEntry, ComesToEntry, ComesToPlaces, IsUnapplied, IsUnlinked}
+use Rattle.rv_link.proofs.Links.{all_both}
 use Rattle.rv_one_link_laws.specs.Asked.{BeginsEven, StartBelow}
 use Rattle.rv_one_link_laws.specs.Same.{name_in, IsSameFault}
-use Rattle.rv_one_link_laws.proofs.Found.{all_both}
 use Rattle.rv_one_link_laws.proofs.Distinct.{no_duplicate}
 use Rattle.rv_one_link_laws.proofs.Entered.{entry_there}
 use Rattle.rv_one_link_laws.proofs.Refused.{none_some}

@@ -9,12 +9,12 @@ use Rattle.rv_isa_laws.specs.Platform.{stack_start, memory_limit}
 use Rattle.rv_placement.specs.Placement.{starts_of, memory_of, IsTooLarge}
 use Rattle.rv_resolve.specs.Exports.{first_duplicate}
 use Rattle.rv_resolve.specs.Undefined.{first_undefined}
+use Rattle.rv_resolve.proofs.Entry.{entry_some}
 use Rattle.rv_link.specs.declared.fault.LinkFault.{LinkFault}
 use Rattle.rv_link.specs.declared.fault.LinkFault.TheVariants.{Overflow, OddTarget, DanglingPcrel, AlignmentShort, Undefined, Duplicate, EntryMissing, ImageTooLarge, BadTextStart, TooManyFiles, OutOfMemory}
 use Rattle.rv_link.specs.Refusals.{LacksRoom, LacksEntry, IsUnapplied, IsUnlinked}
 use Rattle.rv_one_link_laws.proofs.Addresses.{all_entries}
 use Rattle.rv_one_link_laws.proofs.Distinct.{no_duplicate}
-use Rattle.rv_one_link_laws.proofs.Entered.{entry_some}
 use Rattle.rv_one_link_laws.proofs.Program.{linked_meant}
 use Rattle.rv_one_link_laws.proofs.Untaken.{roomy_same, linked_one, linked_taken}
 

@@ -18,8 +18,8 @@ use Rattle.rv_link.specs.declared.fault.LinkFault.{LinkFault}
 use Rattle.rv_link.specs.declared.fault.LinkFault.TheVariants.{Overflow, OddTarget, DanglingPcrel, AlignmentShort, Undefined, Duplicate, EntryMissing, ImageTooLarge, BadTextStart, TooManyFiles, OutOfMemory}
 use Rattle.rv_link.specs.Filled.{IsTaken}
 use Rattle.rv_link.specs.Untaken.{IsUntaken, AreTaken, AreUntaken, IsFirstUntaken}
+use Rattle.rv_link.proofs.Links.{all_both}
 use Rattle.rv_one_link_laws.specs.Same.{IsSameFault}
-use Rattle.rv_one_link_laws.proofs.Found.{all_both}
 use Rattle.rv_one_link_laws.proofs.Agreed.{StartsSame, stand_same, AreLaid, AreOne, laid_same}
 use Rattle.rv_one_link_laws.proofs.Program.{every_same, values_between, linked_laid, linked_meant}
 use Rattle.rv_one_link_laws.proofs.Judged.{all_first, one_first, IsHeld, IsRefusedFor, refused_once, held_apart}

@@ -1,6 +1,6 @@
 -- Values of relocations and bytes of sections by where loaded sections start.
 
-use Rattle.std.proofs.Common.{◌≡◌, ℕ, zero, suc, ◌+◌, ◌-◌, ℤ, pos, Bool, true, false, Option, Some, None, option_map, List, [], ◌∷◌, slice_index_or, refl, sym, ap, ◌∙◌, subst, arith}
+use Rattle.std.proofs.Common.{◌≡◌, ℕ, zero, suc, ◌+◌, ℤ, pos, Bool, true, false, Option, Some, None, option_map, List, [], ◌∷◌, refl, sym, ap, ◌∙◌, subst, arith}
 use Rattle.std.specs.Prelude.{⊤, option_and_then, unwrap_or, if◌then◌else◌}
 use Rattle.std.specs.List.{AllByRecursion, find, slice_get}
 use Rattle.std.specs.Option.{option_or}
@@ -11,24 +11,18 @@ use Rattle.rv_object.specs.declared.symbol.Definition.TheVariants as definitions
 use Rattle.rv_object.specs.Object.{Relocation, Section, Symbol, Object}
 use Rattle.rv_object_laws.specs.Moves.{moves, new_offset, kept}
 use Rattle.rv_object_laws.specs.Inputs.{Starts, InputSection, start_of, inputs}
-use Rattle.rv_object_laws.specs.Names.{symbol_address, symbol_address_by, exported, is_defined, place_in, global_place, symbol_place, no_object, object_at}
+use Rattle.rv_object_laws.specs.Names.{symbol_address, symbol_address_by, exported, is_defined, place_in, global_place, symbol_place, object_at}
 use Rattle.rv_object_laws.specs.Values.{target, moved, own_value, is_low, high_at, value_in, value_at, paired, value, patched_at, applied, initial_bytes, linked_bytes}
 use Rattle.rv_resolve.specs.Exports.{export, exports_from, named, export_of}
 use Rattle.rv_resolve.specs.Undefined.{is_loaded_at, has_address, is_known, is_resolved, undefined_symbol, undefined_name, first_some, undefined_in, first_undefined}
+use Rattle.rv_resolve.proofs.FirstSome.{each_none}
+use Rattle.rv_resolve.proofs.Found.{has_name, named_files}
+use Rattle.rv_link.proofs.Growing.{found_at}
 use Rattle.rv_one_link_laws.proofs.Found.{input, Each, EachOf, all_of}
 use Rattle.rv_one_link_laws.proofs.Agreed.{StartsSame, IsAgreed, AreAgreed}
 use Rattle.rv_one_link_laws.proofs.Addresses.{defined_same}
-use Rattle.rv_one_link_laws.proofs.Exports.{has_name, named_files}
 
 -- ---- lists
-
-pub each_none : {X : Type 0} (f : X → Option (List ℕ)) (xs : List X) → first_some f xs ≡ None → AllByRecursion (λ x. f x ≡ None) xs
-each_none f [] e = tt
-each_none f (x ∷ xs) e = by (f x) refl e (each_none f xs)
-  where
-    by : (r : Option (List ℕ)) → f x ≡ r → option_or r (first_some f xs) ≡ None → (first_some f xs ≡ None → AllByRecursion (λ x. f x ≡ None) xs) → AllByRecursion (λ x. f x ≡ None) (x ∷ xs)
-    by None own e rest = (own, rest e)
-    by (Some name) own e rest = absurd (cc)
 
 pub all_at : {X : Type 0} (P : X → Type 0) (xs : List X) (i : ℕ) (x : X) → AllByRecursion P xs → slice_get xs i ≡ Some x → P x
 all_at P [] i x h e = absurd (cc)
@@ -36,11 +30,6 @@ all_at P (y ∷ ys) zero x (one, h) e =
     let same : y ≡ x = cc in
     subst P same one
 all_at P (y ∷ ys) (suc i) x (one, h) e = all_at P ys i x h e
-
-at_found : (os : List Object) (k : ℕ) (o : Object) → slice_get os k ≡ Some o → slice_index_or os k no_object ≡ o
-at_found [] k o e = absurd (cc)
-at_found (x ∷ os) zero o e = cc
-at_found (x ∷ os) (suc k) o e = at_found os k o e
 
 module _ (s t : Starts) (globals : List Global) (os : List Object) where
   -- ---- files
@@ -56,7 +45,7 @@ module _ (s t : Starts) (globals : List Global) (os : List Object) where
   files_are : (k : ℕ) (ps : List Object) → ((j : ℕ) (o : Object) → slice_get ps j ≡ Some o → slice_get os (k + j) ≡ Some o) → AreAgreed s t (suc k) ps → AreFiles (suc k) ps
   files_are k [] there h = tt
   files_are k (o ∷ ps) there (own, h) = (
-    (at_found os (suc k - 1) o (ap (slice_get os) (let same : suc k - 1 ≡ k + 0 = omega arith in same) ∙ there 0 o refl), own),
+    (ap (object_at os) (let next : suc k ≡ k + 1 = omega arith in next) ∙ found_at os k o (ap (slice_get os) (let same : k ≡ k + 0 = omega arith in same) ∙ there 0 o refl), own),
     files_are (suc k) ps (λ j q e. let next : suc k + j ≡ k + suc j = omega arith in ap (slice_get os) next ∙ there (suc j) q e) h,
   )
 

@@ -139,7 +139,7 @@ found_any test (x ∷ xs) = go (test x) (found_any test xs)
     go true e = refl
     go false e = e
 
-found_passes : {X : Type 0} (test : X → Bool) (xs : List X) (x : X) → find test xs ≡ Some x → test x ≡ true
+pub found_passes : {X : Type 0} (test : X → Bool) (xs : List X) (x : X) → find test xs ≡ Some x → test x ≡ true
 found_passes test [] x e = absurd (cc)
 found_passes test (z ∷ xs) x e = go (test z) refl e (found_passes test xs x)
   where
@@ -160,7 +160,7 @@ began starts o (definitions.InSection section offset) e = go (slice_get o.sectio
     go None f = absurd (cc)
     go (Some s) f = ap (λ b. is_some (if b then Some ((starts section + new_offset (moves (starts section) s) offset) % 2 ^ 64) else None)) (and_parts s.loaded s.executable f).0
 
-entry_some : (starts : Starts) (file : ℕ) (os : List Object) → is_some (entry_of starts file os) ≡ has_entry os
+pub entry_some : (starts : Starts) (file : ℕ) (os : List Object) → is_some (entry_of starts file os) ≡ has_entry os
 entry_some starts file [] = refl
 entry_some starts file (o ∷ os) = go (find (begins_run o) (exported o)) refl (entry_some starts (suc file) os)
   where

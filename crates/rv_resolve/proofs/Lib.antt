@@ -1,13 +1,13 @@
 mod Adding
 mod Cuts
 mod Distinct
-mod Entry
-mod FirstSome
-mod Found
-mod LinkerNames
+pub mod Entry
+pub mod FirstSome
+pub mod Found
+pub mod LinkerNames
 mod Meant
 mod Numbers
 mod Resolved
-mod Shown
+pub mod Shown
 mod Steps
 mod Table

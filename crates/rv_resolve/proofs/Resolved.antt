@@ -11,6 +11,7 @@ use Rattle.rv_object_laws.specs.Inputs.{Starts, InputSection, inputs_from, input
 use Rattle.rv_object_laws.specs.IsLinkOf.{is_loaded}
 use Rattle.rv_object_laws.specs.Names.{defined_address, offset_address, global_address, symbol_address, symbol_address_by, is_defined, globals_of, global_names, AreDistinct, linker_symbols, shown_linker_symbols}
 use Rattle.rv_object_laws.specs.Values.{target}
+use Rattle.rv_object_laws.proofs.TextInputs.{all_append}
 use Rattle.rv_resolve.specs.Exports.{Export, export_of}
 use Rattle.rv_resolve.specs.Undefined.{has_address, is_loaded_at, is_known, is_resolved, undefined_symbol, undefined_name, undefined_in, first_some, first_undefined}
 use Rattle.rv_resolve.specs.Resolved.{AreResolved}
@@ -30,10 +31,6 @@ definition_address starts o definitions.Undefined e = absurd (cc)
 definition_address starts o (definitions.Absolute n) e = refl
 definition_address starts o (definitions.InSection section offset) e = section_address (starts section) offset (slice_get o.sections section) e
 definition_address starts o (definitions.Skipped n) e = absurd (cc)
-
-both : {X : Type 0} (P : X → Type 0) (xs ys : List X) → AllByRecursion P xs → AllByRecursion P ys → AllByRecursion P (xs ++ ys)
-both P [] ys h k = k
-both P (x ∷ xs) ys h k = (h.0, both P xs ys h.1 k)
 
 module _ (os : List Object) (starts : Starts) (m : Map) (distinct : AreDistinct (global_names os)) where
   abbrev every : List Global
@@ -85,7 +82,7 @@ module _ (os : List Object) (starts : Starts) (m : Map) (distinct : AreDistinct 
   files : (file : ℕ) (ps : List Object) → AllByRecursion (λ o. first_some (undefined_in os o) o.sections ≡ None) ps → AllByRecursion IsResolvedAt (inputs_of is_loaded file ps)
   files file [] h = tt
   files file (o ∷ ps) h =
-      both IsResolvedAt (inputs_from is_loaded file o 0 o.sections) (inputs_of is_loaded (suc file) ps)
+      all_append IsResolvedAt (inputs_from is_loaded file o 0 o.sections) (inputs_of is_loaded (suc file) ps)
       (sections file o 0 o.sections (each_none (undefined_in os o) o.sections h.0)) (files (suc file) ps h.1)
 
   pub all_resolved : first_undefined os ≡ None → AreResolved starts os every
