@@ -18,7 +18,7 @@ use Rattle.rv_assemble_laws.specs.Coded.{IsCodedPart, AreCodedParts}
 use Rattle.rv_assemble_laws.specs.Templates.{Open, padding_templates, contribution_templates}
 use Rattle.rv_assemble_laws.specs.Sites.{Site, Part, form, part_of, part_bytes, parts_of, parts, coded_templates, templates, Tile, end_of, HasSize}
 use Rattle.rv_assemble_laws.proofs.Filled.{filled}
-use Rattle.rv_assemble_laws.proofs.Held.{ContributionHeld, IsHeld}
+use Rattle.rv_source_laws.proofs.Held.{ContributionHeld, IsHeld}
 use Rattle.rv_assemble.proofs.Settled.{IsIn}
 use Rattle.rv_assemble.proofs.FieldLists.{all_join}
 use Rattle.rv_assemble.proofs.Room.{nops_long, IsRoom, HasRoom, directive_room}

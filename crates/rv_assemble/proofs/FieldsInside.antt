@@ -18,7 +18,7 @@ use Rattle.rv_assemble_laws.specs.Templates.{Open, template_fields, padding_temp
 use Rattle.rv_assemble_laws.specs.Sites.{Site, Part, form, templates, part_of, part_bytes, parts_of, parts, Tile}
 use Rattle.rv_assemble_laws.specs.IsObjectOf.{Numbering, relocation_at, relocations_from}
 use Rattle.rv_assemble_laws.proofs.Filled.{bytes_append}
-use Rattle.rv_assemble_laws.proofs.Held.{ContributionHeld, IsHeld, none_left}
+use Rattle.rv_source_laws.proofs.Held.{ContributionHeld, IsHeld, none_left}
 use Rattle.rv_assemble.proofs.Settled.{IsIn}
 use Rattle.rv_assemble.proofs.FieldLists.{all_join}
 use Rattle.rv_assemble.proofs.Room.{IsRoom}

@@ -10,9 +10,9 @@ use Rattle.rv_unit_laws.specs.Sections.{Section, text_section}
 use Rattle.rv_unit_laws.specs.Tables.{Tables, at_start, after, tables, opened_of}
 use Rattle.rv_unit_laws.specs.Faults.{first_fault}
 use Rattle.rv_source_laws.specs.Located.{Located, located_from, is_placed}
+use Rattle.rv_source_laws.proofs.Held.{IsHeld, Held, all_held}
+use Rattle.rv_source_laws.proofs.Homes.{homes_from}
 use Rattle.rv_assemble_laws.specs.Sites.{Site, sites_in, templates}
-use Rattle.rv_assemble_laws.proofs.Held.{IsHeld, Held, all_held}
-use Rattle.rv_assemble_laws.proofs.Homes.{homes_from}
 
 abbrev pub IsHomeIn : List Section → Located → Type 0
 IsHomeIn sections l = slice_get sections l.section ≡ Some l.home

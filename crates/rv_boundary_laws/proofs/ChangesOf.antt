@@ -16,9 +16,9 @@ use Rattle.rv_layout_laws.specs.declared.site.Site.{Site as Spot}
 use Rattle.rv_source_laws.specs.Located.{Located, has_row}
 use Rattle.rv_source_laws.specs.Program.{Program, tables_in, form as program_form}
 use Rattle.rv_source_laws.specs.Sizes.{target_in}
-use Rattle.rv_chain_laws.proofs.Held.{IsHeld}
 use Rattle.rv_source_laws.specs.Sized.{is_call}
 use Rattle.rv_source_laws.specs.Shortened.{calls, link_register, Placed, aim_of, aim_offset, sites_by, sites_at, call_sites, is_compressible, has_compressed}
+use Rattle.rv_source_laws.proofs.Held.{IsHeld}
 use Rattle.rv_object.specs.Object.{Relocation, Section, Symbol, Object, stored}
 use Rattle.rv_object.specs.Valid.{held}
 use Rattle.rv_object_laws.specs.Calls.{link_register as linked_by, are_call_words, is_relax, has_relax, meets, is_entered, is_text_place, text_offset, inserted_change, in_order, changes, site_of}

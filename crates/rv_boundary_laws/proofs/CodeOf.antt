@@ -8,11 +8,11 @@ use Rattle.rv_statement.specs.Statement.{Statement}
 use Rattle.rv_unit_laws.specs.Tables.{Tables, at_start, after}
 use Rattle.rv_source_laws.specs.Located.{located_now, located_from}
 use Rattle.rv_source_laws.specs.Program.{Mapped}
+use Rattle.rv_source_laws.proofs.Homes.{all_map}
 use Rattle.rv_object.specs.Object.{Object}
 use Rattle.rv_object_laws.specs.Inputs.{Starts}
 use Rattle.rv_assemble_laws.specs.Sites.{Site}
 use Rattle.rv_assemble_laws.specs.Symbols.{site_at}
-use Rattle.rv_assemble_laws.proofs.Homes.{all_map}
 use Rattle.rv_boundary_laws.proofs.Statements.{mapped_at, sites_by}
 use Rattle.rv_boundary_laws.proofs.Shrunk.{AreObjectsOf}
 

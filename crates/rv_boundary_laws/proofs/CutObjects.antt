@@ -16,10 +16,10 @@ use Rattle.rv_object_laws.specs.Inputs.{goes_to_text}
 use Rattle.rv_object_laws.specs.Names.{exported}
 use Rattle.rv_object_laws.specs.Shortened.{Sizes, is_shortened, cut, cuts, cuts_at, cuts_in, shortened_text, shortened_section, shortened_sections, shortened_definition, shortened_symbol, shortened_row, shortened_object}
 use Rattle.rv_source_laws.specs.Shortened.{calls}
+use Rattle.rv_source_laws.proofs.Homes.{all_filter}
 use Rattle.rv_assemble_laws.specs.Sites.{Site, Part, form, sites_in, HasSize}
 use Rattle.rv_assemble_laws.specs.Symbols.{references_in, exports}
 use Rattle.rv_assemble_laws.specs.IsObjectOf.{IsNumbered, ArePartsNumbered, row_of, rows_at}
-use Rattle.rv_assemble_laws.proofs.Homes.{all_filter}
 use Rattle.rv_boundary_laws.proofs.Assembled.{parts, IsSectionOf, AreSectionsOf, IsAssembled}
 use Rattle.rv_boundary_laws.proofs.Called.{IsForm}
 use Rattle.rv_boundary_laws.proofs.Cuts.{link_of, sort_of}

@@ -9,7 +9,7 @@ use Rattle.rv_statement.specs.Statement.{StatementKind, Label, Numbered, Instruc
 use Rattle.rv_pseudo_laws.specs.Filled.{are_closed}
 use Rattle.rv_unit_laws.specs.Sections.{Section as SourceSection, goes_to_text}
 use Rattle.rv_unit_laws.specs.Tables.{Tables, tables, alignment_of, opened_of}
-use Rattle.rv_chain_laws.proofs.Held.{IsHeld}
+use Rattle.rv_source_laws.proofs.Held.{IsHeld}
 use Rattle.rv_object.specs.Object.{Object}
 use Rattle.rv_assemble_laws.specs.Sites.{Site, form, part_of, part_bytes, sites_in}
 use Rattle.rv_boundary_laws.proofs.Settled.{IsSettled, settled, IsSiteIn, sites_are_in}

@@ -11,6 +11,7 @@ use Rattle.rv_unit_laws.specs.Sections.{Section as SourceSection}
 use Rattle.rv_unit_laws.specs.Tables.{Tables}
 use Rattle.rv_map.specs.Limits.{IsGlobal}
 use Rattle.rv_source_laws.specs.Program.{Program, tables_in, address_at}
+use Rattle.rv_source_laws.proofs.Homes.{all_filter}
 use Rattle.rv_object.specs.Object.{Relocation, Section, Object}
 use Rattle.rv_object_laws.specs.Moves.{alignments_of, moves, new_offset}
 use Rattle.rv_object_laws.specs.Inputs.{Starts, InputSection}
@@ -18,7 +19,6 @@ use Rattle.rv_object_laws.specs.Values.{target, value, IsRelocated}
 use Rattle.rv_assemble_laws.specs.Templates.{Open, template_fields}
 use Rattle.rv_assemble_laws.specs.Sites.{Site, Part, form, part_bytes, sites_in}
 use Rattle.rv_assemble_laws.specs.Symbols.{use_of, references_in, site_at}
-use Rattle.rv_assemble_laws.proofs.Homes.{all_filter}
 use Rattle.rv_assemble_laws.specs.IsObjectOf.{Numbering, relocation_at, relocations_from, IsNumbered}
 use Rattle.rv_boundary_laws.proofs.Patches.{is_data, IsKnownIn}
 use Rattle.rv_boundary_laws.proofs.Statements.{row_address}

@@ -22,11 +22,11 @@ use Rattle.rv_source_laws.specs.Program.{Mapped, Program, form, address, resolve
 use Rattle.rv_source_laws.specs.Lines.{Line, parts, padding_parts, field_value, expansion, other_operand}
 use Rattle.rv_source_laws.specs.Fits.{SizeFits, CodeFits, IsRowOf, IsPaddingIn, IsPaired}
 use Rattle.rv_chain_laws.specs.Contents.{HasSizes, IsWritten}
-use Rattle.rv_chain_laws.proofs.Held.{IsHeld, DirectiveHeld}
 use Rattle.rv_assemble_laws.specs.Coded.{is_constant, constants, AreCodedParts, IsCode}
 use Rattle.rv_assemble_laws.specs.Templates.{Open as OpenField}
 use Rattle.rv_boundary_laws.proofs.Coding.{coded_bytes, AreFilledParts, all_few, lines_of, lines_lie, lines_sized, lines_encoded, lines_say, closed_say, lines_valid, lines_counted, lines_taken, closed_taken, lines_whole}
 use Rattle.rv_source_laws.specs.Fits.{is_low}
+use Rattle.rv_source_laws.proofs.Held.{IsHeld, DirectiveHeld}
 use Rattle.rv_object.specs.Padding.{no_operations}
 use Rattle.rv_boundary_laws.proofs.Nops.{padding_row, padding_lines, padding_said, padding_lies, padding_sized, padding_encoded}
 use Rattle.rv_boundary_laws.proofs.Suits.{IsMultiple, SuitsPadding, SuitsDirective, Suits, directive_said, code_said}

@@ -14,6 +14,7 @@ use Rattle.rv_layout_laws.specs.declared.site.SiteKind.TheVariants as spots
 use Rattle.rv_layout_laws.specs.Calls.{Offers, site_at as spot_at, is_call as is_call_spot}
 use Rattle.rv_source_laws.specs.Sized.{is_call}
 use Rattle.rv_source_laws.specs.Shortened.{calls, link_register}
+use Rattle.rv_source_laws.proofs.Homes.{all_filter}
 use Rattle.rv_object.specs.Object.{Relocation, Section, Object, stored, size_of}
 use Rattle.rv_object.specs.Valid.{held}
 use Rattle.rv_object_laws.specs.Calls as objects
@@ -24,7 +25,6 @@ use Rattle.rv_object_laws.specs.Names.{no_object, object_at}
 use Rattle.rv_object_laws.specs.Shortened.{Sizes, size_at, sizes_by}
 use Rattle.rv_assemble_laws.specs.Sites.{Site, form, part_of, part_bytes, sites_in, end_of, HasSize}
 use Rattle.rv_assemble_laws.specs.IsObjectOf.{Numbering, relocations_from, IsObjectOf}
-use Rattle.rv_assemble_laws.proofs.Homes.{all_filter}
 use Rattle.rv_boundary_laws.specs.Joins.{AreObjectsOf}
 use Rattle.rv_boundary_laws.proofs.Assembled.{Tile, parts, parts_of, templates, IsSectionOf, AreSectionsOf}
 use Rattle.rv_boundary_laws.proofs.Called.{IsForm}

@@ -20,6 +20,7 @@ use Rattle.rv_source_laws.specs.Resolves.{Resolves}
 use Rattle.rv_source_laws.specs.Sized.{Sized}
 use Rattle.rv_source_laws.specs.Shortened.{Shortened}
 use Rattle.rv_source_laws.specs.Start.{spelled}
+use Rattle.rv_source_laws.proofs.Homes.{all_map}
 use Rattle.rv_image.specs.Linked.{Linked}
 use Rattle.rv_chain_laws.specs.Contents.{IsWritten, IsLinked, contents as source_contents}
 use Rattle.rv_chain_laws.proofs.Homes.{IsAtHome, homes, from_blocks, sections_in}
@@ -32,7 +33,6 @@ use Rattle.rv_assemble_laws.proofs.Faultless.{no_first_fault}
 use Rattle.rv_assemble_laws.specs.Templates.{Open}
 use Rattle.rv_assemble_laws.specs.Sites.{Site, part_bytes, sites_in, end_of as sites_end}
 use Rattle.rv_assemble_laws.specs.Symbols.{site_at}
-use Rattle.rv_assemble_laws.proofs.Homes.{all_map}
 use Rattle.rv_assemble_laws.specs.IsObjectOf.{Numbering, contents_of}
 use Rattle.rv_boundary_laws.proofs.Wholes.{numbers_by, worths_of, AreObjectsAt, objects_at, worths_are, IsSound, sound, StandsAlone, labels, IsWhole, relocated_at}
 use Rattle.rv_boundary_laws.proofs.Globals.{low_rows}

@@ -18,13 +18,13 @@ use Rattle.rv_unit_laws.specs.Tables.{Tables}
 use Rattle.rv_source_laws.specs.Lines.{operand_of, is_low_part}
 use Rattle.rv_source_laws.specs.Sized.{is_call}
 use Rattle.rv_source_laws.specs.Shortened.{calls, link_register}
+use Rattle.rv_source_laws.proofs.Held.{none_left}
 use Rattle.rv_object_laws.specs.Shortened.{short_call}
 use Rattle.rv_assemble_laws.specs.CodeFields.{symbol_field, low_field, field_of, relax_fields}
 use Rattle.rv_assemble_laws.specs.Coded.{constants, AreCodedParts, joined, instructions_in}
 use Rattle.rv_assemble_laws.specs.InstructionFaults.{instruction_faults, operand_faults, scratch_faults, own_faults, has_row as has_operands_row, is_label}
 use Rattle.rv_assemble_laws.specs.Templates.{Open, Coded, open_at}
 use Rattle.rv_assemble_laws.specs.Sites.{Site, form, coded_templates, HasSize}
-use Rattle.rv_assemble_laws.proofs.Held.{none_left}
 use Rattle.rv_boundary_laws.proofs.Assembled.{templates}
 use Rattle.rv_boundary_laws.proofs.Called.{IsCalled, called, short_part, short_coded, short_one}
 use Rattle.rv_boundary_laws.proofs.Marked.{is_jump, marked, part_fields}

@@ -14,6 +14,7 @@ use Rattle.rv_statement.specs.Statement.{Operand, Register, Value as Of_value, A
 use Rattle.rv_reloc.specs.Values.{value_of}
 use Rattle.rv_source_laws.specs.Lines.{constant_of, other_operand, distance, is_low_part}
 use Rattle.rv_source_laws.specs.Program.{resolved}
+use Rattle.rv_source_laws.proofs.Held.{none_left, no_test}
 use Rattle.rv_object.specs.Object.{Section, Object}
 use Rattle.rv_object_laws.specs.Moves.{alignments_of, moves, new_offset}
 use Rattle.rv_object_laws.specs.Inputs.{Starts}
@@ -22,7 +23,6 @@ use Rattle.rv_map.specs.Map.{Global}
 use Rattle.rv_assemble_laws.specs.InstructionFaults.{target_faults, upper_faults, low_faults, is_labelled, distance_faults, operand_faults}
 use Rattle.rv_assemble_laws.specs.Templates.{Open, open_at}
 use Rattle.rv_assemble_laws.specs.IsObjectOf.{Numbering, relocation_at}
-use Rattle.rv_assemble_laws.proofs.Held.{none_left, no_test}
 use Rattle.rv_boundary_laws.proofs.Known.{still}
 use Rattle.rv_boundary_laws.proofs.Rows.{is_distance}
 

@@ -10,7 +10,7 @@ use Rattle.rv_statement.specs.Statement.{StatementKind, Label, Numbered, Instruc
 use Rattle.rv_unit_laws.specs.Sections.{Section as SourceSection}
 use Rattle.rv_unit_laws.specs.Tables.{Tables, is_power_below, power_alignment, byte_alignment, alignment_of, padding}
 use Rattle.rv_source_laws.specs.Fits.{is_low}
-use Rattle.rv_chain_laws.proofs.Held.{IsHeld}
+use Rattle.rv_source_laws.proofs.Held.{IsHeld}
 use Rattle.rv_object.specs.Padding.{no_operations, operations_in}
 use Rattle.rv_assemble_laws.specs.Templates.{Fixed, Coded, zeros, align_field, padding_templates}
 use Rattle.rv_assemble_laws.specs.Sites.{Site, form, part_of, part_bytes, IsMultiple, IsPaddedIn, HasSize}

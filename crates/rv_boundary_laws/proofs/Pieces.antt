@@ -22,7 +22,6 @@ use Rattle.rv_object_laws.specs.Inputs.{Starts, InputSection, goes_to_text, inpu
 use Rattle.rv_object_laws.specs.Shortened.{Sizes}
 use Rattle.rv_assemble_laws.specs.Sites.{Site, form, part_bytes, sites_in, end_of}
 use Rattle.rv_assemble_laws.specs.IsObjectOf.{contents_of, IsObjectOf}
-use Rattle.rv_assemble_laws.proofs.Homes.{all_filter}
 use Rattle.rv_boundary_laws.specs.Joins.{AreObjectsOf}
 use Rattle.rv_boundary_laws.proofs.Assembled.{Tile, parts, IsSectionOf, AreSectionsOf, IsAssembled, filled}
 use Rattle.rv_boundary_laws.proofs.Finals.{IsFinal, IsFinalFile, AreFinal}

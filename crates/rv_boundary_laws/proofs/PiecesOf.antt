@@ -12,13 +12,13 @@ use Rattle.rv_unit_laws.specs.Tables.{Tables, tables, opened_of}
 use Rattle.rv_source_laws.specs.Located.{Located}
 use Rattle.rv_source_laws.specs.Program.{Program}
 use Rattle.rv_source_laws.specs.Fits as source
+use Rattle.rv_source_laws.proofs.Homes.{all_filter}
 use Rattle.rv_object.specs.Object.{Section, Object, size_of}
 use Rattle.rv_object_laws.specs.Inputs.{Starts, InputSection, goes_to_text, inputs_from, inputs_of, begins_at}
 use Rattle.rv_object_laws.specs.Moves.{aligned}
 use Rattle.rv_object_laws.specs.Shortened.{Sizes}
 use Rattle.rv_assemble_laws.specs.Sites.{Site, part_bytes, sites_in, end_of}
 use Rattle.rv_assemble_laws.specs.IsObjectOf.{Numbering, contents_of, IsObjectOf}
-use Rattle.rv_assemble_laws.proofs.Homes.{all_filter}
 use Rattle.rv_boundary_laws.specs.Joins.{AreObjectsOf}
 use Rattle.rv_boundary_laws.proofs.Assembled.{Tile, parts, IsSectionOf, AreSectionsOf, filled}
 use Rattle.rv_boundary_laws.proofs.Files.{IsFile, AreFiles}

@@ -13,8 +13,9 @@ use Rattle.rv_source_laws.specs.Located.{has_row}
 use Rattle.rv_source_laws.specs.Program.{Mapped, Program, tables_in, address_at, has_values, value as value_at, expressions}
 use Rattle.rv_source_laws.specs.Fits.{SizeFits}
 use Rattle.rv_source_laws.specs.Start.{spelled}
+use Rattle.rv_source_laws.proofs.Held.{IsHeld}
+use Rattle.rv_source_laws.proofs.Homes.{all_filter}
 use Rattle.rv_chain_laws.specs.Contents.{IsWritten}
-use Rattle.rv_chain_laws.proofs.Held.{IsHeld}
 use Rattle.rv_object.specs.Object.{Section, Object}
 use Rattle.rv_object_laws.specs.Moves.{alignments_of, moves, plan, kept}
 use Rattle.rv_object_laws.specs.Inputs.{Starts, InputSection}
@@ -23,7 +24,6 @@ use Rattle.rv_boundary_laws.proofs.Marked.{part_fields}
 use Rattle.rv_assemble_laws.specs.Templates.{Template, Open, IsTemplate, template_fields}
 use Rattle.rv_assemble_laws.specs.Sites.{Site, Part, form, part_of, part_bytes, sites_in, IsMultiple}
 use Rattle.rv_assemble_laws.specs.Symbols.{site_at}
-use Rattle.rv_assemble_laws.proofs.Homes.{all_filter}
 use Rattle.rv_assemble_laws.specs.IsObjectOf.{Numbering, relocations_from}
 use Rattle.rv_boundary_laws.proofs.Patches.{written, written_from, HasRoom, all_made, makes}
 use Rattle.rv_boundary_laws.proofs.Statements.{row_in, mapped_at, row_address}

@@ -13,7 +13,7 @@ use Rattle.rv_pseudo_laws.specs.Code.{Part as CodePart, Closed, Open as Open_par
 use Rattle.rv_pseudo_laws.specs.Filled.{are_closed}
 use Rattle.rv_unit_laws.specs.Sections.{Section as SourceSection}
 use Rattle.rv_unit_laws.specs.Tables.{Tables}
-use Rattle.rv_chain_laws.proofs.Held.{IsHeld}
+use Rattle.rv_source_laws.proofs.Held.{IsHeld}
 use Rattle.rv_object.specs.Object.{Relocation}
 use Rattle.rv_object.specs.Padding.{no_operations}
 use Rattle.rv_assemble_laws.specs.Coded.{IsCodedPart, AreCodedParts}

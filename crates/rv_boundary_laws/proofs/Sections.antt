@@ -15,7 +15,7 @@ use Rattle.rv_unit_laws.specs.Tables.{Tables, aligned, alignment_of, definition,
 use Rattle.rv_map.specs.declared.map.Row.{Row as MapRow}
 use Rattle.rv_source_laws.specs.Program.{Mapped, Program, tables_in, address_by, resolved, number as number_of}
 use Rattle.rv_source_laws.specs.Start.{spelled_said}
-use Rattle.rv_chain_laws.proofs.Held.{IsHeld}
+use Rattle.rv_source_laws.proofs.Held.{IsHeld}
 use Rattle.rv_object.specs.Object.{Relocation}
 use Rattle.rv_object_laws.specs.Inputs.{Starts}
 use Rattle.rv_boundary_laws.proofs.Marked.{part_fields}
@@ -213,7 +213,7 @@ module _ (p : Program) (file : ℕ) where
         spelled_said (number_of p m) kind s.bytes ≡ says s kind
     spelled_by starts s multiple (Label name) held aside size = refl
     spelled_by starts s multiple (Numbered number) held aside size = refl
-    spelled_by starts s multiple (Instruction mnemonic operands) held aside size = let e : true ≡ false = sym held ∙ aside in absurd (cc)
+    spelled_by starts s multiple (Instruction mnemonic operands) held aside size = let e : true ≡ false = sym held.0 ∙ aside in absurd (cc)
     spelled_by starts s multiple (Directs (Values width es)) held aside size = values_spelled (worth s.located.section) s.offset s.located.ordinal width (form (tables_in p file) s.located) es
     spelled_by starts s multiple (Directs (Strings ended strings)) held aside size = sym (append_nil (string_bytes ended strings))
     spelled_by starts s multiple (Directs (Zeros count)) held aside (x, y) =

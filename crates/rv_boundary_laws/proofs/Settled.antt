@@ -12,9 +12,9 @@ use Rattle.rv_unit_laws.specs.Tables.{Tables, at_start, after, tables, opened_of
 use Rattle.rv_source_laws.specs.Located.{Located, located_from, is_placed, has_row}
 use Rattle.rv_source_laws.specs.Program.{Mapped}
 use Rattle.rv_source_laws.specs.Fits.{Follow, size}
+use Rattle.rv_source_laws.proofs.Held.{IsHeld, Held, all_held}
+use Rattle.rv_source_laws.proofs.Homes.{IsHomeIn, homes_from}
 use Rattle.rv_map.specs.declared.map.Row.{Row as MapRow}
-use Rattle.rv_chain_laws.proofs.Held.{IsHeld, Held, held_of}
-use Rattle.rv_chain_laws.proofs.Homes.{IsHomeIn, homes_from}
 use Rattle.rv_assemble_laws.specs.Refusals.{statements_fault}
 use Rattle.rv_assemble_laws.specs.Sites.{Site, Part, part_bytes, sites_in, end_of}
 use Rattle.rv_assemble_laws.proofs.Faultless.{no_first_fault}
@@ -110,10 +110,6 @@ pub of_located : (P : Located → Type 0) (sites : List Site) → AllByRecursion
 of_located P [] h = tt
 of_located P (s ∷ ss) (h, hs) = (h, of_located P ss hs)
 
-front_of : (P : Located → Type 0) (xs ys : List Located) → AllByRecursion P (xs ++ ys) → AllByRecursion P xs
-front_of P [] ys h = tt
-front_of P (x ∷ xs) ys (h, hs) = (h, front_of P xs ys hs)
-
 settled_by : (sections : List Section) (sites : List Site) → AllByRecursion (λ s. IsHomeIn (λ f. sections) s.located) sites → AllByRecursion (λ s. Held s.located) sites
     → AllByRecursion (λ s. IsBare s.located) sites → AllByRecursion (λ s. IsLabelled s.located) sites → AllByRecursion (λ s. IsKind s.located) sites
     → AllByRecursion (λ s. IsInstructed s.located) sites → AllByRecursion (IsSettled sections) sites
@@ -129,7 +125,7 @@ settled ss sites good is =
     λ P h. of_located P sites (subst (λ l. AllByRecursion P l) (sym is) h) in
     settled_by sections sites
     (all (IsHomeIn (λ f. sections)) (homes_from (λ f. sections) 1 1 at_start ss refl (text_section, refl)))
-    (all Held (front_of Held (located_from 1 1 at_start ss) [] (held_of 1 (ss ∷ []) (no_first_fault ss good, tt))))
+    (all Held (all_held ss (no_first_fault ss good)))
     (all IsBare (bare_from 1 1 at_start ss)) (all IsLabelled (labelled_from 1 1 at_start ss)) (all IsKind (kinds_from 1 1 at_start ss))
     (all IsInstructed (instructed_from 1 1 at_start ss))
 

@@ -18,6 +18,7 @@ use Rattle.rv_source_laws.specs.Fits as source
 use Rattle.rv_image.specs.Linked.{Linked}
 use Rattle.rv_source_laws.specs.Shortened as line
 use Rattle.rv_source_laws.specs.Shortened.{Placed, calls, Shortened, HaveBytes, text_of, full_length, placed_from, sites_at, has_compressed, aim_of, aim_offset}
+use Rattle.rv_source_laws.proofs.Homes.{all_filter}
 use Rattle.rv_chain_laws.specs.Contents.{IsLinked}
 use Rattle.rv_object.specs.Object.{Section, Symbol, Object, size_of, stored}
 use Rattle.rv_object_laws.specs.Calls.{base_in, start_padding, changes, site_of, sites_from, sites_of, is_entered, is_text_place, text_offset, is_short_text}
@@ -28,7 +29,6 @@ use Rattle.rv_object_laws.specs.Shortened.{Sizes, size_at, sizes_by, shortened_o
 use Rattle.rv_assemble_laws.specs.Sites.{Site, part_bytes, sites_in}
 use Rattle.rv_assemble_laws.specs.Symbols.{site_at, StandsFor}
 use Rattle.rv_assemble_laws.specs.IsObjectOf.{Numbering, IsObjectOf, relocations_from}
-use Rattle.rv_assemble_laws.proofs.Homes.{all_filter}
 use Rattle.rv_boundary_laws.specs.Joins.{AreObjectsOf}
 use Rattle.rv_boundary_laws.proofs.Assembled.{IsAssembled, AreAssembled, AreSectionsOf, IsSectionOf, parts}
 use Rattle.rv_boundary_laws.proofs.Bounded.{text_short}

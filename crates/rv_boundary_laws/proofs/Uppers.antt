@@ -22,6 +22,8 @@ use Rattle.rv_map.specs.Limits.{IsGlobal}
 use Rattle.rv_source_laws.specs.Located.{has_row}
 use Rattle.rv_source_laws.specs.Program.{Mapped, Program, tables_in, address_at, address as address_in, number as number_of}
 use Rattle.rv_source_laws.specs.Lines.{no_operation, directive_parts, parts_of as code_of, parts as parts_in, constants as constants_in, other_operand, operand_of, operand_number, target as target_in, distance, takes_upper, have_upper, is_upper_at}
+use Rattle.rv_source_laws.proofs.Held.{none_left}
+use Rattle.rv_source_laws.proofs.Homes.{all_map}
 use Rattle.rv_object.specs.Object.{Relocation, Section, Object}
 use Rattle.rv_object_laws.specs.Moves.{alignments_of}
 use Rattle.rv_object_laws.specs.Inputs.{Starts}
@@ -33,8 +35,6 @@ use Rattle.rv_assemble_laws.specs.InstructionFaults.{instruction_faults, operand
 use Rattle.rv_assemble_laws.specs.Templates.{Template, Fixed, Datum, Coded, Open, open_at, value_fields, template_fields}
 use Rattle.rv_assemble_laws.specs.Sites.{Site, Part, form, part_of, part_bytes, coded_templates, sites_in}
 use Rattle.rv_assemble_laws.specs.Symbols.{site_at}
-use Rattle.rv_assemble_laws.proofs.Held.{none_left}
-use Rattle.rv_assemble_laws.proofs.Homes.{all_map}
 use Rattle.rv_assemble_laws.specs.IsObjectOf.{Numbering, relocation_at, relocations_from}
 use Rattle.rv_boundary_laws.proofs.Statements.{mapped_at, mapped_from, row_address}
 use Rattle.rv_boundary_laws.proofs.Settled.{IsSettled}

@@ -11,6 +11,7 @@ use Rattle.rv_source_laws.specs.Located.{Located, located_from}
 use Rattle.rv_source_laws.specs.Program.{Program, tables_in}
 use Rattle.rv_source_laws.specs.Lines.{section_of}
 use Rattle.rv_source_laws.specs.Fits.{mapped_in}
+use Rattle.rv_source_laws.proofs.Held.{no_lowest, no_fault}
 use Rattle.rv_map.specs.Map.{Global}
 use Rattle.rv_object.specs.Object.{Progbits, Section, Object}
 use Rattle.rv_object_laws.specs.Inputs.{Starts, InputSection, inputs_from}
@@ -22,7 +23,6 @@ use Rattle.rv_assemble_laws.specs.Symbols.{site_at}
 use Rattle.rv_assemble_laws.specs.InstructionFaults.{is_label}
 use Rattle.rv_assemble_laws.specs.Refusals.{code_fault, code_fault_from, code_faults_at, else_fault, statements_fault}
 use Rattle.rv_assemble_laws.specs.IsObjectOf.{Numbering, relocation_at}
-use Rattle.rv_assemble_laws.proofs.Held.{no_lowest, no_fault}
 use Rattle.rv_boundary_laws.proofs.Statements.{mapped_from, site_section}
 use Rattle.rv_boundary_laws.proofs.Settled.{of_located}
 use Rattle.rv_boundary_laws.proofs.Labels.{labels_stand}

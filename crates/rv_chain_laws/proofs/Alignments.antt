@@ -11,8 +11,9 @@ use Rattle.rv_unit_laws.specs.Tables.{Tables, tables, alignment_at, alignments_o
 use Rattle.rv_unit_laws.proofs.Grown.{IsPower, ArePowers, grown_all}
 use Rattle.rv_source_laws.specs.Program.{Mapped}
 use Rattle.rv_source_laws.specs.Fits.{input_section, input_sections_of_file, input_sections_of}
+use Rattle.rv_source_laws.proofs.Homes.{all_join}
 use Rattle.rv_chain_laws.proofs.Regions.{BeginsEven}
-use Rattle.rv_chain_laws.proofs.Homes.{all_join, sections_of}
+use Rattle.rv_chain_laws.proofs.Homes.{sections_of}
 
 abbrev IsOneOrEven : ℕ → Type 0
 IsOneOrEven n = (n ≤ 1) ⊎ (n % 2 ≡ 0)

@@ -34,14 +34,16 @@ use Rattle.rv_source_laws.specs.Lines.{parts, Line, Lie, expansion}
 use Rattle.rv_source_laws.specs.Fits.{IsRowOf, CodeFits, IsPaddingIn, ContributionFits, SizeFits, InputSection, input_section, input_sections, input_sections_of_file, input_sections_of, greatest, Holds, Stand, end_of}
 use Rattle.rv_source_laws.specs.Start.{is_within, is_in, right_at, first_byte, byte_of, spelled, spelled_contribution}
 use Rattle.rv_source_laws.specs.SourceRun.{Starts, Gap, Outside, starts_or_inside, place, found}
+use Rattle.rv_source_laws.proofs.Held.{ContributionHeld, DirectiveHeld, IsHeld, Held}
+use Rattle.rv_source_laws.proofs.Homes.{all_join, all_map}
 use Rattle.rv_chain_laws.specs.Realizes.{StandsIn, HoldsLines, Realizes}
 use Rattle.rv_chain_laws.specs.Contents.{IsEncoded, AreEncoded, IsWritten, contents, zeros, IsLinked}
 use Rattle.rv_chain_laws.specs.Headline.{RunsAgree}
 use Rattle.rv_chain_laws.proofs.Words.{HasBytes, fetch-parcel, fetch-zeros, fetch-word, bytes_behind, may_all, Runs}
 use Rattle.rv_chain_laws.proofs.Simulation.{agreement_of_image}
 use Rattle.rv_chain_laws.proofs.Regions.{within_parts, bytes_front, Sized, LiesIn, Misses, AllIn, IsAligned, IsBlank, gap_blank, byte_at, byte_zero, above, end_above, lie_blocks, held_blocks, zero_blocks, length_blocks}
-use Rattle.rv_chain_laws.proofs.Held.{ContributionHeld, DirectiveHeld, IsHeld, Held, held_of}
-use Rattle.rv_chain_laws.proofs.Homes.{sections_of, sections_in, IsSeated, IsAtHome, seats, homes, all_join, all_map, to_blocks, from_blocks}
+use Rattle.rv_chain_laws.proofs.Held.{held_of}
+use Rattle.rv_chain_laws.proofs.Homes.{sections_of, sections_in, IsSeated, IsAtHome, seats, homes, to_blocks, from_blocks}
 use Rattle.rv_chain_laws.proofs.Alignments.{even_files}
 use Rattle.rv_chain_laws.proofs.LaidOut.{AreRegions, apart, rights-are, text_held, rodata_held, data_held, bss_held, stack_zero}
 
@@ -138,7 +140,7 @@ module _ (p : Program) (file ordinal section offset line : ℕ) (home : Section)
   statement_data : (says : StatementKind) → SizeFits p (at says) → IsHeld home says → home.executable ≡ false → Sized (spelled p) (at says)
   statement_data (Label name) fits held e = no_bytes true row fits
   statement_data (Numbered number) fits held e = no_bytes true row fits
-  statement_data (Instruction mnemonic operands) fits held e = true_false home.executable held e
+  statement_data (Instruction mnemonic operands) fits held e = true_false home.executable held.0 e
   statement_data (Directs directive) fits held e = directive_data directive fits
 
   -- a row in an executable section has its statement's instructions

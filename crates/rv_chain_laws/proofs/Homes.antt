@@ -2,46 +2,17 @@
 
 use Rattle.std.proofs.Common.{◌≡◌, ℕ, zero, suc, ◌+◌, Bool, true, false, List, [], ◌∷◌, ◌++◌, refl, sym, ap, ◌∙◌, subst, arith, Option, Some, None, drop}
 use Rattle.std.proofs.lemmas.Bool.{and_parts, eqb-true, eq-eqb}
-use Rattle.std.specs.Prelude.{◌&&◌, ◌==◌, if◌then◌else◌, filter, slice_get}
+use Rattle.std.specs.Prelude.{◌&&◌, ◌==◌, if◌then◌else◌, slice_get}
 use Rattle.std.specs.List.{AllByRecursion}
-use Rattle.rv_statement.specs.Statement.{StatementKind, Label, Numbered, Instruction, Directs, Statement, Enters, Opens}
-use Rattle.rv_unit_laws.specs.Sections.{Section, text_section, section_at}
-use Rattle.rv_unit_laws.specs.Tables.{Tables, at_start, after, after_all, tables, stood, opened_of}
-use Rattle.rv_unit_laws.proofs.Opened.{got_of, IsOpen, after_opened, after_open, stays_all}
+use Rattle.rv_statement.specs.Statement.{Statement}
+use Rattle.rv_unit_laws.specs.Sections.{Section, text_section}
+use Rattle.rv_unit_laws.specs.Tables.{Tables, at_start, tables, opened_of}
 use Rattle.rv_map.specs.declared.map.Row.{Row}
 use Rattle.rv_source_laws.specs.Located.{Located, located_from, located_of, located, has_row}
 use Rattle.rv_source_laws.specs.Program.{Mapped, first_of, statements_of, seated, mapped_of}
 use Rattle.rv_source_laws.specs.Fits.{input_section, input_sections_of_file, input_sections_of, mapped_in}
+use Rattle.rv_source_laws.proofs.Homes.{IsHomeIn, homes_from, all_join}
 use Rattle.rv_chain_laws.proofs.Regions.{AllIn}
-
--- ---- lists
-
-pub all_filter : {X : Type 0} (P : X → Type 0) (test : X → Bool) (xs : List X) → AllByRecursion P xs → AllByRecursion P (filter test xs)
-all_filter P test [] h = tt
-all_filter P test (x ∷ xs) (p, ps) = go (test x) (all_filter P test xs ps)
-  where
-    go : (b : Bool) → AllByRecursion P (filter test xs) → AllByRecursion P (if b then x ∷ filter test xs else filter test xs)
-    go true rest = (p, rest)
-    go false rest = rest
-
-pub all_map : {X : Type 0} (P Q : X → Type 0) (xs : List X) → ((x : X) → P x → Q x) → AllByRecursion P xs → AllByRecursion Q xs
-all_map P Q [] f h = tt
-all_map P Q (x ∷ xs) f (p, ps) = (f x p, all_map P Q xs f ps)
-
-pub all_both : {X : Type 0} (P Q R : X → Type 0) (xs : List X) → ((x : X) → P x → Q x → R x) → AllByRecursion P xs → AllByRecursion Q xs → AllByRecursion R xs
-all_both P Q R [] f h k = tt
-all_both P Q R (x ∷ xs) f (p, ps) (q, qs) = (f x p q, all_both P Q R xs f ps qs)
-
--- ---- where a statement stands
-
--- a statement stands in the section that is current after it
-pub stood_in : (t : Tables) (k : ℕ) (says : StatementKind) → (stood t k says).section ≡ (after t k says).current
-stood_in t k (Label name) = ap (λ o. o.current) (sym (after_opened t k (Label name)))
-stood_in t k (Numbered number) = refl
-stood_in t k (Instruction mnemonic operands) = refl
-stood_in t k (Directs (Enters standard)) = refl
-stood_in t k (Directs (Opens name flags kind)) = refl
-stood_in t k (Directs d) = ap (λ o. o.current) (sym (after_opened t k (Directs d)))
 
 -- ---- the sections of statements
 
@@ -57,27 +28,6 @@ sections_by (ss ∷ files) (suc i) = sections_by files i
 abbrev pub sections_in : List (List Statement) → ℕ → List Section
 sections_in sources zero = []
 sections_in sources (suc i) = sections_by sources i
-
-abbrev pub IsHomeIn : (ℕ → List Section) → Located → Type 0
-IsHomeIn sections t = slice_get (sections t.file) t.section ≡ Some t.home
-
-pub home_now : (t : Tables) (k : ℕ) (ss : List Statement) (i : ℕ) → IsOpen (opened_of t) → i ≡ t.current → slice_get (opened_of (after_all t k ss)).sections i ≡ Some (section_at (opened_of t) i)
-home_now t k ss i (x, e) same =
-    let at : slice_get (opened_of t).sections i ≡ Some x = ap (λ n. slice_get (opened_of t).sections n) same ∙ e in
-    stays_all t k ss (x, e) i (section_at (opened_of t) i) (at ∙ ap Some (sym (got_of (opened_of t).sections i text_section x at)))
-
-pub homes_from : (sections : ℕ → List Section) (file k : ℕ) (t : Tables) (ss : List Statement) → sections file ≡ (opened_of (after_all t k ss)).sections → IsOpen (opened_of t) → AllByRecursion (IsHomeIn sections) (located_from file k t ss)
-homes_from sections file k t [] same is_open = tt
-homes_from sections file k t (s ∷ ss) same is_open =
-    let now = after_open t k s.kind is_open in
-    let i = (stood t k s.kind).section in (
-      ap (λ xs. slice_get xs i) same ∙ home_now (after t k s.kind) (suc k) ss i now.0 (stood_in t k s.kind),
-      homes_from sections file (suc k) (after t k s.kind) ss same now.0,
-    )
-
-pub all_join : {X : Type 0} (P : X → Type 0) (xs ys : List X) → AllByRecursion P xs → AllByRecursion P ys → AllByRecursion P (xs ++ ys)
-all_join P [] ys h k = k
-all_join P (x ∷ xs) ys (p, ps) k = (p, all_join P xs ys ps k)
 
 -- these are the sections of files that are numbered from here on
 abbrev AreOf : (ℕ → List Section) → ℕ → List (List Statement) → Type 0

@@ -23,7 +23,7 @@ use Rattle.rv_pseudo_laws.specs.Filled.{are_closed}
 use Rattle.rv_pseudo_laws.specs.Valid.{IsOperandOf}
 use Rattle.rv_pseudo.specs.Templates.{plain, is_unary, AreTemplates, IsBareOne, IsOne}
 use Rattle.rv_assemble_laws.specs.Coded.{IsCodedPart, AreCodedParts}
-use Rattle.rv_assemble_laws.proofs.Held.{no_lowest}
+use Rattle.rv_source_laws.proofs.Held.{no_lowest}
 use Rattle.rv_instruction.specs.declared.encoded.Encoded.{Encoded}
 use Rattle.rv_instruction.specs.Code.{encoded_bytes, encoded_instructions, shape_by, shape_in, shape_of, mnemonic_of, number_by, value_faults, alone, whole, AreInRange, IsOfNumber, IsTaken, IsBuilt}
 use Rattle.rv_instruction.proofs.Ranges.{plain_codable, constant_codable}

@@ -11,7 +11,7 @@ use Rattle.rv_statement.specs.declared.pseudo.Function.{Function}
 use Rattle.rv_statement.specs.declared.statement.Operation.{Operation}
 use Rattle.rv_unit.specs.Faults.{IsLowest}
 use Rattle.rv_pseudo.specs.declared.template.Template.{Template}
-use Rattle.rv_assemble_laws.proofs.Held.{no_lowest}
+use Rattle.rv_source_laws.proofs.Held.{no_lowest}
 use Rattle.rv_instruction.specs.Code.{faults_of, IsElseUnplaced, IsTaken, IsBuilt}
 use Rattle.std.specs.Prelude.{min, is_some, option_map}
 use Rattle.rv_unit_laws.specs.Faults.{lowest}

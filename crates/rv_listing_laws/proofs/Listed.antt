@@ -21,13 +21,13 @@ use Rattle.rv_image.specs.Memory.{mem_of}
 use Rattle.rv_source_laws.specs.Located.{located, has_row}
 use Rattle.rv_source_laws.specs.Program.{Mapped, Program, program}
 use Rattle.rv_source_laws.specs.Fits.{IsRowOf, identity_of, identity_of_row}
+use Rattle.rv_source_laws.proofs.Homes.{all_map}
 use Rattle.rv_disasm.specs.Listing.{IsListing, row_text, row_bytes, entry, statement}
 use Rattle.rv_disasm.specs.Order.{compared}
 use Rattle.rv_disasm.proofs.LinesOn.{entry_some}
 use Rattle.rv_disasm.proofs.Ordered.{compared_total, one_listing}
 use Rattle.rv_chain_laws.specs.Contents.{IsLinked}
 use Rattle.rv_chain_laws.proofs.Contents.{lines_length, are_regions, StandsInText, code_stands, data_stands}
-use Rattle.rv_chain_laws.proofs.Homes.{all_map}
 use Rattle.rv_chain_laws.proofs.LaidOut.{text_held}
 use Rattle.rv_listing_laws.specs.SourceListing.{is_listed, IsEntry, AreEntries, IsSourceListing}
 use Rattle.rv_listing_laws.proofs.Ascending.{all_kept, all_ordered, ascends_by, ascends_kept, filter_by, ordered, ordered_ascends, ordered_level, ordered_stable, sorted_from, stable_kept, tied}

@@ -11,11 +11,11 @@ use Rattle.rv_unit_laws.specs.Tables.{at_start, tables, opened_of, longest_secti
 use Rattle.rv_unit_laws.specs.Faults.{Fault, at_line}
 use Rattle.rv_source_laws.specs.Located.{located_from, located}
 use Rattle.rv_source_laws.specs.Sizes.{AreLeast}
+use Rattle.rv_source_laws.proofs.Homes.{all_map}
 use Rattle.rv_object.specs.Object.{Object}
 use Rattle.rv_assemble_laws.specs.Refusals.{AreCodeSizes, grown, size_fault_from, IsTooLong}
 use Rattle.rv_assemble_laws.specs.Sites.{Site, sites_in, end_of}
 use Rattle.rv_assemble_laws.specs.IsObjectOf.{IsObjectOf}
-use Rattle.rv_assemble_laws.proofs.Homes.{all_map}
 use Rattle.rv_one_object_laws.proofs.CodeSizes.{one_code_sizes}
 use Rattle.rv_one_object_laws.proofs.Pairs.{IsHome}
 use Rattle.rv_one_object_laws.proofs.Said.{code_bytes, in_code, in_data, at_home, section_in, said_in, sizes_of_code, least_of_code}

@@ -9,8 +9,8 @@ use Rattle.rv_unit_laws.specs.Sections.{Section}
 use Rattle.rv_unit_laws.specs.Tables.{Tables, alignment_of, padding}
 use Rattle.rv_object.specs.Padding.{operations_in}
 use Rattle.rv_source_laws.specs.Located.{Located}
+use Rattle.rv_source_laws.proofs.Held.{IsHeld}
 use Rattle.rv_assemble_laws.specs.Sites.{Site, form, Tile, IsPaddedIn, DirectiveSize, HasSize}
-use Rattle.rv_assemble_laws.proofs.Held.{IsHeld}
 use Rattle.rv_one_object_laws.proofs.Pairs.{Pairs, SameBy, SameBytes}
 use Rattle.rv_one_object_laws.proofs.Said.{IsSaid, bare_size, code_bytes, in_code}
 

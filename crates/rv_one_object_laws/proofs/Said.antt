@@ -9,14 +9,14 @@ use Rattle.rv_unit_laws.specs.Sections.{Section as SourceSection, text_section}
 use Rattle.rv_unit_laws.specs.Tables.{Tables, at_start, after, tables, opened_of, alignment_of}
 use Rattle.rv_source_laws.specs.Located.{Located, located_from, is_placed}
 use Rattle.rv_source_laws.specs.Sizes.{code_padding, AreLeast}
+use Rattle.rv_source_laws.proofs.Held.{IsHeld, Held, all_held}
+use Rattle.rv_source_laws.proofs.Homes.{all_map, homes_from}
 use Rattle.rv_object.specs.Object.{Section, Symbol, Object}
 use Rattle.rv_assemble_laws.specs.Coded.{IsCode}
 use Rattle.rv_assemble_laws.specs.Sites.{Site, form, templates, part_of, parts_of, part_bytes, sites_in, Tile, IsPaddedIn, DirectiveSize, HasSize}
 use Rattle.rv_assemble_laws.specs.Refusals.{HasCodeSize, HasSizeAt, AreCodeSizes}
 use Rattle.rv_assemble_laws.specs.IsObjectOf.{Numbering, IsSectionOf, AreSectionsOf, IsObjectOf}
 use Rattle.rv_assemble_laws.proofs.Faultless.{no_first_fault}
-use Rattle.rv_assemble_laws.proofs.Held.{IsHeld, Held, all_held}
-use Rattle.rv_assemble_laws.proofs.Homes.{all_map, homes_from}
 use Rattle.rv_sites.proofs.LeastAll.{Agree, least_all}
 use Rattle.rv_one_object_laws.proofs.Pairs.{IsHome, all_in, all_from}
 

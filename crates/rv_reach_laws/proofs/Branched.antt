@@ -31,7 +31,7 @@ use Rattle.rv_link.specs.Refusals.{IsTextStart}
 use Rattle.rv_link.specs.Filled.{IsTaken}
 use Rattle.rv_assemble_laws.specs.Sites.{Site, form, parts, sites_in, end_of, HasSize}
 use Rattle.rv_assemble_laws.specs.IsObjectOf.{Numbering, relocations_from, IsSectionOf, AreSectionsOf, IsObjectOf}
-use Rattle.rv_assemble_laws.proofs.Homes.{all_filter}
+use Rattle.rv_source_laws.proofs.Homes.{all_filter}
 use Rattle.rv_boundary_laws.specs.Joins.{AreObjectsOf}
 use Rattle.rv_boundary_laws.proofs.Assembled as assembled
 use Rattle.rv_boundary_laws.proofs.Filed.{offsets_low}

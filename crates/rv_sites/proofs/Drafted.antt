@@ -11,9 +11,9 @@ use Rattle.rv_unit_laws.specs.Faults.{first_fault}
 use Rattle.rv_source_laws.specs.Located.{located, located_from}
 use Rattle.rv_source_laws.specs.Compressed.{is_compressed, is_compressed_code}
 use Rattle.rv_source_laws.specs.Sizes.{AreLeast}
+use Rattle.rv_source_laws.proofs.Held.{all_held}
+use Rattle.rv_source_laws.proofs.Homes.{IsHomeIn, homes_from, all_map}
 use Rattle.rv_assemble_laws.specs.Sites.{Site, part_bytes, parts, parts_of, sites_in, Tile, end_of}
-use Rattle.rv_assemble_laws.proofs.Homes.{IsHomeIn, homes_from, all_map}
-use Rattle.rv_assemble_laws.proofs.Held.{all_held}
 use Rattle.rv_sites.specs.declared.draft.Draft.{Draft}
 use Rattle.rv_sites.specs.Added.{IsWhole}
 use Rattle.rv_sites.specs.Code.{bytes_in, bytes_of_codes, sizes_of, section_code}

@@ -21,10 +21,10 @@ use Rattle.rv_source_laws.specs.Located.{Located, located_now, located_from, con
 use Rattle.rv_assemble_laws.specs.CodeFields.{part_fields}
 use Rattle.rv_assemble_laws.specs.Coded.{joined, constants, AreCodedParts, IsCode}
 use Rattle.rv_source_laws.specs.Sizes.{code_padding}
+use Rattle.rv_source_laws.proofs.Held.{Held, IsHeld, DirectiveHeld, none_left, no_test}
 use Rattle.rv_assemble_laws.specs.Templates.{Datum, Open, zeros, value_bytes, HasField, IsWide, IsWidth, IsTemplate, padding_templates, contribution_templates}
 use Rattle.rv_assemble_laws.specs.Sites.{Site, Part, form, part_of, coded_templates, templates, part_bytes, parts_of, IsMultiple, IsPaddedIn, HasSize}
 use Rattle.rv_assemble_laws.specs.Fields.{Field, fields_from, fields_at}
-use Rattle.rv_assemble_laws.proofs.Held.{Held, IsHeld, DirectiveHeld, none_left, no_test}
 use Rattle.rv_instruction.specs.declared.encoded.Coded.{Coded as CodedPart}
 use Rattle.rv_instruction.specs.Code.{coded_by, instructions_of, IsCodeOf}
 use Rattle.rv_sites.specs.declared.item.Item.{Item}

@@ -14,8 +14,8 @@ use Rattle.rv_unit_laws.specs.Sections.{Section}
 use Rattle.rv_unit_laws.specs.Tables.{Tables}
 use Rattle.rv_source_laws.specs.Located.{Located}
 use Rattle.rv_source_laws.specs.Sizes.{Near, near_forms, near_target, settled, branch_item, item_by, item_by_kind, items_of, AreLeast}
-use Rattle.rv_assemble_laws.proofs.Held.{IsHeld, Held}
-use Rattle.rv_assemble_laws.proofs.Homes.{IsHomeIn}
+use Rattle.rv_source_laws.proofs.Held.{IsHeld, Held}
+use Rattle.rv_source_laws.proofs.Homes.{IsHomeIn}
 
 -- ---- items that differ outside sections of code alone
 

@@ -14,9 +14,9 @@ use Rattle.rv_unit_laws.proofs.Opened.{after_opened, open_inside, stood_all, sto
 use Rattle.rv_unit.specs.Unit.{passed}
 use Rattle.rv_unit.proofs.Constants.{constant_past, constant_whole, whole_rest}
 use Rattle.rv_source_laws.specs.Located.{Located, located, located_from, is_placed, is_placed_directive}
+use Rattle.rv_source_laws.proofs.Held.{no_fault}
+use Rattle.rv_source_laws.proofs.Homes.{IsHomeIn, homes_from}
 use Rattle.rv_assemble_laws.specs.Refusals.{grown as grown_by, size_fault_from}
-use Rattle.rv_assemble_laws.proofs.Held.{no_fault}
-use Rattle.rv_assemble_laws.proofs.Homes.{IsHomeIn, homes_from}
 use Rattle.rv_sites.specs.declared.item.CodeSize.{CodeSize}
 use Rattle.rv_sites.specs.declared.item.Item.{Item}
 use Rattle.rv_sites.specs.Items.{IsItem, grown}

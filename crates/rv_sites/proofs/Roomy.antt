@@ -13,7 +13,7 @@ use Rattle.rv_unit_laws.specs.Faults.{faulty_if, size_faults, power_faults, byte
 use Rattle.rv_unit_laws.proofs.Grown.{BeginsAt, puts, end_behind}
 use Rattle.rv_assemble_laws.specs.Coded.{is_constant}
 use Rattle.rv_source_laws.specs.Located.{is_placed, is_placed_directive}
-use Rattle.rv_assemble_laws.proofs.Held.{none_left, no_test}
+use Rattle.rv_source_laws.proofs.Held.{none_left, no_test}
 use Rattle.rv_assemble_laws.specs.Sites.{IsMultiple}
 use Rattle.rv_sites.specs.declared.item.CodeSize.{CodeSize}
 use Rattle.rv_sites.specs.Sized.{IsPadded, IsSizedDirective}

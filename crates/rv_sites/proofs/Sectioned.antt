@@ -10,11 +10,11 @@ use Rattle.rv_unit_laws.specs.Sections.{Section, is_nobits, goes_to_text}
 use Rattle.rv_unit_laws.specs.Tables.{Tables, after, tables, opened_of, alignments_of}
 use Rattle.rv_unit_laws.proofs.Grown.{grown_all}
 use Rattle.rv_source_laws.specs.Located.{Located, located_now, located_from}
+use Rattle.rv_source_laws.proofs.Homes.{IsHomeIn, all_join}
 use Rattle.rv_assemble_laws.specs.Templates.{IsTemplate}
 use Rattle.rv_assemble_laws.specs.Sites.{Site, Part, form, part_bytes, parts, parts_of, sites_in, Tile, end_of, HasSize}
 use Rattle.rv_assemble_laws.specs.Fields.{fields_at, fields}
 use Rattle.rv_assemble_laws.proofs.Filled.{bytes_append}
-use Rattle.rv_assemble_laws.proofs.Homes.{IsHomeIn, all_join}
 use Rattle.rv_sites.specs.declared.item.Item.{Item}
 use Rattle.rv_sites.specs.Code.{bytes_of_codes, section_code}
 use Rattle.rv_sites.specs.Coded.{AreCoded}

@@ -6,7 +6,7 @@ use Rattle.rv_statement.specs.Statement.{Statement}
 use Rattle.rv_unit_laws.specs.Tables.{Tables, at_start, after, after_all, tables}
 use Rattle.rv_unit_laws.specs.Faults.{faults, lowest, first_fault_from, first_fault}
 use Rattle.rv_unit.specs.Unit.{passed}
-use Rattle.rv_assemble_laws.proofs.Held.{no_lowest, no_fault}
+use Rattle.rv_source_laws.proofs.Held.{no_lowest, no_fault}
 
 -- no statement from an ordinal on has a fault
 abbrev pub AreSound : Tables → ℕ → Tables → List Statement → Type 0

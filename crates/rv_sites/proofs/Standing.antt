@@ -16,7 +16,7 @@ use Rattle.rv_tables.specs.Sections.{offset_of, extent_section}
 use Rattle.rv_tables.proofs.Lookups.{sections_are}
 use Rattle.rv_unit.specs.Unit.{said, passed, IsFilled}
 use Rattle.rv_source_laws.specs.Located.{Located, located_now, located_from}
-use Rattle.rv_assemble_laws.proofs.Homes.{IsHomeIn, homes_from}
+use Rattle.rv_source_laws.proofs.Homes.{IsHomeIn, homes_from}
 
 -- what is left of the statements of a source, and of their places
 pub stated_left : (file k : ℕ) (t : Tables) (ss : List SpecStatement) (i : ℕ) → drop i (located_from file k t ss) ≡ located_from file (i + k) (after_all t k (take i ss)) (drop i ss)

@@ -1,1 +1,3 @@
 pub mod Settling
+pub mod Homes
+pub mod Held

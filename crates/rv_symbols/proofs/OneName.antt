@@ -16,8 +16,8 @@ use Rattle.rv_unit_laws.specs.Faults.{lowest, faults, first_fault_from}
 use Rattle.rv_unit_laws.proofs.Found.{same_bytes}
 use Rattle.rv_unit_laws.proofs.Before.{IsBefore, placed_latest, has_place_now, defined_now, before_after}
 use Rattle.rv_source_laws.specs.Located.{Located, is_placed, located_from}
+use Rattle.rv_source_laws.proofs.Held.{no_test, no_lowest, no_fault}
 use Rattle.rv_assemble_laws.specs.Sites.{Site}
-use Rattle.rv_assemble_laws.proofs.Held.{no_test, no_lowest, no_fault}
 use Rattle.rv_symbols.proofs.Single.{OnlySet, AreNumbers}
 
 -- ---- tests and searches

@@ -23,9 +23,9 @@ pub all_map : {X : Type 0} (P Q : X → Type 0) (xs : List X) → ((x : X) → P
 all_map P Q [] f h = tt
 all_map P Q (x ∷ xs) f (p, ps) = (f x p, all_map P Q xs f ps)
 
-pub all_both : {X : Type 0} (P Q R : X → Type 0) (xs : List X) → ((x : X) → P x → Q x → R x) → AllByRecursion P xs → AllByRecursion Q xs → AllByRecursion R xs
-all_both P Q R [] f h k = tt
-all_both P Q R (x ∷ xs) f (p, ps) (q, qs) = (f x p q, all_both P Q R xs f ps qs)
+pub all_join : {X : Type 0} (P : X → Type 0) (xs ys : List X) → AllByRecursion P xs → AllByRecursion P ys → AllByRecursion P (xs ++ ys)
+all_join P [] ys h k = k
+all_join P (x ∷ xs) ys (p, ps) k = (p, all_join P xs ys ps k)
 
 -- ---- where a statement stands
 
@@ -56,7 +56,3 @@ homes_from sections file k t (s ∷ ss) same is_open =
       ap (λ xs. slice_get xs i) same ∙ home_now (after t k s.kind) (suc k) ss i now.0 (stood_in t k s.kind),
       homes_from sections file (suc k) (after t k s.kind) ss same now.0,
     )
-
-pub all_join : {X : Type 0} (P : X → Type 0) (xs ys : List X) → AllByRecursion P xs → AllByRecursion P ys → AllByRecursion P (xs ++ ys)
-all_join P [] ys h k = k
-all_join P (x ∷ xs) ys (p, ps) k = (p, all_join P xs ys ps k)

@@ -117,7 +117,7 @@ module _ (all t : Tables) (k : ℕ) where
   held_at (Instruction mnemonic operands) h = h
   held_at (Directs directive) h = directive_at directive h
 
-held_from : (all : Tables) (file k : ℕ) (t : Tables) (ss : List Statement) → first_fault_from all t k ss ≡ None → AllByRecursion Held (located_from file k t ss)
+pub held_from : (all : Tables) (file k : ℕ) (t : Tables) (ss : List Statement) → first_fault_from all t k ss ≡ None → AllByRecursion Held (located_from file k t ss)
 held_from all file k t [] e = tt
 held_from all file k t (s ∷ ss) e =
     let parts = no_fault s.line (lowest (faults all t k s.kind)) (first_fault_from all (after t k s.kind) (suc k) ss) e in
