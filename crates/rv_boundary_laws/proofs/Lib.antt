@@ -1,4 +1,5 @@
 pub mod Marked
+pub mod Quiet
 pub mod Called
 pub mod Uncut
 pub mod LongCalls

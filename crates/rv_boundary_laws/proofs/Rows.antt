@@ -7,16 +7,11 @@ use Rattle.rv_isa.specs.declared.kind.Kind.{Kind}
 use Rattle.rv_isa.specs.declared.kind.Kind.TheVariants as kind
 use Rattle.rv_isa.specs.declared.instruction.Inst.{Inst}
 use Rattle.rv_isa.specs.declared.operation.BranchOperation.{BranchOperation}
-use Rattle.rv_isa.specs.declared.operation.BranchOperation.TheVariants.{Beq, Bne, Blt, Bge, Bltu, Bgeu}
 use Rattle.rv_isa.specs.Operations.{of_immediate, of_shift, of_upper, of_load, of_store, of_branch}
 use Rattle.rv_isa_laws.specs.Arithmetic.{wrapped}
 use Rattle.rv_isa_laws.specs.Halves.{hi, lo}
 use Rattle.rv_statement.specs.declared.mnemonic.Mnemonic.{Mnemonic}
 use Rattle.rv_statement.specs.declared.mnemonic.Mnemonic.TheVariants.{Registers, Immediate, Shift, Upper, Load, Store, Branch, Jal, Jalr, LoadReserved, Atomic, Fence, FenceTso, Ecall, Ebreak, Nop, Unary, Compare, ZeroBranch, SwappedBranch, J, Jr, Ret, La, Li, Call, Tail, Jump}
-use Rattle.rv_statement.specs.declared.pseudo.ZeroBranchOperation.{ZeroBranchOperation}
-use Rattle.rv_statement.specs.declared.pseudo.ZeroBranchOperation.TheVariants.{Beqz, Bnez, Bgez, Bltz, Blez, Bgtz}
-use Rattle.rv_statement.specs.declared.pseudo.SwappedBranchOperation.{SwappedBranchOperation}
-use Rattle.rv_statement.specs.declared.pseudo.SwappedBranchOperation.TheVariants.{Bgt, Ble, Bgtu, Bleu}
 use Rattle.rv_statement.specs.declared.pseudo.Function.TheVariants.{Hi, Lo, PcrelHi, PcrelLo}
 use Rattle.rv_statement.specs.Statement.{Operand, Register, Value, Applied, Target, Accesses, Word, Quoted, Expression}
 use Rattle.rv_parse_laws.specs.Syntax.{with_constant}
@@ -27,6 +22,7 @@ use Rattle.rv_source_laws.specs.Program.{in_operand}
 use Rattle.rv_source_laws.specs.Lines.{other_operand, is_low_part}
 use Rattle.rv_filling_laws.specs.Parts.{is_call}
 use Rattle.rv_isa.specs.Operations.{format_of}
+use Rattle.rv_boundary_laws.proofs.Quiet.{zero_branches, swapped_branches}
 
 -- ---- shapes
 
@@ -246,20 +242,6 @@ branch_by false false operation rs1 rs2 = ((refl, tt), refl)
 branch_far : (bytes : ℕ) (operation : BranchOperation) (rs1 rs2 : ℕ) → AreFar (branch bytes operation rs1 rs2)
 branch_far bytes operation rs1 rs2 = branch_by (bytes == 2) (bytes == 8) operation rs1 rs2
 
-zero_far : (bytes : ℕ) (operation : ZeroBranchOperation) (rs : ℕ) → AreFar (zero_branch bytes operation rs)
-zero_far bytes Beqz rs = branch_far bytes Beq rs 0
-zero_far bytes Bnez rs = branch_far bytes Bne rs 0
-zero_far bytes Bgez rs = branch_far bytes Bge rs 0
-zero_far bytes Bltz rs = branch_far bytes Blt rs 0
-zero_far bytes Blez rs = branch_far bytes Bge 0 rs
-zero_far bytes Bgtz rs = branch_far bytes Blt 0 rs
-
-swapped_far : (bytes : ℕ) (operation : SwappedBranchOperation) (a b : ℕ) → AreFar (swapped_branch bytes operation a b)
-swapped_far bytes Bgt a b = branch_far bytes Blt b a
-swapped_far bytes Ble a b = branch_far bytes Bge b a
-swapped_far bytes Bgtu a b = branch_far bytes Bltu b a
-swapped_far bytes Bleu a b = branch_far bytes Bgeu b a
-
 jump_by : (t : Bool) (rd : ℕ) → is_distance (if t then kind.RvcJump else kind.Jal) ≡ true
 jump_by true rd = refl
 jump_by false rd = refl
@@ -313,9 +295,9 @@ rows v rvc bytes (Store operation) (Register rs2 ∷ o ∷ Register rs1 ∷ []) 
 rows v rvc bytes (Branch operation) (Register rs1 ∷ Register rs2 ∷ Target e ∷ []) =
     aimed v (Register rs1 ∷ Register rs2 ∷ Target e ∷ []) e refl refl (branch bytes operation rs1 rs2) (inl (branch_far bytes operation rs1 rs2))
 rows v rvc bytes (ZeroBranch operation) (Register rs ∷ Target e ∷ []) =
-    aimed v (Register rs ∷ Target e ∷ []) e refl refl (zero_branch bytes operation rs) (inl (zero_far bytes operation rs))
+    aimed v (Register rs ∷ Target e ∷ []) e refl refl (zero_branch bytes operation rs) (inl (zero_branches AreFar bytes (branch_far bytes) operation rs))
 rows v rvc bytes (SwappedBranch operation) (Register a ∷ Register b ∷ Target e ∷ []) =
-    aimed v (Register a ∷ Register b ∷ Target e ∷ []) e refl refl (swapped_branch bytes operation a b) (inl (swapped_far bytes operation a b))
+    aimed v (Register a ∷ Register b ∷ Target e ∷ []) e refl refl (swapped_branch bytes operation a b) (inl (swapped_branches AreFar bytes (branch_far bytes) operation a b))
 rows v rvc bytes Jal (Register rd ∷ Target e ∷ []) = aimed v (Register rd ∷ Target e ∷ []) e refl refl (jump bytes rd) (inl (jump_far bytes rd))
 rows v rvc bytes Jal (Target e ∷ []) = aimed v (Target e ∷ []) e refl refl (jump bytes 1) (inl (jump_far bytes 1))
 rows v rvc bytes J (Target e ∷ []) = aimed v (Target e ∷ []) e refl refl (jump bytes 0) (inl (jump_far bytes 0))
