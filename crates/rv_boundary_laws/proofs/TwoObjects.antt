@@ -2,7 +2,8 @@
 
 use Rattle.std.proofs.Common.{ℕ, false, List, [], ◌∷◌, refl, arith, inl, inr, slice_index_or, map}
 use Rattle.std.specs.Int.{int_wrap}
-use Rattle.rv_statement.specs.Statement.{Label}
+use Rattle.rv_text_laws.specs.Values.{Value}
+use Rattle.rv_statement.specs.Statement.{Label, Expression}
 use Rattle.rv_unit_laws.specs.Tables.{at_start, tables}
 use Rattle.rv_source_laws.specs.Located.{located_now, located_from}
 use Rattle.rv_assemble_laws.specs.Sites.{Site, form}
@@ -20,9 +21,9 @@ no_site = record { located = located_now 1 1 at_start (record { line = 1; kind =
 abbrev nth : List Site → ℕ → Site
 nth sites n = slice_index_or sites n no_site
 
--- its one instruction, with compressed code off
-ecall : IsCode (form (tables first_source) (nth first_sites 3).located) false Ecall [] 4 ((0x73 ∷ 0 ∷ 0 ∷ 0 ∷ []) ∷ []) 1
-ecall = record {
+-- the one instruction of each, with compressed code off
+ecall : (v : Expression → Value) → IsCode v false Ecall [] 4 ((0x73 ∷ 0 ∷ 0 ∷ 0 ∷ []) ∷ []) 1
+ecall v = record {
   ps = Closed inst.Ecall ∷ [];
   parts = refl;
   coded_as = ((tt, refl, inl (refl, refl)), tt);
@@ -52,7 +53,7 @@ first_is = record {
       contents = refl;
       relocations = refl;
       numbered = λ e. (tt, tt);
-      sizes = ((λ e. (refl, refl)), ((λ e. (refl, refl)), ((λ e. (refl, refl)), ((λ e. ecall), tt))));
+      sizes = ((λ e. (refl, refl)), ((λ e. (refl, refl)), ((λ e. (refl, refl)), ((λ e. ecall (form (tables first_source) (nth first_sites 3).located)), tt))));
       fields = (tt, tt);
       short = λ e. omega arith;
     },
@@ -81,15 +82,6 @@ first_is = record {
   rvc = refl;
 }
 
-ecall_there : IsCode (form (tables second_source) (nth second_sites 13).located) false Ecall [] 4 ((0x73 ∷ 0 ∷ 0 ∷ 0 ∷ []) ∷ []) 1
-ecall_there = record {
-  ps = Closed inst.Ecall ∷ [];
-  parts = refl;
-  coded_as = ((tt, refl, inl (refl, refl)), tt);
-  size = refl;
-  count = refl;
-}
-
 pub second_is : IsObjectOf second_source second_object
 unfolding int_wrap
 second_is = record {
@@ -112,7 +104,7 @@ second_is = record {
       contents = refl;
       relocations = refl;
       numbered = λ e. (tt, (tt, tt));
-      sizes = ((λ e. (refl, refl)), ((λ e. (refl, refl)), ((λ e. (refl, refl)), ((λ e. ecall_there), ((λ e. (refl, (omega arith, refl), (refl, refl))), tt)))));
+      sizes = ((λ e. (refl, refl)), ((λ e. (refl, refl)), ((λ e. (refl, refl)), ((λ e. ecall (form (tables second_source) (nth second_sites 13).located)), ((λ e. (refl, (omega arith, refl), (refl, refl))), tt)))));
       fields = (tt, (tt, tt));
       short = λ e. omega arith;
     },
