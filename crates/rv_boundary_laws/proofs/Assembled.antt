@@ -1,8 +1,7 @@
 -- The object of a source, whatever the sizes of its branches and calls are: as in rv_assemble_laws, but that a call may be one
 -- instruction, with the mark of relaxation beside its field, and that only the symbols for all files are counted.
 
-use Rattle.std.proofs.Common.{refl, ap, ◌∙◌, arith, length-append}
-use Rattle.std.specs.Prelude.{◌≡◌, ℕ, suc, ◌+◌, ◌≤◌, true, ⊤, List, [], ◌∷◌, flat_map, map, length, Option, None, unwrap_or, if◌then◌else◌}
+use Rattle.std.specs.Prelude.{◌≡◌, ℕ, ◌≤◌, true, ⊤, List, [], ◌∷◌, flat_map, map, None, unwrap_or, if◌then◌else◌}
 use Rattle.std.specs.List.{AllByRecursion, list_any}
 use Rattle.rv_statement.specs.Statement.{StatementKind, Label, Numbered, Instruction, Directs, Statement}
 use Rattle.rv_unit_laws.specs.Contributions.{contribution}
@@ -17,10 +16,10 @@ use Rattle.rv_assemble_laws.specs.Coded.{constants}
 use Rattle.rv_assemble_laws.specs.Refusals.{statements_fault}
 use Rattle.rv_assemble_laws.specs.Symbols.{exports}
 use Rattle.rv_assemble_laws.specs.Templates.{Template, IsTemplate, contribution_templates}
-use Rattle.rv_assemble_laws.specs.Sites.{Site, Part, form, part_of, part_bytes, coded_templates, sites_in, end_of, HasSize}
+use Rattle.rv_assemble_laws.specs.Sites.{Site, Part, form, part_of, part_bytes, coded_templates, end_of, HasSize}
 use Rattle.rv_assemble_laws.specs.IsObjectOf.{Numbering, rows_at, relocations_from, contents_of, ArePartsNumbered, StandsInData}
-use Rattle.rv_assemble_laws.proofs.Filled.{bytes_append}
 use Rattle.rv_boundary_laws.proofs.Marked.{part_fields}
+use Rattle.rv_boundary_laws.proofs.Ordered.{Follow, AreInOrder}
 
 -- ---- templates
 
@@ -39,8 +38,7 @@ abbrev pub parts : Tables → List Site → List Part
 parts t sites = flat_map (parts_of t) sites
 
 abbrev pub Tile : Tables → ℕ → List Site → Type 0
-Tile t offset [] = ⊤
-Tile t offset (s ∷ ss) = (s.offset ≡ offset) × (s.bytes ≡ length (flat_map part_bytes (parts_of t s))) × Tile t (offset + s.bytes) ss
+Tile t offset sites = Follow (parts_of t) offset sites
 
 -- ---- sections
 
@@ -60,11 +58,7 @@ pub record IsSectionOf (t : Tables) (all : List Site) (number : Numbering) (symb
   pub short : section.executable ≡ true → end_of 0 sites ≤ longest_section
 
 abbrev pub AreSectionsOf : Tables → List Site → Numbering → List Symbol → ℕ → List SourceSection → List Section → Type 0
-AreSectionsOf t all number symbols index [] [] = ⊤
-AreSectionsOf t all number symbols index [] (x ∷ xs) = ⊥
-AreSectionsOf t all number symbols index (section ∷ sections) [] = ⊥
-AreSectionsOf t all number symbols index (section ∷ sections) (x ∷ xs) =
-    IsSectionOf t all number symbols index section (sites_in index all) x × AreSectionsOf t all number symbols (suc index) sections xs
+AreSectionsOf t all number symbols index sections xs = AreInOrder (IsSectionOf t all number symbols) all index sections xs
 
 -- ---- the whole
 
@@ -84,15 +78,3 @@ AreAssembled [] [] = ⊤
 AreAssembled [] (o ∷ os) = ⊥
 AreAssembled (ss ∷ sources) [] = ⊥
 AreAssembled (ss ∷ sources) (o ∷ os) = IsAssembled ss o × AreAssembled sources os
-
--- ---- what follows
-
--- statements end where their bytes end
-pub filled : (t : Tables) (offset : ℕ) (sites : List Site) → Tile t offset sites → end_of offset sites ≡ offset + length (flat_map part_bytes (parts t sites))
-filled t offset [] h = omega arith
-filled t offset (s ∷ ss) (at, bytes, h) =
-    let own = flat_map part_bytes (parts_of t s) in
-    let rest = flat_map part_bytes (parts t ss) in
-    let joined : length (flat_map part_bytes (parts t (s ∷ ss))) ≡ length own + length rest =
-    ap length (bytes_append (parts_of t s) (parts t ss)) ∙ length-append own rest in
-    let ih = filled t (offset + s.bytes) ss h in omega (arith, joined, bytes, ih)

@@ -1,25 +1,23 @@
 -- What may change of a section of text: in the object the alignments and the permitted calls among its relocations, in the source those among
 -- its statements.
 
-use Rattle.std.proofs.Common.{◌≡◌, ℕ, zero, suc, ◌+◌, ◌-◌, ◌*◌, ◌/◌, ◌%◌, ◌^◌, ◌≤◌, ◌<◌, Bool, true, false, List, [], ◌∷◌, ◌++◌, length, length-append, map, refl, sym, ap, ◌∙◌, subst, arith, pos, Option, Some, None, option_map, ◌⊎◌, inl, inr}
-use Rattle.std.proofs.lemmas.Bool.{and_parts, eq-eqb, ne_eqb, le-leb, lt-ltb, le-ltb}
+use Rattle.std.proofs.Common.{◌≡◌, ℕ, zero, suc, ◌+◌, ◌-◌, ◌*◌, ◌/◌, ◌%◌, ◌^◌, ◌≤◌, ◌<◌, Bool, true, false, List, [], ◌∷◌, ◌++◌, length, map, refl, sym, ap, ◌∙◌, subst, arith, pos, Option, Some, None, option_map, inl, inr}
+use Rattle.std.proofs.lemmas.Bool.{eq-eqb, lt-ltb, le-ltb}
 use Rattle.std.proofs.lemmas.List.Folds.{list_any-append}
 use Rattle.std.proofs.lemmas.List.Sums.{sum_by-cons, sum_by-append}
-use Rattle.std.specs.Prelude.{⊤, not, ◌&&◌, ◌||◌, ◌==◌, nat_lt, nat_le, if◌then◌else◌, filter, flat_map, unwrap_or, option_and_then, cond, count_by}
+use Rattle.std.specs.Prelude.{not, ◌&&◌, ◌||◌, ◌==◌, nat_lt, if◌then◌else◌, filter, option_and_then, cond, count_by}
 use Rattle.std.specs.Int.{w64, int_wrap}
 use Rattle.std.specs.List.{AllByRecursion, list_any, slice_get}
 use Rattle.rv_isa.specs.declared.kind.Kind.TheVariants as kinds
-use Rattle.rv_isa.specs.Kinds.{width_of}
 use Rattle.rv_text_laws.specs.Expression.{Primary}
-use Rattle.rv_text_laws.specs.Values.{Value, Symbolic}
+use Rattle.rv_text_laws.specs.Values.{Value}
 use Rattle.rv_statement.specs.declared.mnemonic.Mnemonic.{Mnemonic}
-use Rattle.rv_statement.specs.Statement.{StatementKind, Label, Numbered, Instruction, Directs, Operand, Expression, Directive, Enters, Opens, Globl, Local, Sets, Aligns_to_power, Aligns_to_bytes, Values, Strings, Zeros, Chooses, Ignored}
-use Rattle.rv_unit_laws.specs.Contributions.{contribution}
-use Rattle.rv_unit_laws.specs.Sections.{Section as SourceSection, goes_to_text as source_text}
+use Rattle.rv_statement.specs.Statement.{StatementKind, Instruction, Directs, Operand, Expression, Directive}
+use Rattle.rv_unit_laws.specs.Sections.{Section as SourceSection}
 use Rattle.rv_unit_laws.specs.Tables.{Tables, alignment_of as source_alignment}
 use Rattle.rv_layout_laws.specs.declared.site.Site.{Site as Spot}
 use Rattle.rv_layout_laws.specs.declared.site.SiteKind.TheVariants as spots
-use Rattle.rv_source_laws.specs.Located.{Located, has_row}
+use Rattle.rv_source_laws.specs.Located.{Located}
 use Rattle.rv_source_laws.specs.Program.{Program, tables_in, form as program_form}
 use Rattle.rv_source_laws.specs.Sizes.{target_in}
 use Rattle.rv_source_laws.specs.Sized.{is_call}
@@ -31,32 +29,23 @@ use Rattle.rv_object.specs.Valid.{is_align, held}
 use Rattle.rv_object_laws.specs.Calls as objects
 use Rattle.rv_object_laws.specs.Calls.{word_at, are_call_words, link_register as linked_by, is_relax, has_relax, meets, is_entered, target_place, is_text_place, text_offset, is_permitted, may_change, inserted_change, in_order, changes, site_of}
 use Rattle.rv_object_laws.specs.Inputs.{Starts, InputSection}
-use Rattle.rv_object_laws.specs.Moves.{full_padding, has_padding, alignment_of}
+use Rattle.rv_object_laws.specs.Moves.{full_padding, alignment_of}
 use Rattle.rv_object_laws.specs.Names.{Place, symbol_place}
 use Rattle.rv_assemble_laws.specs.CodeFields.{relax_fields}
-use Rattle.rv_assemble_laws.specs.Coded.{constants}
-use Rattle.rv_assemble_laws.specs.Templates.{Template, Fixed, Datum, Coded, Open, template_fields, align_field, padding_templates}
-use Rattle.rv_assemble_laws.specs.Sites.{Site, Part, form, part_of, part_bytes, coded_templates, HasSize, IsPadded, IsPaddedIn}
+use Rattle.rv_assemble_laws.specs.Templates.{Template, Coded, Open, template_fields, align_field, padding_templates}
+use Rattle.rv_assemble_laws.specs.Sites.{Site, form, part_of, part_bytes, IsPaddedIn}
 use Rattle.rv_assemble_laws.specs.Symbols.{StandsFor}
-use Rattle.rv_assemble_laws.specs.IsObjectOf.{Numbering, relocation_at, relocations_from, ArePartsNumbered}
-use Rattle.rv_boundary_laws.proofs.Assembled.{templates, parts_of, parts, Tile}
-use Rattle.rv_boundary_laws.proofs.Called.{uncalled}
-use Rattle.rv_boundary_laws.proofs.Cuts.{IsCalm, NoCalls, data_calm, code_calm, template_calm}
-use Rattle.rv_boundary_laws.proofs.CutSections.{HasWords, has_words, links}
-use Rattle.rv_boundary_laws.proofs.Fielded.{IsPlain, sized_each, plain_part}
+use Rattle.rv_assemble_laws.specs.IsObjectOf.{Numbering, relocation_at, relocations_from}
+use Rattle.rv_boundary_laws.proofs.Assembled.{templates, parts_of}
+use Rattle.rv_boundary_laws.proofs.Cuts.{IsCalm, NoCalls, template_calm}
+use Rattle.rv_boundary_laws.proofs.CutSections.{HasWords}
+use Rattle.rv_boundary_laws.proofs.Fielded.{IsPlain}
 use Rattle.rv_boundary_laws.proofs.LongCalls as long
 use Rattle.rv_boundary_laws.proofs.LongCalls.{IsLongCall, long_call}
-use Rattle.rv_boundary_laws.proofs.Pads.{IsPower, IsValidAlignment, power_valid, byte_valid, bare_before, by_power, sort_of}
-use Rattle.rv_boundary_laws.proofs.Patches.{append_nil, append_assoc}
-use Rattle.rv_boundary_laws.proofs.Pieces as pieces
-use Rattle.rv_boundary_laws.proofs.Ranges.{InRange, ranges, solid}
-use Rattle.rv_boundary_laws.proofs.Sections.{split, join}
-use Rattle.rv_boundary_laws.proofs.Settled.{IsSiteIn, bytes_append}
+use Rattle.rv_boundary_laws.proofs.Pads.{IsPower, IsValidAlignment, by_power}
+use Rattle.rv_boundary_laws.proofs.Sections.{join}
 use Rattle.rv_boundary_laws.proofs.Statements.{renumbered, row_in, mapped_at}
-use Rattle.rv_boundary_laws.proofs.Stood.{IsAside}
-use Rattle.rv_boundary_laws.proofs.Uncut.{IsUncut}
-use Rattle.rv_boundary_laws.proofs.Walk.{align_at, alignment_is, power_some, template_plain, relocations_join, From, parts_from}
-use Rattle.rv_boundary_laws.proofs.Wholes.{IsSound}
+use Rattle.rv_boundary_laws.proofs.Walk.{align_at, alignment_is, template_plain}
 
 -- ---- the words of a call
 

@@ -1,9 +1,9 @@
 -- The changes of a section of text, statement by statement, in their order.
 
-use Rattle.std.proofs.Common.{◌≡◌, ℕ, zero, suc, ◌+◌, ◌-◌, ◌%◌, ◌≤◌, ◌<◌, Bool, true, false, List, [], ◌∷◌, ◌++◌, length, length-append, map, refl, sym, ap, ◌∙◌, subst, arith, Option, Some, None, option_map, ◌⊎◌, inl, inr}
+use Rattle.std.proofs.Common.{◌≡◌, ℕ, ◌+◌, ◌%◌, ◌≤◌, ◌<◌, Bool, true, false, List, [], ◌∷◌, ◌++◌, length, length-append, map, refl, sym, ap, ◌∙◌, subst, arith, Option, Some, None, option_map, ◌⊎◌, inl, inr}
 use Rattle.std.proofs.lemmas.Bool.{and_parts, eq-eqb, ne_eqb, le-leb, le-ltb, lt-ltb}
 use Rattle.std.proofs.lemmas.List.Sums.{sum_by-cons}
-use Rattle.std.specs.Prelude.{⊤, not, ◌&&◌, ◌||◌, ◌==◌, nat_lt, nat_le, if◌then◌else◌, filter, flat_map, unwrap_or, option_and_then, cond, count_by}
+use Rattle.std.specs.Prelude.{◌&&◌, ◌||◌, ◌==◌, nat_lt, if◌then◌else◌, filter, flat_map, unwrap_or, option_and_then, cond, count_by}
 use Rattle.std.specs.List.{AllByRecursion, list_any, slice_get}
 use Rattle.rv_isa.specs.declared.kind.Kind.TheVariants as kinds
 use Rattle.rv_isa.specs.Kinds.{width_of}
@@ -12,7 +12,6 @@ use Rattle.rv_statement.specs.declared.mnemonic.Mnemonic.{Mnemonic}
 use Rattle.rv_statement.specs.Statement.{StatementKind, Label, Numbered, Instruction, Directs, Operand, Enters, Opens, Globl, Local, Sets, Aligns_to_power, Aligns_to_bytes, Values, Strings, Zeros, Chooses, Ignored}
 use Rattle.rv_unit_laws.specs.Sections.{Section as SourceSection, goes_to_text as source_text}
 use Rattle.rv_unit_laws.specs.Tables.{Tables, alignment_of as source_alignment}
-use Rattle.rv_layout_laws.specs.declared.site.Site.{Site as Spot}
 use Rattle.rv_source_laws.specs.Located.{Located, has_row}
 use Rattle.rv_source_laws.specs.Program.{Program, tables_in, form as program_form}
 use Rattle.rv_source_laws.specs.Sizes.{target_in}
@@ -26,10 +25,11 @@ use Rattle.rv_object_laws.specs.Inputs.{Starts, InputSection}
 use Rattle.rv_object_laws.specs.Names.{symbol_place}
 use Rattle.rv_assemble_laws.specs.CodeFields.{relax_fields}
 use Rattle.rv_assemble_laws.specs.Coded.{constants}
-use Rattle.rv_assemble_laws.specs.Sites.{Site, Part, form, part_of, part_bytes, coded_templates, HasSize}
+use Rattle.rv_assemble_laws.specs.Sites.{Site, form, part_of, part_bytes, coded_templates, HasSize}
 use Rattle.rv_assemble_laws.specs.Templates.{Coded}
 use Rattle.rv_assemble_laws.specs.Symbols.{StandsFor, references_in}
 use Rattle.rv_assemble_laws.specs.IsObjectOf.{Numbering, IsNumbered, relocation_at, relocations_from, ArePartsNumbered}
+use Rattle.rv_assemble_laws.proofs.Filled.{bytes_append}
 use Rattle.rv_boundary_laws.proofs.Assembled.{templates, parts_of, parts, Tile}
 use Rattle.rv_boundary_laws.proofs.Called.{uncalled}
 use Rattle.rv_boundary_laws.proofs.Changes as change
@@ -44,7 +44,7 @@ use Rattle.rv_boundary_laws.proofs.Pads.{power_valid, byte_valid, bare_before}
 use Rattle.rv_boundary_laws.proofs.Patches.{append_nil, append_assoc}
 use Rattle.rv_boundary_laws.proofs.Ranges.{InRange, even_bytes, in_range}
 use Rattle.rv_boundary_laws.proofs.Sections.{split, join}
-use Rattle.rv_boundary_laws.proofs.Settled.{IsSiteIn, bytes_append}
+use Rattle.rv_boundary_laws.proofs.Settled.{IsSiteIn}
 use Rattle.rv_boundary_laws.proofs.Statements.{renumbered, mapped_at}
 use Rattle.rv_boundary_laws.proofs.Stood.{IsAside}
 use Rattle.rv_boundary_laws.proofs.Uncut.{IsUncut}

@@ -1,6 +1,6 @@
 -- The object of a source whose calls are cut is that of the source, with calls of one instruction.
 
-use Rattle.std.proofs.Common.{◌≡◌, ℕ, zero, suc, ◌+◌, ◌-◌, ◌≤◌, Bool, true, false, List, [], ◌∷◌, ◌++◌, map, refl, sym, ap, ◌∙◌, subst, arith, Option, Some, None}
+use Rattle.std.proofs.Common.{◌≡◌, ℕ, suc, ◌+◌, ◌-◌, Bool, true, false, List, [], ◌∷◌, ◌++◌, map, refl, sym, ap, ◌∙◌, subst, arith, Some}
 use Rattle.std.proofs.lemmas.Bool.{and_parts, eqb-true}
 use Rattle.std.specs.Prelude.{⊤, ◌&&◌, ◌||◌, ◌==◌, if◌then◌else◌, filter, flat_map}
 use Rattle.std.specs.List.{AllByRecursion, list_any, slice_get}
@@ -28,7 +28,7 @@ use Rattle.rv_boundary_laws.proofs.CutSteps.{cut_site}
 use Rattle.rv_boundary_laws.proofs.CutSections.{section_left, resized}
 use Rattle.rv_boundary_laws.proofs.Filed as filed
 use Rattle.rv_boundary_laws.proofs.Moved as moved
-use Rattle.rv_boundary_laws.proofs.Settled.{IsSettled, IsSiteIn, sites_are_in}
+use Rattle.rv_boundary_laws.proofs.Settled.{IsSettled, IsSiteIn, sites_are_in, of_sections}
 use Rattle.rv_boundary_laws.proofs.Uncut.{IsUncut}
 use Rattle.rv_boundary_laws.proofs.Wholes.{IsSound, sound}
 
@@ -233,7 +233,7 @@ module _ (ss : List Statement) (o : Object) (is : IsAssembled ss o) (uncut : All
       ap (λ n. cut_site (source_text z.located.home) (sizes n) (cuts_in sizes o n) z) stands ∙ ap (λ q. cut_site (source_text z.located.home) (sizes j) (cuts_at (sizes j) q) z) there
 
   pub all_resized : AllByRecursion IsResized is.sites
-  all_resized = filed.of_all ss o is IsResized is.sites all_settled by
+  all_resized = of_sections sections IsResized is.sites all_settled by
     where
       by : (j : ℕ) (s : SourceSection) → slice_get sections j ≡ Some s → AllByRecursion IsResized (sites_in j is.sites)
       by j s at = go (source_text s) refl

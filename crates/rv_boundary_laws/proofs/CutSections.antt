@@ -1,8 +1,8 @@
 -- A section of code whose calls are cut is that of its source, with calls of one instruction.
 
-use Rattle.std.proofs.Common.{◌≡◌, ℕ, zero, suc, ◌+◌, ◌-◌, ◌*◌, ◌/◌, ◌%◌, ◌^◌, ◌≤◌, ◌<◌, Bool, true, false, List, [], ◌∷◌, ◌++◌, length, length-append, map, take, drop, refl, sym, ap, ◌∙◌, subst, arith, pos, ◌⊎◌, inl, inr}
+use Rattle.std.proofs.Common.{◌≡◌, ℕ, ◌+◌, ◌-◌, ◌*◌, ◌^◌, ◌≤◌, ◌<◌, Bool, true, false, List, [], ◌∷◌, ◌++◌, length, length-append, map, take, drop, refl, sym, ap, ◌∙◌, subst, arith, pos, inl, inr}
 use Rattle.std.proofs.lemmas.Bool.{and_parts, le-leb}
-use Rattle.std.specs.Prelude.{◌&&◌, ◌==◌, nat_lt, nat_le, if◌then◌else◌, filter, flat_map}
+use Rattle.std.specs.Prelude.{◌&&◌, nat_lt, nat_le, if◌then◌else◌, filter, flat_map}
 use Rattle.std.specs.Int.{w32, from_le_bytes}
 use Rattle.std.specs.List.{AllByRecursion}
 use Rattle.rv_isa.specs.declared.kind.Kind.TheVariants as kinds
@@ -15,25 +15,26 @@ use Rattle.rv_unit_laws.specs.declared.section_type.SectionType.{SectionType}
 use Rattle.rv_unit_laws.specs.declared.section_type.SectionType.TheVariants as types
 use Rattle.rv_unit_laws.specs.Sections.{Section as SourceSection, is_nobits_type, is_nobits, goes_to_text as source_text}
 use Rattle.rv_unit_laws.specs.Tables.{Tables, longest_section}
-use Rattle.rv_object.specs.Object.{Contents, Progbits, Note, Nobits, Relocation, Section, Symbol, stored}
+use Rattle.rv_object.specs.Object.{Progbits, Note, Nobits, Relocation, Section, Symbol, stored}
 use Rattle.rv_object.specs.Valid.{held}
-use Rattle.rv_object_laws.specs.Calls.{word_at, are_call_words, link_register as linked_by, inserted_change, in_order}
+use Rattle.rv_object_laws.specs.Calls.{word_at, link_register as linked_by, inserted_change, in_order}
 use Rattle.rv_object_laws.specs.Inputs.{goes_to_text}
 use Rattle.rv_object_laws.specs.Moves.{Move, dropped, new_offset, kept, lost}
 use Rattle.rv_object_laws.specs.Shortened.{Sizes, short_call, is_shortened, cut, cuts, shortened_relocation, shortened_contents, shortened_text}
 use Rattle.rv_source_laws.specs.Shortened.{link_register}
-use Rattle.rv_assemble_laws.specs.Sites.{Site, Part, form, part_of, part_bytes, end_of, sites_in, HasSize}
+use Rattle.rv_assemble_laws.specs.Sites.{Site, Part, part_bytes, end_of}
 use Rattle.rv_assemble_laws.specs.Symbols.{references_in}
-use Rattle.rv_assemble_laws.specs.Templates.{Open, Coded, IsTemplate}
+use Rattle.rv_assemble_laws.specs.Templates.{Open, IsTemplate}
 use Rattle.rv_assemble_laws.specs.IsObjectOf.{Numbering, IsNumbered, ArePartsNumbered, contents_of, relocation_at, relocations_from}
-use Rattle.rv_boundary_laws.proofs.Assembled.{parts_of, parts, Tile, IsSectionOf, filled}
-use Rattle.rv_boundary_laws.proofs.Cuts.{link_of, is_cut, AreCalm, IsStill, IsCutCall}
+use Rattle.rv_assemble_laws.proofs.Filled.{bytes_append}
+use Rattle.rv_boundary_laws.proofs.Ordered.{filled}
+use Rattle.rv_boundary_laws.proofs.Assembled.{parts_of, parts, Tile, IsSectionOf}
+use Rattle.rv_boundary_laws.proofs.Cuts.{link_of, AreCalm}
 use Rattle.rv_boundary_laws.proofs.CutSteps as walk
 use Rattle.rv_boundary_laws.proofs.CutSteps.{cut_site, cut_move, cuts_from}
 use Rattle.rv_boundary_laws.proofs.LongCalls as long
 use Rattle.rv_boundary_laws.proofs.LongCalls.{IsLongCall}
 use Rattle.rv_boundary_laws.proofs.Patches.{append_assoc, append_nil}
-use Rattle.rv_boundary_laws.proofs.Settled.{bytes_append}
 use Rattle.rv_boundary_laws.proofs.Walk.{drop_past, relocations_join, From, parts_from}
 
 -- ---- the words of a call
@@ -272,8 +273,8 @@ module _ (t : Tables) (sites sites' : List Site) (number : Numbering) (symbols s
   -- no code stands where there are no bytes in the file
   nothing_left : is_nobits s ≡ true → (end_of 0 zs ≡ 0) × (end_of 0 zs' ≡ 0) × (flat_map part_bytes (parts t zs') ≡ [])
   nothing_left none =
-      let before : end_of 0 zs ≡ 0 + length (flat_map part_bytes (parts t zs)) = filled t 0 zs h.tile in
-      let long_after : end_of 0 zs' ≡ 0 + length (flat_map part_bytes (parts t zs')) = filled t 0 zs' tile_left in
+      let before : end_of 0 zs ≡ 0 + length (flat_map part_bytes (parts t zs)) = filled (parts_of t) 0 zs h.tile in
+      let long_after : end_of 0 zs' ≡ 0 + length (flat_map part_bytes (parts t zs')) = filled (parts_of t) 0 zs' tile_left in
       let empty : length (flat_map part_bytes (parts t zs)) ≡ 0 = ap length (h.code text none) in
       let stop : end_of 0 zs ≡ 0 = omega (arith, before, empty) in
       let after : end_of 0 zs' ≡ 0 = sym end_left ∙ ap (new_offset ms) stop ∙ (let n = dropped ms 0 in let e : 0 - n ≡ 0 = omega arith in e) in

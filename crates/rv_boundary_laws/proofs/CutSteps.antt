@@ -1,6 +1,6 @@
 -- The walk over a section of code whose calls are cut.
 
-use Rattle.std.proofs.Common.{◌≡◌, ℕ, zero, suc, ◌+◌, ◌-◌, ◌*◌, ◌%◌, ◌≤◌, ◌<◌, Bool, true, false, List, [], ◌∷◌, ◌++◌, length, length-append, map, take, drop, refl, sym, ap, ◌∙◌, subst, arith, ◌⊎◌, inl, inr}
+use Rattle.std.proofs.Common.{◌≡◌, ℕ, ◌+◌, ◌-◌, ◌≤◌, ◌<◌, Bool, true, false, List, [], ◌∷◌, ◌++◌, length, length-append, map, take, drop, refl, sym, ap, ◌∙◌, subst, arith, ◌⊎◌, inl, inr}
 use Rattle.std.proofs.lemmas.Bool.{le-leb}
 use Rattle.std.proofs.lemmas.List.Sums.{sum_by-cons}
 use Rattle.std.specs.Prelude.{◌&&◌, ◌==◌, nat_lt, nat_le, min, if◌then◌else◌, flat_map}
@@ -14,9 +14,10 @@ use Rattle.rv_object_laws.specs.Moves.{Move, dropped, new_offset, kept, lost, lo
 use Rattle.rv_object_laws.specs.Shortened.{Sizes, short_call, is_shortened, shortened_kind, shortened_relocation}
 use Rattle.rv_source_laws.specs.Shortened.{calls, link_register}
 use Rattle.rv_assemble_laws.specs.CodeFields.{relax_fields}
-use Rattle.rv_assemble_laws.specs.Templates.{Open, open_at, Coded, template_fields}
+use Rattle.rv_assemble_laws.specs.Templates.{Open, Coded, template_fields}
 use Rattle.rv_assemble_laws.specs.Sites.{Site, Part, form, part_of, part_bytes, end_of, HasSize}
 use Rattle.rv_assemble_laws.specs.IsObjectOf.{Numbering, relocation_at, relocations_from}
+use Rattle.rv_assemble_laws.proofs.Filled.{bytes_append}
 use Rattle.rv_boundary_laws.proofs.Assembled.{templates, parts_of, parts, Tile}
 use Rattle.rv_boundary_laws.proofs.Called.{short_coded}
 use Rattle.rv_boundary_laws.proofs.Cuts.{link_of, is_cut, AreCalm, IsStill, IsCutCall}
@@ -24,7 +25,6 @@ use Rattle.rv_boundary_laws.proofs.LongCalls as long
 use Rattle.rv_boundary_laws.proofs.Pads.{at}
 use Rattle.rv_boundary_laws.proofs.Patches.{append_nil}
 use Rattle.rv_boundary_laws.proofs.Sections.{split, join}
-use Rattle.rv_boundary_laws.proofs.Settled.{bytes_append}
 use Rattle.rv_boundary_laws.proofs.Stepped.{drop_whole}
 use Rattle.rv_boundary_laws.proofs.Walk.{Ahead, dropped_none, lost_none, lost_before, kept_front, relocations_join}
 

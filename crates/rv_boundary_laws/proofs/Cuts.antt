@@ -1,45 +1,37 @@
 -- The statements of a section of code where calls are cut: each stands where what is kept before it ends.
 
-use Rattle.std.proofs.Common.{◌≡◌, ℕ, zero, suc, ◌+◌, ◌-◌, ◌%◌, ◌≤◌, ◌<◌, Bool, true, false, List, [], ◌∷◌, ◌++◌, length, length-append, map, take, drop, refl, sym, ap, ◌∙◌, subst, arith, Option, Some, None, ◌⊎◌, inl, inr}
-use Rattle.std.proofs.lemmas.Bool.{and_parts, ltb-true, le-leb}
-use Rattle.std.proofs.lemmas.List.Sums.{sum_by-cons}
-use Rattle.std.specs.Prelude.{⊤, ◌&&◌, ◌==◌, nat_lt, nat_le, min, if◌then◌else◌, filter, flat_map, unwrap_or}
+use Rattle.std.proofs.Common.{◌≡◌, ℕ, zero, suc, ◌+◌, Bool, true, false, List, [], ◌∷◌, ◌++◌, length, map, refl, sym, ap, ◌∙◌, subst, Option, ◌⊎◌, inl, inr}
+use Rattle.std.specs.Prelude.{⊤, ◌&&◌, ◌==◌, nat_lt, if◌then◌else◌, unwrap_or}
 use Rattle.std.specs.List.{AllByRecursion}
 use Rattle.rv_isa.specs.declared.kind.Kind.{Kind}
 use Rattle.rv_isa.specs.declared.kind.Kind.TheVariants as kinds
 use Rattle.rv_isa.specs.declared.kind.Kind.TheVariants.{Abs32, Abs64, Add8, Add16, Add32, Add64, Sub8, Sub16, Sub32, Sub64}
 use Rattle.rv_text_laws.specs.Values.{Value, Constant, Symbolic, Difference, Faulty}
 use Rattle.rv_statement.specs.declared.mnemonic.Mnemonic.{Mnemonic}
-use Rattle.rv_statement.specs.Statement.{StatementKind, Label, Numbered, Instruction, Directs, Operand, Expression, Directive, Enters, Opens, Globl, Local, Sets, Aligns_to_power, Aligns_to_bytes, Values, Strings, Zeros, Chooses, Ignored}
+use Rattle.rv_statement.specs.Statement.{StatementKind, Label, Numbered, Instruction, Directs, Operand, Expression, Enters, Opens, Globl, Local, Sets, Aligns_to_power, Aligns_to_bytes, Values, Strings, Zeros, Chooses, Ignored}
 use Rattle.rv_pseudo_laws.specs.Code.{Part as CodePart, Closed, Open as Open_part, Joined, code}
-use Rattle.rv_unit_laws.specs.Contributions.{Numbers, Texts, Contribution, Nothing, Bytes, Zero_bytes, Alignment, contribution}
 use Rattle.rv_unit_laws.specs.Sections.{Section as SourceSection}
 use Rattle.rv_unit_laws.specs.Tables.{Tables, alignment_of}
 use Rattle.rv_source_laws.specs.Sized.{is_call}
 use Rattle.rv_source_laws.specs.Shortened.{calls, link_register}
 use Rattle.rv_object.specs.Object.{Relocation}
-use Rattle.rv_object.specs.Padding.{operations_in}
 use Rattle.rv_object_laws.specs.Calls as objects
-use Rattle.rv_object_laws.specs.Moves.{Move, dropped, new_offset, kept, lost, lost_in}
-use Rattle.rv_object_laws.specs.Shortened.{Sizes, short_call, is_shortened, shortened_kind, shortened_relocation}
+use Rattle.rv_object_laws.specs.Shortened.{Sizes, is_shortened}
 use Rattle.rv_assemble_laws.specs.CodeFields.{relax_fields}
 use Rattle.rv_assemble_laws.specs.Coded.{constants}
 use Rattle.rv_assemble_laws.specs.Templates.{Template, Fixed, Datum, Coded, Open, value_fields, template_fields, absolute_kind, add_kind, subtract_kind, padding_templates}
-use Rattle.rv_assemble_laws.specs.Sites.{Site, Part, form, part_of, part_bytes, coded_templates, end_of, HasSize, IsPadded, IsPaddedIn}
+use Rattle.rv_assemble_laws.specs.Sites.{Site, form, part_of, part_bytes, coded_templates, HasSize, IsPadded, IsPaddedIn}
 use Rattle.rv_assemble_laws.specs.IsObjectOf.{Numbering, relocation_at, relocations_from}
-use Rattle.rv_boundary_laws.proofs.Assembled.{templates, parts_of, parts, Tile}
+use Rattle.rv_boundary_laws.proofs.Assembled.{templates}
 use Rattle.rv_boundary_laws.proofs.Called.{IsForm, IsUncalled, uncalled}
 use Rattle.rv_boundary_laws.proofs.Fielded.{part_kinds}
 use Rattle.rv_boundary_laws.proofs.LongCalls as long
 use Rattle.rv_boundary_laws.proofs.LongCalls.{IsLongCall, long_call}
 use Rattle.rv_boundary_laws.proofs.Marked.{part_fields}
 use Rattle.rv_boundary_laws.proofs.Pads.{at, bare_before}
-use Rattle.rv_boundary_laws.proofs.Patches.{append_nil, append_assoc}
-use Rattle.rv_boundary_laws.proofs.Sections.{split, join}
-use Rattle.rv_boundary_laws.proofs.Settled.{bytes_append, IsSiteIn}
-use Rattle.rv_boundary_laws.proofs.Stepped.{drop_whole}
+use Rattle.rv_boundary_laws.proofs.Sections.{join}
+use Rattle.rv_boundary_laws.proofs.Settled.{IsSiteIn}
 use Rattle.rv_boundary_laws.proofs.Uncut.{IsUncut}
-use Rattle.rv_boundary_laws.proofs.Walk.{Ahead, dropped_none, lost_none, lost_before, kept_front, relocations_join}
 use Rattle.rv_boundary_laws.proofs.Wholes.{IsSound}
 
 -- ---- the two sorts of statements

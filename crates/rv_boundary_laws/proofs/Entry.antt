@@ -26,13 +26,14 @@ use Rattle.rv_assemble_laws.specs.Symbols.{site_at, after_found, assigned_defini
 use Rattle.rv_assemble_laws.specs.IsObjectOf.{IsInData, StandsInData}
 use Rattle.rv_boundary_laws.proofs.Statements.{row_in, rows_from, statement_at, all_statements, all_rows}
 use Rattle.rv_boundary_laws.proofs.Settled.{IsSettled, settled}
-use Rattle.rv_boundary_laws.proofs.Known.{all_found, section_found}
+use Rattle.rv_boundary_laws.proofs.Known.{all_found}
+use Rattle.rv_boundary_laws.proofs.Ordered.{its_section}
 use Rattle.rv_boundary_laws.proofs.Sections.{split}
 use Rattle.rv_boundary_laws.proofs.Files.{IsFile, AreFiles}
 use Rattle.rv_boundary_laws.proofs.Names.{exported_are, AreNth}
 use Rattle.rv_boundary_laws.proofs.Globals.{IsLow, low_rows, label_address}
 use Rattle.rv_boundary_laws.proofs.Evens.{IsEven, evens}
-use Rattle.rv_boundary_laws.proofs.Shrunk.{IsObjectOf, AreObjectsOf}
+use Rattle.rv_boundary_laws.proofs.Shrunk.{IsSectionOf, IsObjectOf, AreObjectsOf}
 
 -- ---- searches
 
@@ -77,7 +78,7 @@ module _ (sources : List (List Statement)) (p : Program) (starts : Starts) (file
 
   text_is : (s : Site) → IsSettled sections s → is_in_text (slice_get o.sections s.located.section) ≡ goes_to_text s.located.home
   text_is s here =
-      let found = section_found t is.sites is.number o.symbols 0 s.located.section sections o.sections s.located.home is.sections here.home in
+      let found = its_section (IsSectionOf t is.sites is.number o.symbols) is.sites s.located.section sections o.sections s.located.home is.sections here.home in
       ap is_in_text found.1 ∙ ap (λ b. b && found.0.executable) found.2.loaded ∙ ap (λ b. s.located.home.loaded && b) found.2.executable
 
   -- a place that `.set` gives is in no text

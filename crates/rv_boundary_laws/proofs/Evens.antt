@@ -1,8 +1,8 @@
 -- Statements of text stand at even offsets.
 
-use Rattle.std.proofs.Common.{◌≡◌, ℕ, ◌+◌, ◌%◌, Bool, true, false, List, [], ◌∷◌, length, refl, sym, ap, ◌∙◌, subst, arith, Some}
-use Rattle.std.proofs.lemmas.Bool.{and_parts, eq-eqb}
-use Rattle.std.specs.Prelude.{◌&&◌, ◌==◌, if◌then◌else◌, flat_map, map}
+use Rattle.std.proofs.Common.{◌≡◌, ℕ, ◌+◌, ◌%◌, Bool, true, false, List, [], ◌∷◌, length, refl, sym, ap, ◌∙◌, arith, Some}
+use Rattle.std.proofs.lemmas.Bool.{and_parts}
+use Rattle.std.specs.Prelude.{◌&&◌, flat_map, map}
 use Rattle.std.specs.List.{AllByRecursion, slice_get}
 use Rattle.rv_text_laws.specs.Values.{Value}
 use Rattle.rv_statement.specs.Statement.{StatementKind, Label, Numbered, Instruction, Directs, Statement, Expression, Enters, Opens, Globl, Local, Sets, Aligns_to_power, Aligns_to_bytes, Values, Strings, Zeros, Chooses, Ignored}
@@ -12,8 +12,8 @@ use Rattle.rv_unit_laws.specs.Tables.{Tables, tables, alignment_of, opened_of}
 use Rattle.rv_source_laws.proofs.Held.{IsHeld}
 use Rattle.rv_object.specs.Object.{Object}
 use Rattle.rv_assemble_laws.specs.Sites.{Site, form, part_of, part_bytes, sites_in}
-use Rattle.rv_boundary_laws.proofs.Settled.{IsSettled, settled, IsSiteIn, sites_are_in}
-use Rattle.rv_boundary_laws.proofs.Known.{section_found}
+use Rattle.rv_boundary_laws.proofs.Settled.{IsSettled, settled, of_sections, IsSiteIn, sites_are_in}
+use Rattle.rv_boundary_laws.proofs.Ordered.{its_section}
 use Rattle.rv_boundary_laws.proofs.Coding.{all_few}
 use Rattle.rv_boundary_laws.proofs.Shrunk.{IsPaddedIn, parts_of, Tile, HasSize, IsSectionOf, IsObjectOf}
 
@@ -100,26 +100,9 @@ module _ (ss : List Statement) (o : Object) (is : IsObjectOf ss o) where
 
       go : (b : Bool) → goes_to_text section ≡ b → AllByRecursion IsEven (sites_in index is.sites)
       go true text =
-          let (x, there, plain) = section_found (tables ss) is.sites is.number o.symbols 0 index sections o.sections section is.sections at in
-          let same : 0 + index ≡ index = omega arith in
-          let found = subst (λ n. IsSectionOf (tables ss) is.sites is.number o.symbols n section (sites_in n is.sites) x) same plain in
+          let (x, there, found) = its_section (IsSectionOf (tables ss) is.sites is.number o.symbols) is.sites index sections o.sections section is.sections at in
           in_code (tables ss) index section x.alignment 0 (sites_in index is.sites) ((and_parts section.loaded section.executable text).1) refl here found.tile (found.sizes ((and_parts section.loaded section.executable text).0))
       go false none = aside (tables ss) index section 1 (sites_in index is.sites) none here
 
-  -- what holds in each section holds of all
-  of_all : (rest : List Site) → AllByRecursion (IsSettled sections) rest → ((index : ℕ) (section : SourceSection) → slice_get sections index ≡ Some section → AllByRecursion IsEven (sites_in index rest))
-      → AllByRecursion IsEven rest
-  of_all [] h each = tt
-  of_all (s ∷ rest) (h, hs) each =
-      (first (s.located.section == s.located.section) (eq-eqb s.located.section s.located.section refl) (each s.located.section s.located.home h.home), of_all rest hs (λ index section at. later index (s.located.section == index) (each index section at)))
-    where
-      first : (b : Bool) → b ≡ true → AllByRecursion IsEven (if b then s ∷ sites_in s.located.section rest else sites_in s.located.section rest) → IsEven s
-      first true e (one, more) = one
-      first false e more = absurd (cc)
-
-      later : (index : ℕ) (b : Bool) → AllByRecursion IsEven (if b then s ∷ sites_in index rest else sites_in index rest) → AllByRecursion IsEven (sites_in index rest)
-      later index true (one, more) = more
-      later index false more = more
-
   pub evens : AllByRecursion IsEven is.sites
-  evens = of_all is.sites all_settled section_even
+  evens = of_sections sections IsEven is.sites all_settled section_even

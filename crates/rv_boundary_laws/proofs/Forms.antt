@@ -1,11 +1,10 @@
 -- What a family keeps of the calls of sources: each call has a form of its size.
 
-use Rattle.std.proofs.Common.{◌≡◌, ℕ, zero, suc, ◌+◌, ◌-◌, ◌≤◌, ◌<◌, Bool, true, false, List, [], ◌∷◌, ◌++◌, length, length-append, map, refl, sym, ap, ◌∙◌, subst, arith, Option, Some, None, ◌⊎◌, inl, inr}
-use Rattle.std.proofs.lemmas.Bool.{and_parts, eq-eqb, eqb-true}
-use Rattle.std.specs.Prelude.{⊤, ◌&&◌, ◌||◌, ◌==◌, IsTrue, nat_le, if◌then◌else◌, filter, flat_map, slice_index, slice_index_or}
+use Rattle.std.proofs.Common.{◌≡◌, ℕ, suc, ◌+◌, ◌-◌, ◌≤◌, ◌<◌, Bool, true, false, List, [], ◌∷◌, ◌++◌, length, length-append, map, refl, sym, ap, ◌∙◌, subst, arith, Some, inl, inr}
+use Rattle.std.proofs.lemmas.Bool.{and_parts, eqb-true}
+use Rattle.std.specs.Prelude.{◌&&◌, ◌||◌, ◌==◌, IsTrue, nat_le, if◌then◌else◌, filter, flat_map, slice_index}
 use Rattle.std.specs.List.{AllByRecursion, slice_get, list_any}
-use Rattle.rv_statement.specs.declared.mnemonic.Mnemonic.{Mnemonic}
-use Rattle.rv_statement.specs.Statement.{StatementKind, Label, Numbered, Instruction, Directs, Statement, Operand}
+use Rattle.rv_statement.specs.Statement.{StatementKind, Label, Numbered, Instruction, Directs, Statement}
 use Rattle.rv_unit_laws.specs.Sections.{Section as SourceSection, goes_to_text as source_text}
 use Rattle.rv_unit_laws.specs.Tables.{Tables, tables, opened_of}
 use Rattle.rv_layout_laws.specs.declared.site.Site.{Site as Spot}
@@ -21,10 +20,11 @@ use Rattle.rv_object_laws.specs.Calls as objects
 use Rattle.rv_object_laws.specs.Calls.{link_register as linked_by, is_compressible, base_in, start_padding, inserted_change, in_order, changes, may_change, site_of, sites_from, sites_of}
 use Rattle.rv_object_laws.specs.Inputs.{InputSection, goes_to_text, inputs_from, inputs_of, inputs, begins_at}
 use Rattle.rv_object_laws.specs.Moves.{full_padding, has_padding, alignment_of}
-use Rattle.rv_object_laws.specs.Names.{no_object, object_at}
-use Rattle.rv_object_laws.specs.Shortened.{Sizes, size_at, sizes_by}
+use Rattle.rv_object_laws.specs.Names.{object_at}
+use Rattle.rv_object_laws.specs.Shortened.{size_at, sizes_by}
 use Rattle.rv_assemble_laws.specs.Sites.{Site, form, part_of, part_bytes, sites_in, end_of, HasSize}
 use Rattle.rv_assemble_laws.specs.IsObjectOf.{Numbering, relocations_from, IsObjectOf}
+use Rattle.rv_assemble_laws.proofs.Filled.{bytes_append}
 use Rattle.rv_boundary_laws.specs.Joins.{AreObjectsOf}
 use Rattle.rv_boundary_laws.proofs.Assembled.{Tile, parts, parts_of, templates, IsSectionOf, AreSectionsOf}
 use Rattle.rv_boundary_laws.proofs.Called.{IsForm}
@@ -37,9 +37,9 @@ use Rattle.rv_boundary_laws.proofs.Patches.{append_assoc, append_nil}
 use Rattle.rv_boundary_laws.proofs.PiecesOf.{size_is}
 use Rattle.rv_boundary_laws.proofs.Ranges.{InRange, in_range}
 use Rattle.rv_boundary_laws.proofs.Sections.{join}
-use Rattle.rv_boundary_laws.proofs.Settled.{IsSettled, IsSiteIn, sites_are_in, bytes_append}
+use Rattle.rv_boundary_laws.proofs.Settled.{of_sections, IsSiteIn, sites_are_in}
 use Rattle.rv_boundary_laws.proofs.Shrinking.{AreAt, all_at}
-use Rattle.rv_boundary_laws.proofs.Targets.{section_of, all_settled, of_sections, present_of}
+use Rattle.rv_boundary_laws.proofs.Targets.{section_of, all_settled, present_of}
 use Rattle.rv_boundary_laws.proofs.Uncut.{IsUncut, uncut, sections_same}
 use Rattle.rv_boundary_laws.proofs.Walk.{relocations_join}
 use Rattle.rv_boundary_laws.proofs.Wholes.{IsSound, sound}

@@ -26,11 +26,12 @@ use Rattle.rv_assemble_laws.specs.Symbols.{site_at, after_found, assigned_defini
 use Rattle.rv_assemble_laws.specs.IsObjectOf.{IsInData, StandsInData}
 use Rattle.rv_boundary_laws.proofs.Statements.{row_in, rows_from, statement_at, row_address, all_statements, all_rows}
 use Rattle.rv_boundary_laws.proofs.Settled.{IsSettled, settled}
-use Rattle.rv_boundary_laws.proofs.Known.{all_found, section_found, still, own_agrees}
+use Rattle.rv_boundary_laws.proofs.Known.{all_found, still, own_agrees}
+use Rattle.rv_boundary_laws.proofs.Ordered.{its_section}
 use Rattle.rv_boundary_laws.proofs.Sections.{split}
 use Rattle.rv_boundary_laws.proofs.Files.{plain_of, IsFile, AreFiles}
 use Rattle.rv_boundary_laws.proofs.Names.{flat_join, exported_are}
-use Rattle.rv_boundary_laws.proofs.Shrunk.{IsObjectOf, AreObjectsOf}
+use Rattle.rv_boundary_laws.proofs.Shrunk.{IsSectionOf, IsObjectOf, AreObjectsOf}
 
 same_shown : (name : List ℕ) (a : Option ℕ) → objects.shown name a ≡ source.shown name a
 same_shown name None = refl
@@ -69,7 +70,7 @@ module _ (p : Program) (starts : Starts) (file : ℕ) (ss : List Statement) (o :
       → defined_address (starts file) o (InSection s.located.section s.offset) ≡ address_of (statement_at starts file s)
   label_address s here placed low =
       let start = starts file s.located.section in
-      let found = section_found t is.sites is.number o.symbols 0 s.located.section sections o.sections s.located.home is.sections here.home in
+      let found = its_section (IsSectionOf t is.sites is.number o.symbols) is.sites s.located.section sections o.sections s.located.home is.sections here.home in
       let x = found.0 in
       ap (offset_address start s.offset) found.1
       ∙ ap (λ n. if x.loaded then Some ((start + n) % 2 ^ 64) else None) (still x (plain_of ss o is s.located.section x found.1) start s.offset)

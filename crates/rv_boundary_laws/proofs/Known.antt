@@ -1,6 +1,6 @@
 -- A symbol of an object has the address of what its statement means by it.
 
-use Rattle.std.proofs.Common.{◌≡◌, ℕ, zero, suc, ◌+◌, ◌-◌, ◌%◌, ◌<◌, Bool, true, false, List, [], ◌∷◌, refl, sym, ap, ◌∙◌, subst, arith, Option, Some, None}
+use Rattle.std.proofs.Common.{◌≡◌, ℕ, ◌+◌, ◌-◌, ◌%◌, ◌<◌, Bool, true, false, List, [], ◌∷◌, refl, sym, ap, ◌∙◌, subst, arith, Option, Some, None}
 use Rattle.std.specs.Prelude.{◌^◌, ◌&&◌, ◌==◌, if◌then◌else◌, is_some, unwrap_or, option_map, option_and_then, bytes_eq}
 use Rattle.std.specs.List.{AllByRecursion, find, slice_get}
 use Rattle.rv_text_laws.specs.Expression.{Primary, Symbol as Named, Literal, Here, Reference}
@@ -15,9 +15,10 @@ use Rattle.rv_object_laws.specs.Moves.{alignments_of, moves, plan, new_offset}
 use Rattle.rv_object_laws.specs.Inputs.{Starts}
 use Rattle.rv_object_laws.specs.Names.{symbol_address, symbol_address_by, offset_address, global_address}
 use Rattle.rv_object_laws.specs.Values.{target}
-use Rattle.rv_assemble_laws.specs.Sites.{Site, sites_in}
+use Rattle.rv_assemble_laws.specs.Sites.{Site}
 use Rattle.rv_assemble_laws.specs.Symbols.{site_at, after_site, IsDefinedBy, IsNamed, StandsFor}
 use Rattle.rv_assemble_laws.specs.IsObjectOf.{Numbering}
+use Rattle.rv_boundary_laws.proofs.Ordered.{its_section}
 use Rattle.rv_boundary_laws.proofs.Statements.{row_address}
 use Rattle.rv_boundary_laws.proofs.Settled.{IsSettled}
 use Rattle.rv_boundary_laws.proofs.Shrunk.{IsSectionOf, AreSectionsOf}
@@ -29,22 +30,6 @@ all_found P test (y ∷ ys) (h, hs) x e = go (test y) e (λ f. all_found P test 
     go : (b : Bool) → (if b then Some y else find test ys) ≡ Some x → (find test ys ≡ Some x → P x) → P x
     go true f later = let same : y ≡ x = cc in subst P same h
     go false f later = later f
-
--- the section of an object at an index is that of the source's section
-pub section_found : (t : Tables) (all : List Site) (number : Numbering) (symbols : List Symbol) (index j : ℕ) (sections : List SourceSection) (xs : List Section) (section : SourceSection)
-    → AreSectionsOf t all number symbols index sections xs → slice_get sections j ≡ Some section
-    → (x : Section) × (slice_get xs j ≡ Some x) × IsSectionOf t all number symbols (index + j) section (sites_in (index + j) all) x
-section_found t all number symbols index j [] [] section h e = absurd (cc)
-section_found t all number symbols index j [] (x ∷ xs) section h e = absurd h
-section_found t all number symbols index j (s ∷ ss) [] section h e = absurd h
-section_found t all number symbols index zero (s ∷ ss) (x ∷ xs) section (h, hs) e =
-    let same : s ≡ section = cc in
-    let i : index ≡ index + 0 = omega arith in
-    (x, refl, subst (λ n. IsSectionOf t all number symbols n section (sites_in n all) x) i (subst (λ y. IsSectionOf t all number symbols index y (sites_in index all) x) same h))
-section_found t all number symbols index (suc j) (s ∷ ss) (x ∷ xs) section (h, hs) e =
-    let found = section_found t all number symbols (suc index) j ss xs section hs e in
-    let i : suc index + j ≡ index + suc j = omega arith in
-    (found.0, found.1, subst (λ n. IsSectionOf t all number symbols n section (sites_in n all) found.0) i found.2)
 
 pub still : (x : Section) → alignments_of x ≡ [] → (base offset : ℕ) → new_offset (moves base x) offset ≡ offset
 still x none base offset =
@@ -64,7 +49,7 @@ module _ (statements : List MaybeMapped) (globals : List Global) (low : AllByRec
       → symbol_address_by globals (starts file) o name (after_site s d.plus) ≡ home_address statements file d
   own_agrees q name s d found placed =
       let here = all_found (IsSettled sections) (λ s. s.located.ordinal == d.ordinal) sites settled s found in
-      let section = section_found t sites number o.symbols 0 s.located.section sections o.sections s.located.home are here.home in
+      let section = its_section (IsSectionOf t sites number o.symbols) sites s.located.section sections o.sections s.located.home are here.home in
       let x = section.0 in
       let start = starts file s.located.section in
       let same : x.loaded ≡ s.located.home.loaded = section.2.loaded in

@@ -1,5 +1,6 @@
 pub mod Marked
 pub mod Quiet
+pub mod Ordered
 pub mod Called
 pub mod Uncut
 pub mod LongCalls

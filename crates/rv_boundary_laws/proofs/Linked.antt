@@ -34,16 +34,17 @@ use Rattle.rv_assemble_laws.specs.Templates.{Open}
 use Rattle.rv_assemble_laws.specs.Sites.{Site, part_bytes, sites_in, end_of as sites_end}
 use Rattle.rv_assemble_laws.specs.Symbols.{site_at}
 use Rattle.rv_assemble_laws.specs.IsObjectOf.{Numbering, contents_of}
+use Rattle.rv_boundary_laws.proofs.Ordered.{filled}
 use Rattle.rv_boundary_laws.proofs.Wholes.{numbers_by, worths_of, AreObjectsAt, objects_at, worths_are, IsSound, sound, StandsAlone, labels, IsWhole, relocated_at}
 use Rattle.rv_boundary_laws.proofs.Globals.{low_rows}
 use Rattle.rv_boundary_laws.proofs.Statements.{AreObjectsOf, renumbered, renumbers, row_in, rows_from, mapped_at, all_rows}
-use Rattle.rv_boundary_laws.proofs.Settled.{settled, filled}
+use Rattle.rv_boundary_laws.proofs.Settled.{settled}
 use Rattle.rv_boundary_laws.proofs.Sections.{said, split}
 use Rattle.rv_boundary_laws.proofs.CodeOf.{IsFound, found_from, AreCodesOf, code_of, codes}
 use Rattle.rv_boundary_laws.proofs.Placed.{IsFit}
 use Rattle.rv_boundary_laws.proofs.Regions.{AreGood, IsRegion, region, greatest_same, good_join, good_file}
 use Rattle.rv_boundary_laws.proofs.Files.{plain_of, AreFiles, files, rows_ours}
-use Rattle.rv_boundary_laws.proofs.Shrunk.{parts, IsSectionOf, AreSectionsOf}
+use Rattle.rv_boundary_laws.proofs.Shrunk.{parts, IsSectionOf, AreSectionsOf, parts_of}
 
 -- ---- sections go where the source's go
 
@@ -97,7 +98,7 @@ module _ (t : Tables) (sites : List Site) (number : Numbering) (o : Object) (ind
       go false f = plain_holds f
       go true f =
           let none : flat_map part_bytes (parts t (sites_in index sites)) ≡ [] = is.code e f in
-          let count : sites_end 0 (sites_in index sites) ≡ 0 + length (flat_map part_bytes (parts t (sites_in index sites))) = filled t 0 (sites_in index sites) is.tile in
+          let count : sites_end 0 (sites_in index sites) ≡ 0 + length (flat_map part_bytes (parts t (sites_in index sites))) = filled (parts_of t) 0 (sites_in index sites) is.tile in
           let nothing : sites_end 0 (sites_in index sites) ≡ 0 = omega (arith, count, ap length none) in
           ap initial_bytes is.contents ∙ initial_none s.section_type (sites_end 0 (sites_in index sites)) _ f nothing ∙ sym none
 

@@ -1,6 +1,6 @@
 -- The low parts of distances: the link's value is that of the upper part to which the source's belongs.
 
-use Rattle.std.proofs.Common.{◌≡◌, ℕ, ◌+◌, ◌%◌, ◌<◌, Bool, true, false, List, [], ◌∷◌, refl, sym, ap, ◌∙◌, subst, arith, Option, Some, None}
+use Rattle.std.proofs.Common.{◌≡◌, ℕ, ◌+◌, ◌%◌, ◌<◌, Bool, true, false, List, [], ◌∷◌, refl, sym, ap, ◌∙◌, arith, Option, Some, None}
 use Rattle.std.proofs.lemmas.Bool.{eq-eqb, eqb-true, ne_eqb}
 use Rattle.std.specs.Prelude.{◌^◌, ℤ, pos, ◌&&◌, ◌==◌, if◌then◌else◌, is_some, unwrap_or, option_map, option_and_then}
 use Rattle.std.specs.List.{AllByRecursion, slice_get, find}
@@ -26,7 +26,8 @@ use Rattle.rv_assemble_laws.specs.Symbols.{site_at, StandsFor}
 use Rattle.rv_assemble_laws.specs.IsObjectOf.{Numbering, relocation_at, relocations_from}
 use Rattle.rv_boundary_laws.proofs.Statements.{mapped_at, mapped_from, row_address, site_section}
 use Rattle.rv_boundary_laws.proofs.Settled.{IsSettled}
-use Rattle.rv_boundary_laws.proofs.Known.{still, all_found, section_found}
+use Rattle.rv_boundary_laws.proofs.Known.{still, all_found}
+use Rattle.rv_boundary_laws.proofs.Ordered.{its_section}
 use Rattle.rv_boundary_laws.proofs.Globals.{IsLow}
 use Rattle.rv_boundary_laws.proofs.Wholes.{IsWhole}
 use Rattle.rv_boundary_laws.proofs.Fields.{Facts, facts, relocations_are}
@@ -138,7 +139,7 @@ module _ (p : Program) (os : List Object) (starts : Starts) (file : ℕ) (sites 
 
   pub label_pair : (d : Definition) (plus : ℕ) (v : Option ℤ) → d.plus ≡ 0 → plus % 2 ^ 64 ≡ 0 → IsLowValue d.ordinal v → is_some v ≡ true → IsLabelPair d plus v
   label_pair d plus v none_after no_plus low_is some =
-      by_section (section_found T sites number o.symbols 0 j sections o.sections s.located.home are here.home)
+      by_section (its_section (IsSectionOf T sites number o.symbols) sites j sections o.sections s.located.home are here.home)
     where
       s : Site
       s = low_is.site
@@ -158,12 +159,9 @@ module _ (p : Program) (os : List Object) (starts : Starts) (file : ℕ) (sites 
       stands : section_of p file d.ordinal ≡ Some j
       stands = whole.stands d.ordinal ∙ ap (site_section starts) low_is.found_at
 
-      by_section : (x : Section) × (slice_get o.sections j ≡ Some x) × IsSectionOf T sites number o.symbols (0 + j) s.located.home (sites_in (0 + j) sites) x → IsLabelPair d plus v
-      by_section (x, there, is_at) = by_loaded s.located.home.loaded refl
+      by_section : (x : Section) × (slice_get o.sections j ≡ Some x) × IsSectionOf T sites number o.symbols j s.located.home (sites_in j sites) x → IsLabelPair d plus v
+      by_section (x, there, is) = by_loaded s.located.home.loaded refl
         where
-          is : IsSectionOf T sites number o.symbols j s.located.home (sites_in j sites) x
-          is = subst (λ n. IsSectionOf T sites number o.symbols n s.located.home (sites_in n sites) x) (let e : 0 + j ≡ j = omega arith in e) is_at
-
           valued : v ≡ value_in p.map.globals starts file o j offset (Some x)
           valued = low_is.worth ∙ ap (value_in p.map.globals starts file o j offset) there
 

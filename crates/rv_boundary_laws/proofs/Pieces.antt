@@ -1,34 +1,28 @@
 -- The sections of text of objects beside those of their sources in the linked program, before anything is taken out.
 
-use Rattle.std.proofs.Common.{◌≡◌, ℕ, zero, suc, ◌+◌, ◌-◌, ◌≤◌, ◌<◌, Bool, true, false, List, [], ◌∷◌, ◌++◌, length, map, refl, sym, ap, ◌∙◌, subst, arith, max, Option, Some, None}
-use Rattle.std.proofs.lemmas.Bool.{and_parts, eq-eqb, ne_eqb}
+use Rattle.std.proofs.Common.{◌≡◌, ℕ, ◌+◌, ◌-◌, Bool, true, false, List, [], ◌∷◌, ◌++◌, map, refl, sym, ap, ◌∙◌, arith}
+use Rattle.std.proofs.lemmas.Bool.{and_parts, eq-eqb}
 use Rattle.std.proofs.lemmas.List.Sums.{sum_by-cons}
-use Rattle.std.specs.Prelude.{⊤, ◌&&◌, ◌==◌, IsTrue, if◌then◌else◌, filter, flat_map}
-use Rattle.std.specs.List.{AllByRecursion, slice_get}
-use Rattle.rv_statement.specs.Statement.{Statement}
-use Rattle.rv_unit_laws.specs.declared.section_type.SectionType.{SectionType}
-use Rattle.rv_unit_laws.specs.declared.section_type.SectionType.TheVariants as types
+use Rattle.std.specs.Prelude.{⊤, ◌&&◌, ◌==◌, IsTrue, if◌then◌else◌}
+use Rattle.std.specs.List.{AllByRecursion}
 use Rattle.rv_unit_laws.specs.Sections.{Section as SourceSection, goes_to_text as source_text}
-use Rattle.rv_unit_laws.specs.Tables.{Tables, tables, opened_of}
+use Rattle.rv_unit_laws.specs.Tables.{Tables}
 use Rattle.rv_source_laws.specs.Located.{Located, has_row}
 use Rattle.rv_source_laws.specs.Program.{Mapped, Program, tables_in, form as program_form}
 use Rattle.rv_source_laws.specs.Fits as source
 use Rattle.rv_source_laws.specs.Sized.{statement_size}
 use Rattle.rv_source_laws.specs.Shortened as line
 use Rattle.rv_source_laws.specs.Shortened.{calls, Placed, full_size, full_length, placed_from, text_from, HaveBytes}
-use Rattle.rv_object.specs.Object.{Section, Object, size_of}
+use Rattle.rv_object.specs.Object.{size_of}
 use Rattle.rv_object_laws.specs.Calls.{start_padding, base_in}
-use Rattle.rv_object_laws.specs.Inputs.{Starts, InputSection, goes_to_text, inputs_from, inputs_of, begins_at}
+use Rattle.rv_object_laws.specs.Inputs.{Starts, InputSection, begins_at}
 use Rattle.rv_object_laws.specs.Shortened.{Sizes}
-use Rattle.rv_assemble_laws.specs.Sites.{Site, form, part_bytes, sites_in, end_of}
-use Rattle.rv_assemble_laws.specs.IsObjectOf.{contents_of, IsObjectOf}
-use Rattle.rv_boundary_laws.specs.Joins.{AreObjectsOf}
-use Rattle.rv_boundary_laws.proofs.Assembled.{Tile, parts, IsSectionOf, AreSectionsOf, IsAssembled, filled}
-use Rattle.rv_boundary_laws.proofs.Finals.{IsFinal, IsFinalFile, AreFinal}
+use Rattle.rv_assemble_laws.specs.Sites.{Site, form, sites_in, end_of}
+use Rattle.rv_boundary_laws.proofs.Assembled.{Tile}
+use Rattle.rv_boundary_laws.proofs.Finals.{IsFinal}
 use Rattle.rv_boundary_laws.proofs.Sections.{join}
-use Rattle.rv_boundary_laws.proofs.Settled.{IsSettled, settled, IsSiteIn, sites_are_in}
-use Rattle.rv_boundary_laws.proofs.Shrunk as shrunk
-use Rattle.rv_boundary_laws.proofs.Statements.{renumbered, row_in, mapped_at, mapped_from}
+use Rattle.rv_boundary_laws.proofs.Settled.{IsSiteIn}
+use Rattle.rv_boundary_laws.proofs.Statements.{renumbered, mapped_at, mapped_from}
 
 module _ (p : Program) (starts : Starts) (at : ℕ → List Site) (sizes : ℕ → ℕ → Sizes) where
   abbrev pub own : InputSection → List Site

@@ -1,8 +1,8 @@
 -- The sections of text of the objects of sources are those of the sources.
 
-use Rattle.std.proofs.Common.{◌≡◌, ℕ, zero, suc, ◌+◌, ◌-◌, ◌≤◌, ◌<◌, Bool, true, false, List, [], ◌∷◌, ◌++◌, length, map, refl, sym, ap, ◌∙◌, subst, arith, max, Option, Some, None}
-use Rattle.std.proofs.lemmas.Bool.{and_parts, ne_eqb}
-use Rattle.std.specs.Prelude.{⊤, ◌&&◌, ◌==◌, if◌then◌else◌, filter, flat_map}
+use Rattle.std.proofs.Common.{◌≡◌, ℕ, zero, suc, ◌+◌, ◌≤◌, Bool, true, false, List, [], ◌∷◌, ◌++◌, length, map, refl, sym, ap, ◌∙◌, subst, arith, max, Option, Some, None}
+use Rattle.std.proofs.lemmas.Bool.{ne_eqb}
+use Rattle.std.specs.Prelude.{◌&&◌, ◌==◌, if◌then◌else◌, flat_map}
 use Rattle.std.specs.List.{AllByRecursion, slice_get}
 use Rattle.rv_statement.specs.Statement.{Statement}
 use Rattle.rv_unit_laws.specs.declared.section_type.SectionType.{SectionType}
@@ -19,8 +19,9 @@ use Rattle.rv_object_laws.specs.Moves.{aligned}
 use Rattle.rv_object_laws.specs.Shortened.{Sizes}
 use Rattle.rv_assemble_laws.specs.Sites.{Site, part_bytes, sites_in, end_of}
 use Rattle.rv_assemble_laws.specs.IsObjectOf.{Numbering, contents_of, IsObjectOf}
+use Rattle.rv_boundary_laws.proofs.Ordered.{filled}
 use Rattle.rv_boundary_laws.specs.Joins.{AreObjectsOf}
-use Rattle.rv_boundary_laws.proofs.Assembled.{Tile, parts, IsSectionOf, AreSectionsOf, filled}
+use Rattle.rv_boundary_laws.proofs.Assembled.{Tile, parts, IsSectionOf, AreSectionsOf, parts_of}
 use Rattle.rv_boundary_laws.proofs.Files.{IsFile, AreFiles}
 use Rattle.rv_boundary_laws.proofs.Finals.{IsFinal, IsFinalFile, AreFinal}
 use Rattle.rv_boundary_laws.proofs.Pieces.{IsPiece, ArePieces, pieces_join, is_same, Apart}
@@ -52,7 +53,7 @@ pub size_is : (t : Tables) (sites : List Site) (number : Numbering) (o : Object)
 size_is t sites number o index s zs x h =
     ap size_of h.contents
     ∙ stored_size s.section_type (end_of 0 zs) (flat_map part_bytes (parts t zs))
-    (filled t 0 zs h.tile ∙ (let n = length (flat_map part_bytes (parts t zs)) in let e : 0 + n ≡ n = omega arith in e))
+    (filled (parts_of t) 0 zs h.tile ∙ (let n = length (flat_map part_bytes (parts t zs)) in let e : 0 + n ≡ n = omega arith in e))
 
 -- a place to begin at
 abbrev begin_of : Option Section → ℕ

@@ -23,9 +23,10 @@ use Rattle.rv_assemble_laws.specs.Templates.{Open}
 use Rattle.rv_assemble_laws.specs.Sites.{Site, part_bytes, sites_in, end_of as sites_end}
 use Rattle.rv_assemble_laws.specs.Symbols.{site_at}
 use Rattle.rv_assemble_laws.specs.IsObjectOf.{Numbering, contents_of}
+use Rattle.rv_boundary_laws.proofs.Ordered.{filled}
 use Rattle.rv_boundary_laws.proofs.Patches.{written, written_from}
 use Rattle.rv_boundary_laws.proofs.Statements.{mapped_at, mapped_from, row_address}
-use Rattle.rv_boundary_laws.proofs.Settled.{IsSettled, IsSiteIn, sites_are_in, follows, sized, bytes_are, filled}
+use Rattle.rv_boundary_laws.proofs.Settled.{IsSettled, IsSiteIn, sites_are_in, follows, sized, bytes_are}
 use Rattle.rv_boundary_laws.proofs.Known.{still}
 use Rattle.rv_boundary_laws.proofs.Wholes.{IsWhole}
 use Rattle.rv_boundary_laws.proofs.Sections.{meant_in, said, multiple_from}
@@ -144,7 +145,7 @@ module _ (p : Program) (all : List Object) (starts : Starts) (spells : Mapped �
           let inside = sites_are_in sections index s sites at settled in
           let begins_as : begins_at x ≡ max (if goes_to_text x then 2 else 1) x.alignment = ap (λ rs. raised rs (max (if goes_to_text x then 2 else 1) x.alignment)) none in
           let flags : goes_to_text x ≡ (s.loaded && s.executable) = ap (λ b. b && x.executable) is.loaded ∙ ap (λ b. s.loaded && b) is.executable in
-          let count_is : sites_end 0 own ≡ length (flat_map part_bytes (parts t own)) = filled t 0 own is.tile ∙ (let n = length (flat_map part_bytes (parts t own)) in let e : 0 + n ≡ n = omega arith in e) in
+          let count_is : sites_end 0 own ≡ length (flat_map part_bytes (parts t own)) = filled (parts_of t) 0 own is.tile ∙ (let n = length (flat_map part_bytes (parts t own)) in let e : 0 + n ≡ n = omega arith in e) in
           let rows_count = sized starts file t index s loaded 0 own inside is.tile in
           let fits : (stop : ℕ) → starts file index ≡ aligned (begins_at x) stop → AllByRecursion (λ z. has_row z.located ≡ true → IsFit p starts code all_worths file z) own =
           λ stop starts_at. section_fits p all starts file sites number o sections low are settled code all_worths whole codes plain address index s x is at there none loaded relocated

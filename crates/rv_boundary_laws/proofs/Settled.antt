@@ -1,7 +1,7 @@
 -- The statements of a section: where their rows stand, and that those without a row have no bytes.
 
 use Rattle.std.proofs.Common.{◌≡◌, ℕ, suc, ◌+◌, Bool, true, false, List, [], ◌∷◌, ◌++◌, length, length-append, refl, sym, ap, ◌∙◌, subst, arith, map, Some, None}
-use Rattle.std.proofs.lemmas.Bool.{eqb-true}
+use Rattle.std.proofs.lemmas.Bool.{eqb-true, eq-eqb}
 use Rattle.std.proofs.lemmas.List.Sums.{sum_by-cons}
 use Rattle.std.specs.Prelude.{⊤, ◌&&◌, ◌==◌, if◌then◌else◌, flat_map}
 use Rattle.std.specs.List.{AllByRecursion, slice_get}
@@ -235,18 +235,19 @@ module _ (starts : Starts) (file : ℕ) (t : Tables) (index : ℕ) (section : Se
           ih ∙ ap (λ n. written_from w n (parts t ss)) (let g : offset + s.bytes ≡ offset = omega (arith, none) in g)
           ∙ ap (λ l. written_from w offset (l ++ parts t ss)) (sym (no_row s section t h.home loaded h.bare f))
 
--- ---- the end of a section
+-- ---- all of a file
 
-pub bytes_append : (xs ys : List Part) → flat_map part_bytes (xs ++ ys) ≡ flat_map part_bytes xs ++ flat_map part_bytes ys
-bytes_append [] ys = refl
-bytes_append (x ∷ xs) ys = ap (λ l. part_bytes x ++ l) (bytes_append xs ys) ∙ sym (append_assoc (part_bytes x) (flat_map part_bytes xs) (flat_map part_bytes ys))
+-- what holds of the statements of each section holds of all
+pub of_sections : (sections : List Section) (P : Site → Type 0) (rest : List Site) → AllByRecursion (IsSettled sections) rest
+    → ((j : ℕ) (s : Section) → slice_get sections j ≡ Some s → AllByRecursion P (sites_in j rest)) → AllByRecursion P rest
+of_sections sections P [] h each = tt
+of_sections sections P (z ∷ rest) (h, hs) each =
+    (first (z.located.section == z.located.section) (eq-eqb z.located.section z.located.section refl) (each z.located.section z.located.home h.home), of_sections sections P rest hs (λ j s at. later j (z.located.section == j) (each j s at)))
+  where
+    first : (b : Bool) → b ≡ true → AllByRecursion P (if b then z ∷ sites_in z.located.section rest else sites_in z.located.section rest) → P z
+    first true e (one, more) = one
+    first false e more = absurd (cc)
 
--- the statements of a section end where its bytes end
-pub filled : (t : Tables) (offset : ℕ) (sites : List Site) → Tile t offset sites → end_of offset sites ≡ offset + length (flat_map part_bytes (parts t sites))
-filled t offset [] h = omega arith
-filled t offset (s ∷ ss) (at, bytes, h) =
-    let own = flat_map part_bytes (parts_of t s) in
-    let rest = flat_map part_bytes (parts t ss) in
-    let joined : length (flat_map part_bytes (parts t (s ∷ ss))) ≡ length own + length rest =
-    ap length (bytes_append (parts_of t s) (parts t ss)) ∙ length-append own rest in
-    let ih = filled t (offset + s.bytes) ss h in omega (arith, joined, bytes, ih)
+    later : (j : ℕ) (b : Bool) → AllByRecursion P (if b then z ∷ sites_in j rest else sites_in j rest) → AllByRecursion P (sites_in j rest)
+    later j true (one, more) = more
+    later j false more = more

@@ -1,40 +1,38 @@
 -- The objects of sources with the linker's moves made are those of the sources, with the least paddings.
 
-use Rattle.std.proofs.Common.{◌≡◌, ℕ, zero, suc, ◌+◌, ◌-◌, ◌%◌, ◌≤◌, Bool, true, false, List, [], ◌∷◌, ◌++◌, map, refl, sym, ap, ◌∙◌, subst, arith, Option, Some, None, option_map, ◌⊎◌, inl, inr}
+use Rattle.std.proofs.Common.{◌≡◌, ℕ, suc, ◌+◌, ◌%◌, Bool, true, false, List, [], ◌∷◌, ◌++◌, map, refl, sym, ap, ◌∙◌, subst, arith, Option, Some, None, option_map}
 use Rattle.std.proofs.lemmas.Bool.{eqb-true, eq-eqb}
-use Rattle.std.specs.Prelude.{◌&&◌, ◌==◌, if◌then◌else◌, filter, flat_map, bytes_eq, nat_lt}
+use Rattle.std.specs.Prelude.{◌&&◌, ◌==◌, if◌then◌else◌, filter, flat_map, bytes_eq}
 use Rattle.std.specs.List.{AllByRecursion, slice_get}
-use Rattle.rv_text_laws.specs.Bytes.{value as digits_value}
-use Rattle.rv_text_laws.specs.Expression.{Primary, Symbol as Named, Literal, Here, Reference}
 use Rattle.rv_text_laws.specs.Values.{Meaning, Known, InSection as InData, Open as OpenAddress, Refused, add}
 use Rattle.rv_statement.specs.Statement.{StatementKind, Label, Numbered, Instruction, Directs, Statement, Enters, Sets}
 use Rattle.rv_unit_laws.specs.Sections.{Section as SourceSection, goes_to_text as source_text}
-use Rattle.rv_unit_laws.specs.Tables.{Tables, NumericLabel, Labelled, Assignment, Definition, tables, definition, definition_at, is_location, assigned_before, assigned_ever, assigned_definition as defined_by, labelled_definition, first_definition, numeric_definition, label_of, numeric_label_before, numeric_label_after, opened_of, longest_section}
+use Rattle.rv_unit_laws.specs.Tables.{Tables, Assignment, tables, is_location, assigned_ever, opened_of}
 use Rattle.rv_source_laws.specs.Located.{has_row}
 use Rattle.rv_source_laws.specs.Resolves.{global_names_of}
 use Rattle.rv_object.specs.declared.symbol.Definition.{Definition as Defined}
 use Rattle.rv_object.specs.declared.symbol.Definition.TheVariants.{InSection}
 use Rattle.rv_object.specs.declared.row.Row.{Row}
-use Rattle.rv_object.specs.Object.{Section, Symbol, Object}
-use Rattle.rv_object_laws.specs.Moves.{aligned, by_place, dropped, has_padding, new_offset, plan, moves}
+use Rattle.rv_object.specs.Object.{Section, Object}
+use Rattle.rv_object_laws.specs.Moves.{aligned, by_place, has_padding, new_offset, plan, moves}
 use Rattle.rv_object_laws.specs.Inputs.{Starts, InputSection, goes_to_text, begins_at, inputs_from, inputs_of, start_of, size, Stand}
 use Rattle.rv_object_laws.specs.Names.{exported, is_in_text, can_begin}
 use Rattle.rv_object_laws.specs.IsLinkOf.{moves_at}
-use Rattle.rv_assemble_laws.specs.Sites.{Site, Part, sites_in, end_of}
-use Rattle.rv_assemble_laws.specs.Symbols.{SymbolUse, references_in, site_at, after_found, assigned_definition, site_definition, global_symbol, exports_of, IsNamed, IsOwn, IsOuter, IsDefinedBy, StandsFor}
-use Rattle.rv_assemble_laws.specs.IsObjectOf.{Numbering, IsNumbered, row_of, rows_at, IsInData, StandsInData}
-use Rattle.rv_boundary_laws.proofs.Assembled.{Tile, IsSectionOf, AreSectionsOf, IsAssembled, AreAssembled}
-use Rattle.rv_boundary_laws.proofs.Settled.{IsSettled, settled, IsSiteIn, sites_are_in}
+use Rattle.rv_assemble_laws.specs.Sites.{Site, Part, sites_in}
+use Rattle.rv_assemble_laws.specs.Symbols.{references_in, site_at, after_found, assigned_definition, site_definition, global_symbol, exports_of}
+use Rattle.rv_assemble_laws.specs.IsObjectOf.{IsNumbered, row_of, rows_at, IsInData, StandsInData}
+use Rattle.rv_boundary_laws.proofs.Assembled.{IsSectionOf, AreSectionsOf, IsAssembled, AreAssembled}
+use Rattle.rv_boundary_laws.proofs.Settled.{IsSettled, sites_are_in, of_sections}
 use Rattle.rv_boundary_laws.proofs.Known.{all_found}
 use Rattle.rv_boundary_laws.proofs.Sections.{split, join}
 use Rattle.rv_boundary_laws.proofs.Wholes.{relocated_at}
 use Rattle.rv_boundary_laws.proofs.Filed as filed
-use Rattle.rv_boundary_laws.proofs.Filed.{found_back}
+use Rattle.rv_boundary_laws.proofs.Ordered.{its_source}
 use Rattle.rv_boundary_laws.proofs.Moved as moved
 use Rattle.rv_boundary_laws.proofs.Moved.{all_map}
 use Rattle.rv_boundary_laws.proofs.Shrunk as shrunk
-use Rattle.rv_boundary_laws.proofs.Shrinking.{shrunk_section, sections_from, moves_in, shrunk_definition, shrunk_symbol, shrunk_row, shrunk_object, shrunk_objects, slice_map, section_is, exported_same}
-use Rattle.rv_boundary_laws.proofs.ShrunkLink.{IsTidy, BeginsSame, AllBegin, map_join}
+use Rattle.rv_boundary_laws.proofs.Shrinking.{shrunk_section, sections_from, moves_in, shrunk_definition, shrunk_symbol, shrunk_row, shrunk_object, shrunk_objects, section_is, exported_same}
+use Rattle.rv_boundary_laws.proofs.ShrunkLink.{IsTidy, BeginsSame, AllBegin}
 use Rattle.rv_boundary_laws.proofs.Counted.{IsCounted}
 use Rattle.rv_boundary_laws.proofs.ShrunkSections.{site_with, IsLeft, left}
 
@@ -125,7 +123,7 @@ module _ (ss : List Statement) (o : Object) (is : IsAssembled ss o) (f : ℕ →
     is_left = left t is.sites sites' is.number o.symbols o'.symbols j (f j) s x h (sites_are_in sections j s is.sites at all_settled) (begun j x there) (in_section j x there is.sites) uses_same
 
   evens : AllByRecursion AreEven is.sites
-  evens = filed.of_all ss o is AreEven is.sites all_settled by
+  evens = of_sections sections AreEven is.sites all_settled by
     where
       by : (j : ℕ) (s : SourceSection) → slice_get sections j ≡ Some s → AllByRecursion AreEven (sites_in j is.sites)
       by j s at =
@@ -137,7 +135,7 @@ module _ (ss : List Statement) (o : Object) (is : IsAssembled ss o) (f : ℕ →
 
   -- what its statements count
   pub counted : AllByRecursion (λ z. IsCounted t (moves_in f o z.located.section) z) is.sites
-  counted = filed.of_all ss o is (λ z. IsCounted t (moves_in f o z.located.section) z) is.sites all_settled by
+  counted = of_sections sections (λ z. IsCounted t (moves_in f o z.located.section) z) is.sites all_settled by
     where
       by : (j : ℕ) (s : SourceSection) → slice_get sections j ≡ Some s → AllByRecursion (λ z. IsCounted t (moves_in f o z.located.section) z) (sites_in j is.sites)
       by j s at =
@@ -162,10 +160,8 @@ module _ (ss : List Statement) (o : Object) (is : IsAssembled ss o) (f : ℕ →
 
   pub tidy_at : (j : ℕ) (x : Section) → slice_get o.sections j ≡ Some x → IsTidy (f j) x
   tidy_at j x there =
-      let found = found_back t is.sites is.number o.symbols 0 j sections o.sections x is.sections there in
-      let s = found.0 in
-      let h = subst (λ n. IsSectionOf t is.sites is.number o.symbols n s (sites_in n is.sites) x) (let e : 0 + j ≡ j = omega arith in e) found.2 in
-      (is_left j s x found.1 there h).tidy
+      let (s, at, h) = its_source (IsSectionOf t is.sites is.number o.symbols) is.sites j sections o.sections x is.sections there in
+      (is_left j s x at there h).tidy
 
   -- ---- where a run begins
 

@@ -1,7 +1,7 @@
 -- The object of a source whose paddings in code have shrunk to the least: what is left of it where the linker has made its moves.
 -- All else is as in rv_assemble_laws: these are its definitions with such paddings, which no ALIGN marks.
 
-use Rattle.std.specs.Prelude.{◌≡◌, ℕ, zero, suc, ◌+◌, ◌*◌, ◌%◌, ◌≤◌, true, Bool, false, ⊤, List, [], ◌∷◌, flat_map, map, length, Option, None, unwrap_or, if◌then◌else◌}
+use Rattle.std.specs.Prelude.{◌≡◌, ℕ, zero, suc, ◌*◌, ◌%◌, ◌≤◌, true, Bool, false, ⊤, List, [], ◌∷◌, flat_map, map, length, Option, None, unwrap_or, if◌then◌else◌}
 use Rattle.std.specs.List.{AllByRecursion}
 use Rattle.rv_text_laws.specs.Values.{Value, Constant}
 use Rattle.rv_statement.specs.Statement.{StatementKind, Label, Numbered, Instruction, Directs, Statement, Expression, Directive, Aligns_to_power, Aligns_to_bytes, Values, Strings, Zeros}
@@ -20,6 +20,7 @@ use Rattle.rv_assemble_laws.specs.Refusals.{statements_fault}
 use Rattle.rv_assemble_laws.specs.Symbols.{exports}
 use Rattle.rv_assemble_laws.specs.Templates.{Template, Fixed, IsTemplate, zeros, contents_templates}
 use Rattle.rv_boundary_laws.proofs.Marked.{part_fields}
+use Rattle.rv_boundary_laws.proofs.Ordered.{Follow, AreInOrder}
 pub use Rattle.rv_assemble_laws.specs.Sites.{Site, Part, form, part_of, part_bytes, coded_templates, sites_in, end_of, IsMultiple}
 pub use Rattle.rv_assemble_laws.specs.IsObjectOf.{Numbering, row_of, rows_at, relocation_at, relocations_from, contents_of, IsNumbered, ArePartsNumbered, IsInData, StandsInData}
 
@@ -51,8 +52,7 @@ abbrev pub parts : Tables → List Site → List Part
 parts t sites = flat_map (parts_of t) sites
 
 abbrev pub Tile : Tables → ℕ → List Site → Type 0
-Tile t offset [] = ⊤
-Tile t offset (s ∷ ss) = (s.offset ≡ offset) × (s.bytes ≡ length (flat_map part_bytes (parts_of t s))) × Tile t (offset + s.bytes) ss
+Tile t offset sites = Follow (parts_of t) offset sites
 
 -- ---- sizes
 
@@ -98,11 +98,7 @@ pub record IsSectionOf (t : Tables) (all : List Site) (number : Numbering) (symb
   pub plain : alignments_of x ≡ []
 
 abbrev pub AreSectionsOf : Tables → List Site → Numbering → List Symbol → ℕ → List SourceSection → List Section → Type 0
-AreSectionsOf t all number symbols index [] [] = ⊤
-AreSectionsOf t all number symbols index [] (x ∷ xs) = ⊥
-AreSectionsOf t all number symbols index (section ∷ sections) [] = ⊥
-AreSectionsOf t all number symbols index (section ∷ sections) (x ∷ xs) =
-    IsSectionOf t all number symbols index section (sites_in index all) x × AreSectionsOf t all number symbols (suc index) sections xs
+AreSectionsOf t all number symbols index sections xs = AreInOrder (IsSectionOf t all number symbols) all index sections xs
 
 -- ---- the whole
 

@@ -18,8 +18,10 @@ use Rattle.rv_assemble_laws.specs.Templates.{Template, Fixed, Coded, Open, IsTem
 use Rattle.rv_assemble_laws.specs.Sites.{Site, Part, form, part_of, part_bytes, sites_in, end_of, HasSize}
 use Rattle.rv_assemble_laws.specs.Symbols.{references_in}
 use Rattle.rv_assemble_laws.specs.IsObjectOf.{Numbering, IsNumbered, ArePartsNumbered, contents_of, relocations_from}
-use Rattle.rv_boundary_laws.proofs.Assembled.{parts_of, parts, templates, Tile, IsSectionOf, filled as filled_before}
-use Rattle.rv_boundary_laws.proofs.Settled.{IsSiteIn, bytes_append, filled as filled_after}
+use Rattle.rv_assemble_laws.proofs.Filled.{bytes_append}
+use Rattle.rv_boundary_laws.proofs.Ordered.{filled}
+use Rattle.rv_boundary_laws.proofs.Assembled.{parts_of, parts, templates, Tile, IsSectionOf}
+use Rattle.rv_boundary_laws.proofs.Settled.{IsSiteIn}
 use Rattle.rv_boundary_laws.proofs.Sections.{split, join, multiple_from}
 use Rattle.rv_boundary_laws.proofs.Shrunk as shrunk
 use Rattle.rv_boundary_laws.proofs.Shrinking.{shrunk_relocations, shrunk_contents, shrunk_section, none_left}
@@ -221,10 +223,10 @@ module _ (t : Tables) (sites sites' : List Site) (number : Numbering) (symbols s
 
     -- the end is that of the bytes
     long_before : end_of 0 zs ≡ length (flat_map part_bytes (parts t zs))
-    long_before = filled_before t 0 zs h.tile ∙ (let n = length (flat_map part_bytes (parts t zs)) in let e : 0 + n ≡ n = omega arith in e)
+    long_before = filled (parts_of t) 0 zs h.tile ∙ (let n = length (flat_map part_bytes (parts t zs)) in let e : 0 + n ≡ n = omega arith in e)
 
     long_after : end_of 0 zs' ≡ length (flat_map part_bytes (shrunk.parts t zs'))
-    long_after = filled_after t 0 zs' tile_left ∙ (let n = length (flat_map part_bytes (shrunk.parts t zs')) in let e : 0 + n ≡ n = omega arith in e)
+    long_after = filled (shrunk.parts_of t) 0 zs' tile_left ∙ (let n = length (flat_map part_bytes (shrunk.parts t zs')) in let e : 0 + n ≡ n = omega arith in e)
 
     contents_left : (k : SectionType) → shrunk_contents ms (contents_of k (end_of 0 zs) (flat_map part_bytes (parts t zs))) ≡ contents_of k (end_of 0 zs') (flat_map part_bytes (shrunk.parts t zs'))
     contents_left types.Progbits = ap Progbits bytes_left

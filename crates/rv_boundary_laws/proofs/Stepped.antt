@@ -14,8 +14,8 @@ use Rattle.rv_assemble_laws.specs.Templates.{Fixed, Open, template_fields}
 use Rattle.rv_assemble_laws.specs.Sites.{Site, Part, form, part_of, part_bytes, end_of}
 use Rattle.rv_boundary_laws.proofs.Assembled.{parts_of, parts, templates}
 use Rattle.rv_assemble_laws.specs.IsObjectOf.{Numbering, relocation_at, relocations_from}
+use Rattle.rv_assemble_laws.proofs.Filled.{bytes_append}
 use Rattle.rv_boundary_laws.proofs.Patches.{append_nil}
-use Rattle.rv_boundary_laws.proofs.Settled.{bytes_append}
 use Rattle.rv_boundary_laws.proofs.Sections.{split, join}
 use Rattle.rv_boundary_laws.proofs.Nops.{nops_long}
 use Rattle.rv_boundary_laws.proofs.Shrunk as shrunk

@@ -1,45 +1,45 @@
 -- Where the symbols of objects stand in the line of text, and where their sources say that they stand.
 
-use Rattle.std.proofs.Common.{◌≡◌, ℕ, zero, suc, ◌+◌, ◌-◌, ◌≤◌, Bool, true, false, List, [], ◌∷◌, ◌++◌, map, refl, sym, ap, ◌∙◌, subst, arith, Option, Some, None, option_map, ◌⊎◌, inl, inr}
+use Rattle.std.proofs.Common.{◌≡◌, ℕ, zero, suc, ◌+◌, ◌-◌, ◌≤◌, Bool, true, false, List, [], ◌∷◌, ◌++◌, map, refl, sym, ap, ◌∙◌, subst, arith, Option, Some, None, inl, inr}
 use Rattle.std.proofs.lemmas.Bool.{and_parts, le-leb, eq-eqb}
 use Rattle.std.proofs.lemmas.List.Folds.{list_any-append}
 use Rattle.std.specs.Prelude.{⊤, ◌&&◌, ◌||◌, ◌==◌, nat_le, if◌then◌else◌, filter, flat_map, option_and_then, bytes_eq, slice_index_or}
 use Rattle.std.specs.List.{AllByRecursion, find, list_any, slice_get}
 use Rattle.rv_text_laws.specs.Expression.{Primary, Symbol as Named, Literal, Here, Reference}
 use Rattle.rv_text_laws.specs.Values.{Meaning, Known, InSection as InData, Open as OpenAddress, Refused, add}
-use Rattle.rv_statement.specs.Statement.{StatementKind, Label, Numbered, Instruction, Directs, Statement, Expression, Enters, Opens, Globl, Local, Sets, Aligns_to_power, Aligns_to_bytes, Values, Strings, Zeros, Chooses, Ignored}
+use Rattle.rv_statement.specs.Statement.{StatementKind, Label, Numbered, Instruction, Directs, Statement, Enters, Sets}
 use Rattle.rv_unit_laws.specs.Bindings.{is_global}
 use Rattle.rv_unit_laws.specs.Sections.{Section as SourceSection, goes_to_text as source_text}
-use Rattle.rv_unit_laws.specs.Tables.{Tables, Assignment, Definition, tables, at_start, definition, opened_of, assigned_ever, is_location, longest_section}
+use Rattle.rv_unit_laws.specs.Tables.{Tables, Assignment, Definition, tables, at_start, definition, opened_of, assigned_ever, longest_section}
 use Rattle.rv_source_laws.specs.Located.{Located, has_row}
 use Rattle.rv_source_laws.specs.Program.{MaybeMapped, Program, tables_in}
 use Rattle.rv_source_laws.specs.Fits as source
 use Rattle.rv_source_laws.specs.Resolves.{defined_name, global_names_of, is_one_of}
 use Rattle.rv_source_laws.specs.Shortened.{Placed, Aim, aim, assigned_aim, defined_aim, defines, global_aim, aim_by, aim_of, aim_offset}
 use Rattle.rv_object.specs.declared.symbol.Definition.{Definition as Defined}
-use Rattle.rv_object.specs.declared.symbol.Definition.TheVariants.{Undefined, Absolute, InSection, Skipped}
 use Rattle.rv_object.specs.Object.{Section, Symbol, Object, size_of}
 use Rattle.rv_object_laws.specs.Calls.{base, is_text_place, is_in_section, text_offset}
 use Rattle.rv_object_laws.specs.Inputs.{Starts, InputSection, goes_to_text, inputs_from, inputs_of, inputs}
-use Rattle.rv_object_laws.specs.Names.{Place, is_defined, exported, place_in, global_place, symbol_place, no_object, object_at}
+use Rattle.rv_object_laws.specs.Names.{Place, is_defined, place_in, global_place, symbol_place, no_object, object_at}
 use Rattle.rv_object_laws.specs.Shortened.{Sizes}
 use Rattle.rv_assemble_laws.specs.Sites.{Site, sites_in, end_of}
-use Rattle.rv_assemble_laws.specs.Symbols.{site_at, after_site, after_found, assigned_definition, site_definition, global_symbol, exports_of, IsNamed, IsOwn, IsOuter, IsDefinedBy, StandsFor}
+use Rattle.rv_assemble_laws.specs.Symbols.{site_at, after_found, assigned_definition, site_definition, global_symbol, exports_of, IsNamed, IsOwn, IsOuter, IsDefinedBy, StandsFor}
 use Rattle.rv_assemble_laws.specs.IsObjectOf.{IsInData, StandsInData, IsObjectOf}
 use Rattle.rv_boundary_laws.specs.Joins.{AreObjectsOf}
 use Rattle.rv_boundary_laws.proofs.Aims as aims
 use Rattle.rv_boundary_laws.proofs.Aims.{IsFirst}
-use Rattle.rv_boundary_laws.proofs.Assembled.{IsSectionOf, AreSectionsOf}
+use Rattle.rv_boundary_laws.proofs.Assembled.{IsSectionOf}
 use Rattle.rv_boundary_laws.proofs.CodeOf.{found_from}
 use Rattle.rv_boundary_laws.proofs.Exported.{exported_are}
 use Rattle.rv_boundary_laws.proofs.Filed as filed
-use Rattle.rv_boundary_laws.proofs.Filed.{found_at, offsets_low}
-use Rattle.rv_boundary_laws.proofs.Finals.{IsFinalFile, AreFinal}
+use Rattle.rv_boundary_laws.proofs.Filed.{offsets_low}
+use Rattle.rv_boundary_laws.proofs.Finals.{AreFinal}
 use Rattle.rv_boundary_laws.proofs.Known.{all_found}
 use Rattle.rv_boundary_laws.proofs.Moved.{all_map, IsBound, AddsInData, adds}
+use Rattle.rv_boundary_laws.proofs.Ordered.{its_section}
 use Rattle.rv_boundary_laws.proofs.Pieces.{ArePieces, lines}
 use Rattle.rv_boundary_laws.proofs.PiecesOf.{size_is}
-use Rattle.rv_boundary_laws.proofs.Settled.{IsSettled, settled, IsSiteIn, sites_are_in}
+use Rattle.rv_boundary_laws.proofs.Settled.{IsSettled, settled, of_sections, IsSiteIn, sites_are_in}
 use Rattle.rv_boundary_laws.proofs.Shrunk as shrunk
 use Rattle.rv_boundary_laws.proofs.Statements.{renumbered, statement_at, all_statements}
 use Rattle.rv_boundary_laws.proofs.Uncut.{uncut, sections_same, assembled, assembled_sites}
@@ -110,9 +110,8 @@ present_of k (suc i) j (u ∷ us) x e text =
 pub section_of : (ss : List Statement) (o : Object) (is : IsObjectOf ss o) (j : ℕ) (s : SourceSection) → slice_get (opened_of (tables ss)).sections j ≡ Some s
     → (x : Section) × (slice_get o.sections j ≡ Some x) × IsSectionOf (tables ss) is.sites is.number o.symbols j s (sites_in j is.sites) x
 section_of ss o is j s at =
-    let found = found_at (tables ss) is.sites is.number o.symbols 0 j (opened_of (tables ss)).sections o.sections s
-    (sections_same (tables ss) is.sites (uncut ss o is) is.number o.symbols 0 (opened_of (tables ss)).sections o.sections is.sections) at in
-    (found.0, found.1, subst (λ n. IsSectionOf (tables ss) is.sites is.number o.symbols n s (sites_in n is.sites) found.0) (let e : 0 + j ≡ j = omega arith in e) found.2)
+    its_section (IsSectionOf (tables ss) is.sites is.number o.symbols) is.sites j (opened_of (tables ss)).sections o.sections s
+    (sections_same (tables ss) is.sites (uncut ss o is) is.number o.symbols 0 (opened_of (tables ss)).sections o.sections is.sections) at
 
 pub all_settled : (ss : List Statement) (o : Object) (is : IsObjectOf ss o) → AllByRecursion (IsSettled (opened_of (tables ss)).sections) is.sites
 all_settled ss o is = settled ss is.sites is.good is.located
@@ -123,21 +122,6 @@ firsts ss o is = all_map (λ z. (1 ≤ z.located.ordinal) × IsFirst is.sites z)
 -- no statement stands beyond its section
 abbrev IsLow : Object → Site → Type 0
 IsLow o z = (x : Section) → slice_get o.sections z.located.section ≡ Some x → z.offset ≤ size_of x.contents
-
--- what holds of the statements of each section holds of all
-pub of_sections : (sections : List SourceSection) (P : Site → Type 0) (rest : List Site) → AllByRecursion (IsSettled sections) rest
-    → ((j : ℕ) (s : SourceSection) → slice_get sections j ≡ Some s → AllByRecursion P (sites_in j rest)) → AllByRecursion P rest
-of_sections sections P [] h each = tt
-of_sections sections P (z ∷ rest) (h, hs) each =
-    (first (z.located.section == z.located.section) (eq-eqb z.located.section z.located.section refl) (each z.located.section z.located.home h.home), of_sections sections P rest hs (λ j s at. later j (z.located.section == j) (each j s at)))
-  where
-    first : (b : Bool) → b ≡ true → AllByRecursion P (if b then z ∷ sites_in z.located.section rest else sites_in z.located.section rest) → P z
-    first true e (one, more) = one
-    first false e more = absurd (cc)
-
-    later : (j : ℕ) (b : Bool) → AllByRecursion P (if b then z ∷ sites_in j rest else sites_in j rest) → AllByRecursion P (sites_in j rest)
-    later j true (one, more) = more
-    later j false more = more
 
 lows : (ss : List Statement) (o : Object) (is : IsObjectOf ss o) → AllByRecursion (IsLow o) is.sites
 lows ss o is = of_sections (opened_of (tables ss)).sections (IsLow o) is.sites (all_settled ss o is) by

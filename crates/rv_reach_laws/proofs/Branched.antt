@@ -1,6 +1,6 @@
 -- The fields of the branches and jumps of sources whose form is below its largest take their values where their text is placed.
 
-use Rattle.std.proofs.Common.{◌≡◌, ℕ, zero, suc, ◌+◌, ◌%◌, ◌^◌, ◌≤◌, ◌<◌, ◌⊎◌, inl, inr, Bool, true, false, ◌&&◌, List, [], ◌∷◌, map, pos, ◌-ℤ◌, Option, Some, None, option_map, refl, sym, ap, ◌∙◌, subst, arith}
+use Rattle.std.proofs.Common.{◌≡◌, ℕ, suc, ◌+◌, ◌%◌, ◌^◌, ◌≤◌, ◌<◌, ◌⊎◌, inl, inr, Bool, true, false, ◌&&◌, List, [], ◌∷◌, map, pos, ◌-ℤ◌, Option, Some, None, option_map, refl, sym, ap, ◌∙◌, subst, arith}
 use Rattle.std.specs.Prelude.{◌==◌, nat_lt, if◌then◌else◌, option_and_then}
 use Rattle.std.specs.List.{AllByRecursion, slice_get}
 use Rattle.std.proofs.lemmas.Bool.{and_parts, eq-eqb}
@@ -30,11 +30,12 @@ use Rattle.rv_resolve.specs.Shown.{shown_globals}
 use Rattle.rv_link.specs.Refusals.{IsTextStart}
 use Rattle.rv_link.specs.Filled.{IsTaken}
 use Rattle.rv_assemble_laws.specs.Sites.{Site, form, parts, sites_in, end_of, HasSize}
-use Rattle.rv_assemble_laws.specs.IsObjectOf.{Numbering, relocations_from, IsSectionOf, AreSectionsOf, IsObjectOf}
+use Rattle.rv_assemble_laws.specs.IsObjectOf.{Numbering, relocations_from, IsSectionOf, IsObjectOf}
 use Rattle.rv_source_laws.proofs.Homes.{all_filter}
 use Rattle.rv_boundary_laws.specs.Joins.{AreObjectsOf}
 use Rattle.rv_boundary_laws.proofs.Assembled as assembled
 use Rattle.rv_boundary_laws.proofs.Filed.{offsets_low}
+use Rattle.rv_boundary_laws.proofs.Ordered.{its_source, in_order}
 use Rattle.rv_boundary_laws.proofs.PiecesOf.{size_is}
 use Rattle.rv_boundary_laws.proofs.Ranges.{even_bytes}
 use Rattle.rv_boundary_laws.proofs.Settled.{IsSettled, IsSiteIn, sites_are_in}
@@ -81,23 +82,6 @@ in_section j x (y ∷ ys) (inr i) e = by (y.located.section == j) (in_section j 
     by true h = inr h
     by false h = h
 
-section_at : (t : Tables) (all : List Site) (number : Numbering) (symbols : List Symbol) (index j : ℕ) (sections : List SourceSection) (xs : List Section) (x : Section)
-    → AreSectionsOf t all number symbols index sections xs → slice_get xs j ≡ Some x
-    → (s : SourceSection) × (slice_get sections j ≡ Some s) × IsSectionOf t all number symbols (index + j) s (sites_in (index + j) all) x
-section_at t all number symbols index j [] [] x h e = absurd (cc)
-section_at t all number symbols index j [] (y ∷ xs) x h e = absurd h
-section_at t all number symbols index j (s ∷ sections) [] x h e = absurd h
-section_at t all number symbols index zero (s ∷ sections) (y ∷ xs) x (h, hs) e =
-    let same : y ≡ x = cc in (
-      s,
-      refl,
-      subst (λ z. IsSectionOf t all number symbols (index + 0) s (sites_in (index + 0) all) z) same
-          (subst (λ n. IsSectionOf t all number symbols n s (sites_in n all) y) (let f : index ≡ index + 0 = omega arith in f) h),
-    )
-section_at t all number symbols index (suc j) (s ∷ sections) (y ∷ xs) x (h, hs) e =
-    let (q, at, it) = section_at t all number symbols (suc index) j sections xs x hs e in
-    (q, at, subst (λ n. IsSectionOf t all number symbols n q (sites_in n all) x) (let f : suc index + j ≡ index + suc j = omega arith in f) it)
-
 evens_in : (t : Tables) (number : Numbering) (j : ℕ) (s : SourceSection) (code : s.executable ≡ true) (multiple q : ℕ) (zs : List Site) → q % 2 ≡ 0 → AllByRecursion (IsSiteIn j s) zs → assembled.Tile t q zs
     → AllByRecursion (λ z. z.located.placed ≡ true → HasSize (form t z.located) z multiple z.located.kind) zs → AllByRecursion (λ (z : Site). z.offset % 2 ≡ 0) zs
 evens_in t number j s code multiple q [] even inside tile sizes = tt
@@ -129,8 +113,10 @@ module _ (ss : List Statement) (o : Object) (is : IsObjectOf ss o) (index : ℕ)
   abbrev t : Tables
   t = tables ss
 
-  found : (s : SourceSection) × (slice_get (opened_of (tables ss)).sections index ≡ Some s) × IsSectionOf t is.sites is.number o.symbols (0 + index) s (sites_in (0 + index) is.sites) x
-  found = section_at t is.sites is.number o.symbols 0 index (opened_of (tables ss)).sections o.sections x is.sections there
+  found : (s : SourceSection) × (slice_get (opened_of (tables ss)).sections index ≡ Some s) × IsSectionOf t is.sites is.number o.symbols index s (sites_in index is.sites) x
+  found =
+      its_source (IsSectionOf t is.sites is.number o.symbols) is.sites index (opened_of (tables ss)).sections o.sections x
+      (in_order t is.sites is.number o.symbols 0 (opened_of (tables ss)).sections o.sections is.sections) there
 
   in_source : (s : SourceSection) → slice_get (opened_of (tables ss)).sections index ≡ Some s → IsSectionOf t is.sites is.number o.symbols index s (sites_in index is.sites) x
       → (n : ℕ) (r : Relocation) → slice_get x.relocations n ≡ Some r → is_short_branch r.kind ≡ true → (file : ℕ) → IsNearIn (record { file = file; object = o; index = index; section = x }) r
@@ -215,7 +201,7 @@ module _ (ss : List Statement) (o : Object) (is : IsObjectOf ss o) (index : ℕ)
 
   pub branch_in : (file : ℕ) → HasNear (record { file = file; object = o; index = index; section = x })
   branch_in file n r at_r short =
-      in_source found.0 found.1 (subst (λ m. IsSectionOf t is.sites is.number o.symbols m found.0 (sites_in m is.sites) x) (let e : 0 + index ≡ index = omega arith in e) found.2) n r at_r short file
+      in_source found.0 found.1 found.2 n r at_r short file
 
 each_near : (file : ℕ) (sources : List (List Statement)) (us : List Object) → AreObjectsOf sources us → EachOf goes_to_text HasNear file us
 each_near file [] [] h = tt
