@@ -1,13 +1,12 @@
 -- Where a statement of a file stands in the line of text.
 
-use Rattle.std.proofs.Common.{◌≡◌, ℕ, zero, suc, ◌+◌, ◌-◌, ◌≤◌, ◌<◌, Bool, true, false, List, [], ◌∷◌, ◌++◌, map, refl, sym, ap, ◌∙◌, subst, arith, Option, Some, None, option_map}
-use Rattle.std.proofs.lemmas.Bool.{and_parts, eqb-true, eq-eqb}
-use Rattle.std.specs.Prelude.{⊤, ◌&&◌, ◌||◌, ◌==◌, if◌then◌else◌, filter}
+use Rattle.std.proofs.Common.{◌≡◌, ℕ, ◌+◌, Bool, true, false, List, [], ◌∷◌, ◌++◌, refl, sym, ap, ◌∙◌, subst, arith, Option, Some, None, option_map}
+use Rattle.std.proofs.lemmas.Bool.{eqb-true, eq-eqb}
+use Rattle.std.specs.Prelude.{◌&&◌, ◌||◌, ◌==◌, if◌then◌else◌}
 use Rattle.std.specs.List.{AllByRecursion, find, list_any}
-use Rattle.rv_unit_laws.specs.Sections.{Section as SourceSection, goes_to_text as source_text}
-use Rattle.rv_unit_laws.specs.Tables.{Tables}
+use Rattle.rv_unit_laws.specs.Sections.{goes_to_text as source_text}
 use Rattle.rv_source_laws.specs.Located.{Located, has_row}
-use Rattle.rv_source_laws.specs.Program.{Program, tables_in}
+use Rattle.rv_source_laws.specs.Program.{Program}
 use Rattle.rv_source_laws.specs.Fits as source
 use Rattle.rv_source_laws.specs.Shortened.{Placed}
 use Rattle.rv_object.specs.Object.{size_of}

@@ -1,15 +1,15 @@
 -- The text of sources is short: few sections, each of few bytes and with a small alignment.
 
-use Rattle.std.proofs.Common.{◌≡◌, ℕ, zero, suc, ◌+◌, ◌-◌, ◌*◌, ◌^◌, ◌≤◌, ◌<◌, Bool, true, false, List, [], ◌∷◌, ◌++◌, length, length-append, map, refl, sym, ap, ◌∙◌, subst, arith, max, Option, Some, None, ◌⊎◌, inl, inr}
+use Rattle.std.proofs.Common.{◌≡◌, ℕ, zero, suc, ◌+◌, ◌-◌, ◌*◌, ◌^◌, ◌≤◌, Bool, true, false, List, [], ◌∷◌, ◌++◌, length, length-append, map, refl, sym, ap, ◌∙◌, subst, arith, max, Option, Some, None, inl, inr}
 use Rattle.std.proofs.lemmas.Bool.{and_parts, le-leb, ltb-true}
-use Rattle.std.specs.Prelude.{⊤, ◌&&◌, nat_lt, nat_le, if◌then◌else◌, slice_index_or}
+use Rattle.std.specs.Prelude.{nat_lt, if◌then◌else◌, slice_index_or}
 use Rattle.std.specs.List.{AllByRecursion, slice_get}
 use Rattle.rv_text_laws.specs.Values.{Value}
 use Rattle.rv_statement.specs.Statement.{StatementKind, Label, Numbered, Instruction, Directs, Statement, Expression, Directive}
 use Rattle.rv_statement.specs.declared.directive.Choice.{Choice}
-use Rattle.rv_unit_laws.specs.Contributions.{AlignmentForm, As_power, As_bytes, Contribution, Nothing, Bytes, Zero_bytes, Alignment, contribution}
-use Rattle.rv_unit_laws.specs.Sections.{Section as SourceSection, goes_to_text as source_text, place_of_name, entered_by}
-use Rattle.rv_unit_laws.specs.Tables.{Tables, Extent, Assignment, at_start, after, after_all, tables, opened_of, here, value, alignment_at, alignments_of, contribution_alignment, changed_at, extended, entered_at, with_section, with_data, with_contribution, with_chosen, with_assignment, with_label, assigned_by, chosen, or_none, longest_section, contributed, is_defined, may_set}
+use Rattle.rv_unit_laws.specs.Contributions.{As_power, As_bytes, Contribution, Nothing, Bytes, Zero_bytes, Alignment, contribution}
+use Rattle.rv_unit_laws.specs.Sections.{Section as SourceSection, place_of_name, entered_by}
+use Rattle.rv_unit_laws.specs.Tables.{Tables, Extent, Assignment, at_start, after, after_all, tables, opened_of, here, value, contribution_alignment, changed_at, extended, entered_at, with_section, with_data, with_contribution, with_chosen, with_assignment, with_label, assigned_by, chosen, or_none, contributed, is_defined, may_set}
 use Rattle.rv_object.specs.Object.{Section, Symbol, Object, size_of}
 use Rattle.rv_object_laws.specs.Calls.{start_padding, length_of, is_short_text}
 use Rattle.rv_object_laws.specs.Inputs.{InputSection, goes_to_text, inputs_from, inputs_of, inputs, begins_at}
@@ -17,7 +17,7 @@ use Rattle.rv_assemble_laws.specs.Sites.{Site, sites_in, end_of}
 use Rattle.rv_assemble_laws.specs.IsObjectOf.{Numbering, IsObjectOf}
 use Rattle.rv_boundary_laws.specs.Joins.{AreObjectsOf}
 use Rattle.rv_boundary_laws.proofs.Assembled.{IsSectionOf, AreSectionsOf}
-use Rattle.rv_boundary_laws.proofs.Pads.{IsValidAlignment, IsPower, by_power, power_valid, byte_valid}
+use Rattle.rv_boundary_laws.proofs.Pads.{IsValidAlignment, by_power, power_valid, byte_valid}
 use Rattle.rv_boundary_laws.proofs.PiecesOf.{size_is, begins_as}
 use Rattle.rv_boundary_laws.proofs.Uncut.{uncut, sections_same}
 

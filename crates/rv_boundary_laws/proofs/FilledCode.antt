@@ -29,7 +29,7 @@ use Rattle.rv_object_laws.specs.Moves.{alignments_of}
 use Rattle.rv_object_laws.specs.Inputs.{Starts}
 use Rattle.rv_object_laws.specs.Values.{value, is_low, IsRelocated}
 use Rattle.rv_assemble_laws.specs.CodeFields.{symbol_field, low_field, low_field_at, label_field, field_of, relax_fields}
-use Rattle.rv_boundary_laws.proofs.Marked.{marks, marked, is_marked, part_fields, relaxes, marks_relax, marked_one, low_marked}
+use Rattle.rv_boundary_laws.proofs.Marked.{marks, is_marked, part_fields, relaxes, marks_relax, marked_one, low_marked}
 use Rattle.rv_assemble_laws.specs.Coded.{constants, AreCodedParts, IsCode}
 use Rattle.rv_assemble_laws.specs.InstructionFaults.{is_label}
 use Rattle.rv_assemble_laws.specs.Templates.{Open, open_at}

@@ -1,19 +1,19 @@
 -- The statements of sources in the linked program, beside those of their objects as the assembler makes them: which of their bytes are left.
 
-use Rattle.std.proofs.Common.{◌≡◌, ℕ, suc, Bool, true, false, List, [], ◌∷◌, ◌++◌, map, refl, sym, ap, ◌∙◌, subst, Option, Some}
+use Rattle.std.proofs.Common.{◌≡◌, ℕ, suc, Bool, true, false, List, [], ◌∷◌, map, refl, sym, ap, ◌∙◌, subst}
 use Rattle.std.specs.Prelude.{⊤, if◌then◌else◌}
-use Rattle.std.specs.List.{AllByRecursion, slice_get}
+use Rattle.std.specs.List.{AllByRecursion}
 use Rattle.rv_statement.specs.declared.mnemonic.Mnemonic.{Mnemonic}
 use Rattle.rv_statement.specs.Statement.{StatementKind, Label, Numbered, Instruction, Directs, Statement, Operand, Expression}
 use Rattle.rv_text_laws.specs.Values.{Value}
 use Rattle.rv_unit_laws.specs.Sections.{Section as SourceSection, goes_to_text as source_text}
 use Rattle.rv_unit_laws.specs.Tables.{Tables, tables, opened_of}
 use Rattle.rv_source_laws.specs.Located.{Located}
-use Rattle.rv_object.specs.Object.{Section, Object}
+use Rattle.rv_object.specs.Object.{Object}
 use Rattle.rv_object_laws.specs.Inputs.{Starts, inputs_from, inputs_of, goes_to_text}
 use Rattle.rv_object_laws.specs.Moves.{Move}
 use Rattle.rv_object_laws.specs.Shortened.{Sizes}
-use Rattle.rv_source_laws.specs.Sized.{is_call, statement_size}
+use Rattle.rv_source_laws.specs.Sized.{statement_size}
 use Rattle.rv_source_laws.specs.Shortened.{calls}
 use Rattle.rv_assemble_laws.specs.Sites.{Site, form}
 use Rattle.rv_assemble_laws.specs.IsObjectOf.{IsObjectOf}

@@ -1,6 +1,6 @@
 -- The symbols of an object of a source when the bytes of its sections move: what they stand for moves with its statement.
 
-use Rattle.std.proofs.Common.{◌≡◌, ℕ, ◌+◌, ◌-◌, ◌≤◌, Bool, true, false, List, [], ◌∷◌, ◌++◌, map, refl, sym, ap, ◌∙◌, subst, arith, Option, Some, None, option_map, ◌⊎◌, inl, inr}
+use Rattle.std.proofs.Common.{◌≡◌, ℕ, ◌-◌, ◌≤◌, Bool, true, false, List, [], ◌∷◌, ◌++◌, map, refl, sym, ap, ◌∙◌, subst, arith, Option, Some, None, option_map, ◌⊎◌, inl, inr}
 use Rattle.std.specs.Prelude.{◌&&◌, ◌==◌, if◌then◌else◌, filter, flat_map, bytes_eq, nat_lt}
 use Rattle.std.specs.List.{AllByRecursion, slice_get}
 use Rattle.rv_text_laws.specs.Bytes.{value as digits_value}

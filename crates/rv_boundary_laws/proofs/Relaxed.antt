@@ -1,12 +1,12 @@
 -- The program of the objects of sources, once relaxation is done, is the linked program of the sources.
 
-use Rattle.std.proofs.Common.{◌≡◌, ℕ, zero, suc, ◌+◌, ◌-◌, ◌≤◌, Bool, true, false, List, [], ◌∷◌, ◌++◌, map, refl, sym, ap, ◌∙◌, subst, arith}
-use Rattle.std.specs.Prelude.{⊤, ◌==◌, filter, slice_index_or}
+use Rattle.std.proofs.Common.{◌≡◌, ℕ, zero, suc, ◌+◌, ◌-◌, Bool, false, List, [], ◌∷◌, map, refl, sym, ap, ◌∙◌, subst, arith}
+use Rattle.std.specs.Prelude.{◌==◌, filter, slice_index_or}
 use Rattle.std.specs.List.{AllByRecursion}
 use Rattle.rv_statement.specs.Statement.{Statement}
 use Rattle.rv_unit_laws.specs.Sections.{goes_to_text as source_text}
 use Rattle.rv_unit_laws.specs.Tables.{tables, at_start}
-use Rattle.rv_source_laws.specs.Program.{Program, program, tables_in}
+use Rattle.rv_source_laws.specs.Program.{Program, program}
 use Rattle.rv_source_laws.specs.Fits as source
 use Rattle.rv_image.specs.Linked.{Linked}
 use Rattle.rv_source_laws.specs.Sized.{Sized}
@@ -25,7 +25,7 @@ use Rattle.rv_boundary_laws.proofs.Finals.{IsResized, AreCut, AreFinal, all_fina
 use Rattle.rv_boundary_laws.proofs.Joined.{resolves}
 use Rattle.rv_boundary_laws.proofs.Linked.{linked}
 use Rattle.rv_boundary_laws.proofs.Moved.{all_map}
-use Rattle.rv_boundary_laws.proofs.Pieces.{ArePieces, Apart, text_is, have_bytes}
+use Rattle.rv_boundary_laws.proofs.Pieces.{ArePieces, text_is, have_bytes}
 use Rattle.rv_boundary_laws.proofs.PiecesOf.{sites_by, pieces, apart}
 use Rattle.rv_boundary_laws.proofs.Shrinking.{shrunk_objects}
 use Rattle.rv_boundary_laws.proofs.ShrunkLink.{shrunk_link}

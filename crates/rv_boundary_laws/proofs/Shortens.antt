@@ -3,12 +3,12 @@
 use Rattle.std.proofs.Common.{◌≡◌, ℕ, zero, suc, ◌+◌, ◌-◌, ◌≤◌, ◌<◌, Bool, true, false, List, [], ◌∷◌, ◌++◌, map, refl, sym, ap, ◌∙◌, subst, arith, Option, Some, None}
 use Rattle.std.proofs.lemmas.Bool.{and_parts, eq-eqb, ne_eqb}
 use Rattle.std.proofs.lemmas.List.Folds.{list_any-append}
-use Rattle.std.specs.Prelude.{⊤, ◌&&◌, ◌||◌, ◌==◌, IsTrue, if◌then◌else◌, flat_map, option_and_then}
+use Rattle.std.specs.Prelude.{⊤, ◌&&◌, ◌||◌, ◌==◌, if◌then◌else◌, flat_map, option_and_then}
 use Rattle.std.specs.List.{AllByRecursion, slice_get, list_any}
 use Rattle.rv_text_laws.specs.Expression.{Primary}
 use Rattle.rv_statement.specs.Statement.{Statement}
 use Rattle.rv_unit_laws.specs.Sections.{Section as SourceSection, goes_to_text as source_text}
-use Rattle.rv_unit_laws.specs.Tables.{Tables, tables, opened_of}
+use Rattle.rv_unit_laws.specs.Tables.{tables, opened_of}
 use Rattle.rv_layout_laws.specs.declared.site.Site.{Site as Spot}
 use Rattle.rv_layout_laws.specs.Calls.{IsGreatestClosed, is_call as is_call_spot}
 use Rattle.rv_source_laws.specs.Located.{Located, has_row}
@@ -24,11 +24,11 @@ use Rattle.rv_object.specs.Object.{Section, Symbol, Object, size_of, stored}
 use Rattle.rv_object_laws.specs.Calls.{base_in, start_padding, changes, site_of, sites_from, sites_of, is_entered, is_text_place, text_offset, is_short_text}
 use Rattle.rv_object_laws.specs.Inputs.{Starts, InputSection, goes_to_text, inputs_from, inputs_of, inputs, begins_at}
 use Rattle.rv_object_laws.specs.IsLinkOf.{IsLinkOf}
-use Rattle.rv_object_laws.specs.Names.{symbol_place, object_at}
+use Rattle.rv_object_laws.specs.Names.{symbol_place}
 use Rattle.rv_object_laws.specs.Shortened.{Sizes, size_at, sizes_by, shortened_object, shortened_from, shortened, IsRelaxed, Relaxes}
 use Rattle.rv_assemble_laws.specs.Sites.{Site, part_bytes, sites_in}
 use Rattle.rv_assemble_laws.specs.Symbols.{site_at, StandsFor}
-use Rattle.rv_assemble_laws.specs.IsObjectOf.{Numbering, IsObjectOf, relocations_from}
+use Rattle.rv_assemble_laws.specs.IsObjectOf.{IsObjectOf, relocations_from}
 use Rattle.rv_boundary_laws.specs.Joins.{AreObjectsOf}
 use Rattle.rv_boundary_laws.proofs.Assembled.{IsAssembled, AreAssembled, AreSectionsOf, IsSectionOf, parts}
 use Rattle.rv_boundary_laws.proofs.Bounded.{text_short}
@@ -36,11 +36,10 @@ use Rattle.rv_boundary_laws.proofs.ChangesOf as changed
 use Rattle.rv_boundary_laws.proofs.CutObjects as cut
 use Rattle.rv_boundary_laws.proofs.CutObjects.{Fitting, cut_is, cut_sites}
 use Rattle.rv_boundary_laws.proofs.CutSections.{stored_is}
-use Rattle.rv_boundary_laws.proofs.Files.{IsFile, AreFiles, statements_ours}
-use Rattle.rv_boundary_laws.proofs.Finals.{IsResized, AreCut, IsFinalFile, AreFinal}
+use Rattle.rv_boundary_laws.proofs.Files.{AreFiles, statements_ours}
+use Rattle.rv_boundary_laws.proofs.Finals.{IsResized, AreCut, AreFinal}
 use Rattle.rv_boundary_laws.proofs.Forms.{fitting}
 use Rattle.rv_boundary_laws.proofs.Known.{all_found}
-use Rattle.rv_boundary_laws.proofs.Pieces as pieces
 use Rattle.rv_boundary_laws.proofs.Pieces.{IsPiece, ArePieces, placed_at, text_is, piece_placed, piece_length, piece_start, line_at, line_of, lines}
 use Rattle.rv_boundary_laws.proofs.PiecesOf.{sites_by}
 use Rattle.rv_boundary_laws.proofs.Relaxed as relaxed

@@ -1,11 +1,11 @@
 -- The rows of a linked program have the sizes that the assembler found, but its calls and its alignments in code: those sizes are the least.
 
-use Rattle.std.proofs.Common.{◌≡◌, ℕ, zero, suc, ◌+◌, ◌-◌, ◌≤◌, ◌<◌, Bool, true, false, List, [], ◌∷◌, ◌++◌, map, refl, sym, ap, ◌∙◌, subst, arith, Some, None}
+use Rattle.std.proofs.Common.{◌≡◌, ℕ, suc, ◌+◌, ◌≤◌, ◌<◌, Bool, true, false, List, [], ◌∷◌, ◌++◌, map, refl, sym, ap, ◌∙◌, subst, arith, Some, None}
 use Rattle.std.proofs.lemmas.Bool.{and_parts, eq-eqb, ne_eqb}
 use Rattle.std.specs.Prelude.{◌==◌, if◌then◌else◌, filter, slice_index_or}
 use Rattle.std.specs.List.{AllByRecursion}
 use Rattle.rv_statement.specs.Statement.{Statement}
-use Rattle.rv_unit_laws.specs.Tables.{Tables, tables, at_start}
+use Rattle.rv_unit_laws.specs.Tables.{Tables, tables}
 use Rattle.rv_map.specs.declared.map.Row.{Row as MapRow}
 use Rattle.rv_source_laws.specs.Located.{Located, has_row}
 use Rattle.rv_source_laws.specs.Program.{MaybeMapped, Program, tables_in}

@@ -14,7 +14,7 @@ use Rattle.rv_unit_laws.specs.Tables.{Tables, tables, opened_of}
 use Rattle.rv_source_laws.specs.Located.{Located}
 use Rattle.rv_source_laws.specs.Sizes.{item_by_kind, items_of}
 use Rattle.rv_object.specs.Object.{Section, Symbol, Object}
-use Rattle.rv_pseudo_laws.specs.Code.{Part as CodePart, Closed, Open as Open_part, Joined, Constants, code, far}
+use Rattle.rv_pseudo_laws.specs.Code.{Part as CodePart, Closed, Open as Open_part, Joined, code, far}
 use Rattle.rv_source_laws.specs.Sized.{is_call}
 use Rattle.rv_source_laws.specs.Shortened.{calls, link_register}
 use Rattle.rv_assemble_laws.specs.CodeFields.{part_fields as plain_fields}
