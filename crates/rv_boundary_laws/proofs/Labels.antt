@@ -1,79 +1,18 @@
 -- A name that is a label is no assignment, so a label stands where its statement stands.
 
 use Rattle.std.proofs.Common.{◌≡◌, ℕ, suc, Bool, true, false, List, [], ◌∷◌, ◌++◌, refl, sym, ap, ◌∙◌, subst, Option, Some, None}
-use Rattle.std.specs.Prelude.{⊤, not, ◌&&◌, ◌||◌, nat_lt, is_some, if◌then◌else◌}
-use Rattle.std.specs.List.{find}
+use Rattle.std.specs.Prelude.{⊤, ◌&&◌, nat_lt, is_some, if◌then◌else◌}
 use Rattle.std.specs.Str.{bytes_eq}
+use Rattle.std.proofs.lemmas.Bool.{not-true}
 use Rattle.rv_text_laws.specs.Bytes.{value as digits_value}
 use Rattle.rv_text_laws.specs.Expression.{Primary, Literal, Symbol, Here, Reference}
 use Rattle.rv_text_laws.specs.Values.{Known, InSection, Open, Refused, Value, Constant, Symbolic, Difference, Faulty, add}
-use Rattle.rv_statement.specs.declared.directive.Choice.{Choice}
-use Rattle.rv_statement.specs.Statement.{StatementKind, Label, Numbered, Instruction, Directs, Statement, Expression, Directive, Enters, Opens, Globl, Local, Sets, Aligns_to_power, Aligns_to_bytes, Values, Strings, Zeros, Chooses, Ignored}
-use Rattle.rv_unit_laws.specs.Sections.{Section, entered_by}
-use Rattle.rv_unit_laws.specs.Contributions.{Contribution, Nothing, contribution}
-use Rattle.rv_unit_laws.specs.Tables.{Tables, Labelled, NumericLabel, Assignment, Definition, here, value, label_of, assigned_before, assigned_ever, is_defined, has_location, may_set, assigned, assigned_by, chosen, with_assignment, with_label, with_section, with_chosen, with_contribution, after_directive, after, after_all, at_start, tables, definition, assigned_definition, first_definition, labelled_definition, numeric_definition, numeric_label_after, numeric_label_before}
-use Rattle.rv_unit_laws.proofs.Entering.{entering}
-use Rattle.rv_unit_laws.proofs.Found.{same_bytes}
-use Rattle.rv_unit_laws.proofs.Before.{IsBefore, placed_latest, has_place_now, defined_now, before_after, before_start}
+use Rattle.rv_statement.specs.Statement.{StatementKind, Label, Numbered, Instruction, Directs, Statement, Directive, Enters, Opens, Globl, Local, Sets, Aligns_to_power, Aligns_to_bytes, Values, Strings, Zeros, Chooses, Ignored}
+use Rattle.rv_unit_laws.specs.Sections.{entered_by}
+use Rattle.rv_unit_laws.specs.Tables.{Tables, Labelled, NumericLabel, Assignment, Definition, here, value, label_of, assigned_before, assigned_ever, is_defined, has_location, may_set, assigned, assigned_by, with_assignment, with_label, with_section, after_directive, after, after_all, at_start, tables, definition, assigned_definition, first_definition, labelled_definition, numeric_definition, numeric_label_after, numeric_label_before}
+use Rattle.rv_unit_laws.proofs.Alone.{Same, section_same, directive_same, other_label, undefined, unplaced}
+use Rattle.rv_unit_laws.proofs.Before.{IsBefore, before_after, before_start}
 use Rattle.rv_assemble_laws.specs.InstructionFaults.{is_label}
-
--- ---- tests and searches
-
-or_none : (a b : Bool) → (a || b) ≡ false → (a ≡ false) × (b ≡ false)
-or_none true b e = absurd (cc)
-or_none false b e = (refl, e)
-
-not_true : (b : Bool) → not b ≡ true → b ≡ false
-not_true true e = absurd (cc)
-not_true false e = refl
-
-none_of : {X : Type 0} (o : Option X) → is_some o ≡ false → o ≡ None
-none_of None e = refl
-none_of (Some x) e = absurd (cc)
-
-found_front : {X : Type 0} (test : X → Bool) (xs ys : List X) (x : X) → find test xs ≡ Some x → find test (xs ++ ys) ≡ Some x
-found_front test [] ys x e = absurd (cc)
-found_front test (z ∷ xs) ys x e = go (test z) e (found_front test xs ys x)
-  where
-    go : (b : Bool) → (if b then Some z else find test xs) ≡ Some x → (find test xs ≡ Some x → find test (xs ++ ys) ≡ Some x) → (if b then Some z else find test (xs ++ ys)) ≡ Some x
-    go true f ih = f
-    go false f ih = ih f
-
-found_behind : {X : Type 0} (test : X → Bool) (xs ys : List X) → find test xs ≡ None → find test (xs ++ ys) ≡ find test ys
-found_behind test [] ys e = refl
-found_behind test (z ∷ xs) ys e = go (test z) e (found_behind test xs ys)
-  where
-    go : (b : Bool) → (if b then Some z else find test xs) ≡ None → (find test xs ≡ None → find test (xs ++ ys) ≡ find test ys) → (if b then Some z else find test (xs ++ ys)) ≡ find test ys
-    go true f ih = absurd (cc)
-    go false f ih = ih f
-
--- ---- what a statement leaves alone
-
-abbrev Same : Tables → Tables → Type 0
-Same t u = (u.labels ≡ t.labels) × (u.assignments ≡ t.assignments)
-
-joined : (t u v : Tables) → Same t u → Same u v → Same t v
-joined t u v (l, a) (m, b) = (m ∙ l, b ∙ a)
-
-section_same : (t : Tables) (found : Option Section) → Same t (with_section t found)
-section_same t None = (refl, refl)
-section_same t (Some section) = entering (λ (u : Tables). Same t u) t section (λ n at. (refl, refl)) (λ room. (refl, refl)) (refl, refl)
-
-chosen_same : (t : Tables) (found : Option Choice) → Same t (with_chosen t found)
-chosen_same t None = (refl, refl)
-chosen_same t (Some choice) = (refl, refl)
-
-contribution_same : (t : Tables) (v : Expression → Value) (c : Contribution) → Same t (with_contribution t v c)
-contribution_same t v Nothing = (refl, refl)
-contribution_same t v _ = (refl, refl)
-
--- but for a name that it sets
-directive_same : (t : Tables) (k : ℕ) (d : Directive) → Same (with_assignment (with_section t (entered_by d)) (assigned_by (value t false k (here t)) k d)) (after_directive t k d)
-directive_same t k d =
-    let v : Expression → Value = value t false k (here t) in
-    let named = with_assignment (with_section t (entered_by d)) (assigned_by v k d) in
-    let both = joined named (with_chosen named (chosen d)) (with_contribution (with_chosen named (chosen d)) v (contribution d)) (chosen_same named (chosen d)) (contribution_same (with_chosen named (chosen d)) v (contribution d)) in
-    (both.0, both.1)
 
 module _ (name : List ℕ) where
   -- a label of the name, and an assignment of it: not both
@@ -106,17 +45,10 @@ module _ (name : List ℕ) where
 
       own : bytes_eq n name ≡ true → is_defined t k n ≡ false → OneName more
       own f e =
-          let same : n ≡ name = same_bytes n name f in
-          let free = or_none (is_some (label_of t.labels true 0 name)) (is_some (assigned_ever t.assignments name)) (sym (defined_now t k name before) ∙ ap (is_defined t k) (sym same) ∙ e) in
-          subst (λ o. NotBoth (label_of more.labels true 0 name) o) (sym (none_of (assigned_ever t.assignments name) free.1)) (unset (label_of more.labels true 0 name))
+          subst (λ o. NotBoth (label_of more.labels true 0 name) o) (sym (undefined name t k n before f e).1) (unset (label_of more.labels true 0 name))
 
       other : bytes_eq n name ≡ false → OneName more
-      other f = subst (λ o. NotBoth o (assigned_ever t.assignments name)) (sym (by (label_of t.labels true 0 name) refl)) h
-        where
-          by : (o : Option Labelled) → label_of t.labels true 0 name ≡ o → label_of more.labels true 0 name ≡ label_of t.labels true 0 name
-          by (Some l) e = found_front (λ (l : Labelled). bytes_eq l.name name && (true || nat_lt l.ordinal 0)) t.labels (new ∷ []) l e ∙ sym e
-          by None e =
-              found_behind (λ (l : Labelled). bytes_eq l.name name && (true || nat_lt l.ordinal 0)) t.labels (new ∷ []) e ∙ ap (λ b. if b && true then Some new else None) f ∙ sym e
+      other f = subst (λ o. NotBoth o (assigned_ever t.assignments name)) (sym (other_label name t.labels new f)) h
 
       named : (b : Bool) → bytes_eq n name ≡ b → is_defined t k n ≡ false → OneName more
       named true f e = own f e
@@ -143,14 +75,11 @@ module _ (name : List ℕ) where
         s = record { name = n; ordinal = k; meaning = Known x; plus = 0 }
 
         named : (b : Bool) → bytes_eq n name ≡ b → has_location t k n ≡ false → OneName (record t { assignments = s ∷ t.assignments })
-        named true f e =
-            let same : n ≡ name = same_bytes n name f in
-            let free = or_none (is_some (label_of t.labels true 0 name)) (placed_latest (assigned_ever t.assignments name)) (sym (has_place_now t k name before) ∙ ap (has_location t k) (sym same) ∙ e) in
-            unlabelled t s (none_of (label_of t.labels true 0 name) free.0)
+        named true f e = unlabelled t s (unplaced name t k n before f e).0
         named false f e = other_set t s f known
 
         go : (b : Bool) → may_set t k n (Known x) ≡ b → OneName (if b then record t { assignments = s ∷ t.assignments } else t)
-        go true e = named (bytes_eq n name) refl (not_true (has_location t k n) e)
+        go true e = named (bytes_eq n name) refl (not-true (has_location t k n) e)
         go false e = known
 
     place_after : (section offset plus : ℕ) → OneName (with_assignment t (Some (record { name = n; ordinal = k; meaning = InSection section offset; plus = plus })))
@@ -160,14 +89,11 @@ module _ (name : List ℕ) where
         s = record { name = n; ordinal = k; meaning = InSection section offset; plus = plus }
 
         named : (b : Bool) → bytes_eq n name ≡ b → is_defined t k n ≡ false → OneName (record t { assignments = s ∷ t.assignments })
-        named true f e =
-            let same : n ≡ name = same_bytes n name f in
-            let free = or_none (is_some (label_of t.labels true 0 name)) (is_some (assigned_ever t.assignments name)) (sym (defined_now t k name before) ∙ ap (is_defined t k) (sym same) ∙ e) in
-            unlabelled t s (none_of (label_of t.labels true 0 name) free.0)
+        named true f e = unlabelled t s (undefined name t k n before f e).0
         named false f e = other_set t s f known
 
         go : (b : Bool) → may_set t k n (InSection section offset) ≡ b → OneName (if b then record t { assignments = s ∷ t.assignments } else t)
-        go true e = named (bytes_eq n name) refl (not_true (is_defined t k n) e)
+        go true e = named (bytes_eq n name) refl (not-true (is_defined t k n) e)
         go false e = known
 
     set_after : (v : Value) → OneName (with_assignment t (assigned n k v))

@@ -1,82 +1,27 @@
 -- A name of a source is one label, or one location, or constants, and each stands at its statement.
 
 use Rattle.std.proofs.Common.{◌≡◌, ℕ, zero, suc, Bool, true, false, List, [], ◌∷◌, ◌++◌, map, drop, refl, sym, ap, ◌∙◌, subst, Option, Some, None}
-use Rattle.std.specs.Prelude.{⊤, not, ◌&&◌, ◌||◌, nat_lt, is_some, slice_get, if◌then◌else◌}
-use Rattle.std.specs.List.{AllByRecursion, find}
+use Rattle.std.specs.Prelude.{⊤, ◌&&◌, ◌||◌, nat_lt, slice_get, if◌then◌else◌}
+use Rattle.std.specs.List.{AllByRecursion}
+use Rattle.std.specs.Option.{option_or}
 use Rattle.std.specs.Str.{bytes_eq}
+use Rattle.std.proofs.lemmas.Bool.{not-true}
+use Rattle.std.proofs.lemmas.List.Folds.{find-append}
 use Rattle.rv_text_laws.specs.Expression.{Literal, Symbol, Here, Reference}
 use Rattle.rv_text_laws.specs.Values.{Known, InSection, Open, Refused, Value, Constant, Symbolic, Difference, Faulty, add}
-use Rattle.rv_statement.specs.declared.directive.Choice.{Choice}
 use Rattle.rv_statement.specs.Statement.{StatementKind, Label, Numbered, Instruction, Directs, Statement, Expression, Directive, Enters, Opens, Globl, Local, Sets, Aligns_to_power, Aligns_to_bytes, Values, Strings, Zeros, Chooses, Ignored}
-use Rattle.rv_unit_laws.specs.Sections.{Section, entered_by}
-use Rattle.rv_unit_laws.specs.Contributions.{Contribution, Nothing, contribution}
-use Rattle.rv_unit_laws.specs.Tables.{Tables, Labelled, Assignment, here, value, label_of, assigned_ever, is_location, gives_location, is_defined, has_location, may_set, assigned, assigned_by, chosen, with_assignment, with_label, with_section, with_chosen, with_contribution, after_directive, after, after_all}
-use Rattle.rv_unit_laws.proofs.Entering.{entering}
+use Rattle.rv_unit_laws.specs.Sections.{entered_by}
+use Rattle.rv_unit_laws.specs.Tables.{Tables, Labelled, Assignment, here, value, label_of, assigned_ever, is_location, gives_location, is_defined, has_location, may_set, assigned, assigned_by, with_assignment, with_label, with_section, after_directive, after, after_all}
+use Rattle.rv_unit_laws.proofs.Alone.{Same, section_same, directive_same, own_label, other_label, undefined, unplaced}
 use Rattle.rv_unit_laws.specs.Faults.{lowest, faults, first_fault_from}
 use Rattle.rv_unit_laws.proofs.Found.{same_bytes}
-use Rattle.rv_unit_laws.proofs.Before.{IsBefore, placed_latest, has_place_now, defined_now, before_after}
+use Rattle.rv_unit_laws.proofs.Before.{IsBefore, placed_latest, before_after}
 use Rattle.rv_source_laws.specs.Located.{Located, is_placed, located_from}
 use Rattle.rv_source_laws.proofs.Held.{no_test, no_lowest, no_fault}
 use Rattle.rv_assemble_laws.specs.Sites.{Site}
 use Rattle.rv_symbols.proofs.Single.{OnlySet, AreNumbers}
 
--- ---- tests and searches
-
-or_none : (a b : Bool) → (a || b) ≡ false → (a ≡ false) × (b ≡ false)
-or_none true b e = absurd (cc)
-or_none false b e = (refl, e)
-
-not_true : (b : Bool) → not b ≡ true → b ≡ false
-not_true true e = absurd (cc)
-not_true false e = refl
-
-none_of : {X : Type 0} (o : Option X) → is_some o ≡ false → o ≡ None
-none_of None e = refl
-none_of (Some x) e = absurd (cc)
-
-found_front : {X : Type 0} (test : X → Bool) (xs ys : List X) (x : X) → find test xs ≡ Some x → find test (xs ++ ys) ≡ Some x
-found_front test [] ys x e = absurd (cc)
-found_front test (z ∷ xs) ys x e = go (test z) e (found_front test xs ys x)
-  where
-    go : (b : Bool) → (if b then Some z else find test xs) ≡ Some x → (find test xs ≡ Some x → find test (xs ++ ys) ≡ Some x) → (if b then Some z else find test (xs ++ ys)) ≡ Some x
-    go true f ih = f
-    go false f ih = ih f
-
-found_behind : {X : Type 0} (test : X → Bool) (xs ys : List X) → find test xs ≡ None → find test (xs ++ ys) ≡ find test ys
-found_behind test [] ys e = refl
-found_behind test (z ∷ xs) ys e = go (test z) e (found_behind test xs ys)
-  where
-    go : (b : Bool) → (if b then Some z else find test xs) ≡ None → (find test xs ≡ None → find test (xs ++ ys) ≡ find test ys) → (if b then Some z else find test (xs ++ ys)) ≡ find test ys
-    go true f ih = absurd (cc)
-    go false f ih = ih f
-
--- ---- what a statement leaves alone
-
-abbrev Same : Tables → Tables → Type 0
-Same t u = (u.labels ≡ t.labels) × (u.assignments ≡ t.assignments)
-
-joined : (t u v : Tables) → Same t u → Same u v → Same t v
-joined t u v (l, a) (m, b) = (m ∙ l, b ∙ a)
-
-section_same : (t : Tables) (found : Option Section) → Same t (with_section t found)
-section_same t None = (refl, refl)
-section_same t (Some section) = entering (λ (u : Tables). Same t u) t section (λ n at. (refl, refl)) (λ room. (refl, refl)) (refl, refl)
-
-chosen_same : (t : Tables) (found : Option Choice) → Same t (with_chosen t found)
-chosen_same t None = (refl, refl)
-chosen_same t (Some choice) = (refl, refl)
-
-contribution_same : (t : Tables) (v : Expression → Value) (c : Contribution) → Same t (with_contribution t v c)
-contribution_same t v Nothing = (refl, refl)
-contribution_same t v _ = (refl, refl)
-
--- but for a name that it sets
-directive_same : (t : Tables) (k : ℕ) (d : Directive) → Same (with_assignment (with_section t (entered_by d)) (assigned_by (value t false k (here t)) k d)) (after_directive t k d)
-directive_same t k d =
-    let v : Expression → Value = value t false k (here t) in
-    let named = with_assignment (with_section t (entered_by d)) (assigned_by v k d) in
-    let both = joined named (with_chosen named (chosen d)) (with_contribution (with_chosen named (chosen d)) v (contribution d)) (chosen_same named (chosen d)) (contribution_same (with_chosen named (chosen d)) v (contribution d)) in
-    (both.0, both.1)
+-- ---- what a directive leaves alone
 
 set_labels : (t : Tables) (found : Option Assignment) → (with_assignment t found).labels ≡ t.labels
 set_labels t None = refl
@@ -130,23 +75,12 @@ module _ (name : List ℕ) (all : List Site) where
       own : bytes_eq n name ≡ true → is_defined t k n ≡ false → OneName more
       own f e =
           let same : n ≡ name = same_bytes n name f in
-          let free = or_none (is_some (label_of t.labels true 0 name)) (is_some (assigned_ever t.assignments name)) (sym (defined_now t k name before) ∙ ap (is_defined t k) (sym same) ∙ e) in
-          let found : label_of more.labels true 0 name ≡ Some new =
-          found_behind (λ (l : Labelled). bytes_eq l.name name && (true || nat_lt l.ordinal 0)) t.labels (new ∷ []) (none_of (label_of t.labels true 0 name) free.0)
-          ∙ ap (λ b. if b && true then Some new else None) f in
-          subst (λ o. Is t.assignments o (assigned_ever t.assignments name)) (sym found)
-          (subst (λ o. Is t.assignments (Some new) o) (sym (none_of (assigned_ever t.assignments name) free.1)) (subst (λ (m : List ℕ). Stands k (Label m)) same at))
+          let free = undefined name t k n before f e in
+          subst (λ o. Is t.assignments o (assigned_ever t.assignments name)) (sym (own_label name t.labels new free.0 f))
+          (subst (λ o. Is t.assignments (Some new) o) (sym free.1) (subst (λ (m : List ℕ). Stands k (Label m)) same at))
 
       other : bytes_eq n name ≡ false → OneName more
-      other f = subst (λ o. Is t.assignments o (assigned_ever t.assignments name)) (sym (by (label_of t.labels true 0 name) refl)) h
-        where
-          test : Labelled → Bool
-          test l = bytes_eq l.name name && (true || nat_lt l.ordinal 0)
-
-          by : (o : Option Labelled) → label_of t.labels true 0 name ≡ o → label_of more.labels true 0 name ≡ label_of t.labels true 0 name
-          by (Some l) e = found_front (λ (l : Labelled). bytes_eq l.name name && (true || nat_lt l.ordinal 0)) t.labels (new ∷ []) l e ∙ sym e
-          by None e =
-              found_behind (λ (l : Labelled). bytes_eq l.name name && (true || nat_lt l.ordinal 0)) t.labels (new ∷ []) e ∙ ap (λ b. if b && true then Some new else None) f ∙ sym e
+      other f = subst (λ o. Is t.assignments o (assigned_ever t.assignments name)) (sym (other_label name t.labels new f)) h
 
       named : (b : Bool) → bytes_eq n name ≡ b → is_defined t k n ≡ false → OneName more
       named true f e = own f e
@@ -201,18 +135,16 @@ module _ (name : List ℕ) (all : List Site) where
 
         own : bytes_eq n name ≡ true → has_location t k n ≡ false → OneName (record t { assignments = s ∷ t.assignments })
         own f e =
-            let same : n ≡ name = same_bytes n name f in
-            let free = or_none (is_some (label_of t.labels true 0 name)) (placed_latest (assigned_ever t.assignments name)) (sym (has_place_now t k name before) ∙ ap (has_location t k) (sym same) ∙ e) in
-            let none = none_of (label_of t.labels true 0 name) free.0 in
-            set_now t s f none
-            (λ g. refl, numbers_by t.assignments (assigned_ever t.assignments name) refl free.1 (subst (λ o. Is t.assignments o (assigned_ever t.assignments name)) none known))
+            let free = unplaced name t k n before f e in
+            set_now t s f free.0
+            (λ g. refl, numbers_by t.assignments (assigned_ever t.assignments name) refl free.1 (subst (λ o. Is t.assignments o (assigned_ever t.assignments name)) free.0 known))
 
         named : (b : Bool) → bytes_eq n name ≡ b → has_location t k n ≡ false → OneName (record t { assignments = s ∷ t.assignments })
         named true f e = own f e
         named false f e = other_set t s f known
 
         go : (b : Bool) → may_set t k n (Known x) ≡ b → OneName (if b then record t { assignments = s ∷ t.assignments } else t)
-        go true e = named (bytes_eq n name) refl (not_true (has_location t k n) e)
+        go true e = named (bytes_eq n name) refl (not-true (has_location t k n) e)
         go false e = known
 
     place_after : (section offset plus : ℕ) → ((e : Expression) × Stands k (Directs (Sets n e)))
@@ -225,16 +157,16 @@ module _ (name : List ℕ) (all : List Site) where
         own : bytes_eq n name ≡ true → is_defined t k n ≡ false → OneName (record t { assignments = s ∷ t.assignments })
         own f e =
             let same : n ≡ name = same_bytes n name f in
-            let free = or_none (is_some (label_of t.labels true 0 name)) (is_some (assigned_ever t.assignments name)) (sym (defined_now t k name before) ∙ ap (is_defined t k) (sym same) ∙ e) in
-            set_now t s f (none_of (label_of t.labels true 0 name) free.0)
-            ((λ g. refl, none_all (λ x. x ≡ s) t.assignments (none_of (assigned_ever t.assignments name) free.1)), subst (λ (m : List ℕ). (e : Expression) × Stands k (Directs (Sets m e))) same at)
+            let free = undefined name t k n before f e in
+            set_now t s f free.0
+            ((λ g. refl, none_all (λ x. x ≡ s) t.assignments free.1), subst (λ (m : List ℕ). (e : Expression) × Stands k (Directs (Sets m e))) same at)
 
         named : (b : Bool) → bytes_eq n name ≡ b → is_defined t k n ≡ false → OneName (record t { assignments = s ∷ t.assignments })
         named true f e = own f e
         named false f e = other_set t s f known
 
         go : (b : Bool) → may_set t k n (InSection section offset) ≡ b → OneName (if b then record t { assignments = s ∷ t.assignments } else t)
-        go true e = named (bytes_eq n name) refl (not_true (is_defined t k n) e)
+        go true e = named (bytes_eq n name) refl (not-true (is_defined t k n) e)
         go false e = known
 
     set_after : (e : Expression) (v : Value) → (gives_location (assigned n k v) ≡ true → Stands k (Directs (Sets n e))) → OneName (with_assignment t (assigned n k v))
@@ -310,7 +242,8 @@ module _ (name : List ℕ) where
 
       go : (b : Bool) → Finds (if b then t else record t { labels = t.labels ++ new ∷ [] }) l
       go true = e
-      go false = found_front (λ (l : Labelled). bytes_eq l.name name && (true || nat_lt l.ordinal 0)) t.labels (new ∷ []) l e
+      go false =
+          find-append (λ (l : Labelled). bytes_eq l.name name && (true || nat_lt l.ordinal 0)) t.labels (new ∷ []) ∙ ap (λ o. option_or o (label_of (new ∷ []) true 0 name)) e
   finds_after t k (Numbered number) l e = e
   finds_after t k (Instruction mnemonic operands) l e = e
   finds_after t k (Directs d) l e = ap (λ ls. label_of ls true 0 name) (directive_labels t k d) ∙ e
@@ -334,11 +267,7 @@ module _ (name : List ℕ) where
 
       go : (b : Bool) → b ≡ false → Finds (if b then t else record t { labels = t.labels ++ new ∷ [] }) new
       go true e = absurd (cc)
-      go false e =
-          let same : n ≡ name = same_bytes n name f in
-          let labels = or_none (is_some (label_of t.labels true 0 name)) (is_some (assigned_ever t.assignments name)) (sym (defined_now t k name before) ∙ ap (is_defined t k) (sym same) ∙ none) in
-          found_behind (λ (l : Labelled). bytes_eq l.name name && (true || nat_lt l.ordinal 0)) t.labels (new ∷ []) (none_of (label_of t.labels true 0 name) labels.0)
-          ∙ ap (λ b. if b && true then Some new else None) f
+      go false e = own_label name t.labels new (undefined name t k n before f none).0 f
 
   pub labels_found : (all : Tables) (k : ℕ) (t : Tables) (ss : List Statement) (sites : List Site) → map (λ s. s.located) sites ≡ located_from 1 k t ss → first_fault_from all t k ss ≡ None
       → IsBefore t k → after_all t k ss ≡ all → AllByRecursion (IsFound all) sites

@@ -2,6 +2,7 @@ pub mod Found
 pub mod Before
 pub mod Meant
 pub mod Entering
+pub mod Alone
 pub mod Later
 pub mod Opened
 pub mod Settled
