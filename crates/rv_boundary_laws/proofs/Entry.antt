@@ -2,8 +2,10 @@
 
 use Rattle.std.proofs.Common.{◌≡◌, ℕ, suc, ◌+◌, ◌-◌, ◌%◌, Bool, true, false, List, [], ◌∷◌, ◌++◌, refl, sym, ap, ◌∙◌, map, Option, Some, None, ◌⊎◌, inl, inr}
 use Rattle.std.proofs.lemmas.Bool.{and_parts, eq-eqb}
+use Rattle.std.proofs.lemmas.List.Folds.{find-append}
 use Rattle.std.specs.Prelude.{◌&&◌, ◌==◌, if◌then◌else◌, filter, flat_map, option_map, option_and_then, slice_index_or, bytes_eq, codes}
 use Rattle.std.specs.List.{AllByRecursion, slice_get, find}
+use Rattle.std.specs.Option.{option_or}
 use Rattle.rv_text_laws.specs.Values.{Meaning, Known, InSection as InData, Open as OpenAddress, Refused, add}
 use Rattle.rv_statement.specs.Statement.{StatementKind, Label, Numbered, Instruction, Directs, Statement, Enters, Sets}
 use Rattle.rv_unit_laws.specs.Bindings.{is_global}
@@ -38,20 +40,10 @@ use Rattle.rv_boundary_laws.proofs.Shrunk.{IsSectionOf, IsObjectOf, AreObjectsOf
 -- ---- searches
 
 find_after : {X : Type 0} (test : X → Bool) (xs ys : List X) → find test xs ≡ None → find test (xs ++ ys) ≡ find test ys
-find_after test [] ys e = refl
-find_after test (x ∷ xs) ys e = go (test x) e (λ f. find_after test xs ys f)
-  where
-    go : (b : Bool) → (if b then Some x else find test xs) ≡ None → (find test xs ≡ None → find test (xs ++ ys) ≡ find test ys) → (if b then Some x else find test (xs ++ ys)) ≡ find test ys
-    go true f ih = absurd (cc)
-    go false f ih = ih f
+find_after test xs ys e = find-append test xs ys ∙ ap (λ o. option_or o (find test ys)) e
 
 find_first : {X : Type 0} (test : X → Bool) (xs ys : List X) (x : X) → find test xs ≡ Some x → find test (xs ++ ys) ≡ Some x
-find_first test [] ys x e = absurd (cc)
-find_first test (y ∷ xs) ys x e = go (test y) e (λ f. find_first test xs ys x f)
-  where
-    go : (b : Bool) → (if b then Some y else find test xs) ≡ Some x → (find test xs ≡ Some x → find test (xs ++ ys) ≡ Some x) → (if b then Some y else find test (xs ++ ys)) ≡ Some x
-    go true f ih = f
-    go false f ih = ih f
+find_first test xs ys x e = find-append test xs ys ∙ ap (λ o. option_or o (find test ys)) e
 
 nothing : (c : Bool) → ◌≡◌ {A = Option Symbol} (if c then None else None) None
 nothing true = refl

@@ -1,7 +1,7 @@
 -- The linked program of the objects is that of the sources.
 
 use Rattle.std.proofs.Common.{◌≡◌, ℕ, suc, ◌+◌, Bool, true, false, List, [], ◌∷◌, ◌++◌, length, refl, sym, ap, ◌∙◌, subst, arith, map, None}
-use Rattle.std.proofs.lemmas.Bool.{and_parts}
+use Rattle.std.proofs.lemmas.Bool.{and_parts, not-true}
 use Rattle.std.specs.Prelude.{ℤ, Some, ◌&&◌, not, IsTrue, if◌then◌else◌, filter, flat_map}
 use Rattle.std.specs.List.{AllByRecursion}
 use Rattle.rv_statement.specs.Statement.{Statement}
@@ -107,25 +107,21 @@ module _ (t : Tables) (sites : List Site) (number : Numbering) (o : Object) (ind
 first_true : (a b : Bool) → (a && b) ≡ true → a ≡ true
 first_true a b e = (and_parts a b e).0
 
-not_true : (a : Bool) → not a ≡ true → a ≡ false
-not_true true e = absurd (cc)
-not_true false e = refl
-
 bss_front : (s : SourceSection) → goes_to_bss s ≡ true → (s.loaded ≡ true) × (s.executable ≡ false)
 bss_front s e =
-    let front = and_parts s.loaded (not s.executable) (and_parts (s.loaded && not s.executable) (is_nobits s) e).0 in (front.0, not_true s.executable front.1)
+    let front = and_parts s.loaded (not s.executable) (and_parts (s.loaded && not s.executable) (is_nobits s) e).0 in (front.0, not-true s.executable front.1)
 
 data_front : (s : SourceSection) → goes_to_data s ≡ true → (s.loaded ≡ true) × (s.executable ≡ false) × (is_nobits s ≡ false)
 data_front s e =
     let three = and_parts (s.loaded && not s.executable) (not (is_nobits s)) (and_parts ((s.loaded && not s.executable) && not (is_nobits s)) s.writable e).0 in
     let front = and_parts s.loaded (not s.executable) three.0 in
-    (front.0, not_true s.executable front.1, not_true (is_nobits s) three.1)
+    (front.0, not-true s.executable front.1, not-true (is_nobits s) three.1)
 
 rodata_front : (s : SourceSection) → goes_to_rodata s ≡ true → (s.loaded ≡ true) × (s.executable ≡ false) × (is_nobits s ≡ false)
 rodata_front s e =
     let three = and_parts (s.loaded && not s.executable) (not (is_nobits s)) (and_parts ((s.loaded && not s.executable) && not (is_nobits s)) (not s.writable) e).0 in
     let front = and_parts s.loaded (not s.executable) three.0 in
-    (front.0, not_true s.executable front.1, not_true (is_nobits s) three.1)
+    (front.0, not-true s.executable front.1, not-true (is_nobits s) three.1)
 
 -- ---- identities of rows
 
