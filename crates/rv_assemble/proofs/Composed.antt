@@ -13,8 +13,8 @@ use Rattle.rv_unit_laws.specs.declared.section_type.SectionType.{SectionType}
 use Rattle.rv_unit_laws.specs.declared.section_type.SectionType.TheVariants as types
 use Rattle.rv_unit_laws.specs.Sections.{Section as SourceSection, is_nobits_type}
 use Rattle.rv_unit_laws.specs.Tables.{Tables, at_start, after, tables, opened_of, alignments_of}
-use Rattle.rv_tables.specs.declared.section.Extent.{Extent}
-use Rattle.rv_tables.specs.Sections.{extent_section}
+use Rattle.rv_unit_tables.specs.declared.section.Extent.{Extent}
+use Rattle.rv_unit_tables.specs.Sections.{extent_section}
 use Rattle.rv_source_laws.specs.Located.{Located, located_now, located_from, has_row}
 use Rattle.rv_object.specs.declared.relocation.Relocation.{Relocation as DeclaredRelocation}
 use Rattle.rv_object.specs.declared.row.Row.{Row}
@@ -27,8 +27,8 @@ use Rattle.rv_assemble_laws.specs.Symbols.{references, symbols_of}
 use Rattle.rv_assemble_laws.specs.IsObjectOf.{IsObjectOf, ArePartsNumbered, Numbering, relocations_from, contents_of, IsNumbered, IsSectionOf, AreSectionsOf, row_of, rows_at}
 use Rattle.rv_assemble_laws.specs.Fields.{Field}
 use Rattle.rv_assemble_laws.proofs.Filled.{filled}
-use Rattle.rv_sites.specs.declared.draft.Draft.{Draft}
-use Rattle.rv_sites.specs.Draft.{item_of, field_of, bytes_in, IsDrafted, IsDraft}
+use Rattle.rv_draft.specs.declared.draft.Draft.{Draft}
+use Rattle.rv_draft.specs.Draft.{item_of, field_of, bytes_in, IsDrafted, IsDraft}
 use Rattle.rv_assemble.specs.KeptNames.{OpenKept}
 use Rattle.rv_assemble.specs.Making.{row_of as made_row, rows_from, relocation_by, relocations_in, list_of, section_by, IsMakeable, sections_by, AreEach}
 use Rattle.rv_assemble.specs.Lists.{list_in}

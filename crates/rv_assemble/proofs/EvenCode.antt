@@ -5,7 +5,7 @@ use Rattle.std.specs.Prelude.{◌&&◌, flat_map, unwrap_or}
 use Rattle.std.specs.List.{AllByRecursion}
 use Rattle.rv_isa.specs.declared.instruction.Inst.{Inst}
 use Rattle.rv_isa.specs.Kinds.{width_of}
-use Rattle.rv_patch_laws.specs.Encoded.{IsLeast}
+use Rattle.rv_compress.specs.Encoded.{IsLeast}
 use Rattle.rv_text_laws.specs.Values.{Value}
 use Rattle.rv_statement.specs.Statement.{StatementKind, Label, Numbered, Instruction, Directs, Expression}
 use Rattle.rv_pseudo_laws.specs.Code.{Part as CodePart, Closed, Open as OpenPart, Joined}

@@ -7,9 +7,9 @@ use Rattle.std.specs.List.{AllByRecursion}
 use Rattle.std.specs.Prelude.{flat_map, option_map}
 use Rattle.rv_text_laws.specs.Expression.{Primary}
 use Rattle.rv_unit_laws.specs.Tables.{Tables, tables, opened_of, alignments_of}
-use Rattle.rv_tables.specs.declared.section.Extent.{Extent}
-use Rattle.rv_tables.specs.Sections.{extent_section}
-use Rattle.rv_tables.proofs.Lookups.{sections_are, alignments_are}
+use Rattle.rv_unit_tables.specs.declared.section.Extent.{Extent}
+use Rattle.rv_unit_tables.specs.Sections.{extent_section}
+use Rattle.rv_unit_tables.proofs.Lookups.{sections_are, alignments_are}
 use Rattle.rv_unit.specs.declared.unit.Unit.{Unit as SourceUnit}
 use Rattle.rv_unit.specs.Unit.{said, IsFilled}
 use Rattle.rv_object.specs.declared.relocation.Relocation.{Relocation as DeclaredRelocation}
@@ -21,9 +21,9 @@ use Rattle.rv_assemble_laws.specs.Refusals.{statements_fault}
 use Rattle.rv_assemble_laws.proofs.Faultless.{no_first_fault}
 use Rattle.rv_assemble_laws.specs.Symbols.{use_of as field_use, references, symbols_of}
 use Rattle.rv_assemble_laws.specs.IsObjectOf.{Numbering, IsNumbered, IsObjectOf}
-use Rattle.rv_sites.specs.declared.field.OpenField.{OpenField}
-use Rattle.rv_sites.specs.declared.draft.Draft.{Draft}
-use Rattle.rv_sites.specs.Draft.{field_of, IsDraft}
+use Rattle.rv_draft.specs.declared.field.OpenField.{OpenField}
+use Rattle.rv_draft.specs.declared.draft.Draft.{Draft}
+use Rattle.rv_draft.specs.Draft.{field_of, IsDraft}
 use Rattle.rv_symbols.specs.declared.table.SymbolTable.{SymbolTable}
 use Rattle.rv_symbols.specs.HasSymbols.{HasSymbols}
 use Rattle.rv_assemble.specs.KeptNames.{OpenKept}

@@ -10,8 +10,8 @@ use Rattle.rv_isa.specs.declared.kind.Kind.{Kind}
 use Rattle.rv_object.specs.declared.relocation.Relocation.{Relocation as DeclaredRelocation}
 use Rattle.rv_object.specs.Object.{Relocation}
 use Rattle.rv_assemble_laws.specs.Fields.{Field}
-use Rattle.rv_sites.specs.declared.field.OpenField.{OpenField}
-use Rattle.rv_sites.specs.Draft.{field_of}
+use Rattle.rv_draft.specs.declared.field.OpenField.{OpenField}
+use Rattle.rv_draft.specs.Draft.{field_of}
 use Rattle.rv_assemble.specs.Making.{list_of, relocation_by, relocations_at, relocations_in}
 use Rattle.rv_assemble.specs.Lists.{list_in, GainsOne}
 use Rattle.rv_object.specs.Parts.{relocation_of}

@@ -11,7 +11,7 @@ use Rattle.rv_object.specs.declared.object.Object.{Object as DeclaredObject}
 use Rattle.rv_object.specs.View.{object_of}
 use Rattle.rv_assemble_laws.specs.IsObjectOf.{IsObjectOf}
 use Rattle.rv_assemble_laws.specs.Refusals.{code_fault, else_fault, statements_fault}
-use Rattle.rv_sites.specs.Draft.{IsRefused}
+use Rattle.rv_draft.specs.Draft.{IsRefused}
 use Rattle.rv_assemble.specs.FirstFault.{IsFirstFault}
 
 pub all_sound : (ss : List Statement) → first_fault ss ≡ None → code_fault ss ≡ None → statements_fault ss ≡ None

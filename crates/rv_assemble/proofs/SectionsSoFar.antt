@@ -5,8 +5,8 @@ use Rattle.std.proofs.lemmas.List.{length-set}
 use Rattle.std.specs.Global.{Vec}
 use Rattle.std.specs.List.{AllByRecursion}
 use Rattle.std.specs.Prelude.{slice_set}
-use Rattle.rv_tables.specs.declared.section.Extent.{Extent}
-use Rattle.rv_tables.specs.Sections.{extent_section}
+use Rattle.rv_unit_tables.specs.declared.section.Extent.{Extent}
+use Rattle.rv_unit_tables.specs.Sections.{extent_section}
 use Rattle.rv_object.specs.declared.relocation.Relocation.{Relocation as DeclaredRelocation}
 use Rattle.rv_object.specs.declared.section.Section.{Section as DeclaredSection}
 use Rattle.rv_object.specs.Object.{Section}

@@ -15,10 +15,10 @@ use Rattle.rv_assemble_laws.specs.Sites.{Site, Part, part_bytes, parts_of}
 use Rattle.rv_assemble_laws.specs.Symbols.{references}
 use Rattle.rv_assemble_laws.specs.Fields.{Field, field_at, fields_from, fields_at, fields}
 use Rattle.rv_assemble_laws.specs.ShownNames.{HasNames, AreShown}
-use Rattle.rv_sites.specs.declared.item.Item.{Item}
-use Rattle.rv_sites.specs.declared.field.OpenField.{OpenField}
-use Rattle.rv_sites.specs.declared.draft.Draft.{Draft}
-use Rattle.rv_sites.specs.Draft.{item_of, field_of, IsDraft}
+use Rattle.rv_draft.specs.declared.item.Item.{Item}
+use Rattle.rv_draft.specs.declared.field.OpenField.{OpenField}
+use Rattle.rv_draft.specs.declared.draft.Draft.{Draft}
+use Rattle.rv_draft.specs.Draft.{item_of, field_of, IsDraft}
 use Rattle.rv_symbols.specs.declared.symbol_use.SymbolUse.{SymbolUse as CodeUse}
 use Rattle.rv_symbols.specs.SymbolUse.{AreMeant, uses_of}
 use Rattle.rv_symbols.specs.HasSymbols.{AreSites}

@@ -6,9 +6,9 @@ use Rattle.rv_statement.specs.Statement.{Statement}
 use Rattle.rv_unit_laws.specs.Tables.{tables}
 use Rattle.rv_assemble_laws.specs.Sites.{Site}
 use Rattle.rv_assemble_laws.specs.Symbols.{SymbolUse, use_of as field_use}
-use Rattle.rv_sites.specs.declared.item.Item.{Item}
-use Rattle.rv_sites.specs.declared.field.OpenField.{OpenField}
-use Rattle.rv_sites.specs.declared.draft.Draft.{Draft}
+use Rattle.rv_draft.specs.declared.item.Item.{Item}
+use Rattle.rv_draft.specs.declared.field.OpenField.{OpenField}
+use Rattle.rv_draft.specs.declared.draft.Draft.{Draft}
 use Rattle.rv_symbols.specs.declared.table.SymbolTable.{SymbolTable}
 use Rattle.rv_symbols.specs.HasSymbols.{AreSites, HasSymbols}
 

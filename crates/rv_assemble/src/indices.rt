@@ -1,10 +1,10 @@
 //! The index of each field's symbol.
 
 ghost use Rattle.std.specs.Prelude.{◌≡◌, ◌<◌, IfOk, drop, length, map};
-ghost use Rattle.rv_sites.specs.Draft.{field_of};
+ghost use Rattle.rv_draft.specs.Draft.{field_of};
 ghost use Rattle.rv_assemble.specs.Making.{index_of, next_of, indices_of};
 
-use rv_sites::OpenField;
+use rv_draft::OpenField;
 use std::alloc::{AllocError, Global};
 
 /// The index of a field's symbol, which is the next of all numbers; none where it has no symbol.

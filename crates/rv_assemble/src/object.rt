@@ -5,7 +5,7 @@ ghost use Rattle.rv_unit.specs.Unit.{said, IsFilled};
 ghost use Rattle.rv_object.specs.View.{object_of};
 ghost use Rattle.rv_assemble_laws.specs.IsObjectOf.{IsObjectOf};
 ghost use Rattle.rv_assemble_laws.specs.Refusals.{statements_fault};
-ghost use Rattle.rv_sites.specs.Draft.{IsDraft};
+ghost use Rattle.rv_draft.specs.Draft.{IsDraft};
 ghost use Rattle.rv_assemble.specs.KeptNames.{OpenKept};
 ghost use Rattle.rv_assemble.specs.Tabled.{HasTable};
 
@@ -13,8 +13,8 @@ use crate::indices::indices;
 use crate::relocations::relocations;
 use crate::rows::rows;
 use crate::sections::sections;
+use rv_draft::Draft;
 use rv_object::Object;
-use rv_sites::Draft;
 use rv_symbols::SymbolTable;
 use rv_unit::Unit;
 use std::alloc::{AllocError, Global};

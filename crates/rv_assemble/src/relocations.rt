@@ -2,12 +2,12 @@
 
 ghost use Rattle.std.specs.Prelude.{◌≡◌, ◌<◌, ℕ, [], IfOk, length, map};
 ghost use Rattle.std.specs.List.{AllByRecursion};
-ghost use Rattle.rv_sites.specs.Draft.{field_of};
+ghost use Rattle.rv_draft.specs.Draft.{field_of};
 ghost use Rattle.rv_assemble.specs.Making.{relocations_in};
 ghost use Rattle.rv_assemble.specs.Lists.{list_in, GainsOne};
 
+use rv_draft::OpenField;
 use rv_object::Relocation;
-use rv_sites::OpenField;
 use std::alloc::{AllocError, Global};
 
 /// The relocations of `count` sections: of each field, which stands in one of them, with the index

@@ -3,8 +3,8 @@
 ghost use Rattle.std.specs.Prelude.{◌≡◌, ◌++◌, ◌^◌, ◌<◌, IfOk, OnOk, length};
 ghost use Rattle.rv_assemble.specs.Making.{rows_of, rows_from};
 
+use rv_draft::Item;
 use rv_object::Row;
-use rv_sites::Item;
 use std::alloc::{AllocError, Global};
 
 /// The rows of statements: of each that is shown, with its ordinal, from 1.

@@ -9,16 +9,16 @@ ghost use Rattle.rv_object.specs.View.{object_of};
 ghost use Rattle.rv_assemble_laws.specs.IsObjectOf.{IsObjectOf};
 ghost use Rattle.rv_assemble_laws.specs.Refusals.{statements_fault};
 ghost use Rattle.rv_assemble_laws.specs.ShownNames.{HasNames};
-ghost use Rattle.rv_sites.specs.Draft.{IsRefused};
+ghost use Rattle.rv_draft.specs.Draft.{IsRefused};
 ghost use Rattle.rv_assemble.specs.FirstFault.{IsFirstFault};
 ghost use Rattle.rv_assemble.specs.KeptNames.{OpenKept};
 
 use crate::object::object;
 use crate::symbols::table;
 use rv_assemble_laws::names_are_shown;
+use rv_draft::Draft;
 use rv_object::Object;
 use rv_parse::parse;
-use rv_sites::Draft;
 use rv_text::SourceFault;
 use rv_unit::Unit;
 use std::alloc::Global;

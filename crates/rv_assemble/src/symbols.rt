@@ -4,11 +4,11 @@ ghost use Rattle.std.specs.Prelude.{◌≡◌, ◌++◌, None, IfOk, OnOk, flat_
 ghost use Rattle.rv_unit_laws.specs.Faults.{first_fault};
 ghost use Rattle.rv_unit.specs.Unit.{said, IsFilled};
 ghost use Rattle.rv_assemble_laws.specs.ShownNames.{HasNames};
-ghost use Rattle.rv_sites.specs.Draft.{IsDraft};
+ghost use Rattle.rv_draft.specs.Draft.{IsDraft};
 ghost use Rattle.rv_symbols.specs.SymbolUse.{uses_of};
 ghost use Rattle.rv_assemble.specs.Tabled.{use_of, offsets_of, HasTable};
 
-use rv_sites::{Draft, Item, OpenField};
+use rv_draft::{Draft, Item, OpenField};
 use rv_symbols::{SymbolTable, SymbolUse, symbols};
 use rv_unit::Unit;
 use std::alloc::{AllocError, Global};

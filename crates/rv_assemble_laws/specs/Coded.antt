@@ -12,7 +12,7 @@ use Rattle.rv_pseudo_laws.specs.Code.{Part, Closed, Open, Joined, Constants, cod
 use Rattle.rv_pseudo_laws.specs.Filled.{are_closed}
 use Rattle.rv_pseudo_laws.specs.Valid.{IsOpen}
 use Rattle.rv_source_laws.specs.Lines.{constant_of}
-use Rattle.rv_patch_laws.specs.Encoded.{IsLeast, IsEncodedIn}
+use Rattle.rv_compress.specs.Encoded.{IsLeast, IsEncodedIn}
 
 -- ---- constants
 

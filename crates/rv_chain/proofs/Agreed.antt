@@ -30,8 +30,8 @@ use Rattle.rv_object_laws.specs.IsLinkOf.{most_files}
 use Rattle.rv_object_laws.specs.Shortened.{Relaxes}
 use Rattle.rv_link.specs.Refusals.{ArePast, HasNoProgram}
 use Rattle.rv_link.proofs.Left.{alike, past_unlinked}
-use Rattle.rv_one_link_laws.specs.Asked.{IsSound, IsSmall}
-use Rattle.rv_one_link_laws.specs.Same.{OneProgram, RefusedForMemory, name_in, IsSameFault, RefusedForOne, RowsArePlaced, RunsBeginEven, TextsStartBelow}
+use Rattle.rv_unique_link_laws.specs.Asked.{IsSound, IsSmall}
+use Rattle.rv_unique_link_laws.specs.Same.{OneProgram, RefusedForMemory, name_in, IsSameFault, RefusedForOne, RowsArePlaced, RunsBeginEven, TextsStartBelow}
 use Rattle.rv_chain.specs.declared.fault.Fault.TheVariants.{Source, File, Link, Memory}
 use Rattle.rv_chain.specs.Objects.{IsObjectFrom, IsObjectIn, AreEach, AreObjectsFrom, AreObjectsIn}
 use Rattle.rv_chain.specs.Linking.{IsBuiltOf, AreBuilt, AreLinked}

@@ -11,7 +11,7 @@ use Rattle.rv_lexer.specs.declared.fault.SourceFault.{SourceFault}
 use Rattle.rv_statement.specs.Statement.{Statement}
 use Rattle.rv_object.specs.Object.{Object}
 use Rattle.rv_chain_laws.specs.Headline.{AllRead}
-use Rattle.rv_boundary_laws.specs.Joins.{AreObjectsOf}
+use Rattle.rv_sources_link_laws.specs.Joins.{AreObjectsOf}
 use Rattle.rv_assemble.specs.FirstFault.{IsFirstFault}
 use Rattle.rv_chain.specs.Objects.{AreEach, AreObjectsFrom}
 use Rattle.rv_link.specs.declared.fault.LinkFault.{LinkFault}

@@ -17,8 +17,8 @@ use Rattle.rv_image.specs.ImageOf.{ImageOf}
 use Rattle.rv_image.proofs.LoadedAgain.{laid_out, reload_image}
 use Rattle.rv_source_laws.specs.Program.{program}
 use Rattle.rv_disasm.specs.Listing.{IsListing}
-use Rattle.rv_listing_laws.specs.SourceListing.{IsSourceListing}
-use Rattle.rv_listing_laws.proofs.Listed.{listed_is}
+use Rattle.rv_chain_laws.specs.SourceListing.{IsSourceListing}
+use Rattle.rv_chain_laws.proofs.Listed.{listed_is}
 use Rattle.rv_chain.specs.Building.{IsProgramFrom}
 use Rattle.rv_chain.specs.Listed.{IsListedAs}
 

@@ -4,7 +4,7 @@ use Rattle.std.specs.Prelude.{◌≡◌, ℕ, ◌<◌, ◌^◌, Bool, ◌⊎◌,
 use Rattle.rv_lexer.specs.declared.fault.SourceFault.TheVariants.{OutOfMemory as NoMemory}
 use Rattle.rv_elf.specs.declared.fault.FileFault.TheVariants as files
 use Rattle.rv_link.specs.declared.fault.LinkFault.TheVariants as links
-use Rattle.rv_one_link_laws.specs.Same.{IsSameFault}
+use Rattle.rv_unique_link_laws.specs.Same.{IsSameFault}
 use Rattle.rv_chain.specs.declared.fault.Fault.{Fault}
 use Rattle.rv_chain.specs.declared.fault.Fault.TheVariants.{Source, File, Link, Memory}
 use Rattle.rv_chain.specs.Objects.{IsObjectFile}

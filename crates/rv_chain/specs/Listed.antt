@@ -13,7 +13,7 @@ use Rattle.rv_image.specs.ImageOf.{ImageOf}
 use Rattle.rv_source_laws.specs.Program.{program}
 use Rattle.rv_disasm.specs.Listing.{IsListing}
 use Rattle.rv_chain_laws.specs.Headline.{AllRead}
-use Rattle.rv_listing_laws.specs.SourceListing.{IsSourceListing}
+use Rattle.rv_chain_laws.specs.SourceListing.{IsSourceListing}
 
 -- the listing of the executable, with the map that its text shows, is that of the statements which
 -- the texts read as, whatever loads the one and reads the other, and by whatever reading of code.

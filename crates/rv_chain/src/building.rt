@@ -15,11 +15,11 @@ ghost use Rattle.rv_chain.specs.Refusals.{AreGood, IsRefusedFor, IsRefusedIn, Is
 use crate::built::Built;
 use crate::fault::Fault;
 use rv_assemble::assemble;
-use rv_boundary_laws::{linked_objects_are_flagged, objects_of_sources_link};
 use rv_image::{Linked, write_exec};
 use rv_link::{LinkOptions, link, within_limits};
 use rv_map::known;
 use rv_object::Object;
+use rv_sources_link_laws::{linked_objects_are_flagged, objects_of_sources_link};
 use rv_text::SourceFault;
 use std::alloc::Global;
 

@@ -4,13 +4,13 @@ ghost use Rattle.rv_chain.specs.Agreement.{BuildsAsItLinks};
 
 use rv_assemble_laws::names_are_shown;
 use rv_object_file_laws::{one_object, written_object_is_read};
-use rv_one_link_laws::{
+use rv_parse_laws::{not_both, one_reading};
+use rv_unique_link_laws::{
     objects_keep_it, one_program, refused_for_one_reason, refused_has_no_program,
 };
-use rv_one_object_laws::{
+use rv_unique_object_laws::{
     objects_are_not_too_long, objects_are_small, objects_have_files, one_object_of_statements,
 };
-use rv_parse_laws::{not_both, one_reading};
 
 /// What `build` makes of sources, `link_objects` makes of the files of their objects: the same executable and the same map,
 /// or a refusal for the same fault. Want of memory can come to either.

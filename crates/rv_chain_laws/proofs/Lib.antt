@@ -20,3 +20,9 @@ pub mod Held
 pub mod LaidOut
 pub mod Alignments
 pub mod Contents
+pub mod Ascending
+pub mod Encodings
+pub mod Entries
+pub mod Listed
+pub mod OneListing
+pub mod Segments

@@ -2,3 +2,4 @@ pub mod Realizes
 pub mod Agrees
 pub mod Headline
 pub mod Contents
+pub mod SourceListing

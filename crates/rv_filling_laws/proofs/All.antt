@@ -12,7 +12,7 @@ use Rattle.rv_isa.specs.Operations.{format_of}
 use Rattle.rv_isa_laws.specs.Bytes.{little_endian}
 use Rattle.rv_reloc.specs.Fields.{patched}
 use Rattle.rv_reloc.specs.Operands.{with_value}
-use Rattle.rv_patch_laws.specs.Encoded.{IsEncodedIn}
+use Rattle.rv_compress.specs.Encoded.{IsEncodedIn}
 use Rattle.rv_pseudo_laws.specs.Code.{Part, Closed, Open, Joined}
 use Rattle.rv_pseudo_laws.specs.Filled.{FieldValue, AreTaken, IsTaken, is_closed, filled, part_bytes}
 use Rattle.rv_pseudo_laws.specs.Runs.{Sized, instructions_of, bytes_of}

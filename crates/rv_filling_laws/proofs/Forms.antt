@@ -19,7 +19,7 @@ use Rattle.rv_isa.specs.declared.operation.BranchOperation.{BranchOperation}
 use Rattle.rv_isa.specs.declared.operation.BranchOperation.TheVariants.{Beq, Bne, Blt, Bge, Bltu, Bgeu}
 use Rattle.rv_isa.specs.Operations.{format_of, instruction_of, of_immediate, of_upper, of_load, of_store, of_branch}
 use Rattle.rv_encode.specs.Word.{Immediate, Store, Branch, Upper, form}
-use Rattle.rv_patch_laws.specs.Filled.{AreSelectors}
+use Rattle.rv_filling_laws.specs.Formats.{AreSelectors}
 
 pub rebuilt : (i : Inst) → instruction_of (format_of i) ≡ i
 rebuilt (inst.Lui x) = refl

@@ -1,3 +1,6 @@
+mod Fields
+mod Parcels
+mod Formats
 mod Forms
 pub mod One
 pub mod All

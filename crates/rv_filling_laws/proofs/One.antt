@@ -25,9 +25,9 @@ use Rattle.rv_compress.specs.Parcel.{IsBranch, IsJump, IsLine, IsShortOf, expans
 use Rattle.rv_reloc.specs.Fields.{patched}
 use Rattle.rv_reloc.specs.Operands.{branch_to, jump_to, immediate_of, store_of, upper_of, format_with, with_value}
 use Rattle.rv_reloc.specs.Ranges.{Takes, IsOdd}
-use Rattle.rv_patch_laws.specs.Encoded.{IsEncodedIn}
-use Rattle.rv_patch_laws.specs.Filled.{word_bytes, Fills, IsUpperKind, IsLowerKind, IsStoreKind, IsCallKind}
-use Rattle.rv_patch_laws.proofs.Formats.{branches, jumps, uppers, immediates, stores, calls, zero, nonzero, short_jumps}
+use Rattle.rv_compress.specs.Encoded.{IsEncodedIn}
+use Rattle.rv_filling_laws.specs.Formats.{word_bytes, Fills, IsUpperKind, IsLowerKind, IsStoreKind, IsCallKind}
+use Rattle.rv_filling_laws.proofs.Formats.{branches, jumps, uppers, immediates, stores, calls, zero, nonzero, short_jumps}
 use Rattle.rv_pseudo_laws.specs.Code.{Joined}
 use Rattle.rv_pseudo_laws.specs.Valid.{fills_branch, fills_jump, fills_call, fills_upper, fills_lower, fills_store, fills, IsOpen}
 use Rattle.rv_pseudo_laws.proofs.Formats.{branch_format}

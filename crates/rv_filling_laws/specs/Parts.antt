@@ -10,7 +10,7 @@ use Rattle.rv_isa.specs.Kinds.{width_of}
 use Rattle.rv_isa.specs.Operations.{format_of}
 use Rattle.rv_reloc.specs.Fields.{patched}
 use Rattle.rv_reloc.specs.Operands.{with_value}
-use Rattle.rv_patch_laws.specs.Encoded.{IsEncodedIn}
+use Rattle.rv_compress.specs.Encoded.{IsEncodedIn}
 use Rattle.rv_pseudo_laws.specs.Code.{Part, Closed, Open, Joined}
 use Rattle.rv_pseudo_laws.specs.Filled.{FieldValue, part_bytes}
 use Rattle.rv_pseudo_laws.specs.Runs.{Sized}

@@ -10,7 +10,7 @@ ghost use Rattle.rv_isa.specs.Operations.{format_of};
 ghost use Rattle.rv_reloc.specs.Fields.{patched};
 ghost use Rattle.rv_reloc.specs.Operands.{with_value};
 ghost use Rattle.rv_reloc.specs.Ranges.{Takes};
-ghost use Rattle.rv_patch_laws.specs.Encoded.{IsEncodedIn};
+ghost use Rattle.rv_compress.specs.Encoded.{IsEncodedIn};
 ghost use Rattle.rv_statement.specs.declared.mnemonic.Mnemonic.{Mnemonic};
 ghost use Rattle.rv_statement.specs.Statement.{Operand};
 ghost use Rattle.rv_pseudo_laws.specs.Code.{Part, Joined, Constants, code};

@@ -14,7 +14,7 @@ use Rattle.rv_isa.specs.Ranges.{IsValid}
 use Rattle.rv_isa_laws.specs.Bytes.{little_endian}
 use Rattle.rv_encode.specs.Word.{form, word}
 use Rattle.rv_compress.specs.Parcel.{IsShortOf}
-use Rattle.rv_patch_laws.specs.Encoded.{HasShort, IsEncodedIn}
+use Rattle.rv_compress.specs.Encoded.{HasShort, IsEncodedIn}
 use Rattle.rv_pseudo_laws.specs.Code.{Part, Closed, Open, Joined}
 use Rattle.rv_pseudo_laws.specs.Filled.{are_closed, part_bytes, code_bytes}
 use Rattle.rv_pseudo.specs.declared.template.Template.{Template}

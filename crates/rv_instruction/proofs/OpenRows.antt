@@ -27,7 +27,7 @@ use Rattle.rv_statement.specs.Statement.{StatementKind, Instruction, Expression,
 use Rattle.rv_parse_laws.specs.Syntax.{with_constant}
 use Rattle.rv_layout_laws.specs.declared.item.Forms.{Forms}
 use Rattle.rv_layout_laws.specs.declared.item.Forms.TheVariants.{Settled}
-use Rattle.rv_patch_laws.specs.Encoded.{HasShort}
+use Rattle.rv_compress.specs.Encoded.{HasShort}
 use Rattle.rv_pseudo_laws.specs.Code.{Part, Closed, Open, Joined, Constants, i_type, s_type, b_type, u_type, jal, jalr, opened, by_part, signed_12, upper_20, by_constant, branch, inverted, jump, near, far, through}
 use Rattle.rv_pseudo_laws.specs.Li.{addi}
 use Rattle.rv_pseudo_laws.specs.Filled.{are_closed, code_bytes}

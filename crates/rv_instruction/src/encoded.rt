@@ -6,7 +6,7 @@
 ghost use Rattle.std.specs.Prelude.{◌≡◌, ◌≤◌, ◌&&◌, ◌∷◌, [], ℕ, Bool, true, false, MatchOption, length, map};
 ghost use Rattle.rv_isa.specs.Ranges.{IsValid};
 ghost use Rattle.rv_compress.specs.Parcel.{IsShortOf};
-ghost use Rattle.rv_patch_laws.specs.Encoded.{HasShort};
+ghost use Rattle.rv_compress.specs.Encoded.{HasShort};
 ghost use Rattle.rv_pseudo_laws.specs.Code.{Closed, Open};
 ghost use Rattle.rv_pseudo_laws.specs.Filled.{are_closed};
 ghost use Rattle.rv_assemble_laws.specs.Coded.{IsCodedPart, AreCodedParts};

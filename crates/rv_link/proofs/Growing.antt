@@ -19,7 +19,7 @@ use Rattle.rv_isa.specs.Kinds.{width_of}
 use Rattle.rv_isa_laws.specs.Bytes.{little_endian}
 use Rattle.rv_reloc.specs.Fields.{patched}
 use Rattle.rv_link.specs.declared.fixed.Input.{Input}
-use Rattle.rv_values.specs.Values.{IsInputAt}
+use Rattle.rv_link_values.specs.Values.{IsInputAt}
 use Rattle.rv_link.proofs.Steps.{all_inside, kept_long}
 use Rattle.rv_link.specs.Filled.{IsInput, IsInside, input_at, linked_in, worth}
 use Rattle.rv_link.specs.Regions.{left_from, IsGrown}
@@ -122,7 +122,7 @@ found_object os file index s e = go (slice_get os file) refl e where
   go None f e = absurd (cc)
   go (Some o) f e = f ∙ ap Some (sym (found_at os file o f))
 
--- as `rv_values` asks for it
+-- as `rv_link_values` asks for it
 pub found_section : (os : List Object) (file index : ℕ) (s : Section) → section_at os file index ≡ Some s → IsInputAt os file index (input_at os file index s)
 found_section os file index s e = record {
   numbered = refl;

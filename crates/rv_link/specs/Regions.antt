@@ -14,7 +14,7 @@ use Rattle.rv_resolve.specs.Undefined.{first_undefined}
 use Rattle.rv_object_laws.specs.IsLinkOf.{is_loaded}
 use Rattle.rv_placement.specs.declared.placement.Placement.{Placement}
 use Rattle.rv_placement.specs.Placement.{starts_of, are_roomy, IsPlacement}
-use Rattle.rv_values.specs.Values.{IsValues}
+use Rattle.rv_link_values.specs.Values.{IsValues}
 use Rattle.rv_link.specs.declared.fixed.Fixed.{Fixed}
 use Rattle.rv_link.specs.declared.regions.Regions.{Regions}
 use Rattle.rv_link.specs.declared.fault.LinkFault.{LinkFault}

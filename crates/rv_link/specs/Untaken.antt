@@ -11,7 +11,7 @@ use Rattle.rv_object_laws.specs.IsLinkOf.{is_loaded}
 use Rattle.rv_placement.specs.declared.placement.Placement.{Placement}
 use Rattle.rv_placement.specs.Placement.{starts_of}
 use Rattle.rv_resolve.specs.Shown.{shown_globals}
-use Rattle.rv_values.specs.Values.{IsValueOf, IsDangling}
+use Rattle.rv_link_values.specs.Values.{IsValueOf, IsDangling}
 use Rattle.rv_link.specs.declared.fault.LinkFault.{LinkFault}
 use Rattle.rv_link.specs.declared.fault.LinkFault.TheVariants.{Overflow, OddTarget, DanglingPcrel, OutOfMemory}
 use Rattle.rv_link.specs.declared.fixed.Input.{Input}

@@ -25,11 +25,11 @@ ghost use Rattle.rv_link.specs.Filled.{
 
 use crate::fault::LinkFault;
 use crate::fields::apply;
+use rv_link_values::{ValueFault, Values};
 use rv_object::{Contents, Relocation};
 use rv_placement::{PlacedSection, Placement};
 use rv_relax::SectionPlan;
 use rv_shorten::{LeftBytes, ShortObject, ShortSection};
-use rv_values::{ValueFault, Values};
 use std::alloc::{AllocError, Global};
 
 /// A section of an object, and where it stands.

@@ -23,11 +23,11 @@ use crate::fault::LinkFault;
 use crate::fixed::Fixed;
 use crate::regions::Regions;
 use rv_image::{Linked, STACK_START};
+use rv_link_values::Values;
 use rv_map::{Map, known};
 use rv_placement::{Placement, PlacementFault};
 use rv_resolve::{Names, ResolveFault};
 use rv_shorten::ShortObject;
-use rv_values::Values;
 use std::alloc::Global;
 
 /// The most files that are linked at once.

@@ -10,7 +10,7 @@ ghost use Rattle.rv_link.specs.Refusals.{AreDoubled};
 
 use crate::fault::LinkFault;
 use crate::passes::of_names;
-use rv_calls::placed;
+use rv_link_sites::placed;
 use rv_object::Object;
 use rv_relax::{Placed, Plan};
 use rv_resolve::Names;

@@ -3,8 +3,8 @@
 
 use crate::objects::{A, ObjectRow, X, objects};
 use crate::relaxed::{START, THREE};
-use rv_calls::placed;
 use rv_isa::Kind;
+use rv_link_sites::placed;
 use rv_object::{Binding, Definition, Object};
 use rv_relax::{Placed, Plan};
 use rv_resolve::Names;

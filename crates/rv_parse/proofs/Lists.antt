@@ -17,7 +17,7 @@ use Rattle.rv_lexer.specs.declared.syntax_error.ReadError.{ReadError}
 use Rattle.rv_lexer.specs.declared.syntax_error.ReadError.TheVariants as refusals
 use Rattle.rv_lexer.specs.Cursor.{syntax_error_of, Fails}
 use Rattle.rv_parse.specs.View.{value_of}
-use Rattle.rv_words.specs.View.{word_of, string_of}
+use Rattle.rv_parse_words.specs.View.{word_of, string_of}
 use Rattle.rv_parse.specs.Slots.{further_items, prepended}
 use Rattle.rv_parse.proofs.Items.{items_begin, items_first_wrong, items_go_on, items_wrong, items_done, items_undone}
 use Rattle.rv_parse_laws.specs.declared.role.Role.TheVariants as roles

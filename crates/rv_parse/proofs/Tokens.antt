@@ -10,7 +10,7 @@ use Rattle.rv_parse_laws.specs.Syntax.{register_of, symbol_of, accesses_of, is_c
 use Rattle.rv_statement.specs.declared.pseudo.Function.{Function}
 use Rattle.rv_parse_laws.specs.declared.role.Role.{Role}
 use Rattle.rv_parse_laws.specs.Parsing.{width}
-use Rattle.rv_words.specs.View.{choice_of}
+use Rattle.rv_parse_words.specs.View.{choice_of}
 
 pub register_no_last : (k : Kind) (r : ℕ) → register_of k ≡ Some r → is_last k ≡ false
 register_no_last (NameToken name) r h = refl

@@ -15,10 +15,10 @@ use crate::operands::{given, with};
 use crate::value::Argument;
 use crate::{slot, value};
 use rv_isa::{AtomicForm, AtomicOperation, LoadOperation, Reg, StoreOperation};
+use rv_parse_words::Role;
+use rv_parse_words::fault::Slot;
 use rv_statement::{Operation, Plain, StatementKind};
 use rv_text::{Cursor, Expr, ReadError, SourceCode, SyntaxError};
-use rv_words::Role;
-use rv_words::fault::Slot;
 use std::alloc::Global;
 
 /// What a load reads and a store writes.

@@ -10,15 +10,15 @@ ghost use Rattle.rv_parse_laws.specs.Syntax.{A_symbol, A_string, A_value, places
 ghost use Rattle.rv_parse_laws.specs.declared.role.Role.TheVariants as roles;
 ghost use Rattle.rv_parse_laws.specs.Parsing.{operands_at, items_at, any_at, seen_as};
 ghost use Rattle.rv_parse.specs.View.{value_of};
-ghost use Rattle.rv_words.specs.View.{word_of, string_of};
+ghost use Rattle.rv_parse_words.specs.View.{word_of, string_of};
 ghost use Rattle.rv_parse.specs.Slots.{flags_slots, type_slots, further_items, prepended};
 ghost use Rattle.rv_parse.specs.Left.{Gives, GivesDirective, ReadsDirective};
 
 use crate::{slot, value};
+use rv_parse_words::fault::{self, Slot};
+use rv_parse_words::{Role, kinds};
 use rv_statement::{DirectiveWord, Opening, Setting, Standard, StatementKind, Width};
 use rv_text::{Cursor, Expr, ReadError, SyntaxError};
-use rv_words::fault::{self, Slot};
-use rv_words::{Role, kinds};
 use std::alloc::Global;
 
 /// One symbol or more, with commas between.

@@ -12,11 +12,11 @@ ghost use Rattle.rv_parse.specs.Left.{ReadsInstruction};
 use crate::operands::{self, given, with};
 use crate::{access, jump, slot, value};
 use rv_isa::{RegisterOperation, UpperOperation};
+use rv_parse_words::Role;
+use rv_parse_words::fault::Slot;
+use rv_parse_words::words::has_constant;
 use rv_statement::{Mnemonic, Operation, Plain, StatementKind};
 use rv_text::{Cursor, ReadError};
-use rv_words::Role;
-use rv_words::fault::Slot;
-use rv_words::words::has_constant;
 use std::alloc::Global;
 
 /// `rd, rs1, rs2`, or a constant in place of `rs2`.

@@ -12,10 +12,10 @@ ghost use Rattle.rv_parse.specs.Left.{ReadsInstruction};
 use crate::operands::{given, with};
 use crate::{slot, value};
 use rv_isa::Reg;
+use rv_parse_words::Role;
+use rv_parse_words::fault::Slot;
 use rv_statement::{Operation, Plain, StatementKind};
 use rv_text::{Cursor, ReadError};
-use rv_words::Role;
-use rv_words::fault::Slot;
 use std::alloc::Global;
 
 /// The operands of `jal`: a target, or a link register and a target.

@@ -5,13 +5,13 @@ ghost use Rattle.rv_lexer.specs.Cursor.{left, syntax_error_of};
 ghost use Rattle.rv_statement.specs.Statement.{Register, Accesses};
 ghost use Rattle.rv_parse_laws.specs.Syntax.{A_register, A_zero, Some_accesses, A_symbol, A_string, A_section, Some_flags, At_sign, A_type, A_plt, A_comma, An_opening, A_closing, Slot as AnySlot, front_begins};
 ghost use Rattle.rv_parse_laws.specs.Parsing.{operand_at, end_at, base_at, base_next, plt_next, too_long};
-ghost use Rattle.rv_words.specs.View.{slot_of, word_of, string_of};
+ghost use Rattle.rv_parse_words.specs.View.{slot_of, word_of, string_of};
 ghost use Rattle.rv_parse.specs.Left.{Gives};
 
 use rv_isa::{AccessSet, Reg};
+use rv_parse_words::fault::{self, Slot};
+use rv_parse_words::kinds;
 use rv_text::{Cursor, LONGEST_NAME, SourceCode, SyntaxError};
-use rv_words::fault::{self, Slot};
-use rv_words::kinds;
 
 /// A register.
 #[tactic(auto, using(crate::proofs::Tokens::register_no_last), unfolding(rv_lexer::specs::Cursor::left))]

@@ -20,9 +20,9 @@ ghost use Rattle.rv_parse.specs.Left.{StopsAt, RefusesTokens, RefusedWith};
 use crate::opening::{Opened, wrong_opening};
 use crate::statement::statement;
 use memchr::memrchr;
+use rv_parse_words::kinds;
 use rv_statement::{Statement, StatementKind};
 use rv_text::{Cursor, Lexer, ReadError, SourceCode, SourceFault, SyntaxError, Token};
-use rv_words::kinds;
 use std::alloc::Global;
 
 /// The longest source, in bytes.

@@ -13,11 +13,11 @@ ghost use Rattle.rv_parse_laws.specs.Parsing.{operand_at, value_at, value_in, la
 ghost use Rattle.rv_parse.specs.Left.{Gives};
 
 use crate::slot;
+use rv_parse_words::fault::{self, Slot};
+use rv_parse_words::words::register_named;
+use rv_parse_words::{Role, kinds};
 use rv_statement::Function;
 use rv_text::{Cursor, Expr, ReadError, Registers, SourceCode, SyntaxError, Token};
-use rv_words::fault::{self, Slot};
-use rv_words::words::register_named;
-use rv_words::{Role, kinds};
 use std::alloc::Global;
 
 /// Which names spell registers, in expressions.

@@ -32,17 +32,17 @@ use Rattle.rv_link.specs.Filled.{IsTaken}
 use Rattle.rv_assemble_laws.specs.Sites.{Site, form, parts, sites_in, end_of, HasSize}
 use Rattle.rv_assemble_laws.specs.IsObjectOf.{Numbering, relocations_from, IsSectionOf, IsObjectOf}
 use Rattle.rv_source_laws.proofs.Homes.{all_filter}
-use Rattle.rv_boundary_laws.specs.Joins.{AreObjectsOf}
-use Rattle.rv_boundary_laws.proofs.Assembled as assembled
-use Rattle.rv_boundary_laws.proofs.Filed.{offsets_low}
-use Rattle.rv_boundary_laws.proofs.Ordered.{its_source, in_order}
-use Rattle.rv_boundary_laws.proofs.PiecesOf.{size_is}
-use Rattle.rv_boundary_laws.proofs.Ranges.{even_bytes}
-use Rattle.rv_boundary_laws.proofs.Settled.{IsSettled, IsSiteIn, sites_are_in}
-use Rattle.rv_boundary_laws.proofs.Targets.{section_of, all_settled}
-use Rattle.rv_boundary_laws.proofs.Uncut.{IsUncut, uncut}
+use Rattle.rv_sources_link_laws.specs.Joins.{AreObjectsOf}
+use Rattle.rv_sources_link_laws.proofs.Assembled as assembled
+use Rattle.rv_sources_link_laws.proofs.Filed.{offsets_low}
+use Rattle.rv_sources_link_laws.proofs.Ordered.{its_source, in_order}
+use Rattle.rv_sources_link_laws.proofs.PiecesOf.{size_is}
+use Rattle.rv_sources_link_laws.proofs.Ranges.{even_bytes}
+use Rattle.rv_sources_link_laws.proofs.Settled.{IsSettled, IsSiteIn, sites_are_in}
+use Rattle.rv_sources_link_laws.proofs.Targets.{section_of, all_settled}
+use Rattle.rv_sources_link_laws.proofs.Uncut.{IsUncut, uncut}
 use Rattle.rv_shorten.specs.Cutting.{In}
-use Rattle.rv_one_link_laws.proofs.Found.{EachOf, all_of}
+use Rattle.rv_unique_link_laws.proofs.Found.{EachOf, all_of}
 use Rattle.rv_reach_laws.specs.Reach.{is_short_branch, ForEachLeft, ShortBranchesReach}
 use Rattle.rv_reach_laws.proofs.Moving.{IsPaddedText}
 use Rattle.rv_reach_laws.proofs.Spans.{left_input, lefts, IsPlain, address}

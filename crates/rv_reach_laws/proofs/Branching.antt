@@ -21,7 +21,7 @@ use Rattle.rv_layout_laws.specs.declared.item.Forms.TheVariants.{Settled, Compre
 use Rattle.rv_source_laws.specs.Sizes.{branch_forms, jump_forms, is_short_branch as is_short_pair, is_short_register, near_forms, target_in}
 use Rattle.rv_reach_laws.specs.Reach.{is_short_branch}
 use Rattle.rv_source_laws.specs.Sized.{is_call}
-use Rattle.rv_boundary_laws.proofs.Quiet.{is_branching, IsCalm, InCode, quiet}
+use Rattle.rv_sources_link_laws.proofs.Quiet.{is_branching, IsCalm, InCode, quiet}
 
 -- ---- statements that are none
 

@@ -24,9 +24,9 @@ use Rattle.rv_assemble_laws.specs.Templates.{Template, Fixed, Datum, Coded, Open
 use Rattle.rv_assemble_laws.specs.Sites.{Site, Part, form, part_of, part_bytes, coded_templates, templates, parts_of, parts, Tile}
 use Rattle.rv_assemble_laws.specs.Symbols.{use_of, references_in}
 use Rattle.rv_assemble_laws.specs.IsObjectOf.{Numbering, relocation_at, relocations_from, IsNumbered, ArePartsNumbered}
-use Rattle.rv_boundary_laws.proofs.Walk.{relocations_join}
-use Rattle.rv_boundary_laws.proofs.Sections.{split, join}
-use Rattle.rv_boundary_laws.proofs.Uncut.{IsUncut}
+use Rattle.rv_sources_link_laws.proofs.Walk.{relocations_join}
+use Rattle.rv_sources_link_laws.proofs.Sections.{split, join}
+use Rattle.rv_sources_link_laws.proofs.Uncut.{IsUncut}
 use Rattle.rv_shorten.specs.Cutting.{In}
 use Rattle.rv_reach_laws.specs.Reach.{is_short_branch}
 use Rattle.rv_reach_laws.proofs.Branching.{IsUnshort, IsBranching, Sorted, sorted}

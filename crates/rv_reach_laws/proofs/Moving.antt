@@ -11,7 +11,7 @@ use Rattle.rv_object_laws.specs.Inputs.{goes_to_text}
 use Rattle.rv_relax.specs.Paddings.{are_alignments}
 use Rattle.rv_relax.proofs.Planned.{next_alignment, other_alignments}
 use Rattle.rv_relax.proofs.Apart.{of_section}
-use Rattle.rv_one_link_laws.proofs.Evens.{section_padded, dropped_even}
+use Rattle.rv_unique_link_laws.proofs.Evens.{section_padded, dropped_even}
 
 -- further on no less is dropped
 pub more_dropped : (a b : ℕ) (ms : List Move) → a ≤ b → dropped ms a ≤ dropped ms b

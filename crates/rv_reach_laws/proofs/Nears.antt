@@ -24,8 +24,8 @@ use Rattle.rv_object.specs.Object.{Relocation, Symbol, Object}
 use Rattle.rv_assemble_laws.specs.Sites.{Site, form, sites_in, Tile}
 use Rattle.rv_assemble_laws.specs.Symbols.{site_at, after_site, IsOwn, IsDefinedBy, StandsFor}
 use Rattle.rv_assemble_laws.specs.IsObjectOf.{IsObjectOf}
-use Rattle.rv_boundary_laws.proofs.Moved.{AddsInData, adds}
-use Rattle.rv_boundary_laws.proofs.Settled.{IsSettled}
+use Rattle.rv_sources_link_laws.proofs.Moved.{AddsInData, adds}
+use Rattle.rv_sources_link_laws.proofs.Settled.{IsSettled}
 use Rattle.rv_shorten.specs.Cutting.{In}
 use Rattle.rv_reach_laws.proofs.Branching.{IsBranchForm, HasForms}
 use Rattle.rv_reach_laws.proofs.Fielding.{IsBranchOf}

@@ -41,7 +41,7 @@ use Rattle.rv_shorten.proofs.Lists.{filter_in, ordered_in}
 use Rattle.rv_shorten.proofs.Sections.{short_parts, same_text}
 use Rattle.rv_shorten.proofs.Short.{size_left, paddings_stay}
 use Rattle.rv_shorten.proofs.Shifts as cut
-use Rattle.rv_one_link_laws.proofs.Multiples.{BeginsSo, all_begin}
+use Rattle.rv_unique_link_laws.proofs.Multiples.{BeginsSo, all_begin}
 use Rattle.rv_reach_laws.specs.Reach.{is_short_call, ForEachLeft, ShortCallsReach}
 use Rattle.rv_reach_laws.proofs.Lines.{IsFramed, Frames, frames}
 use Rattle.rv_reach_laws.proofs.Spans.{left_section, left_input, lefts, IsPlain, address, in_order, stays_even, nearer_ahead, nearer_behind}

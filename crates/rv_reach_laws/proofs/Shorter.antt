@@ -24,8 +24,8 @@ use Rattle.rv_placement.specs.Placement.{placed_in, start_in, starts_of, section
 use Rattle.rv_shorten.specs.Cutting.{In}
 use Rattle.rv_shorten.proofs.Changes as changed
 use Rattle.rv_shorten.proofs.Line.{Later}
-use Rattle.rv_one_link_laws.specs.Asked.{IsSound}
-use Rattle.rv_one_link_laws.proofs.Found.{EachOf, all_of}
+use Rattle.rv_unique_link_laws.specs.Asked.{IsSound}
+use Rattle.rv_unique_link_laws.proofs.Found.{EachOf, all_of}
 use Rattle.rv_reach_laws.proofs.Lines.{Ordered}
 
 -- ---- what objects of the code keep

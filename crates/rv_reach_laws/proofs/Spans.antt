@@ -20,7 +20,7 @@ use Rattle.rv_object_laws.specs.Shortened.{Sizes, sizes_by, is_shortened, cuts, 
 use Rattle.rv_placement.proofs.Walks.{above}
 use Rattle.rv_shorten.proofs.CallKinds.{call_no_align}
 use Rattle.rv_shorten.proofs.Shifts as cut
-use Rattle.rv_one_link_laws.proofs.Multiples.{aligned_even, aligned_near}
+use Rattle.rv_unique_link_laws.proofs.Multiples.{aligned_even, aligned_near}
 use Rattle.rv_reach_laws.proofs.Moving as padding
 use Rattle.rv_reach_laws.proofs.Moving.{IsPaddedText}
 use Rattle.rv_reach_laws.proofs.Lines.{IsFramed, Frames}

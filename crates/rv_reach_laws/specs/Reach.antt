@@ -18,7 +18,7 @@ use Rattle.rv_placement.specs.declared.placement.Placement.{Placement}
 use Rattle.rv_placement.specs.Placement.{IsPlacement}
 use Rattle.rv_link.specs.Refusals.{IsTextStart}
 use Rattle.rv_link.specs.Filled.{IsTaken}
-use Rattle.rv_boundary_laws.specs.Joins.{AreObjectsOf}
+use Rattle.rv_sources_link_laws.specs.Joins.{AreObjectsOf}
 
 -- the field of a call, of which `jal` or `c.j` is left
 abbrev pub is_short_call : (before now : Kind) → Bool

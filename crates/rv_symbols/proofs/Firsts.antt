@@ -7,8 +7,8 @@ use Rattle.std.specs.Str.{bytes_eq}
 use Rattle.std.proofs.lemmas.Bool.{ltb-true, ltb-false, lt-ltb, leb-true, le-leb, eqb-true, eq-eqb}
 use Rattle.std.proofs.lemmas.List.{take_more, map-append, reverse-append}
 use Rattle.rv_unit_laws.specs.Tables.{Assignment}
-use Rattle.rv_tables.specs.declared.tables.Assignment.{Assignment as DeclaredSetting}
-use Rattle.rv_tables.specs.Tables.{assignment_of}
+use Rattle.rv_unit_tables.specs.declared.tables.Assignment.{Assignment as DeclaredSetting}
+use Rattle.rv_unit_tables.specs.Tables.{assignment_of}
 use Rattle.rv_source_laws.specs.Resolves.{sets_first}
 use Rattle.rv_symbols.specs.Settings.{least, first_ordinal}
 use Rattle.rv_unit_laws.proofs.Found.{same_bytes}

@@ -10,8 +10,8 @@ use Rattle.rv_statement.specs.View.{statement_of}
 use Rattle.rv_statement.specs.declared.statement.Statement.{Statement as DeclaredStatement}
 use Rattle.std.proofs.lemmas.List.{length-map, at_drop_all}
 use Rattle.rv_unit_laws.specs.Tables.{Tables, SectionOffset as Standing, at_start, after, stood, places_from}
-use Rattle.rv_tables.specs.declared.section_offset.SectionOffset.{SectionOffset}
-use Rattle.rv_tables.specs.Sections.{offset_of}
+use Rattle.rv_unit_tables.specs.declared.section_offset.SectionOffset.{SectionOffset}
+use Rattle.rv_unit_tables.specs.Sections.{offset_of}
 use Rattle.rv_unit.specs.Unit.{said}
 use Rattle.rv_unit.specs.declared.unit.Unit.{Unit as SourceUnit}
 use Rattle.rv_source_laws.specs.Located.{Located, located_from}

@@ -14,7 +14,7 @@ use Rattle.rv_unit_laws.specs.Tables as laws
 use Rattle.rv_unit_laws.specs.Tables.{Tables}
 use Rattle.rv_unit_laws.proofs.Found.{bytes_swap}
 use Rattle.rv_unit.specs.Unit.{definition_of}
-use Rattle.rv_tables.specs.declared.section_offset.Definition.{Definition}
+use Rattle.rv_unit_tables.specs.declared.section_offset.Definition.{Definition}
 use Rattle.rv_source_laws.specs.Resolves.{is_one_of}
 use Rattle.rv_assemble_laws.specs.Symbols.{SymbolUse, missing_name, distinct_from}
 use Rattle.rv_symbols.specs.declared.symbol_use.SymbolUse.{SymbolUse as DeclaredUse}

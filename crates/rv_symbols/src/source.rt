@@ -4,7 +4,7 @@ ghost use Rattle.std.specs.Prelude.{◌≡◌, ◌+◌, ◌<◌, Some, List, [],
 ghost use Rattle.rv_statement.specs.View.{statement_of};
 ghost use Rattle.rv_unit_laws.specs.Bindings.{is_global};
 ghost use Rattle.rv_unit_laws.specs.Tables.{tables, assigned_ever};
-ghost use Rattle.rv_tables.specs.Tables.{assignment_of};
+ghost use Rattle.rv_unit_tables.specs.Tables.{assignment_of};
 ghost use Rattle.rv_unit.specs.Unit.{said, IsFilled};
 ghost use Rattle.rv_map.specs.Name.{is_name};
 ghost use Rattle.rv_source_laws.specs.Resolves.{sets_first, defined_name};

@@ -9,7 +9,7 @@ use Rattle.rv_unit.specs.Faults.{IsLowest}
 use Rattle.rv_statement.specs.Statement.{Statement as SpecStatement}
 use Rattle.rv_unit_laws.specs.Tables.{after, tables}
 use Rattle.rv_unit_laws.specs.Faults.{faults, lowest, at_line, first_fault_from}
-use Rattle.rv_tables.proofs.Filling.{drop_next}
+use Rattle.rv_unit_tables.proofs.Filling.{drop_next}
 use Rattle.rv_unit.specs.Unit.{passed}
 
 -- a statement without a fault is passed over

@@ -18,11 +18,11 @@ use Rattle.rv_unit_laws.specs.Tables as laws
 use Rattle.rv_unit_laws.proofs.Before.{IsBefore, before_all, before_start}
 use Rattle.rv_unit_laws.proofs.Opened.{IsStood, stood_all, stood_start, stands_same, open_inside, find_passes}
 use Rattle.rv_unit.specs.declared.unit.Unit.{Unit as SourceUnit}
-use Rattle.rv_tables.specs.Tables.{tables_of}
+use Rattle.rv_unit_tables.specs.Tables.{tables_of}
 use Rattle.rv_unit.specs.Unit.{said, IsFilled}
 use Rattle.rv_unit.specs.Unit.{passed}
 use Rattle.rv_unit.proofs.Passed.{passed_before, passed_keeps, passed_rest}
-use Rattle.rv_tables.proofs.Lookups.{numeric_label_none}
+use Rattle.rv_unit_tables.proofs.Lookups.{numeric_label_none}
 
 -- the tables of a unit stand before the ordinal after its last statement
 pub whole_before : (u : SourceUnit) → IsFilled u → IsBefore (tables_of u.tables) (1 + length (said u))

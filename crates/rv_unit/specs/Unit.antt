@@ -9,13 +9,13 @@ use Rattle.rv_unit_laws.specs.Faults.{Fault, first_fault}
 use Rattle.rv_statement.specs.Statement.{Statement, StatementKind}
 use Rattle.rv_statement.specs.View.{statement_of}
 use Rattle.rv_unit_laws.specs.Tables as laws
-use Rattle.rv_tables.specs.declared.section_offset.Definition.{Definition}
-use Rattle.rv_tables.specs.declared.section_offset.SectionOffset.{SectionOffset}
+use Rattle.rv_unit_tables.specs.declared.section_offset.Definition.{Definition}
+use Rattle.rv_unit_tables.specs.declared.section_offset.SectionOffset.{SectionOffset}
 use Rattle.rv_unit.specs.declared.unit.Unit.{Unit as SourceUnit}
 use Rattle.rv_unit.specs.declared.scope.Scope.{Scope}
-use Rattle.rv_tables.specs.Options.{options_of}
-use Rattle.rv_tables.specs.Sections.{offset_of}
-use Rattle.rv_tables.specs.Tables.{tables_of, IsIndexed}
+use Rattle.rv_unit_tables.specs.Options.{options_of}
+use Rattle.rv_unit_tables.specs.Sections.{offset_of}
+use Rattle.rv_unit_tables.specs.Tables.{tables_of, IsIndexed}
 
 abbrev pub definition_of : Definition → laws.Definition
 definition_of h = record { ordinal = h.ordinal; plus = h.plus }

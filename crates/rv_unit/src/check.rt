@@ -11,8 +11,8 @@ ghost use Rattle.rv_statement.specs.View.{bytes_of, quoted, setting_of, statemen
 ghost use Rattle.rv_unit_laws.specs.Faults as faults;
 ghost use Rattle.rv_unit_laws.specs.Tables as laws;
 ghost use Rattle.rv_unit_laws.proofs.Asked.{depth_after as depth_then};
-ghost use Rattle.rv_tables.specs.Sections.{section_of, offset_of};
-ghost use Rattle.rv_tables.specs.declared.section_offset.SectionOffset.{SectionOffset as SectionOffsetOf};
+ghost use Rattle.rv_unit_tables.specs.Sections.{section_of, offset_of};
+ghost use Rattle.rv_unit_tables.specs.declared.section_offset.SectionOffset.{SectionOffset as SectionOffsetOf};
 ghost use Rattle.rv_unit.specs.Faults.{IsLowest};
 ghost use Rattle.rv_unit.specs.FaultsAt.{faults_at, directive_faults_at};
 ghost use Rattle.rv_unit.specs.Unit.{said, passed, fault_of, IsAt, IsFilled};
@@ -23,11 +23,11 @@ use crate::faults::{
 };
 use crate::unit::Unit;
 use rv_statement::{Choice, Setting, StatementKind, Width};
-use rv_tables::{
+use rv_text::{Expr, SourceCode};
+use rv_unit_tables::{
     Section, SectionOffset, byte_alignment, power_alignment, strings_size, values_size,
     width_in_bytes,
 };
-use rv_text::{Expr, SourceCode};
 
 /// The depth of the option stack after a statement.
 fn depth_after(depth: usize, kind: &StatementKind<'_>) -> usize

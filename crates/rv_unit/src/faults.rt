@@ -7,11 +7,11 @@ ghost use Rattle.rv_unit_laws.specs.Sections.{is_nobits};
 ghost use Rattle.rv_unit_laws.specs.Faults as laws;
 ghost use Rattle.rv_unit_laws.specs.Tables as tables;
 ghost use Rattle.rv_unit.specs.Faults.{IsLowest, ForValue};
-ghost use Rattle.rv_tables.specs.Sections.{section_of};
+ghost use Rattle.rv_unit_tables.specs.Sections.{section_of};
 
 use rv_statement::Choice;
-use rv_tables::{GREATEST_ALIGNMENT, LONGEST_SECTION, Section, is_power_below, padding};
 use rv_text::{SourceCode, SourceFault, Symbol, Value};
+use rv_unit_tables::{GREATEST_ALIGNMENT, LONGEST_SECTION, Section, is_power_below, padding};
 
 /// What an expression is worth, or its fault.
 pub(crate) type Outcome<'a> = Result<Value<'a>, SourceFault>;

@@ -1,6 +1,6 @@
 //! One source: its sections, where its statements stand, what its names mean, and its first fault beyond syntax.
 //!
-//! `Unit::build` takes the statements of a source and gives them with the tables that `rv_tables` fills, or the first
+//! `Unit::build` takes the statements of a source and gives them with the tables that `rv_unit_tables` fills, or the first
 //! faulty label, directive or misplaced instruction: clauses `good` and `refuses` of its contract say that it refuses
 //! exactly the sources for which `rv_unit_laws`'s `first_fault` finds one, and names that. `Scope` goes over the
 //! statements one by one and tells what a name means in each (`meaning`, `value`) and where it is defined (`definition`);
@@ -25,7 +25,7 @@ mod names;
 mod scope;
 mod unit;
 
-pub use rv_tables::{
+pub use rv_unit_tables::{
     Assignment, Binding, Definition, Extent, LONGEST_SECTION, Options, Section, SectionOffset,
     SectionType, byte_alignment, padding, power_alignment, strings_size, values_size,
 };

@@ -8,13 +8,13 @@ ghost use Rattle.rv_text.specs.Expr.{tree_of_expr};
 ghost use Rattle.rv_text.specs.Eval.{meaning_of, IsOutcome};
 ghost use Rattle.rv_unit_laws.specs.Tables as laws;
 ghost use Rattle.rv_unit_laws.proofs.Before.{IsBefore, placed_latest};
-ghost use Rattle.rv_tables.specs.Sections.{offset_of};
-ghost use Rattle.rv_tables.specs.Tables.{tables_of, IsIndexed};
+ghost use Rattle.rv_unit_tables.specs.Sections.{offset_of};
+ghost use Rattle.rv_unit_tables.specs.Tables.{tables_of, IsIndexed};
 ghost use Rattle.rv_unit.specs.Unit.{said, passed, IsFilled};
 
 use crate::unit::Unit;
-use rv_tables::SectionOffset;
 use rv_text::{Expr, Meaning, SourceFault, Symbol, Value, eval};
+use rv_unit_tables::SectionOffset;
 
 impl<'a> Unit<'a> {
     /// What a symbol means in the statement of an ordinal, which stands at the offset.

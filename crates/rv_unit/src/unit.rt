@@ -4,13 +4,13 @@ ghost use Rattle.std.specs.Prelude.{◌≡◌, ◌<◌, None, length, map, optio
 ghost use Rattle.rv_statement.specs.View.{statement_of};
 ghost use Rattle.rv_unit_laws.specs.Faults.{first_fault};
 ghost use Rattle.rv_unit_laws.specs.Tables.{assigned_ever, binding_of};
-ghost use Rattle.rv_tables.specs.Options.{options_of};
-ghost use Rattle.rv_tables.specs.Tables.{tables_of, assignment_of};
+ghost use Rattle.rv_unit_tables.specs.Options.{options_of};
+ghost use Rattle.rv_unit_tables.specs.Tables.{tables_of, assignment_of};
 ghost use Rattle.rv_unit.specs.Unit.{said, passed, IsFilled, NamesFirst};
 
 use rv_statement::Statement;
-use rv_tables::{Assignment, Binding, Extent, Options, SectionOffset, Tables};
 use rv_text::SourceFault;
+use rv_unit_tables::{Assignment, Binding, Extent, Options, SectionOffset, Tables};
 use std::alloc::{AllocError, Global};
 
 /// A source's statements, where and in which options they stand, its sections and its names.

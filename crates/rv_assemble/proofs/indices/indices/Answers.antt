@@ -1,7 +1,7 @@
 use Rattle.std.proofs.Common.{◌≡◌, ◌≤◌, ◌+◌, ◌++◌, None, map, drop, get_or, sym, ap, ◌∙◌, subst, pos}
 use Rattle.rv_isa.specs.declared.kind.Kind.TheVariants as kinds
-use Rattle.rv_sites.specs.declared.field.OpenField.{OpenField}
-use Rattle.rv_sites.specs.Draft.{field_of}
+use Rattle.rv_draft.specs.declared.field.OpenField.{OpenField}
+use Rattle.rv_draft.specs.Draft.{field_of}
 use Rattle.rv_assemble.specs.Making.{next_of, indices_of}
 use Rattle.rv_assemble.proofs.ListsSoFar.{left_map}
 use Rattle.rv_assemble.proofs.IndicesSoFar.{indices_more, next_within}

@@ -1,5 +1,5 @@
 use Rattle.std.proofs.Common.{◌≡◌, ◌≤◌, ◌++◌, drop, map}
-use Rattle.rv_sites.specs.Draft.{field_of}
+use Rattle.rv_draft.specs.Draft.{field_of}
 use Rattle.rv_assemble.specs.Making.{indices_of}
 use Rattle.rv_assemble.proofs.indices.indices.Given as goal
 

@@ -2,8 +2,8 @@ use Rattle.std.proofs.Common.{◌≡◌, ◌<◌, ◌^◌, ℕ, length, map, sym
 use Rattle.std.specs.List.{AllByRecursion}
 use Rattle.rv_unit.specs.Unit.{said}
 use Rattle.rv_object.specs.Sections.{section_of}
-use Rattle.rv_sites.specs.declared.field.OpenField.{OpenField}
-use Rattle.rv_sites.specs.Draft.{field_of}
+use Rattle.rv_draft.specs.declared.field.OpenField.{OpenField}
+use Rattle.rv_draft.specs.Draft.{field_of}
 use Rattle.rv_assemble.specs.Lists.{list_in}
 use Rattle.rv_assemble.specs.Making.{rows_from, indices_of, relocations_in, IsMakeable, sections_by}
 use Rattle.rv_assemble.proofs.Uses.{items_count}

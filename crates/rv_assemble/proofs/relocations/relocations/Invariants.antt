@@ -1,5 +1,5 @@
 use Rattle.std.proofs.Common.{◌≡◌, ℕ, ◌++◌, map, drop, length}
-use Rattle.rv_sites.specs.Draft.{field_of}
+use Rattle.rv_draft.specs.Draft.{field_of}
 use Rattle.rv_assemble.specs.Making.{relocations_in}
 use Rattle.rv_assemble.specs.Lists.{list_in}
 use Rattle.rv_assemble.proofs.relocations.relocations.Given as goal

@@ -2,7 +2,7 @@ use Rattle.std.proofs.Common.{◌≡◌, map, length}
 use Rattle.rv_lexer.specs.Cursor.{left}
 use Rattle.rv_parse_laws.specs.Syntax.{A_symbol}
 use Rattle.rv_parse_laws.specs.Parsing.{items_at}
-use Rattle.rv_words.specs.View.{word_of}
+use Rattle.rv_parse_words.specs.View.{word_of}
 use Rattle.rv_parse.specs.Slots.{further_items, prepended}
 use Rattle.rv_parse.proofs.directive.names.Given as goal
 

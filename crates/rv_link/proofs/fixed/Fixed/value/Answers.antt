@@ -4,7 +4,7 @@ use Rattle.rv_object.specs.Parts.{relocation_of}
 use Rattle.rv_shorten.specs.Sections.{short_section_of}
 use Rattle.rv_placement.specs.Placement.{starts_of}
 use Rattle.rv_resolve.specs.Shown.{shown_globals}
-use Rattle.rv_values.specs.Values.{IsValueOf}
+use Rattle.rv_link_values.specs.Values.{IsValueOf}
 use Rattle.rv_link.specs.Filled.{objects_of, input_of}
 use Rattle.rv_link.proofs.Growing.{found_section}
 use Rattle.rv_link.proofs.fixed.Fixed.value.Goals as goal

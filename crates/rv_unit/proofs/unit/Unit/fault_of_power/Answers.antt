@@ -5,7 +5,7 @@ use Rattle.rv_statement.specs.Statement.{StatementKind, Directs, Aligns_to_power
 use Rattle.rv_unit_laws.specs.Faults as faults
 use Rattle.rv_unit_laws.specs.Sections.{current_section}
 use Rattle.rv_unit_laws.specs.Tables as laws
-use Rattle.rv_tables.specs.Sections.{section_of}
+use Rattle.rv_unit_tables.specs.Sections.{section_of}
 use Rattle.rv_unit.specs.Faults.{IsLowest}
 use Rattle.rv_unit.specs.Unit.{said, passed}
 use Rattle.rv_unit.proofs.Standing.{at_here, at_home}

@@ -1,7 +1,7 @@
 use Rattle.std.proofs.Common.{◌∙◌, ◌+◌, ap, sym, false}
 use Rattle.rv_text.specs.Nodes.{symbol_of}
 use Rattle.rv_unit_laws.specs.Tables.{meaning}
-use Rattle.rv_tables.specs.Sections.{offset_of}
+use Rattle.rv_unit_tables.specs.Sections.{offset_of}
 use Rattle.rv_unit.specs.Unit.{said, passed}
 use Rattle.rv_unit.proofs.Scoped.{past_ahead, past_symbol}
 use Rattle.rv_unit.proofs.unit.Unit.past_meaning.Goals as goal

@@ -1,7 +1,0 @@
-use Rattle.std.proofs.Common.{◌∙◌}
-use Rattle.rv_boundary_laws.proofs.Flagged.{flagged, flags_stay}
-use Rattle.rv_boundary_laws.proofs.law.linked_objects_are_flagged.Goals as goal
-
-pub returns : goal.returns
-returns c = λ sources os text_start relax l h program.
-    program.linked.rvc ∙ flags_stay relax os program.left program.relaxed ∙ flagged 1 sources os h

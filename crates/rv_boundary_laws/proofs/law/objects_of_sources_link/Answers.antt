@@ -1,5 +1,0 @@
-use Rattle.rv_boundary_laws.proofs.Shortens.{joins}
-use Rattle.rv_boundary_laws.proofs.law.objects_of_sources_link.Goals as goal
-
-pub returns : goal.returns
-returns c = λ sources os text_start relax l h program. joins sources os text_start relax l h program.left program.relaxed program.linked

@@ -1,5 +1,0 @@
-use Rattle.rv_boundary_laws.proofs.TwoLinked.{linked}
-use Rattle.rv_boundary_laws.proofs.worked.two_files_link.Goals as goal
-
-pub returns : goal.returns
-returns c = linked

@@ -1,7 +1,0 @@
-use Rattle.std.proofs.Common.{◌≡◌, ℕ, [], length}
-use Rattle.rv_calls.specs.Entries.{list_at}
-use Rattle.rv_calls.proofs.entries.empty_lists.Given as goal
-
--- as many as were counted, with nothing in them
-abbrev pub invariant-loop : goal.invariant-loop
-invariant-loop l = (length l.lists.items ≡ l.counter) × ((index : ℕ) → list_at l.lists.items index ≡ [])

@@ -1,5 +1,0 @@
-use Rattle.rv_calls.proofs.Inside.{AreSorted}
-use Rattle.rv_calls.proofs.entries.sort_all.Given as goal
-
-abbrev pub invariant-loop-i : goal.invariant-loop-i
-invariant-loop-i l = AreSorted l.i l.fn.lists l.lists

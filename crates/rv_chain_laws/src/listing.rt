@@ -1,0 +1,28 @@
+//! The law: the listing of a linked program's image is that of its sources at the map.
+
+ghost use Rattle.std.specs.Prelude.{◌≡◌, ◌↔◌, ℕ, Bool, List};
+ghost use Rattle.rv_encode.specs.Word.{Spells};
+ghost use Rattle.rv_compress.specs.Parcel.{StandsFor};
+ghost use Rattle.rv_isa_laws.specs.Reader.{Reader};
+ghost use Rattle.rv_statement.specs.Statement.{Statement};
+ghost use Rattle.rv_image.specs.Linked.{Linked};
+ghost use Rattle.rv_image.specs.Executable.{linked_image};
+ghost use Rattle.rv_source_laws.specs.Program.{Program, program};
+ghost use Rattle.rv_disasm.specs.Listing.{IsListing};
+ghost use Rattle.rv_chain_laws.specs.Contents.{IsLinked};
+ghost use Rattle.rv_chain_laws.specs.SourceListing.{IsSourceListing};
+
+/// Where a linked program is that of sources, the listing of its image with its map, by whatever reading of words and
+/// parcels, is the sources' own listing at that map: a text is the one where it is the other.
+pub fn listing_is_the_sources()
+    ensures { (start : ℕ) (sources : List (List Statement)) (relax : Bool) (l : Linked)
+        → IsLinked sources start relax l → (reader : Reader Spells StandsFor) (text : List ℕ)
+        → IsListing reader (linked_image l) l.map text
+        ↔ IsSourceListing (program sources l.map) text }
+{}
+
+/// The statements of sources at a map have one listing.
+pub fn one_source_listing()
+    ensures { (p : Program) (text other : List ℕ)
+        → IsSourceListing p text → IsSourceListing p other → text ≡ other }
+{}

@@ -1,0 +1,67 @@
+-- What one more of a list gives.
+
+use Rattle.std.proofs.Common.{append_assoc, append-nil, length-append, ◌≡◌, ℕ, ◌+◌, ◌<◌, ◌≤◌, zero, suc, refl, take, List, [], ◌∷◌, ◌++◌, length, map, drop, get_or, subst, sym, ap, ◌∙◌, arith}
+use Rattle.std.specs.List.{drop-map}
+use Rattle.std.proofs.Math.Seq.{drop-cons}
+use Rattle.std.proofs.lemmas.List.{at_drop_all, drop_more, get_or-map, length-map}
+use Rattle.std.specs.Prelude.{flat_map}
+use Rattle.rv_object.specs.Padding.{operations_in}
+use Rattle.rv_instruction.specs.declared.encoded.Encoded.{Encoded}
+use Rattle.rv_instruction.specs.declared.encoded.Encoded.TheVariants.{Parcel, Word, Pair}
+use Rattle.rv_instruction.specs.Code.{alone_coded, encoded_bytes, encoded_instructions}
+use Rattle.rv_draft.specs.Code.{code_bytes, size_of}
+
+pub flat_more : {X : Type 0} (f : X → List ℕ) (rest next : List X) (x : X) (old new all : List ℕ) → rest ≡ x ∷ next
+    → new ≡ old ++ flat_map f (x ∷ []) → old ++ flat_map f rest ≡ all → new ++ flat_map f next ≡ all
+flat_more f rest next x old new all here more h =
+    ap (λ l. l ++ flat_map f next) more ∙ append_assoc old (f x ++ []) (flat_map f next)
+    ∙ ap (λ l. old ++ (l ++ flat_map f next)) (append-nil (f x)) ∙ ap (λ l. old ++ flat_map f l) (sym here) ∙ h
+
+pub flat_done : {X : Type 0} (f : X → List ℕ) (xs : List X) (i : ℕ) (out all : List ℕ) → length xs ≤ i → out ++ flat_map f (drop i xs) ≡ all → out ≡ all
+flat_done f xs i out all past h =
+    let none : drop i xs ≡ [] = at_drop_all (λ l. l) xs i past in
+    sym (append-nil out) ∙ ap (λ l. out ++ flat_map f l) (sym none) ∙ h
+
+-- the same of lengths
+pub long_more : (rest next : List (List ℕ)) (x : List ℕ) (old more all : ℕ) → rest ≡ x ∷ next → more ≡ length x
+    → old + length (flat_map (λ l. l) rest) ≡ all → old + more + length (flat_map (λ l. l) next) ≡ all
+long_more rest next x old more all here size h =
+    let joined : length (flat_map (λ l. l) rest) ≡ length x + length (flat_map (λ l. l) next) =
+    ap (λ l. length (flat_map (λ k. k) l)) here ∙ length-append x (flat_map (λ l. l) next) in
+    omega (arith, joined, size, h)
+
+-- what is left of a list, from an element on
+pub left_at : {X Y : Type 0} (f : X → Y) (xs : List X) (i : ℕ) (d : X) → i < length xs → drop i (map f xs) ≡ f (get_or xs i d) ∷ drop (i + 1) (map f xs)
+left_at f xs i d inside =
+    drop_more (map f xs) i (f d) (subst (λ n. i < n) (sym (length-map xs f)) inside) ∙ ap (λ y. y ∷ drop (i + 1) (map f xs)) (get_or-map f xs i d (f d) inside)
+
+pub left_map : {X Y : Type 0} (f : X → Y) (xs : List X) (i : ℕ) (x : X) → i < length xs → x ≡ get_or xs i x → drop i (map f xs) ≡ f x ∷ drop (i + 1) (map f xs)
+left_map f xs i x inside is =
+    drop-map f i xs ∙ ap (λ r. map f r) (drop-cons xs i x inside) ∙ ap (λ y. f y ∷ map f (drop (suc i) xs)) (sym is) ∙ ap (λ r. f x ∷ r) (sym (drop-map f (suc i) xs))
+    ∙ ap (λ n. f x ∷ drop n (map f xs)) (let e : suc i ≡ i + 1 = omega arith in e)
+
+pub put_twice : (old mid new a b : List ℕ) → mid ≡ old ++ a → new ≡ mid ++ b → new ≡ old ++ (a ++ b)
+put_twice old mid new a b first second = second ∙ ap (λ l. l ++ b) first ∙ append_assoc old a b
+
+take_next : (xs : List ℕ) (i x : ℕ) → i < length xs → take (suc i) xs ≡ take i xs ++ get_or xs i x ∷ []
+take_next [] i x inside = absurd (let none : i < 0 = inside in omega arith)
+take_next (y ∷ ys) zero x inside = refl
+take_next (y ∷ ys) (suc i) x inside = ap (λ l. y ∷ l) (take_next ys i x (let h : suc i < suc (length ys) = inside in omega arith))
+
+-- lists that are alike so far, with one element more
+pub same_more : (i : ℕ) (xs ys : List ℕ) (x y : ℕ) → take i xs ≡ take i ys → i < length xs → i < length ys → get_or xs i x ≡ get_or ys i y → take (i + 1) xs ≡ take (i + 1) ys
+same_more i xs ys x y so inside within same =
+    let next : i + 1 ≡ suc i = omega arith in
+    ap (λ n. take n xs) next ∙ take_next xs i x inside ∙ ap (λ l. l ++ get_or xs i x ∷ []) so ∙ ap (λ z. take i ys ++ z ∷ []) same ∙ sym (take_next ys i y within)
+    ∙ ap (λ n. take n ys) (sym next)
+
+-- the code of one instruction without padding
+pub alone_bytes : (e : Encoded) → code_bytes 0 (alone_coded e).items ≡ encoded_bytes e
+alone_bytes e = append-nil (encoded_bytes e)
+
+-- its bytes, and its instructions
+pub alone_size : (padding : ℕ) (e : Encoded)
+    → size_of padding (alone_coded e).items ≡ record { bytes = padding + length (encoded_bytes e); instructions = operations_in padding + encoded_instructions e }
+alone_size padding (Parcel p) = refl
+alone_size padding (Word w) = refl
+alone_size padding (Pair v w) = refl

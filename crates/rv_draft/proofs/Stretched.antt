@@ -1,0 +1,34 @@
+-- The size of an item is that of its stretch of the section.
+
+use Rattle.std.proofs.Common.{◌≡◌, ℕ, Bool, true, false, Option}
+use Rattle.rv_text_laws.specs.Values.{Value}
+use Rattle.rv_statement.specs.Statement.{StatementKind, Label, Numbered, Instruction, Directs, Expression, Directive, Enters, Opens, Globl, Local, Sets, Aligns_to_power, Aligns_to_bytes, Values, Strings, Zeros, Chooses, Ignored}
+use Rattle.rv_unit_laws.specs.Tables.{alignment_of}
+use Rattle.rv_draft.specs.declared.item.CodeSize.{CodeSize}
+use Rattle.rv_draft.specs.declared.item.Item.{Item}
+use Rattle.rv_draft.specs.Measured.{IsSize, stretch}
+use Rattle.rv_draft.specs.Sized.{IsPadded, IsSizedDirective, IsSized}
+
+padded : (b : Bool) (own : CodeSize) (x : Item) (begins : ℕ) (a : Option ℕ) → IsPadded b own (stretch x.offset x.bytes) begins a → IsPadded b own x begins a
+padded true own x begins a h = h
+padded false own x begins a h = h
+
+sized_directive : (v : Expression → Value) (b : Bool) (own : CodeSize) (x : Item) (begins : ℕ) (d : Directive) → IsSizedDirective v b own (stretch x.offset x.bytes) begins d → IsSizedDirective v b own x begins d
+sized_directive v b own x begins (Sets name e) h = h
+sized_directive v b own x begins (Values width values) h = h
+sized_directive v b own x begins (Strings ended strings) h = h
+sized_directive v b own x begins (Zeros count) h = h
+sized_directive v b own x begins (Aligns_to_power e) h = (h.0, padded b own x begins (alignment_of v (Aligns_to_power e)) h.1)
+sized_directive v b own x begins (Aligns_to_bytes e) h = (h.0, padded b own x begins (alignment_of v (Aligns_to_bytes e)) h.1)
+sized_directive v b own x begins (Enters standard) h = h
+sized_directive v b own x begins (Opens name flags kind) h = h
+sized_directive v b own x begins (Globl names) h = h
+sized_directive v b own x begins (Local names) h = h
+sized_directive v b own x begins (Chooses choice) h = h
+sized_directive v b own x begins Ignored h = h
+
+pub sized_as : (v : Expression → Value) (b : Bool) (x : Item) (begins : ℕ) (size : CodeSize) (says : StatementKind) → x.instructions ≡ size.instructions → IsSize v b begins x.offset size says x.bytes → IsSized v b x begins size says
+sized_as v b x begins size (Label name) count h = (h, count)
+sized_as v b x begins size (Numbered number) count h = (h, count)
+sized_as v b x begins size (Instruction mnemonic operands) count h = (h, count)
+sized_as v b x begins size (Directs d) count h = (count, sized_directive v b size x begins d h)

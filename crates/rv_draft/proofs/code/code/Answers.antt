@@ -1,0 +1,112 @@
+use Rattle.std.proofs.Common.{◌≡◌, ◌+◌, ◌<◌, ◌≤◌, length, map, get_or, sym, ap, subst, ◌∙◌, true, Err}
+use Rattle.std.specs.Prelude.{slice_index_or, IfOk}
+use Rattle.std.proofs.lemmas.Result.{err_from_is_err_and}
+use Rattle.std.proofs.lemmas.List.{length-map}
+use Rattle.rv_statement.specs.View.{statement_of}
+use Rattle.rv_unit_tables.specs.declared.section_offset.SectionOffset.{SectionOffset}
+use Rattle.rv_unit.specs.Unit.{said, IsFilled}
+use Rattle.rv_unit_tables.specs.Sections.{extent_section, offset_of}
+use Rattle.rv_unit_laws.specs.Tables.{tables, value as value_of}
+use Rattle.rv_unit_laws.specs.Options.{Options}
+use Rattle.rv_draft.specs.Added.{IsAdded, Adds}
+use Rattle.rv_draft.proofs.Standing.{StandsAt, stands_at, places_count, got_inside, located_at, stated_none}
+use Rattle.rv_draft.specs.Measured.{IsExtentAt}
+use Rattle.rv_draft.proofs.Itemized.{place_inside}
+use Rattle.rv_draft.specs.declared.code.SectionCode.{SectionCode}
+use Rattle.rv_draft.proofs.Whole.{faults_in, faults_there, code_there, code_more, code_wrong, code_whole}
+use Rattle.rv_draft.proofs.code.code.Goals as goal
+
+pub loop-index-init : goal.loop-index-init
+loop-index-init c = (c.new-scope.ensures.unit, c.new-scope.ensures.start, c.in_ok-coder.ensures.begun _ _, c.in_ok-coder.ensures.count ∙ ap length c.sections.ensures)
+
+pub bounds-places-index : goal.bounds-places-index
+bounds-places-index c =
+    let i = c.loop-index.index in
+    let inside = subst (λ l. i < length l) c.statements-statements.ensures c.loop-index-test.true in
+    let inside' = subst (λ n. i < n) (sym (places_count c.args.unit.now c.requires.filled)) inside in
+    subst (λ l. i < length l) (sym c.places-places.ensures) inside'
+
+pub add-requires : goal.add-requires
+add-requires c =
+    let u = c.args.unit.now in
+    let i = c.loop-index.index in
+    let x = c.index-statements-index.result in
+    let p : SectionOffset = slice_index_or c.places-places.result.now i (record { section = 0; offset = 0 }) in
+    let inside = subst (λ l. i < length l) c.statements-statements.ensures c.loop-index-test.true in
+    let is : x ≡ get_or u.statements.items i x = c.index-statements-index.is ∙ ap (λ l. get_or l i x) c.statements-statements.ensures in
+    let at : StandsAt u i x p = stands_at u i x x (record { section = 0; offset = 0 }) p c.requires.filled inside is (ap (λ l. get_or l i (record { section = 0; offset = 0 })) c.places-places.ensures) in
+    let stands = got_inside (map extent_section u.tables.extents.items) p.section (located_at (said u) i (statement_of x)).home at.home in
+    subst (λ n. p.section < n) (length-map u.tables.extents.items extent_section ∙ sym c.loop-index.invariant.3) stands
+
+pub extent_at-extent-requires : goal.extent_at-extent-requires
+extent_at-extent-requires c =
+    let u = c.args.unit.now in
+    let i = c.loop-index.index in
+    let p : SectionOffset = slice_index_or c.places-places.result.now i (record { section = 0; offset = 0 }) in
+    let inside = subst (λ l. i < length l) c.statements-statements.ensures c.loop-index-test.true in
+    let stands : p.section < length u.tables.extents.items =
+    place_inside u i (record { section = 0; offset = 0 }) p c.requires.filled inside (ap (λ l. get_or l i (record { section = 0; offset = 0 })) c.places-places.ensures) in
+    subst (λ l. p.section < length l) (sym c.sections-extents.ensures) stands
+
+pub loop-index-preserved : goal.loop-index-preserved
+loop-index-preserved c =
+    let u = c.args.unit.now in
+    let i = c.loop-index.index in
+    let x = c.index-statements-index.result in
+    let p : SectionOffset = slice_index_or c.places-places.result.now i (record { section = 0; offset = 0 }) in
+    let inside = subst (λ l. i < length l) c.statements-statements.ensures c.loop-index-test.true in
+    let is : x ≡ get_or u.statements.items i x = c.index-statements-index.is ∙ ap (λ l. get_or l i x) c.statements-statements.ensures in
+    let at : StandsAt u i x p = stands_at u i x x (record { section = 0; offset = 0 }) p c.requires.filled inside is (ap (λ l. get_or l i (record { section = 0; offset = 0 })) c.places-places.ensures) in
+    let e = c.extent_at-extent.result in
+    let there : IsExtentAt u.tables.extents.items p.section e = subst (λ l. IsExtentAt l p.section e) c.sections-extents.ensures c.extent_at-extent.ensures in
+    let within = subst (λ n. i < n) (sym (length-map u.statements.items statement_of)) inside in
+    let rvc = c.rvc-compressed.result in
+    let same = c.loop-index.invariant.0 in
+    let filled = subst IsFilled (sym same) c.requires.filled in
+    let faults = faults_in (tables (said u)) (i + 1) (offset_of p) (statement_of x) in
+    let known = faults_there u i x p at in
+    let on : rvc ≡ (located_at (said u) i (statement_of x)).options.rvc =
+    c.rvc-compressed.ensures ∙ ap (λ (o : Options). o.rvc) (c.options_at.ensures c.requires.filled within) in
+    let added : IsAdded c.loop-index.coder c.add.new.self p.section e.section.executable faults (λ e. value_of (tables (said u)) true (i + 1) (offset_of p) e) rvc (statement_of x) =
+    subst (λ w. IsAdded c.loop-index.coder c.add.new.self p.section e.section.executable (faults_in (tables (said w)) (i + 1) (offset_of p) (statement_of x)) (λ e. value_of (tables (said w)) true (i + 1) (offset_of p) e) rvc (statement_of x)) same
+    (c.in_ok-add.ensures i filled c.loop-index.invariant.1) in
+    let within' = subst (λ w. i < length (said w)) (sym same) within in (
+      ap (λ b. b.now) c.pass.ensures.unit ∙ same,
+      c.pass.ensures.passes i within' c.loop-index.invariant.1,
+      code_more u i x p rvc e.section.executable c.loop-index.coder c.add.new.self faults at c.loop-index.invariant.2 known on (code_there u i x p e at there) added,
+      added.grows.0 ∙ c.loop-index.invariant.3,
+    )
+
+pub returns-in_err-add-clause-code : goal.returns-in_err-add-clause-code
+returns-in_err-add-clause-code c =
+    let u = c.args.unit.now in
+    let i = c.loop-index.index in
+    let x = c.index-statements-index.result in
+    let p : SectionOffset = slice_index_or c.places-places.result.now i (record { section = 0; offset = 0 }) in
+    let inside = subst (λ l. i < length l) c.statements-statements.ensures c.loop-index-test.true in
+    let is : x ≡ get_or u.statements.items i x = c.index-statements-index.is ∙ ap (λ l. get_or l i x) c.statements-statements.ensures in
+    let at : StandsAt u i x p = stands_at u i x x (record { section = 0; offset = 0 }) p c.requires.filled inside is (ap (λ l. get_or l i (record { section = 0; offset = 0 })) c.places-places.ensures) in
+    let e = c.extent_at-extent.result in
+    let there : IsExtentAt u.tables.extents.items p.section e = subst (λ l. IsExtentAt l p.section e) c.sections-extents.ensures c.extent_at-extent.ensures in
+    let within = subst (λ n. i < n) (sym (length-map u.statements.items statement_of)) inside in
+    let rvc = c.rvc-compressed.result in
+    let same = c.loop-index.invariant.0 in
+    let filled = subst IsFilled (sym same) c.requires.filled in
+    let faults = faults_in (tables (said u)) (i + 1) (offset_of p) (statement_of x) in
+    let known = faults_there u i x p at in
+    let wrong =
+    subst (λ w. Adds c.loop-index.coder c.add.new.self p.section e.section.executable (faults_in (tables (said w)) (i + 1) (offset_of p) (statement_of x)) (λ e. value_of (tables (said w)) true (i + 1) (offset_of p) e) rvc (statement_of x) (Err c.in_err-add.field-0.0)) same
+    (c.in_err-add.ensures i filled c.loop-index.invariant.1) in
+    let found = err_from_is_err_and c.from_residual-in_err-add.result c.from_residual-in_err-add.ensures.1 in
+    rw (found.1, found.2)
+    (code_wrong u i x p rvc e.section.executable c.loop-index.coder c.add.new.self faults c.in_err-add.field-0.0 at c.loop-index.invariant.2 known wrong c.args.lengths.now)
+
+pub returns-clause-code : goal.returns-clause-code
+returns-clause-code c =
+    let u = c.args.unit.now in
+    let i = c.loop-index.index in
+    let past = subst (λ l. length l ≤ i) c.statements-statements.ensures c.loop-index-test.false in
+    code_whole (said u) c.args.lengths.now i c.loop-index.coder c.finish.result (stated_none (said u) i (subst (λ n. n ≤ i) (sym (length-map u.statements.items statement_of)) past)) c.loop-index.invariant.2 c.requires.least c.finish.ensures.code
+
+pub returns-clause-count : goal.returns-clause-count
+returns-clause-count c = subst (λ n. IfOk c.finish.result (λ (found : SectionCode). length found.sections.items ≡ n)) c.loop-index.invariant.3 c.finish.ensures.count

@@ -1,0 +1,72 @@
+use Rattle.std.proofs.Common.{rules, List, ◌<◌, ◌^◌, [], ◌∷◌, length, sym, ap, subst, ◌∙◌}
+use Rattle.std.proofs.lemmas.Result.{err_from_is_err_and}
+use Rattle.std.proofs.lemmas.List.{length-map}
+use Rattle.rv_statement.specs.View.{statement_of}
+use Rattle.rv_unit_tables.specs.Sections.{extent_section}
+use Rattle.rv_unit_tables.proofs.Lookups.{sections_are}
+use Rattle.rv_unit_laws.specs.Tables.{Tables, at_start, tables, opened_of}
+use Rattle.rv_source_laws.specs.Located.{located, located_from}
+use Rattle.rv_unit.specs.Unit.{said}
+use Rattle.rv_instruction.specs.declared.encoded.Coded.{Coded}
+use Rattle.rv_draft.specs.declared.draft.Draft.{Draft}
+use Rattle.rv_draft.specs.DataParts.{HaveCode, IsData}
+use Rattle.rv_draft.specs.Draft.{IsRefused}
+use Rattle.rv_draft.specs.Sized.{AreSized, bytes_of_sizes}
+use Rattle.rv_assemble_laws.specs.Refusals.{size_fault_from}
+use Rattle.rv_source_laws.specs.Sizes.{AreLeast}
+use Rattle.rv_draft.proofs.Drafted.{is_draft}
+use Rattle.rv_draft.proofs.SoFar.{sizes_count, sizes_short}
+use Rattle.rv_draft.proofs.Standing.{stated_length}
+use Rattle.rv_draft.proofs.Whole.{one_file}
+use Rattle.rv_draft.proofs.Widths.{all_wide}
+use Rattle.rv_draft.proofs.draft.Draft.of.Goals as goal
+
+pub items-requires-clause-sizes : goal.items-requires-clause-sizes
+items-requires-clause-sizes c =
+    let u = c.args.unit.now in
+    let ss = said u in
+    let code = c.in_ok-code.code in
+    ap length c.as_slice-sizes.ensures.value ∙ sizes_count (tables ss) (located (ss ∷ [])) _ code.sections.items code.sizes.items c.in_ok-code.ensures.code
+    ∙ ap length (one_file ss) ∙ stated_length 1 1 at_start ss ∙ length-map u.statements.items statement_of
+
+pub returns-in_err-lengths-clause-refuses : goal.returns-in_err-lengths-clause-refuses
+returns-in_err-lengths-clause-refuses c =
+    let ss = said c.args.unit.now in
+    let found = err_from_is_err_and c.from_residual.result c.from_residual.ensures.1 in
+    rw (found.1, found.2) (subst (λ e. IsRefused ss e) (sym c.in_err-lengths.ensures.memory) tt)
+
+pub returns-in_err-items-clause-refuses : goal.returns-in_err-items-clause-refuses
+returns-in_err-items-clause-refuses c =
+    let ss = said c.args.unit.now in
+    let code = c.in_ok-code.code in
+    let whole = c.in_ok-code.ensures.code in
+    let short = sizes_short (tables ss) (located (ss ∷ [])) _ code.sections.items code.sizes.items whole in
+    let memory =
+    c.in_err-items.ensures.refuses c.requires.good
+    (ap (λ l. size_fault_from (λ j. 0) (located (ss ∷ [])) (bytes_of_sizes l)) c.as_slice-sizes.ensures.value ∙ short) in
+    let found = err_from_is_err_and c.from_residual-in_err-items.result c.from_residual-in_err-items.ensures.1 in
+    rw (found.1, found.2) (subst (λ e. IsRefused ss e) (sym memory) tt)
+
+pub returns-clause-draft : goal.returns-clause-draft
+returns-clause-draft c =
+    let u = c.args.unit.now in
+    let ss = said u in
+    let found = c.in-Ok.filled in
+    let d : Draft = record { items = c.in_ok-items.items; sections = found.sections; ends = c.in_ok-items.ends; fields = found.fields; rvc = c.has_compressed.result } in
+    let sections = sym (length-map u.tables.extents.items extent_section) ∙ ap length (sections_are u.tables.extents.items ∙ ap (λ (t : Tables). (opened_of t).sections) c.requires.filled.tables) in
+    let few : length c.statements.result.now < 2 ^ 32 = search rules in
+    is_draft ss _ c.in_ok-code.code.sections.items c.in_ok-code.code.sizes.items d
+    (record {
+      good = c.requires.good;
+      wide = all_wide u.statements.items;
+      whole = c.in_ok-code.ensures.code;
+      items = c.in_ok-items.ensures.items;
+      sized = subst (λ l. AreSized (tables ss) 1 at_start ss c.in_ok-items.items.items l) c.as_slice-sizes.ensures.value c.in_ok-items.ensures.sized;
+      low = c.in_ok-items.ensures.low;
+      figures = subst (λ is. (codes : List (List Coded)) → HaveCode ss is codes → IsData ss is codes c.in_ok-code.code.sections.items found.sections.items found.fields.items) c.as_slice-2.ensures.value c.in-Ok.ensures.data;
+      least = subst (AreLeast (tables ss) (located_from 1 1 at_start ss)) (sym c.as_slice.ensures.value) c.in_ok-lengths.ensures.least;
+      counted = c.in-Ok.ensures.count ∙ c.in_ok-code.ensures.count ∙ sections;
+      ended = c.in_ok-items.ensures.sections ∙ sections;
+      few = subst (λ n. n < 2 ^ 32) (ap length c.statements.ensures ∙ sym (length-map u.statements.items statement_of)) few;
+      compressed = c.has_compressed.ensures;
+    })

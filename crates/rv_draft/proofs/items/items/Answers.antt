@@ -1,0 +1,188 @@
+use Rattle.std.proofs.Common.{◌≡◌, ◌+◌, ◌<◌, ◌≤◌, ◌^◌, ℕ, ◌∷◌, [], true, false, length, drop, get_or, sym, ap, subst, ◌∙◌, arith, length-append}
+use Rattle.std.specs.Prelude.{slice_index, slice_index_or, ◌&&◌}
+use Rattle.std.proofs.lemmas.List.{drop_more, length-map, length-set, at_drop_all}
+use Rattle.rv_statement.specs.View.{statement_of, statement_kind}
+use Rattle.rv_unit_tables.specs.declared.section_offset.SectionOffset.{SectionOffset}
+use Rattle.rv_unit.specs.Unit.{said, passed, IsFilled}
+use Rattle.rv_unit_tables.specs.Sections.{offset_of}
+use Rattle.rv_unit_laws.specs.Tables.{stood, tables, value as value_of}
+use Rattle.rv_source_laws.specs.Located.{is_placed}
+use Rattle.rv_draft.specs.Items.{IsItem, grown}
+use Rattle.rv_draft.specs.declared.item.CodeSize.{CodeSize}
+use Rattle.rv_draft.specs.Sized.{IsSized, bytes_of_sizes}
+use Rattle.rv_draft.specs.Measured.{IsExtentAt, HasRoom}
+use Rattle.rv_draft.proofs.Standing.{StandsAt, stands_at, places_count, located_at}
+use Rattle.rv_draft.proofs.Joined.{left_at}
+use Rattle.rv_draft.proofs.Itemized.{item_at, room_at, sized_at, grown_by, low_by, stands_inside, place_inside}
+use Rattle.rv_draft.proofs.Roomy.{err_always}
+use Rattle.rv_draft.proofs.Rooms.{rooms_begin, rooms_more, roomy_now}
+use Rattle.rv_draft.proofs.SoFarItems.{AreItemsSoFar, items_begin, items_more, items_all}
+use Rattle.rv_draft.proofs.SoFarSized.{AreSizedSoFar, IsSizedAt, sized_begin, sized_more, sized_all}
+use Rattle.rv_draft.proofs.items.items.Goals as goal
+
+pub loop-index-init : goal.loop-index-init
+loop-index-init c =
+    let ss = said c.args.unit.now in
+    let none = c.in_ok-ends.ensures.none in
+    record {
+      unit = c.new-scope.ensures.unit;
+      scope = c.new-scope.ensures.start;
+      items =
+          subst (λ l. AreItemsSoFar ss 0 (λ j. slice_index c.in_ok-ends.ends.items j) l) (sym c.in_ok-items.ensures.items)
+          (items_begin ss (λ j. slice_index c.in_ok-ends.ends.items j) none);
+      sized = subst (λ l. AreSizedSoFar (tables ss) ss c.args.sizes.now 0 l) (sym c.in_ok-items.ensures.items) (sized_begin (tables ss) ss c.args.sizes.now);
+      sections = c.in_ok-ends.ensures.count ∙ ap length c.sections-extents.ensures;
+      count = ap length c.in_ok-items.ensures.items;
+      room = λ good sizes. rooms_begin ss c.args.sizes.now (λ j. slice_index c.in_ok-ends.ends.items j) sizes none;
+      low = λ j. subst (λ n. n ≤ 2 ^ 28) (sym (none j)) (omega arith);
+    }
+
+pub bounds-places-index : goal.bounds-places-index
+bounds-places-index c =
+    let i = c.loop-index.index in
+    let inside = subst (λ l. i < length l) c.statements-statements.ensures c.loop-index-test.true in
+    let inside' = subst (λ n. i < n) (sym (places_count c.args.unit.now c.requires.filled)) inside in
+    subst (λ l. i < length l) (sym c.places-places.ensures) inside'
+
+pub extent_at-extent-requires : goal.extent_at-extent-requires
+extent_at-extent-requires c =
+    let u = c.args.unit.now in
+    let i = c.loop-index.index in
+    let p : SectionOffset = slice_index_or c.places-places.result.now i (record { section = 0; offset = 0 }) in
+    let inside = subst (λ l. i < length l) c.statements-statements.ensures c.loop-index-test.true in
+    let stands : p.section < length u.tables.extents.items =
+    place_inside u i (record { section = 0; offset = 0 }) p c.requires.filled inside (ap (λ l. get_or l i (record { section = 0; offset = 0 })) c.places-places.ensures) in
+    subst (λ l. p.section < length l) (sym c.sections-extents.ensures) stands
+
+pub end-offset-requires : goal.end-offset-requires
+end-offset-requires c =
+    let u = c.args.unit.now in
+    let i = c.loop-index.index in
+    let p : SectionOffset = slice_index_or c.places-places.result.now i (record { section = 0; offset = 0 }) in
+    let inside = subst (λ l. i < length l) c.statements-statements.ensures c.loop-index-test.true in
+    let stands : p.section < length u.tables.extents.items =
+    place_inside u i (record { section = 0; offset = 0 }) p c.requires.filled inside (ap (λ l. get_or l i (record { section = 0; offset = 0 })) c.places-places.ensures) in
+    subst (λ l. p.section < length l) (sym c.as_slice.ensures.value) (subst (λ n. p.section < n) (sym c.loop-index.invariant.sections) stands)
+
+pub next_item-requires : goal.next_item-requires
+next_item-requires c =
+    let p : SectionOffset = slice_index_or c.places-places.result.now c.loop-index.index (record { section = 0; offset = 0 }) in
+    subst (λ n. n ≤ 2 ^ 28) (sym (c.end-offset.ensures ∙ ap (λ l. slice_index l p.section) c.as_slice.ensures.value)) (c.loop-index.invariant.low p.section)
+
+pub grow-requires-clause-section : goal.grow-requires-clause-section
+grow-requires-clause-section c =
+    let u = c.args.unit.now in
+    let i = c.loop-index.index in
+    let p : SectionOffset = slice_index_or c.places-places.result.now i (record { section = 0; offset = 0 }) in
+    let inside = subst (λ l. i < length l) c.statements-statements.ensures c.loop-index-test.true in
+    let stands : p.section < length u.tables.extents.items =
+    place_inside u i (record { section = 0; offset = 0 }) p c.requires.filled inside (ap (λ l. get_or l i (record { section = 0; offset = 0 })) c.places-places.ensures) in
+    let ends = c.loop-index.ends.items in
+    subst (λ n. n < length ends) (sym c.in_ok-item.ensures.section) (subst (λ n. p.section < n) (sym c.loop-index.invariant.sections) stands)
+
+pub grow-requires-clause-fits : goal.grow-requires-clause-fits
+grow-requires-clause-fits c = c.in_ok-item.ensures.fits
+
+pub returns-in_err-item-clause-refuses : goal.returns-in_err-item-clause-refuses
+returns-in_err-item-clause-refuses c =
+    let u = c.args.unit.now in
+    let ss = said u in
+    let i = c.loop-index.index in
+    let inv = c.loop-index.invariant in
+    let ends = c.loop-index.ends.items in
+    let before = λ (j : ℕ). slice_index ends j in
+    let x = c.index-statements-index.result in
+    let p : SectionOffset = slice_index_or c.places-places.result.now i (record { section = 0; offset = 0 }) in
+    let inside = subst (λ l. i < length l) c.statements-statements.ensures c.loop-index-test.true in
+    let is : x ≡ get_or u.statements.items i x = c.index-statements-index.is ∙ ap (λ l. get_or l i x) c.statements-statements.ensures in
+    let at : StandsAt u i x p = stands_at u i x x (record { section = 0; offset = 0 }) p c.requires.filled inside is (ap (λ l. get_or l i (record { section = 0; offset = 0 })) c.places-places.ensures) in
+    let own : CodeSize = slice_index_or c.args.sizes.now i (record { bytes = 0; instructions = 0 }) in
+    let size_left : drop i c.args.sizes.now ≡ own ∷ drop (i + 1) c.args.sizes.now = drop_more c.args.sizes.now i (record { bytes = 0; instructions = 0 }) (subst (λ n. i < n) (sym c.requires.sizes) inside) in
+    let sized_is : drop i (bytes_of_sizes c.args.sizes.now) ≡ own.bytes ∷ drop (i + 1) (bytes_of_sizes c.args.sizes.now) =
+    left_at (λ (size : CodeSize). size.bytes) c.args.sizes.now i (record { bytes = 0; instructions = 0 }) (subst (λ n. i < n) (sym c.requires.sizes) inside) in
+    let same = inv.unit in
+    let filled = subst IsFilled (sym same) c.requires.filled in
+    let e = c.extent_at-extent.result in
+    let there : IsExtentAt u.tables.extents.items p.section e = subst (λ l. IsExtentAt l p.section e) c.sections-extents.ensures c.extent_at-extent.ensures in
+    let offset : slice_index ends p.section ≡ c.end-offset.result = sym (c.end-offset.ensures ∙ ap (λ l. slice_index l p.section) c.as_slice.ensures.value) in
+    err_always c.from_residual-in_err-item.result (λ y good sizes.
+    absurd (c.in_err-item.ensures.refuses i filled inv.scope (subst (λ w. offset_of p ≡ stood (passed (said w) i) (i + 1) (statement_kind x.kind)) (sym same) at.place)
+    (subst
+    (λ w. is_placed (passed (said w) i) (i + 1) (statement_kind x.kind) ≡ true → HasRoom (λ t. value_of (tables (said w)) true (i + 1) (offset_of p) t) e.section.executable e.alignment c.end-offset.result own (statement_kind x.kind))
+    (sym same)
+    (λ placed.
+    subst (λ n. HasRoom (λ t. value_of (tables ss) true (i + 1) (offset_of p) t) e.section.executable e.alignment n own (statement_kind x.kind)) offset
+    (room_at u i x p e own before _ c.requires.filled at there (roomy_now ss i (statement_of x) at.here good c.args.sizes.now own sized_is before inv.low (inv.room good sizes) placed))))))
+
+pub loop-index-preserved : goal.loop-index-preserved
+loop-index-preserved c =
+    let u = c.args.unit.now in
+    let ss = said u in
+    let i = c.loop-index.index in
+    let inv = c.loop-index.invariant in
+    let ends = c.loop-index.ends.items in
+    let before = λ (j : ℕ). slice_index ends j in
+    let behind = λ (j : ℕ). slice_index c.grow.new.ends.items j in
+    let x = c.index-statements-index.result in
+    let p : SectionOffset = slice_index_or c.places-places.result.now i (record { section = 0; offset = 0 }) in
+    let inside = subst (λ l. i < length l) c.statements-statements.ensures c.loop-index-test.true in
+    let is : x ≡ get_or u.statements.items i x = c.index-statements-index.is ∙ ap (λ l. get_or l i x) c.statements-statements.ensures in
+    let at : StandsAt u i x p = stands_at u i x x (record { section = 0; offset = 0 }) p c.requires.filled inside is (ap (λ l. get_or l i (record { section = 0; offset = 0 })) c.places-places.ensures) in
+    let own : CodeSize = slice_index_or c.args.sizes.now i (record { bytes = 0; instructions = 0 }) in
+    let size_left : drop i c.args.sizes.now ≡ own ∷ drop (i + 1) c.args.sizes.now = drop_more c.args.sizes.now i (record { bytes = 0; instructions = 0 }) (subst (λ n. i < n) (sym c.requires.sizes) inside) in
+    let sized_is : drop i (bytes_of_sizes c.args.sizes.now) ≡ own.bytes ∷ drop (i + 1) (bytes_of_sizes c.args.sizes.now) =
+    left_at (λ (size : CodeSize). size.bytes) c.args.sizes.now i (record { bytes = 0; instructions = 0 }) (subst (λ n. i < n) (sym c.requires.sizes) inside) in
+    let same = inv.unit in
+    let filled = subst IsFilled (sym same) c.requires.filled in
+    let within = subst (λ w. i < length (said w)) (sym same) (subst (λ n. i < n) (sym (length-map u.statements.items statement_of)) inside) in
+    let e = c.extent_at-extent.result in
+    let there : IsExtentAt u.tables.extents.items p.section e = subst (λ l. IsExtentAt l p.section e) c.sections-extents.ensures c.extent_at-extent.ensures in
+    let y = c.in_ok-item.item in
+    let told = c.in_ok-item.ensures in
+    let section : y.section ≡ p.section = told.section in
+    let offset : y.offset ≡ slice_index ends p.section = told.offset ∙ c.end-offset.ensures ∙ ap (λ l. slice_index l p.section) c.as_slice.ensures.value in
+    let room : y.section < length ends = subst (λ n. n < length ends) (sym section) (subst (λ n. p.section < n) (sym inv.sections) (stands_inside u i x p at)) in
+    let shown : y.shown ≡ (is_placed (passed ss i) (i + 1) (statement_kind x.kind) && e.section.loaded) =
+    subst (λ w. y.shown ≡ (is_placed (passed (said w) i) (i + 1) (statement_kind x.kind) && e.section.loaded)) same (told.shown i filled inv.scope (subst (λ w. offset_of p ≡ stood (passed (said w) i) (i + 1) (statement_kind x.kind)) (sym same) at.place)) in
+    let here = subst (λ w. offset_of p ≡ stood (passed (said w) i) (i + 1) (statement_kind x.kind)) (sym same) at.place in
+    let absent : is_placed (passed ss i) (i + 1) (statement_kind x.kind) ≡ false → y.bytes ≡ 0 =
+    subst (λ w. is_placed (passed (said w) i) (i + 1) (statement_kind x.kind) ≡ false → y.bytes ≡ 0) same (told.absent i filled inv.scope here) in
+    let one : IsItem (located_at ss i (statement_of x)) before y = item_at u i x p e before y at there section offset told.line shown absent in
+    let sized : IsSizedAt (tables ss) ss i (statement_of x) own y =
+    sized_at u i x p e own y c.requires.filled at there section
+    (subst (λ w. is_placed (passed (said w) i) (i + 1) (statement_kind x.kind) ≡ true → IsSized (λ t. value_of (tables (said w)) true (i + 1) (offset_of p) t) e.section.executable y e.alignment own (statement_kind x.kind)) same (told.sized i filled inv.scope here)) in
+    let at_end : y.offset ≡ slice_index ends y.section = offset ∙ ap (λ n. slice_index ends n) (sym section) in
+    let grows : (j : ℕ) → behind j ≡ grown before y j = λ j. ap (λ l. slice_index l j) c.grow.ensures ∙ grown_by ends y j room at_end in
+    record {
+      unit = ap (λ b. b.now) c.pass.ensures.unit ∙ same;
+      scope = c.pass.ensures.passes i within inv.scope;
+      items =
+          subst (λ l. AreItemsSoFar ss (i + 1) behind l) (sym c.in_ok-push.ensures.items)
+          (items_more ss i (statement_of x) before behind c.loop-index.items.items y at.here one grows inv.items);
+      sized =
+          subst (λ l. AreSizedSoFar (tables ss) ss c.args.sizes.now (i + 1) l) (sym c.in_ok-push.ensures.items)
+          (sized_more (tables ss) ss c.args.sizes.now i (statement_of x) own c.loop-index.items.items y at.here size_left sized inv.sized);
+      sections = ap length c.grow.ensures ∙ length-set ends y.section (y.offset + y.bytes) ∙ inv.sections;
+      count = ap length c.in_ok-push.ensures.items ∙ length-append c.loop-index.items.items (y ∷ []) ∙ ap (λ n. n + 1) inv.count;
+      room = λ good sizes. rooms_more ss i (statement_of x) at.here good c.args.sizes.now own sized_is before inv.low (inv.room good sizes) y one sized behind grows;
+      low = λ j. subst (λ l. slice_index l j ≤ 2 ^ 28) (sym c.grow.ensures) (low_by ends y.section (y.offset + y.bytes) j room told.fits inv.low);
+    }
+
+pub returns-clause-items : goal.returns-clause-items
+returns-clause-items c =
+    let u = c.args.unit.now in
+    let i = c.loop-index.index in
+    let past = subst (λ l. length l ≤ i) c.statements-statements.ensures c.loop-index-test.false in
+    let none = at_drop_all (λ l. l) (said u) i (subst (λ n. n ≤ i) (sym (length-map u.statements.items statement_of)) past) in
+    items_all (said u) i (λ j. slice_index c.loop-index.ends.items j) c.loop-index.items.items none c.loop-index.invariant.items
+
+pub returns-clause-sized : goal.returns-clause-sized
+returns-clause-sized c =
+    let u = c.args.unit.now in
+    let i = c.loop-index.index in
+    let past = subst (λ l. length l ≤ i) c.statements-statements.ensures c.loop-index-test.false in
+    let none = at_drop_all (λ l. l) (said u) i (subst (λ n. n ≤ i) (sym (length-map u.statements.items statement_of)) past) in
+    sized_all (tables (said u)) (said u) c.args.sizes.now i c.loop-index.items.items none c.loop-index.invariant.sized
+
+pub returns-clause-low : goal.returns-clause-low
+returns-clause-low c = c.loop-index.invariant.low

@@ -1,0 +1,74 @@
+use Rattle.rv_instruction.specs.Near.{section_in, item_in}
+use Rattle.rv_draft.proofs.Seen.{MeasuredTo, measured_begin, measured_more, measured_whole}
+use Rattle.std.proofs.Common.{rules, ℕ, [], ◌^◌}
+use Rattle.rv_unit_laws.specs.Tables.{value as value_of}
+use Rattle.std.proofs.Common.{◌≡◌, ◌+◌, ◌<◌, ◌≤◌, length, get_or, sym, ap, subst, ◌∙◌, true}
+use Rattle.std.specs.Prelude.{slice_index_or}
+use Rattle.std.proofs.lemmas.List.{length-map}
+use Rattle.rv_statement.specs.View.{statement_of}
+use Rattle.rv_unit_tables.specs.declared.section_offset.SectionOffset.{SectionOffset}
+use Rattle.rv_unit.specs.Unit.{said, IsFilled}
+use Rattle.rv_unit_tables.specs.Sections.{offset_of}
+use Rattle.rv_unit_laws.specs.Tables.{tables}
+use Rattle.rv_unit_laws.specs.Options.{Options}
+use Rattle.rv_draft.proofs.Standing.{StandsAt, stands_at, places_count, located_at, stated_none}
+use Rattle.rv_draft.proofs.Itemized.{place_inside}
+use Rattle.rv_draft.proofs.measure.measured.Goals as goal
+
+pub loop-index-init : goal.loop-index-init
+loop-index-init c =
+    let none : c.in_ok-items.items.items ≡ [] = search rules in
+    (c.new-scope.ensures.unit, c.new-scope.ensures.start, subst (λ l. MeasuredTo (said c.args.unit.now) 0 l) (sym none) (measured_begin (said c.args.unit.now)))
+
+pub seen-requires : goal.seen-requires
+seen-requires c =
+    subst (λ l. length l < 2 ^ 32) (sym c.places-places.ensures) (subst (λ n. n < 2 ^ 32) (sym (places_count c.args.unit.now c.requires.filled)) c.requires.few)
+
+pub bounds-places-index : goal.bounds-places-index
+bounds-places-index c =
+    let i = c.loop-index.index in
+    let inside = subst (λ l. i < length l) c.statements-statements.ensures c.loop-index-test.true in
+    let inside' = subst (λ n. i < n) (sym (places_count c.args.unit.now c.requires.filled)) inside in
+    subst (λ l. i < length l) (sym c.places-places.ensures) inside'
+
+pub extent_at-extent-requires : goal.extent_at-extent-requires
+extent_at-extent-requires c =
+    let u = c.args.unit.now in
+    let i = c.loop-index.index in
+    let p : SectionOffset = slice_index_or c.places-places.result.now i (record { section = 0; offset = 0 }) in
+    let inside = subst (λ l. i < length l) c.statements-statements.ensures c.loop-index-test.true in
+    let stands : p.section < length u.tables.extents.items =
+    place_inside u i (record { section = 0; offset = 0 }) p c.requires.filled inside (ap (λ l. get_or l i (record { section = 0; offset = 0 })) c.places-places.ensures) in
+    subst (λ l. p.section < length l) (sym c.sections-extents.ensures) stands
+
+pub loop-index-preserved : goal.loop-index-preserved
+loop-index-preserved c =
+    let u = c.args.unit.now in
+    let i = c.loop-index.index in
+    let x = c.index-statements-index.result in
+    let p : SectionOffset = slice_index_or c.places-places.result.now i (record { section = 0; offset = 0 }) in
+    let inside = subst (λ l. i < length l) c.statements-statements.ensures c.loop-index-test.true in
+    let is : x ≡ get_or u.statements.items i x = c.index-statements-index.is ∙ ap (λ l. get_or l i x) c.statements-statements.ensures in
+    let at : StandsAt u i x p = stands_at u i x x (record { section = 0; offset = 0 }) p c.requires.filled inside is (ap (λ l. get_or l i (record { section = 0; offset = 0 })) c.places-places.ensures) in
+    let within = subst (λ n. i < n) (sym (length-map u.statements.items statement_of)) inside in
+    let rvc = c.rvc-compressed.result in
+    let same = c.loop-index.invariant.0 in
+    let filled = subst IsFilled (sym same) c.requires.filled in
+    let on : rvc ≡ (located_at (said u) i (statement_of x)).options.rvc =
+    c.rvc-compressed.ensures ∙ ap (λ (o : Options). o.rvc) (c.options_at.ensures c.requires.filled within) in
+    let seen : (bytes : ℕ) × (c.seen.result ≡ item_in (section_in u.places.items) p.section (tables (said u)) (i + 1) (λ e. value_of (tables (said u)) true (i + 1) (offset_of p) e) rvc bytes (statement_of x).kind) =
+    subst (λ w. (bytes : ℕ) × (c.seen.result ≡ item_in (section_in u.places.items) p.section (tables (said w)) (i + 1) (λ e. value_of (tables (said w)) true (i + 1) (offset_of p) e) rvc bytes (statement_of x).kind)) same
+    (subst (λ l. (bytes : ℕ) × (c.seen.result ≡ item_in (section_in l) p.section (tables (said c.loop-index.scope.unit.now)) (i + 1) (λ e. value_of (tables (said c.loop-index.scope.unit.now)) true (i + 1) (offset_of p) e) rvc bytes (statement_of x).kind)) c.places-places.ensures
+    (c.seen.ensures i filled c.loop-index.invariant.1)) in
+    let within' = subst (λ w. i < length (said w)) (sym same) within in (
+      ap (λ b. b.now) c.pass.ensures.unit ∙ same,
+      c.pass.ensures.passes i within' c.loop-index.invariant.1,
+      measured_more u i x p rvc c.loop-index.items.items c.push.new.self.items c.seen.result c.requires.filled at on seen c.loop-index.invariant.2 c.in_ok-push.ensures.items,
+    )
+
+pub returns : goal.returns
+returns c =
+    let u = c.args.unit.now in
+    let i = c.loop-index.index in
+    let past = subst (λ l. length l ≤ i) c.statements-statements.ensures c.loop-index-test.false in
+    measured_whole (said u) i c.loop-index.items.items (stated_none (said u) i (subst (λ n. n ≤ i) (sym (length-map u.statements.items statement_of)) past)) c.loop-index.invariant.2

@@ -1,0 +1,92 @@
+-- The bytes of code of each section.
+
+use Rattle.std.specs.Prelude.{◌≡◌, ℕ, ◌+◌, Bool, true, ◌==◌, List, [], ◌∷◌, ◌++◌, map, Option, Some, None, length, nat_lt, slice_get, if◌then◌else◌}
+use Rattle.std.specs.Global.{Vec}
+use Rattle.rv_text_laws.specs.Codes.{limit}
+use Rattle.rv_text_laws.specs.Values as values
+use Rattle.rv_statement.specs.Statement.{StatementKind, Directs, Expression}
+use Rattle.rv_unit_laws.specs.Faults.{Fault, at_line}
+use Rattle.rv_unit_laws.specs.Tables.{Tables, value, alignment_of, longest_section}
+use Rattle.rv_object.specs.Padding.{no_operations, operations_in}
+use Rattle.rv_source_laws.specs.Located.{Located}
+use Rattle.rv_source_laws.specs.Program.{place_of}
+use Rattle.rv_assemble_laws.specs.Coded.{joined}
+use Rattle.rv_source_laws.specs.Sizes.{code_padding}
+use Rattle.rv_instruction.specs.declared.encoded.Coded.{Coded}
+use Rattle.rv_instruction.specs.Code.{coded_by, instructions_of}
+use Rattle.rv_draft.specs.declared.item.CodeSize.{CodeSize}
+
+-- the bytes of a section by its place among the sections
+abbrev pub bytes_of_some : Option (Vec ℕ) → List ℕ
+bytes_of_some None = []
+bytes_of_some (Some section) = section.items
+
+abbrev pub bytes_in : List (Vec ℕ) → ℕ → List ℕ
+bytes_in sections j = bytes_of_some (slice_get sections j)
+
+-- one section has more bytes, the others have their own
+abbrev pub GrowsBy : List (Vec ℕ) → List (Vec ℕ) → ℕ → List ℕ → Type 0
+GrowsBy old new section more =
+    (length new ≡ length old)
+    × ((j : ℕ) → bytes_in new j
+    ≡ (if j == section then bytes_in old j ++ more else bytes_in old j))
+
+-- ---- the code of a statement
+
+abbrev pub value_at : Tables → Located → Expression → values.Value
+value_at t s e = value t true s.ordinal (place_of s) e
+
+-- the bytes of the padding of an alignment in a section of code
+abbrev pub padding_of : Bool → (Expression → values.Value) → StatementKind → ℕ
+padding_of executable v (Directs directive) =
+    if executable then code_padding (alignment_of v directive) else 0
+padding_of executable v kind = 0
+
+abbrev pub padding_at : Tables → Located → ℕ
+padding_at t s = padding_of s.home.executable (λ e. value_at t s e) s.kind
+
+-- the bytes of an instruction's parts
+abbrev pub bytes_coded : List Coded → List ℕ
+bytes_coded found = joined (coded_by found)
+
+-- what a statement has as code: its padding, or its parts
+abbrev pub code_bytes : ℕ → List Coded → List ℕ
+code_bytes padding found = no_operations padding ++ bytes_coded found
+
+-- how large it is
+abbrev pub size_of : ℕ → List Coded → CodeSize
+size_of padding found =
+    record {
+      bytes = padding + length (bytes_coded found);
+      instructions = operations_in padding + instructions_of found;
+    }
+
+-- ---- the code of statements, one after the other
+
+abbrev pub sizes_of : Tables → List Located → List (List Coded) → List CodeSize
+sizes_of t [] codes = []
+sizes_of t (s ∷ ss) [] = []
+sizes_of t (s ∷ ss) (found ∷ codes) = size_of (padding_at t s) found ∷ sizes_of t ss codes
+
+-- how many bytes each statement has
+abbrev pub bytes_of_sizes : List CodeSize → List ℕ
+bytes_of_sizes sizes = map (λ (size : CodeSize). size.bytes) sizes
+
+abbrev pub bytes_of_codes : Tables → List Located → List (List Coded) → List ℕ
+bytes_of_codes t ss codes = bytes_of_sizes (sizes_of t ss codes)
+
+-- the code of the statements of a section
+abbrev pub section_code : Tables → ℕ → List Located → List (List Coded) → List ℕ
+section_code t section [] codes = []
+section_code t section (s ∷ ss) [] = []
+section_code t section (s ∷ ss) (found ∷ codes) =
+    (if section == s.section then code_bytes (padding_at t s) found else [])
+    ++ section_code t section ss codes
+
+-- a section of code that is too long, at a line
+abbrev pub full_fault : Option ℕ → Option Fault
+full_fault None = None
+full_fault (Some line) = Some (record { code = limit; line = line })
+
+abbrev pub full_at : ℕ → ℕ → Option Fault
+full_at line bytes = at_line line (if nat_lt longest_section bytes then Some limit else None) None

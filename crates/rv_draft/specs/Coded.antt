@@ -1,0 +1,25 @@
+-- The instructions of a source as its code has them.
+
+use Rattle.std.specs.Prelude.{ℕ, Bool, ⊤, List, [], ◌∷◌}
+use Rattle.rv_text_laws.specs.Values.{Value}
+use Rattle.rv_statement.specs.Statement.{StatementKind, Expression}
+use Rattle.rv_unit_laws.specs.Tables.{Tables}
+use Rattle.rv_source_laws.specs.Located.{Located}
+use Rattle.rv_instruction.specs.declared.encoded.Coded.{Coded}
+use Rattle.rv_instruction.specs.Code.{HasCode}
+use Rattle.rv_draft.specs.Code.{value_at}
+
+-- the code of a statement, part by part, by constants, however long a branch is asked to be; what
+-- is no instruction has none
+abbrev pub IsCoded : (Expression → Value) → Bool → StatementKind → List Coded → Type 0
+IsCoded v rvc kind found = (asked : ℕ) × HasCode v rvc asked kind found
+
+abbrev pub IsCodedAt : Tables → Located → List Coded → Type 0
+IsCodedAt t s found = IsCoded (λ e. value_at t s e) s.options.rvc s.kind found
+
+-- of statements, one after the other
+abbrev pub AreCoded : Tables → List Located → List (List Coded) → Type 0
+AreCoded t [] [] = ⊤
+AreCoded t [] (found ∷ codes) = ⊥
+AreCoded t (s ∷ ss) [] = ⊥
+AreCoded t (s ∷ ss) (found ∷ codes) = IsCodedAt t s found × AreCoded t ss codes

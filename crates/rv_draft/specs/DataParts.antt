@@ -1,0 +1,123 @@
+-- What the statements of a source contribute to sections of data: bytes, and fields that stay open.
+
+use Rattle.std.specs.Prelude.{◌≡◌, ℕ, ◌+◌, ◌*◌, ◌≤◌, Bool, true, false, not, ◌&&◌, List, [], ◌++◌, flat_map, map, drop, length, if◌then◌else◌}
+use Rattle.std.specs.Global.{Vec}
+use Rattle.rv_text_laws.specs.Values.{Value}
+use Rattle.rv_statement.specs.Statement.{StatementKind, Label, Numbered, Instruction, Directs, Expression, Statement, Aligns_to_power, Aligns_to_bytes, Values}
+use Rattle.rv_unit_laws.specs.Contributions.{contribution}
+use Rattle.rv_unit_laws.specs.Sections.{Section, is_nobits}
+use Rattle.rv_unit_laws.specs.Tables.{Tables, at_start, tables, longest_section}
+use Rattle.rv_source_laws.specs.Located.{located_from}
+use Rattle.rv_assemble_laws.specs.Templates.{Template, padding_templates, contribution_templates}
+use Rattle.rv_assemble_laws.specs.Sites.{Site, Part, form, part_of, part_bytes, sites_in, templates}
+use Rattle.rv_assemble_laws.specs.Fields.{Field, fields_from}
+use Rattle.rv_draft.specs.declared.field.OpenField.{OpenField}
+use Rattle.rv_draft.specs.declared.item.CodeSize.{CodeSize}
+use Rattle.rv_draft.specs.declared.item.Item.{Item}
+use Rattle.rv_instruction.specs.declared.encoded.Coded.{Coded}
+use Rattle.rv_draft.specs.Code.{bytes_in, sizes_of}
+use Rattle.rv_draft.specs.Coded.{AreCoded}
+use Rattle.rv_draft.specs.Draft.{field_of}
+use Rattle.rv_draft.specs.Items.{AreItems}
+use Rattle.rv_draft.specs.Seated.{sites_of}
+use Rattle.rv_draft.specs.Sized.{AreSized}
+
+-- a section of data that has its bytes in the file
+abbrev pub is_filled : Section → Bool
+is_filled home = not home.executable && not (is_nobits home)
+
+-- ---- one statement
+
+-- the templates of data of an ordinal, by the values of its expressions, in so many bytes
+abbrev pub data_templates : ℕ → (Expression → Value) → StatementKind → ℕ → List Template
+data_templates ordinal v (Label name) bytes = []
+data_templates ordinal v (Numbered number) bytes = []
+data_templates ordinal v (Instruction mnemonic operands) bytes = []
+data_templates ordinal v (Directs directive) bytes =
+    contribution_templates false ordinal v (contribution directive) bytes
+
+abbrev pub data_said : ℕ → (Expression → Value) → StatementKind → ℕ → List Part
+data_said ordinal v says bytes = map (part_of ordinal) (data_templates ordinal v says bytes)
+
+-- the open fields of parts from an offset of a section on, where that one is loaded
+abbrev pub fields_said : Bool → ℕ → ℕ → List Part → List Field
+fields_said loaded section offset ps = if loaded then fields_from section offset ps else []
+
+-- values of data end where a section may end
+abbrev pub HasRoomFor : StatementKind → ℕ → Type 0
+HasRoomFor says offset =
+    (width : ℕ) (values : List Expression) → says ≡ Directs (Values width values)
+    → offset + width * length values ≤ longest_section
+
+-- ---- the statements of a source
+
+abbrev pub data_parts : Tables → Site → List Part
+data_parts t s =
+    if is_filled s.located.home
+    then data_said s.located.ordinal (λ e. form t s.located e) s.located.kind s.bytes
+    else []
+
+-- whether a statement is an alignment
+abbrev pub is_alignment : StatementKind → Bool
+is_alignment (Directs (Aligns_to_power e)) = true
+is_alignment (Directs (Aligns_to_bytes e)) = true
+is_alignment says = false
+
+-- the parts of padding in code
+abbrev pub padding_said : ℕ → ℕ → List Part
+padding_said ordinal bytes = map (part_of ordinal) (padding_templates true ordinal bytes)
+
+-- the parts of an instruction, and of an alignment in code
+abbrev pub code_said : Tables → Site → StatementKind → List Part
+code_said t s (Instruction mnemonic operands) =
+    map (part_of s.located.ordinal) (templates t s (Instruction mnemonic operands))
+code_said t s kind = if is_alignment kind then padding_said s.located.ordinal s.bytes else []
+
+-- the parts whose fields may stay open: those of code, and of data
+abbrev pub open_parts : Tables → Site → List Part
+open_parts t s =
+    if s.located.home.executable then code_said t s s.located.kind else data_parts t s
+
+abbrev pub open_fields : Tables → Site → List Field
+open_fields t s =
+    fields_said s.located.home.loaded s.located.section s.offset (open_parts t s)
+
+-- the bytes of data that statements have in a section
+abbrev pub data_bytes : Tables → ℕ → List Site → List ℕ
+data_bytes t section sites = flat_map part_bytes (flat_map (data_parts t) (sites_in section sites))
+
+-- the sites of a source with these items and this code
+abbrev pub sites : List Statement → List Item → List (List Coded) → List Site
+sites ss is codes = sites_of (located_from 1 1 at_start ss) is codes
+
+-- the items stand in their sections, and have their sizes
+pub record IsLaid (ss : List Statement) (is : List Item) : Type 0 where
+  pub last : ℕ → ℕ
+  pub items : AreItems 1 at_start (λ j. 0) ss is last
+  pub sizes : List CodeSize
+  pub sized : AreSized (tables ss) 1 at_start ss is sizes
+  pub low : (j : ℕ) → last j ≤ longest_section
+
+-- the items have this code
+pub record HaveCode (ss : List Statement) (is : List Item)
+    (codes : List (List Coded)) : Type 0 where
+  pub coded : AreCoded (tables ss) (located_from 1 1 at_start ss) codes
+  pub sized : AreSized (tables ss) 1 at_start ss is
+      (sizes_of (tables ss) (located_from 1 1 at_start ss) codes)
+
+-- what is there so far, from these sections on, and what the statements from an index on
+-- contribute, make up the whole
+pub record IsDataTo (ss : List Statement) (is : List Item) (codes : List (List Coded))
+    (start : List (Vec ℕ)) (i : ℕ) (sections : List (Vec ℕ)) (found : List OpenField) : Type 0 where
+  pub bytes : (j : ℕ) → bytes_in sections j ++ data_bytes (tables ss) j (drop i (sites ss is []))
+      ≡ bytes_in start j ++ data_bytes (tables ss) j (sites ss is [])
+  pub fields : map field_of found
+      ++ flat_map (open_fields (tables ss)) (drop i (sites ss is codes))
+      ≡ flat_map (open_fields (tables ss)) (sites ss is codes)
+
+-- all of it
+pub record IsData (ss : List Statement) (is : List Item) (codes : List (List Coded))
+    (start sections : List (Vec ℕ)) (found : List OpenField) : Type 0 where
+  pub bytes : (j : ℕ) → bytes_in sections j
+      ≡ bytes_in start j ++ data_bytes (tables ss) j (sites ss is [])
+  pub fields : map field_of found ≡ flat_map (open_fields (tables ss)) (sites ss is codes)

@@ -1,0 +1,110 @@
+-- How many bytes one statement has, after others of its section.
+
+use Rattle.std.specs.Prelude.{◌≡◌, ℕ, ◌+◌, ◌*◌, ◌≤◌, Bool, true, false, ⊤, List, length, map, Option, Some, slice_get, slice_index_or}
+use Rattle.rv_text_laws.specs.Values.{Value, Constant}
+use Rattle.rv_statement.specs.Statement.{StatementKind, Label, Numbered, Instruction, Directs, Expression, Directive, Aligns_to_power, Aligns_to_bytes, Values, Strings, Zeros}
+use Rattle.rv_unit_laws.specs.Tables.{alignment_of, padding, string_bytes, longest_section}
+use Rattle.rv_unit_tables.specs.declared.section.Extent.{Extent}
+use Rattle.rv_unit_tables.specs.Sections.{extent_section}
+use Rattle.rv_assemble_laws.specs.Coded.{is_constant}
+use Rattle.rv_draft.specs.declared.item.CodeSize.{CodeSize}
+use Rattle.rv_draft.specs.declared.item.Item.{Item}
+use Rattle.rv_assemble_laws.specs.Sites.{IsMultiple}
+use Rattle.rv_draft.specs.Sized.{IsPadded, IsAligned, IsSized, IsSizedDirective}
+
+-- `bytes` bytes of data after `offset` others
+abbrev pub stretch : ℕ → ℕ → Item
+stretch offset bytes = record {
+  section = 0;
+  offset = offset;
+  bytes = bytes;
+  line = 0;
+  shown = true;
+  instructions = 0;
+}
+
+-- the bytes of a statement that has a place, by the values of its expressions: in a section of code
+-- or not, that asks to begin at this multiple, after `offset` bytes; an instruction has the size of
+-- its code
+abbrev pub IsSize : (Expression → Value) → Bool → ℕ → ℕ → CodeSize → StatementKind → ℕ → Type 0
+IsSize v executable begins offset size (Label name) bytes = bytes ≡ 0
+IsSize v executable begins offset size (Numbered number) bytes = bytes ≡ 0
+IsSize v executable begins offset size (Instruction mnemonic operands) bytes = bytes ≡ size.bytes
+IsSize v executable begins offset size (Directs directive) bytes =
+    IsSizedDirective v executable size (stretch offset bytes) begins directive
+
+-- the section at a place, with the multiple at which it asks to begin
+pub record IsExtentAt (extents : List Extent) (place : ℕ) (e : Extent) : Type 0 where
+  pub section : slice_get (map extent_section extents) place ≡ Some (extent_section e)
+  pub alignment : slice_index_or (map (λ (x : Extent). x.alignment) extents) place 1 ≡ e.alignment
+
+-- an alignment can be had: its section begins at a multiple of it, and one of data has the padding
+abbrev pub CanPad : Bool → ℕ → ℕ → Option ℕ → Type 0
+CanPad true begins offset alignment = IsMultiple alignment begins
+CanPad false begins offset alignment =
+    IsMultiple alignment begins × (padding alignment offset ≤ longest_section)
+
+-- a value is a constant, and its alignment can be had
+abbrev pub CanAlign : Value → Bool → ℕ → ℕ → Option ℕ → Type 0
+CanAlign v executable begins offset alignment =
+    (is_constant v ≡ true) × CanPad executable begins offset alignment
+
+-- a count of bytes that a section can have
+abbrev pub CanCount : Value → Type 0
+CanCount v = (n : ℕ) × (v ≡ Constant n) × (n ≤ longest_section)
+
+-- a statement has a size, by the values of its expressions: in a section of code or not, that asks
+-- to begin at this multiple, after `offset` bytes
+abbrev pub HasSizeDirective : (Expression → Value) → Bool → ℕ → ℕ → Directive → Type 0
+HasSizeDirective v executable begins offset (Values width values) =
+    width * length values ≤ longest_section
+HasSizeDirective v executable begins offset (Strings ended strings) =
+    length (string_bytes ended strings) ≤ longest_section
+HasSizeDirective v executable begins offset (Zeros count) = CanCount (v count)
+HasSizeDirective v executable begins offset (Aligns_to_power e) =
+    CanAlign (v e) executable begins offset (alignment_of v (Aligns_to_power e))
+HasSizeDirective v executable begins offset (Aligns_to_bytes e) =
+    CanAlign (v e) executable begins offset (alignment_of v (Aligns_to_bytes e))
+HasSizeDirective v executable begins offset _ = ⊤
+
+abbrev pub HasSize : (Expression → Value) → Bool → ℕ → ℕ → StatementKind → Type 0
+HasSize v executable begins offset (Directs directive) =
+    HasSizeDirective v executable begins offset directive
+HasSize v executable begins offset _ = ⊤
+
+-- and its section has room for it, where its code has this size
+pub record HasRoom (v : Expression → Value) (executable : Bool) (begins offset : ℕ)
+    (code : CodeSize) (says : StatementKind) : Type 0 where
+  pub size : HasSize v executable begins offset says
+  pub room : (n : ℕ) → IsSize v executable begins offset code says n → offset + n ≤ longest_section
+
+-- ---- in a section with its bytes and the multiple at which it asks to begin
+
+abbrev pub PadsIn : Extent → CodeSize → ℕ → ℕ → Option ℕ → Type 0
+PadsIn e size offset bytes alignment =
+    IsPadded e.section.executable size (stretch offset bytes) e.alignment alignment
+
+abbrev pub CanPadIn : Extent → ℕ → Option ℕ → Type 0
+CanPadIn e offset alignment = CanPad e.section.executable e.alignment offset alignment
+
+abbrev pub AlignsIn : Extent → CodeSize → Value → ℕ → ℕ → Option ℕ → Type 0
+AlignsIn e size v offset bytes alignment =
+    IsAligned v e.section.executable size (stretch offset bytes) e.alignment alignment
+
+abbrev pub CanAlignIn : Extent → Value → ℕ → Option ℕ → Type 0
+CanAlignIn e v offset alignment =
+    CanAlign v e.section.executable e.alignment offset alignment
+
+abbrev pub IsSizeIn : Extent → (Expression → Value) → ℕ → CodeSize → StatementKind → ℕ → Type 0
+IsSizeIn e v offset code kind bytes =
+    IsSize v e.section.executable e.alignment offset code kind bytes
+
+abbrev pub HasSizeIn : Extent → (Expression → Value) → ℕ → StatementKind → Type 0
+HasSizeIn e v offset kind = HasSize v e.section.executable e.alignment offset kind
+
+abbrev pub HasRoomIn : Extent → (Expression → Value) → ℕ → CodeSize → StatementKind → Type 0
+HasRoomIn e v offset code kind = HasRoom v e.section.executable e.alignment offset code kind
+
+-- the item of a statement that has a place
+abbrev pub IsSizedIn : Extent → (Expression → Value) → Item → CodeSize → StatementKind → Type 0
+IsSizedIn e v x code kind = IsSized v e.section.executable x e.alignment code kind

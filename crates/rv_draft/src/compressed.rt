@@ -1,0 +1,48 @@
+//! Whether a source has compressed code.
+
+ghost use Rattle.std.specs.Prelude.{◌≡◌, ◌&&◌, ◌∷◌, []};
+ghost use Rattle.rv_unit.specs.Unit.{said, IsFilled};
+ghost use Rattle.rv_source_laws.specs.Compressed as laws;
+ghost use Rattle.rv_draft.specs.Compressed.{is_code_kind};
+
+use crate::items::extent_at;
+use rv_statement::StatementKind;
+use rv_unit::Unit;
+
+/// Whether a statement is code: an instruction, or an alignment in a section of code.
+fn is_code(executable: bool, kind: &StatementKind<'_>) -> bool
+    ensures { result ≡ is_code_kind executable kind.now }
+{
+    match kind {
+        StatementKind::Plain(_) | StatementKind::With(..) | StatementKind::WithFunction(..) => true,
+        StatementKind::AlignsToPower(_) | StatementKind::AlignsToBytes(_) => executable,
+        _ => false,
+    }
+}
+
+/// Whether a statement is compressed code, where that is on or off.
+fn is_compressed(compressed: bool, executable: bool, kind: &StatementKind<'_>) -> bool
+    ensures { result ≡ (compressed && is_code_kind executable kind.now) }
+{
+    compressed && is_code(executable, kind)
+}
+
+/// Whether a statement of the source is code where compressed code is on.
+pub(crate) fn has_compressed(unit: &Unit<'_>) -> bool
+    requires { IsFilled unit.now }
+    ensures { result ≡ laws.is_compressed (said unit.now ∷ []) }
+{
+    let statements = unit.statements();
+    let places = unit.places();
+    let extents = unit.sections();
+    for index in 0..statements.len() {
+        let statement = &statements[index];
+        let place = places[index];
+        let extent = extent_at(extents, place.section);
+        let compressed = unit.options_at(index).rvc();
+        if is_compressed(compressed, extent.section.executable, &statement.kind) {
+            return true;
+        }
+    }
+    false
+}

@@ -1,0 +1,504 @@
+//! The bytes of a source's data, and the fields that stay open.
+
+ghost use Rattle.std.specs.Prelude.{◌≡◌, ℕ, ◌<◌, ◌≤◌, ◌+◌, ◌*◌, ◌++◌, ◌^◌, ℤ, pos, List, [], ◌∷◌, true, false, flat_map, map, length, replicate, IfOk, OnOk, if◌then◌else◌};
+ghost use Rattle.std.specs.Global.{Vec};
+ghost use Rattle.std.specs.Int.{w64, int_wrap};
+ghost use Rattle.rv_isa_laws.specs.Bytes.{little_endian};
+ghost use Rattle.rv_text.specs.Expr.{tree_of_expr};
+ghost use Rattle.rv_text.specs.Nodes.{symbol_of};
+ghost use Rattle.rv_statement.specs.View.{bytes_of, quoted, statement_kind};
+ghost use Rattle.rv_unit_laws.specs.Tables.{string_bytes, longest_section};
+ghost use Rattle.rv_unit_tables.specs.Sections.{section_of};
+ghost use Rattle.rv_unit.specs.Faults.{ForValue};
+ghost use Rattle.rv_unit.specs.Unit.{said, IsFilled, IsScope};
+ghost use Rattle.rv_assemble_laws.specs.Templates as laws;
+ghost use Rattle.rv_assemble_laws.specs.Templates.{opened, value_bytes};
+ghost use Rattle.rv_assemble_laws.specs.Sites.{part_bytes};
+ghost use Rattle.rv_assemble_laws.specs.Fields.{field_at};
+ghost use Rattle.rv_instruction.specs.declared.encoded.Coded.{Coded};
+ghost use Rattle.rv_draft.specs.DataParts.{is_filled, HasRoomFor, HaveCode, IsLaid, IsDataTo, IsData};
+ghost use Rattle.rv_draft.specs.Draft.{field_of};
+ghost use Rattle.rv_draft.specs.Spots.{value_in, parts_in, said_in, own_fields, fields_in, AddsBytes, AddsFields, AddsParts};
+
+use crate::field::OpenField;
+use crate::fields::{Choices, put_code};
+use crate::item::Item;
+use rv_isa::Kind;
+use rv_statement::{StatementKind, Width};
+use rv_text::{Expr, SourceFault, Symbol, Value, append_string};
+use rv_unit::{Scope, Section, SectionOffset, Unit};
+use std::alloc::{AllocError, Global};
+
+/// What an expression is worth, or its fault.
+type Outcome<'a> = Result<Value<'a>, SourceFault>;
+
+/// A statement of data: the names as it sees them, and where it stands.
+#[derive(Clone, Copy, Drop)]
+pub(crate) struct Spot<'s, 'u, 'a> {
+    pub(crate) scope: &'s Scope<'u, 'a>,
+    pub(crate) place: SectionOffset,
+    pub(crate) ordinal: u32,
+    /// Its section has a place in memory.
+    pub(crate) loaded: bool,
+}
+
+// ---- bytes
+
+/// The bytes of a width.
+fn width_in_bytes(width: Width) -> u32
+    ensures value { result ≡ bytes_of width }
+    ensures low { result ≤ 8 }
+{
+    match width {
+        Width::Byte => 1,
+        Width::Half => 2,
+        Width::Word => 4,
+        Width::Double => 8,
+    }
+}
+
+/// Adds a number in the bytes of its width, the lowest first.
+fn put_number(bytes: &mut Vec<u8>, width: Width, number: u64) -> Result<(), AllocError>
+    ensures { OnOk result
+        (bytes.new.items ≡ bytes.old.items ++ little_endian (bytes_of width) number) }
+{
+    let all = number.to_le_bytes();
+    match width {
+        Width::Byte => bytes.extend_from_slice(&all[..1]),
+        Width::Half => bytes.extend_from_slice(&all[..2]),
+        Width::Word => bytes.extend_from_slice(&all[..4]),
+        Width::Double => bytes.extend_from_slice(&all[..]),
+    }
+}
+
+/// Adds zero bytes.
+fn put_zeros(bytes: &mut Vec<u8>, count: u32) -> Result<(), AllocError>
+    ensures { OnOk result (bytes.new.items ≡ bytes.old.items ++ laws.zeros count) }
+{
+    for _ in 0..count {
+        bytes.push(0)?;
+    }
+    Ok(())
+}
+
+/// Adds a string, where asked with a zero byte after it.
+fn put_string(bytes: &mut Vec<u8>, ended: bool, text: &[u8]) -> Result<(), AllocError>
+    ensures { OnOk result
+        (bytes.new.items ≡ bytes.old.items ++ string_bytes ended (quoted text.entry ∷ [])) }
+{
+    append_string(text, bytes)?;
+    if !ended {
+        return Ok(());
+    }
+    bytes.push(0)?;
+    Ok(())
+}
+
+/// Adds strings, where asked with a zero byte after each.
+fn put_strings(bytes: &mut Vec<u8>, ended: bool, strings: &[&[u8]]) -> Result<(), AllocError>
+    ensures { OnOk result
+        (bytes.new.items ≡ bytes.old.items ++ string_bytes ended (map quoted strings.now)) }
+{
+    for text in strings {
+        put_string(bytes, ended, *text)?;
+    }
+    Ok(())
+}
+
+/// Adds the bytes of a value: a constant, else zeros.
+fn put_bytes(bytes: &mut Vec<u8>, width: Width, value: &Outcome<'_>) -> Result<(), AllocError>
+    ensures { OnOk result (ForValue value.now
+        (λ v. bytes.new.items ≡ bytes.old.items ++ value_bytes (bytes_of width) v)) }
+{
+    match value {
+        Ok(Value::Constant(number)) => put_number(bytes, width, *number),
+        Ok(Value::Symbolic(..)) => put_zeros(bytes, width_in_bytes(width)),
+        Ok(Value::Difference(..)) => put_zeros(bytes, width_in_bytes(width)),
+        // a faulty value was refused before
+        Err(_) => put_zeros(bytes, width_in_bytes(width)),
+    }
+}
+
+// ---- fields
+
+/// The kind of an address in the bytes of a width.
+fn absolute_kind(width: Width) -> Kind
+    ensures { result ≡ laws.absolute_kind (bytes_of width) }
+{
+    match width {
+        Width::Byte => Kind::Abs64,
+        Width::Half => Kind::Abs64,
+        Width::Word => Kind::Abs32,
+        Width::Double => Kind::Abs64,
+    }
+}
+
+/// The kind of what is added in the bytes of a width.
+fn add_kind(width: Width) -> Kind
+    ensures { result ≡ laws.add_kind (bytes_of width) }
+{
+    match width {
+        Width::Byte => Kind::Add8,
+        Width::Half => Kind::Add16,
+        Width::Word => Kind::Add32,
+        Width::Double => Kind::Add64,
+    }
+}
+
+/// The kind of what is taken off in the bytes of a width.
+fn subtract_kind(width: Width) -> Kind
+    ensures { result ≡ laws.subtract_kind (bytes_of width) }
+{
+    match width {
+        Width::Byte => Kind::Sub8,
+        Width::Half => Kind::Sub16,
+        Width::Word => Kind::Sub32,
+        Width::Double => Kind::Sub64,
+    }
+}
+
+/// What is added, as a number that wraps.
+fn addend(plus: u64) -> i64
+    ensures { result ≡ int_wrap w64 (pos plus) }
+{
+    plus.cast_signed()
+}
+
+/// A field of a statement, at a place of its section.
+fn open_field<'a>(
+    spot: &Spot<'_, '_, 'a>,
+    place: u32,
+    kind: Kind,
+    symbol: Symbol<'a>,
+    plus: u64,
+) -> OpenField<'a>
+    ensures { field_of result ≡ field_at (spot.now).place.section place
+        (opened (spot.now).ordinal kind (symbol_of symbol.entry) plus) }
+{
+    OpenField {
+        section: spot.place.section,
+        place,
+        kind,
+        ordinal: spot.ordinal,
+        symbol: Some(symbol),
+        addend: addend(plus),
+    }
+}
+
+/// Adds a field.
+fn put_field<'a>(fields: &mut Vec<OpenField<'a>>, field: OpenField<'a>) -> Result<(), AllocError>
+    ensures { OnOk result (map field_of fields.new.items
+        ≡ map field_of fields.old.items ++ field_of field.entry ∷ []) }
+{
+    fields.push(field)?;
+    Ok(())
+}
+
+/// Adds the fields of a difference: what is added, and what is taken off.
+fn put_difference<'a>(
+    fields: &mut Vec<OpenField<'a>>,
+    added: OpenField<'a>,
+    taken: OpenField<'a>,
+) -> Result<(), AllocError>
+    ensures { OnOk result (map field_of fields.new.items
+        ≡ map field_of fields.old.items ++ field_of added.entry ∷ field_of taken.entry ∷ []) }
+{
+    put_field(fields, added)?;
+    put_field(fields, taken)
+}
+
+/// Adds the fields of a value at a place.
+fn put_fields<'a>(
+    fields: &mut Vec<OpenField<'a>>,
+    spot: &Spot<'_, '_, 'a>,
+    place: u32,
+    width: Width,
+    value: &Outcome<'a>,
+) -> Result<(), AllocError>
+    ensures { OnOk result (ForValue value.now (λ v. map field_of fields.new.items
+        ≡ map field_of fields.old.items ++ own_fields spot.now place (bytes_of width) v)) }
+{
+    match value {
+        Ok(Value::Constant(_)) => Ok(()),
+        Ok(Value::Symbolic(symbol, plus)) => {
+            let kind = absolute_kind(width);
+            put_field(fields, open_field(spot, place, kind, *symbol, *plus))
+        }
+        Ok(Value::Difference(symbol, minus, plus)) => {
+            let added = open_field(spot, place, add_kind(width), *symbol, *plus);
+            let taken = open_field(spot, place, subtract_kind(width), *minus, 0);
+            put_difference(fields, added, taken)
+        }
+        Err(_) => Ok(()),
+    }
+}
+
+// ---- statements
+
+/// Adds a value: its bytes, and its fields where its section is loaded.
+fn put_value<'a>(
+    bytes: &mut Vec<u8>,
+    fields: &mut Vec<OpenField<'a>>,
+    spot: &Spot<'_, '_, 'a>,
+    place: u32,
+    width: Width,
+    expression: &Expr<'a>,
+) -> Result<(), AllocError>
+    ensures bytes { OnOk result (AddsBytes spot.now bytes.old.items bytes.new.items
+        (λ index. value_bytes (bytes_of width)
+        (value_in spot.now index (tree_of_expr expression.now)))) }
+    ensures fields { OnOk result (AddsFields spot.now fields.old.items fields.new.items
+        (λ index. if (spot.now).loaded then own_fields spot.now place (bytes_of width)
+        (value_in spot.now index (tree_of_expr expression.now)) else [])) }
+{
+    let value = spot.scope.value(spot.place, expression, 0);
+    put_bytes(bytes, width, &value)?;
+    if !spot.loaded {
+        return Ok(());
+    }
+    put_fields(fields, spot, place, width, &value)
+}
+
+/// Adds values from a place on.
+fn put_values<'a>(
+    bytes: &mut Vec<u8>,
+    fields: &mut Vec<OpenField<'a>>,
+    spot: &Spot<'_, '_, 'a>,
+    offset: u32,
+    width: Width,
+    values: &[Expr<'a>],
+) -> Result<(), AllocError>
+    requires { offset + bytes_of width * length values.now ≤ longest_section }
+    ensures bytes { OnOk result (AddsBytes spot.now bytes.old.items bytes.new.items
+        (λ index. flat_map (λ e. value_bytes (bytes_of width) (value_in spot.now index e))
+        (map tree_of_expr values.now))) }
+    ensures fields { OnOk result (AddsFields spot.now fields.old.items fields.new.items
+        (λ index. fields_in spot.now offset
+        (parts_in spot.now index (bytes_of width) (map tree_of_expr values.now)))) }
+{
+    let mut place = offset;
+    for value in values {
+        put_value(bytes, fields, spot, place, width, value)?;
+        place += width_in_bytes(width);
+    }
+    Ok(())
+}
+
+/// Adds the one value of a statement.
+fn put_one<'a>(
+    bytes: &mut Vec<u8>,
+    fields: &mut Vec<OpenField<'a>>,
+    spot: &Spot<'_, '_, 'a>,
+    offset: u32,
+    width: Width,
+    value: &Expr<'a>,
+) -> Result<(), AllocError>
+    ensures bytes { OnOk result (AddsBytes spot.now bytes.old.items bytes.new.items
+        (λ index. flat_map (λ e. value_bytes (bytes_of width) (value_in spot.now index e))
+        (tree_of_expr value.now ∷ []))) }
+    ensures fields { OnOk result (AddsFields spot.now fields.old.items fields.new.items
+        (λ index. fields_in spot.now offset
+        (parts_in spot.now index (bytes_of width) (tree_of_expr value.now ∷ [])))) }
+{
+    put_value(bytes, fields, spot, offset, width, value)
+}
+
+/// Adds what a statement contributes to a section of data after `offset` bytes; an alignment, or a count of zeros, has
+/// `count` bytes.
+fn put_data<'a>(
+    bytes: &mut Vec<u8>,
+    fields: &mut Vec<OpenField<'a>>,
+    spot: &Spot<'_, '_, 'a>,
+    kind: &StatementKind<'a>,
+    offset: u32,
+    count: u32,
+) -> Result<(), AllocError>
+    requires { HasRoomFor (statement_kind kind.now) offset }
+    ensures bytes { OnOk result (AddsBytes spot.now bytes.old.items bytes.new.items
+        (λ index. flat_map part_bytes
+        (said_in spot.now (statement_kind kind.now) count index))) }
+    ensures fields { OnOk result (AddsFields spot.now fields.old.items fields.new.items
+        (λ index. fields_in spot.now offset
+        (said_in spot.now (statement_kind kind.now) count index))) }
+{
+    match kind {
+        StatementKind::Value(width, value) => put_one(bytes, fields, spot, offset, *width, value),
+        StatementKind::Values(width, values) => {
+            put_values(bytes, fields, spot, offset, *width, values.as_slice())
+        }
+        StatementKind::Ascii(strings) => put_strings(bytes, false, strings.as_slice()),
+        StatementKind::Asciz(strings) => put_strings(bytes, true, strings.as_slice()),
+        StatementKind::Zeros(_) => put_zeros(bytes, count),
+        StatementKind::AlignsToPower(_) => put_zeros(bytes, count),
+        StatementKind::AlignsToBytes(_) => put_zeros(bytes, count),
+        StatementKind::Label(_) => Ok(()),
+        StatementKind::Numbered(_) => Ok(()),
+        StatementKind::Plain(_) => Ok(()),
+        StatementKind::With(..) => Ok(()),
+        StatementKind::WithFunction(..) => Ok(()),
+        StatementKind::Enters(_) => Ok(()),
+        StatementKind::Opens(_) => Ok(()),
+        StatementKind::Globl(_) => Ok(()),
+        StatementKind::Local(_) => Ok(()),
+        StatementKind::Sets(_) => Ok(()),
+        StatementKind::Chooses(_) => Ok(()),
+        StatementKind::Ignored => Ok(()),
+    }
+}
+
+/// Adds what a statement contributes to its section, one of data.
+fn put_section<'a>(
+    sections: &mut [Vec<u8>],
+    fields: &mut Vec<OpenField<'a>>,
+    spot: &Spot<'_, '_, 'a>,
+    kind: &StatementKind<'a>,
+    item: Item,
+) -> Result<(), AllocError>
+    requires room { HasRoomFor (statement_kind kind.now) item.offset }
+    requires section { (spot.now).place.section < length sections.old }
+    ensures bytes { OnOk result (AddsParts spot.now sections.old sections.new
+        (λ index. said_in spot.now (statement_kind kind.now) item.bytes index)) }
+    ensures fields { OnOk result (AddsFields spot.now fields.old.items fields.new.items
+        (λ index. fields_in spot.now item.offset
+        (said_in spot.now (statement_kind kind.now) item.bytes index))) }
+    ensures count { length sections.new ≡ length sections.old }
+{
+    put_data(
+        &mut sections[spot.place.section as usize],
+        fields,
+        spot,
+        kind,
+        item.offset,
+        item.bytes,
+    )
+}
+
+/// Adds what a statement contributes, where its section is one of data with bytes in the file.
+fn put_statement<'a>(
+    sections: &mut [Vec<u8>],
+    fields: &mut Vec<OpenField<'a>>,
+    spot: &Spot<'_, '_, 'a>,
+    section: Section<'_>,
+    kind: &StatementKind<'a>,
+    item: Item,
+) -> Result<(), AllocError>
+    requires room { HasRoomFor (statement_kind kind.now) item.offset }
+    requires section { (spot.now).place.section < length sections.old }
+    ensures bytes { OnOk result (is_filled (section_of section.entry) ≡ true
+        → AddsParts spot.now sections.old sections.new
+        (λ index. said_in spot.now (statement_kind kind.now) item.bytes index)) }
+    ensures fields { OnOk result (is_filled (section_of section.entry) ≡ true
+        → AddsFields spot.now fields.old.items fields.new.items
+        (λ index. fields_in spot.now item.offset
+        (said_in spot.now (statement_kind kind.now) item.bytes index))) }
+    ensures left { OnOk result (is_filled (section_of section.entry) ≡ false
+        → (sections.new ≡ sections.old) × (fields.new.items ≡ fields.old.items)) }
+    ensures count { length sections.new ≡ length sections.old }
+{
+    if section.executable || section.is_nobits() {
+        return Ok(());
+    }
+    put_section(sections, fields, spot, kind, item)
+}
+
+/// The ordinal of the statement at an index.
+fn ordinal(index: usize) -> u32
+    requires { index + 1 < 2 ^ 32 }
+    ensures { result ≡ index + 1 }
+{
+    (index + 1) as u32
+}
+
+/// Adds what the statement of a unit at an index contributes, before which the scope stands.
+fn put_next<'a>(
+    sections: &mut [Vec<u8>],
+    fields: &mut Vec<OpenField<'a>>,
+    unit: &Unit<'a>,
+    index: usize,
+    scope: &Scope<'_, 'a>,
+    items: &[Item],
+) -> Result<(), SourceFault>
+    requires filled { IsFilled unit.now }
+    requires within { index < length (unit.now).statements.items }
+    requires few { length (unit.now).statements.items < 2 ^ 32 }
+    requires item { index < length items.now }
+    requires laid { IsLaid (said unit.now) items.now }
+    requires each { length sections.old ≡ length (unit.now).tables.extents.items }
+    ensures data { OnOk result ((start : List (Vec ℕ)) (codes : List (List Coded))
+        → (scope.now).unit.now ≡ unit.now → IsScope scope.now index
+        → HaveCode (said unit.now) items.now codes
+        → IsDataTo (said unit.now) items.now codes start index sections.old fields.old.items
+        → IsDataTo (said unit.now) items.now codes start (index + 1) sections.new
+        fields.new.items) }
+    ensures count { length sections.new ≡ length sections.old }
+{
+    let statement = &unit.statements()[index];
+    let place = unit.places()[index];
+    let extent = unit.sections()[place.section as usize];
+    let spot = Spot {
+        scope: &*scope,
+        place,
+        ordinal: ordinal(index),
+        loaded: extent.section.loaded,
+    };
+    if extent.section.executable {
+        let options = unit.options_at(index);
+        let choices = Choices {
+            compressed: options.rvc(),
+            relax: options.relax(),
+        };
+        return put_code(fields, &spot, statement, choices, items[index]);
+    }
+    put_statement(
+        sections,
+        fields,
+        &spot,
+        extent.section,
+        &statement.kind,
+        items[index],
+    )?;
+    Ok(())
+}
+
+/// What sections hold, and the fields that stay open there.
+#[derive(Debug, Drop)]
+pub(crate) struct Filled<'a> {
+    /// The bytes of each section.
+    pub(crate) sections: Vec<Vec<u8>>,
+    /// The open fields, in the order of the source.
+    pub(crate) fields: Vec<OpenField<'a>>,
+}
+
+/// The sections of a unit with their data after their code, where the statements stand so.
+pub(crate) fn data<'a>(
+    alloc: Global,
+    unit: &Unit<'a>,
+    items: &[Item],
+    code: Vec<Vec<u8>>,
+) -> Result<Filled<'a>, SourceFault>
+    requires filled { IsFilled unit.now }
+    requires few { length (unit.now).statements.items < 2 ^ 32 }
+    requires count { length items.now ≡ length (unit.now).statements.items }
+    requires laid { IsLaid (said unit.now) items.now }
+    requires each { length code.items ≡ length (unit.now).tables.extents.items }
+    ensures count { IfOk result (λ r. length r.sections.items ≡ length code.items) }
+    ensures data { IfOk result (λ r. (codes : List (List Coded))
+        → HaveCode (said unit.now) items.now codes
+        → IsData (said unit.now) items.now codes code.items r.sections.items r.fields.items) }
+{
+    let mut sections = code;
+    let mut fields = Vec::new(alloc);
+    let mut scope = Scope::new(unit);
+    for index in 0..unit.statements().len() {
+        put_next(
+            sections.as_mut_slice(),
+            &mut fields,
+            unit,
+            index,
+            &scope,
+            items,
+        )?;
+        scope.pass();
+    }
+    Ok(Filled { sections, fields })
+}

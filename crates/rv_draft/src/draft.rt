@@ -1,0 +1,69 @@
+//! A source with its bytes and its open fields.
+
+ghost use Rattle.std.specs.Prelude.{◌≡◌, None, IfOk, IfErr};
+ghost use Rattle.rv_unit_laws.specs.Faults.{first_fault};
+ghost use Rattle.rv_unit.specs.Unit.{said, IsFilled};
+ghost use Rattle.rv_assemble_laws.specs.Refusals.{code_fault};
+
+use crate::code::code;
+use crate::compressed::has_compressed;
+use crate::data::{Filled, data};
+use crate::field::OpenField;
+use crate::item::Item;
+use crate::items::items;
+use crate::measure::lengths;
+use rv_text::SourceFault;
+use rv_unit::Unit;
+use std::alloc::Global;
+
+/// A source's statements with their sizes, and what its sections hold.
+#[derive(Debug, PartialEq, Eq, Drop)]
+pub struct Draft<'a> {
+    /// Where the statements stand, in their order.
+    pub items: Vec<Item>,
+    /// The bytes of each section, with zeros in open fields; none where the file has none.
+    pub sections: Vec<Vec<u8>>,
+    /// The size of each section in bytes.
+    pub ends: Vec<u32>,
+    /// The open fields of sections with a place in memory, in the order of the source.
+    pub fields: Vec<OpenField<'a>>,
+    /// It has compressed code.
+    pub rvc: bool,
+}
+
+impl<'a> Draft<'a> {
+    ghost use Rattle.rv_draft.specs.Draft.{IsDraft, IsRefused};
+
+    /// The draft of a source without faulty labels and directives; or its first fault as code, or
+    /// that its code is too long, at the line of the statement.
+    pub fn of(alloc: Global, unit: &Unit<'a>) -> Result<Draft<'a>, SourceFault>
+        requires filled { IsFilled unit.now }
+        requires good { first_fault (said unit.now) ≡ None }
+        ensures draft { IfOk result (λ d. IsDraft (said unit.now) d) }
+        ensures sound { IfOk result (λ _. code_fault (said unit.now) ≡ None) }
+        ensures refuses { IfErr result (λ e. IsRefused (said unit.now) e) }
+    {
+        // ordinals have 32 bits: as many statements need more memory than there is
+        if unit.statements().len() >= 1 << 32 {
+            return Err(SourceFault::OutOfMemory);
+        }
+        let lengths = lengths(alloc, unit)?;
+        let code = code(alloc, unit, lengths.as_slice())?;
+        // the lengths make room for the items
+        drop(lengths);
+        let sizes = code.sizes.as_slice();
+        let (items, ends) = items(alloc, unit, sizes)?;
+        // the code of each statement was found before
+        let Ok(filled) = data(alloc, unit, items.as_slice(), code.sections) else {
+            return Err(SourceFault::OutOfMemory);
+        };
+        let Filled { sections, fields } = filled;
+        Ok(Draft {
+            items,
+            sections,
+            ends,
+            fields,
+            rvc: has_compressed(unit),
+        })
+    }
+}

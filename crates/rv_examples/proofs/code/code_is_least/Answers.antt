@@ -1,0 +1,5 @@
+use Rattle.rv_examples.proofs.KnownCodes.{word, parcel}
+use Rattle.rv_examples.proofs.code.code_is_least.Goals as goal
+
+pub returns : goal.returns
+returns c = record { word = word; parcel = parcel }

@@ -1,0 +1,5 @@
+use Rattle.rv_examples.proofs.KnownCodes.{words, mixed}
+use Rattle.rv_examples.proofs.code.long_constants_are_two.Goals as goal
+
+pub returns : goal.returns
+returns c = record { words = words; both = mixed }

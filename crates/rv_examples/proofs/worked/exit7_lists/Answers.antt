@@ -1,0 +1,5 @@
+use Rattle.rv_examples.proofs.Exit7Listing.{lists}
+use Rattle.rv_examples.proofs.worked.exit7_lists.Goals as goal
+
+pub returns : goal.returns
+returns c = lists

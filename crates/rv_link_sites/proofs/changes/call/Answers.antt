@@ -1,0 +1,43 @@
+use Rattle.std.proofs.Common.{◌≡◌, true, Some, ◌&&◌, sym, ap, ◌∙◌, refl, rules}
+use Rattle.std.specs.Prelude.{◌==◌}
+use Rattle.std.specs.Int.{w64}
+use Rattle.std.proofs.lemmas.Int.{to_z-of_z}
+use Rattle.std.proofs.lemmas.Option.{slice_get_within}
+use Rattle.rv_object.specs.Object.{stored}
+use Rattle.rv_object.specs.Parts.{relocation_of}
+use Rattle.rv_object.specs.Sections.{section_of}
+use Rattle.rv_object.specs.View.{object_of}
+use Rattle.rv_object_laws.specs.Calls as laws
+use Rattle.rv_link_sites.specs.Text.{objects_of, input_of}
+use Rattle.rv_link_sites.proofs.Changed.{one_call}
+use Rattle.rv_link_sites.proofs.changes.call.Goals as goal
+
+pub returns-then-input : goal.returns-then-input
+returns-then-input c =
+    let os = objects_of c.args.text.now in
+    let i = input_of c.args.input.now in
+    let r = relocation_of c.args.relocation.now in
+    let words : laws.are_call_words (stored i.section.contents) r.place ≡ true =
+    ap (λ l. laws.are_call_words l r.place) (sym c.stored-bytes.ensures) ∙ sym c.are_call_words.ensures ∙ c.if-not-are_call_words.false in
+    let target = c.in_ok-target.ensures i c.requires.laid refl c.requires.given.at in
+    let inside = slice_get_within (object_of c.args.input.now.object.now).sections c.args.input.now.index (section_of c.args.input.now.section.now) c.requires.given.there in
+    let entered = sym (c.is_entered.ensures (object_of c.args.input.now.object.now) c.requires.given.entries inside) ∙ c.if-is_entered.false in
+    let link = c.link_register.ensures ∙ ap (λ l. laws.link_register l r.place) c.stored-bytes.ensures in
+    let short = ap (λ n. n == 0) link ∙ sym (ap (λ b. b && (laws.link_register (stored i.section.contents) r.place == 0)) c.if-input.true) in
+    ap (λ a. Some (record { target = c.in_ok-target.target; addend = a; compressed = c.link_register.result == 0 })) (to_z-of_z w64 c.args.relocation.now.addend (search rules))
+    ∙ one_call os i r c.in_ok-target.target (c.link_register.result == 0) words target entered short
+
+pub returns-else-input : goal.returns-else-input
+returns-else-input c =
+    let os = objects_of c.args.text.now in
+    let i = input_of c.args.input.now in
+    let r = relocation_of c.args.relocation.now in
+    let words : laws.are_call_words (stored i.section.contents) r.place ≡ true =
+    ap (λ l. laws.are_call_words l r.place) (sym c.stored-bytes.ensures) ∙ sym c.are_call_words.ensures ∙ c.if-not-are_call_words.false in
+    let target = c.in_ok-target.ensures i c.requires.laid refl c.requires.given.at in
+    let inside = slice_get_within (object_of c.args.input.now.object.now).sections c.args.input.now.index (section_of c.args.input.now.section.now) c.requires.given.there in
+    let entered = sym (c.is_entered.ensures (object_of c.args.input.now.object.now) c.requires.given.entries inside) ∙ c.if-is_entered.false in
+    let rvc = c.args.input.now.object.now.rvc in
+    let short = c.if-input.false ∙ sym (ap (λ b. b && (laws.link_register (stored i.section.contents) r.place == 0)) c.if-input.false) in
+    ap (λ a. Some (record { target = c.in_ok-target.target; addend = a; compressed = rvc })) (to_z-of_z w64 c.args.relocation.now.addend (search rules))
+    ∙ one_call os i r c.in_ok-target.target rvc words target entered short

@@ -1,0 +1,28 @@
+use Rattle.std.proofs.Common.{◌<◌, ◌+◌, ◌^◌, length, rules}
+use Rattle.rv_object.specs.Sections.{section_of}
+use Rattle.rv_object.specs.View.{object_of}
+use Rattle.rv_link_sites.specs.Line.{ended}
+use Rattle.rv_link_sites.specs.Text.{objects_of}
+use Rattle.rv_link_sites.proofs.Marks.{starts_more}
+use Rattle.rv_link_sites.proofs.Walks.{some_mapped, section_low, section_ends, section_more}
+use Rattle.rv_link_sites.proofs.walk.put_object.Goals as goal
+
+pub put_at-requires-clause-low : goal.put_at-requires-clause-low
+put_at-requires-clause-low c = λ s at.
+    let o = object_of c.args.object.now in
+    section_low c.loop-index.stop c.loop-index.index o.sections s at (2 ^ 62) (ended c.args.first o.sections) c.requires.low c.loop-index.invariant.ends
+
+pub loop-index-preserved : goal.loop-index-preserved
+loop-index-preserved c =
+    let o = object_of c.args.object.now in
+    let os = objects_of c.args.text.now in
+    let inside : c.loop-index.index < length c.args.object.now.sections.items = search rules in
+    let there = some_mapped section_of c.args.object.now.sections.items c.loop-index.index inside in
+    let ends = c.in_ok-stop.ensures.end there.0 there.1 in
+    record {
+      sites = section_more c.loop-index.stop c.loop-index.index o.sections there.0 there.1 c.in_ok-stop.stop ends os (c.args.file + 1) o c.loop-index.marked.sites.items c.put_at.new.marked.sites.items _
+          (c.in_ok-stop.ensures.sites there.0 there.1) c.loop-index.invariant.sites;
+      starts = starts_more c.loop-index.index o.sections there.0 there.1 os (c.args.file + 1) o c.loop-index.marked.starts.items c.put_at.new.marked.starts.items _ (c.in_ok-stop.ensures.starts there.0 there.1)
+          c.loop-index.invariant.starts;
+      ends = section_ends c.loop-index.stop c.loop-index.index o.sections there.0 there.1 c.in_ok-stop.stop ends (ended c.args.first o.sections) c.loop-index.invariant.ends;
+    }

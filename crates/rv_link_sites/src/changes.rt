@@ -1,0 +1,236 @@
+//! What may change of a section of text.
+
+ghost use Rattle.std.specs.Prelude.{◌≡◌, ◌+◌, ◌≤◌, ◌<◌, ◌^◌, ◌++◌, ◌∷◌, [], List, map, length, replicate, Some, None, false, IfOk, OnOk, if◌then◌else◌};
+ghost use Rattle.std.specs.Ordering.{nat_cmp};
+ghost use Rattle.std.specs.List.Sorted.{IsNonDecreasingBy, IsPermutation, IsStableByKey};
+ghost use Rattle.rv_isa.specs.Kinds.{width_of};
+ghost use Rattle.rv_object.specs.Object.{Relocation as SaidRelocation, size_of, stored};
+ghost use Rattle.rv_object.specs.Parts.{relocation_of};
+ghost use Rattle.rv_object.specs.Sections.{section_of};
+ghost use Rattle.rv_object_laws.specs.Calls as laws;
+ghost use Rattle.rv_link_sites.specs.Between.{IsBefore, Rise};
+ghost use Rattle.rv_link_sites.specs.Line.{end_from, text_sites, text_starts};
+ghost use Rattle.rv_link_sites.specs.Text.{call_of, can_shorten, input_of, objects_of, IsGiven, IsLaid, IsLying};
+
+use crate::between::{Before, is_allowed};
+use crate::entries::Entries;
+use crate::line::start_padding;
+use crate::order::by_place;
+use crate::text::Text;
+use crate::words::{are_call_words, link_register};
+use rv_layout_laws::{Call, Padding, Site, SiteKind};
+use rv_object::{Object, Relocation, Section};
+use rv_placement::begins_at;
+use rv_relax::{asked_alignment, full_padding, has_padding};
+use std::alloc::{AllocError, Global};
+
+/// A section of text, by its file and its index there, both from 0.
+#[derive(Clone, Copy, Drop)]
+pub(crate) struct Input<'i> {
+    pub(crate) file: usize,
+    pub(crate) object: &'i Object,
+    pub(crate) index: usize,
+    pub(crate) section: &'i Section,
+    /// What the symbols of its object name.
+    pub(crate) entries: &'i Entries,
+}
+
+/// The sites of a text, as far as they are found.
+#[derive(Drop)]
+pub(crate) struct Marked {
+    /// In the order of the text.
+    pub(crate) sites: Vec<Site>,
+    /// Of each, whether it is the start of a section.
+    pub(crate) starts: Vec<bool>,
+}
+
+/// A padding.
+fn padding_site(offset: u64, bytes: u64, alignment: u64) -> Site
+    requires bytes { bytes ≤ 4094 }
+    requires alignment { alignment ≤ 4096 }
+    ensures { result ≡ laws.padding_site offset bytes alignment }
+{
+    Site {
+        offset,
+        kind: SiteKind::Padding(Padding {
+            bytes: bytes as u32,
+            alignment: alignment as u32,
+        }),
+    }
+}
+
+/// A call, if its words, its target and the symbols of its object allow that it is shortened.
+fn call(text: &Text<'_, '_>, input: &Input<'_>, relocation: &Relocation) -> Option<Call>
+    requires laid { IsLaid text.now }
+    requires given { IsGiven text.now input.now }
+    requires within { (relocation.now).place + 8
+        ≤ length (stored (section_of ((input.now).section).now).contents) }
+    ensures { result
+        ≡ (if can_shorten (objects_of text.now) (input_of input.now) (relocation_of relocation.now)
+        then Some
+        (call_of (objects_of text.now) (input_of input.now) (relocation_of relocation.now))
+        else None) }
+{
+    let bytes = input.section.contents.stored();
+    let place = relocation.place as usize;
+    if !are_call_words(bytes, place) {
+        return None;
+    }
+    let target = text.target(input.file, relocation)?;
+    if input.entries.is_entered(input.index, relocation.place) {
+        return None;
+    }
+    Some(Call {
+        target,
+        addend: relocation.addend,
+        compressed: input.object.rvc && link_register(bytes, place) == 0,
+    })
+}
+
+/// Adds a call of a section whose first byte stands at an offset, if its words, its target and the symbols of its object allow
+/// that it is shortened.
+fn put_call(
+    sites: &mut Vec<Site>,
+    text: &Text<'_, '_>,
+    input: &Input<'_>,
+    first: u64,
+    relocation: &Relocation,
+) -> Result<(), AllocError>
+    requires laid { IsLaid text.now }
+    requires given { IsGiven text.now input.now }
+    requires low { first + (relocation.now).place < 2 ^ 64 }
+    requires within { (relocation.now).place + 8
+        ≤ length (stored (section_of ((input.now).section).now).contents) }
+    ensures { OnOk result (sites.new.items ≡ sites.old.items
+        ++ (if can_shorten (objects_of text.now) (input_of input.now) (relocation_of relocation.now)
+        then laws.call_site (objects_of text.now) (input_of input.now)
+        (first + (relocation.now).place) (relocation_of relocation.now) ∷ []
+        else [])) }
+{
+    match call(text, input, relocation) {
+        Some(call) => {
+            sites.push(Site {
+                offset: first + relocation.place,
+                kind: SiteKind::Call(call),
+            })?;
+            Ok(())
+        }
+        None => Ok(()),
+    }
+}
+
+/// Adds a relocation of a section whose first byte stands at an offset, if it is an alignment or a call that may be shortened.
+/// It stands between the others of the section, which are in the order of their places.
+fn put_change(
+    sites: &mut Vec<Site>,
+    text: &Text<'_, '_>,
+    input: &Input<'_>,
+    first: u64,
+    before: Before,
+    relocation: &Relocation,
+    after: &[Relocation],
+) -> Result<(), AllocError>
+    requires laid { IsLaid text.now }
+    requires given { IsGiven text.now input.now }
+    requires low { first + size_of (section_of ((input.now).section).now).contents ≤ 2 ^ 62 }
+    requires lying { IsLying (section_of ((input.now).section).now) (relocation_of relocation.now) }
+    ensures { OnOk result ((rs : List SaidRelocation) → IsBefore rs before
+        → Rise 0 (rs ++ relocation_of relocation.now ∷ map relocation_of after.now)
+        → IsPermutation (input_of input.now).section.relocations
+        (rs ++ relocation_of relocation.now ∷ map relocation_of after.now)
+        → sites.new.items ≡ sites.old.items
+        ++ (if laws.may_change (objects_of text.now) (input_of input.now)
+        (relocation_of relocation.now)
+        then laws.site_of (objects_of text.now) (input_of input.now) first
+        (relocation_of relocation.now) ∷ []
+        else [])) }
+{
+    if has_padding(relocation) {
+        let site = padding_site(
+            first + relocation.place,
+            full_padding(relocation),
+            asked_alignment(relocation),
+        );
+        sites.push(site)?;
+        return Ok(());
+    }
+    if !is_allowed(before, relocation, after) {
+        return Ok(());
+    }
+    put_call(sites, text, input, first, relocation)?;
+    Ok(())
+}
+
+/// Adds what may change of a section whose first byte stands at an offset, by its relocations in the order of their places.
+fn put_changes(
+    sites: &mut Vec<Site>,
+    text: &Text<'_, '_>,
+    input: &Input<'_>,
+    first: u64,
+    sorted: &[Relocation],
+) -> Result<(), AllocError>
+    requires laid { IsLaid text.now }
+    requires given { IsGiven text.now input.now }
+    requires low { first + size_of (section_of ((input.now).section).now).contents ≤ 2 ^ 62 }
+    requires same { IsPermutation (((input.now).section).now).relocations.items sorted.now }
+    requires rise { IsNonDecreasingBy (λ r. r.place) sorted.now }
+    requires stable { IsStableByKey (λ r. r.place) nat_cmp
+        (((input.now).section).now).relocations.items sorted.now }
+    ensures { OnOk result (sites.new.items ≡ sites.old.items
+        ++ map (laws.site_of (objects_of text.now) (input_of input.now) first)
+        (laws.changes (objects_of text.now) (input_of input.now))) }
+{
+    let mut before = Before::nothing();
+    for i in 0..sorted.len() {
+        let relocation = &sorted[i];
+        put_change(
+            sites,
+            text,
+            input,
+            first,
+            before,
+            relocation,
+            &sorted[i + 1..],
+        )?;
+        before = before.and(relocation);
+    }
+    Ok(())
+}
+
+/// Marks that so many sites are no starts of sections.
+fn put_no_starts(starts: &mut Vec<bool>, count: usize) -> Result<(), AllocError>
+    ensures { OnOk result (starts.new.items ≡ starts.old.items ++ replicate count false) }
+{
+    for _ in 0..count {
+        starts.push(false)?;
+    }
+    Ok(())
+}
+
+/// Adds the sites of a section of text behind an end of the line: its start, and what may change of it. Gives the end after it.
+pub(crate) fn put_section(
+    alloc: Global,
+    marked: &mut Marked,
+    text: &Text<'_, '_>,
+    input: &Input<'_>,
+    stop: u64,
+) -> Result<u64, AllocError>
+    requires laid { IsLaid text.now }
+    requires given { IsGiven text.now input.now }
+    requires low { end_from stop (section_of ((input.now).section).now) ≤ 2 ^ 62 }
+    ensures end { IfOk result (λ end. end ≡ end_from stop (section_of ((input.now).section).now)) }
+    ensures sites { OnOk result (marked.new.sites.items
+        ≡ marked.old.sites.items ++ text_sites (objects_of text.now) stop (input_of input.now)) }
+    ensures starts { OnOk result (marked.new.starts.items
+        ≡ marked.old.starts.items ++ text_starts (objects_of text.now) (input_of input.now)) }
+{
+    let padding = start_padding(input.section);
+    let site = padding_site(stop, padding, begins_at(input.section));
+    marked.sites.push(site)?;
+    marked.starts.push(true)?;
+    let before = marked.sites.len();
+    let sorted = by_place(alloc, &input.section.relocations)?;
+    put_changes(&mut marked.sites, text, input, stop + padding, &sorted)?;
+    put_no_starts(&mut marked.starts, marked.sites.len() - before)?;
+    Ok(stop + padding + input.section.contents.size())
+}

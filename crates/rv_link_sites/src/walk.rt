@@ -1,0 +1,145 @@
+//! The sites of the text of objects.
+
+ghost use Rattle.std.specs.Prelude.{◌≡◌, ◌+◌, ◌≤◌, ◌^◌, ◌++◌, ◌<◌, ℕ, Some, map, length, true, false, IfOk, IfSome, IfNone, OnOk};
+ghost use Rattle.std.specs.List.{slice_get};
+ghost use Rattle.rv_layout_laws.specs.Calls.{IsText, site_at};
+ghost use Rattle.rv_object.specs.Object.{Section};
+ghost use Rattle.rv_object.specs.View.{object_of};
+ghost use Rattle.rv_object_laws.specs.Calls.{is_short_text, sites_of};
+ghost use Rattle.rv_object_laws.specs.Within.{IsWithin};
+ghost use Rattle.rv_relax.specs.Plan.{placed_sites, placed_starts};
+ghost use Rattle.rv_resolve.specs.Names.{IsNames};
+ghost use Rattle.rv_link_sites.specs.Entries.{AreEntries};
+ghost use Rattle.rv_link_sites.specs.Line as walk;
+ghost use Rattle.rv_link_sites.specs.Text.{IsLaid, objects_of};
+
+use crate::changes::{Input, Marked, put_section};
+use crate::entries::Entries;
+use crate::text::Text;
+use rv_object::Object;
+use rv_relax::Placed;
+use rv_resolve::Names;
+use rv_shorten::is_text;
+use std::alloc::{AllocError, Global};
+
+/// The text of objects, whose names mean this: its sites, and which of them are starts of sections. `None`: it is too long for
+/// memory, whatever is taken out of it.
+pub fn placed(
+    alloc: Global,
+    objects: &[Object],
+    names: &Names<'_>,
+) -> Result<Option<Placed>, AllocError>
+    requires { IsNames (map object_of objects.now) names.now }
+    ensures sites { IfOk result (λ found. IfSome found
+        (λ text. placed_sites text ≡ sites_of (map object_of objects.now))) }
+    ensures starts { IfOk result (λ found. IfSome found
+        (λ text. placed_starts text ≡ walk.starts_of (map object_of objects.now))) }
+    ensures text { IfOk result (λ found. IfSome found (λ text. IsText (placed_sites text))) }
+    ensures within { IfOk result (λ found. IfSome found
+        (λ text. (i : ℕ) → IsWithin (2 ^ 62) (site_at (placed_sites text) i))) }
+    ensures short { IfOk result
+        (λ found. IfSome found (λ _. is_short_text (map object_of objects.now) ≡ true)) }
+    ensures long { IfOk result
+        (λ found. IfNone found (is_short_text (map object_of objects.now) ≡ false)) }
+{
+    match Text::of(alloc, objects, names)? {
+        Some(text) => {
+            let mut marked = Marked {
+                sites: Vec::new(alloc),
+                starts: Vec::new(alloc),
+            };
+            put_all(alloc, &mut marked, &text)?;
+            let Marked { sites, starts } = marked;
+            Ok(Some(Placed::of(sites, starts)))
+        }
+        None => Ok(None),
+    }
+}
+
+/// Adds the sites of all objects.
+fn put_all(alloc: Global, marked: &mut Marked, text: &Text<'_, '_>) -> Result<(), AllocError>
+    requires { IsLaid text.now }
+    ensures sites { OnOk result
+        (marked.new.sites.items ≡ marked.old.sites.items ++ sites_of (objects_of text.now)) }
+    ensures starts { OnOk result (marked.new.starts.items
+        ≡ marked.old.starts.items ++ walk.starts_of (objects_of text.now)) }
+{
+    let mut stop = 0;
+    for file in 0..text.objects.len() {
+        stop = put_object(alloc, marked, text, file, &text.objects[file], stop)?;
+    }
+    Ok(())
+}
+
+/// Adds the sites of an object, by its place, from 0, behind an end of the line. Gives the end after it.
+fn put_object(
+    alloc: Global,
+    marked: &mut Marked,
+    text: &Text<'_, '_>,
+    file: usize,
+    object: &Object,
+    first: u64,
+) -> Result<u64, AllocError>
+    requires laid { IsLaid text.now }
+    requires at { slice_get (objects_of text.now) file ≡ Some (object_of object.now) }
+    requires low { walk.ended first (object_of object.now).sections ≤ 2 ^ 62 }
+    ensures end { IfOk result (λ end. end ≡ walk.ended first (object_of object.now).sections) }
+    ensures sites { OnOk result (marked.new.sites.items ≡ marked.old.sites.items
+        ++ walk.object_sites (objects_of text.now) (file + 1) (object_of object.now) 0 first
+        (object_of object.now).sections) }
+    ensures starts { OnOk result (marked.new.starts.items ≡ marked.old.starts.items
+        ++ walk.object_starts (objects_of text.now) (file + 1) (object_of object.now) 0
+        (object_of object.now).sections) }
+{
+    let entries = Entries::of(alloc, object)?;
+    let mut stop = first;
+    for index in 0..object.sections.len() {
+        stop = put_at(alloc, marked, text, file, object, &entries, index, stop)?;
+    }
+    Ok(stop)
+}
+
+/// Adds the sites of a section of an object, if it goes to the text, behind an end of the line. Gives the end after it.
+fn put_at(
+    alloc: Global,
+    marked: &mut Marked,
+    text: &Text<'_, '_>,
+    file: usize,
+    object: &Object,
+    entries: &Entries,
+    index: usize,
+    stop: u64,
+) -> Result<u64, AllocError>
+    requires laid { IsLaid text.now }
+    requires at { slice_get (objects_of text.now) file ≡ Some (object_of object.now) }
+    requires entries { AreEntries (object_of object.now) entries.now }
+    requires inside { index < length (object.now).sections.items }
+    requires low { (s : Section) → slice_get (object_of object.now).sections index ≡ Some s
+        → walk.next stop s ≤ 2 ^ 62 }
+    ensures end { IfOk result (λ end. (s : Section)
+        → slice_get (object_of object.now).sections index ≡ Some s → end ≡ walk.next stop s) }
+    ensures sites { OnOk result ((s : Section)
+        → slice_get (object_of object.now).sections index ≡ Some s
+        → marked.new.sites.items ≡ marked.old.sites.items
+        ++ walk.section_sites (objects_of text.now) stop
+        (walk.input (file + 1) (object_of object.now) index s)) }
+    ensures starts { OnOk result ((s : Section)
+        → slice_get (object_of object.now).sections index ≡ Some s
+        → marked.new.starts.items ≡ marked.old.starts.items
+        ++ walk.section_starts (objects_of text.now)
+        (walk.input (file + 1) (object_of object.now) index s)) }
+{
+    let section = &object.sections[index];
+    if !is_text(section) {
+        return Ok(stop);
+    }
+    let input = Input {
+        file,
+        object,
+        index,
+        section,
+        entries,
+    };
+    let end = put_section(alloc, marked, text, &input, stop)?;
+    Ok(end)
+}

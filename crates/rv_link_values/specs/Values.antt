@@ -1,0 +1,45 @@
+-- What the values of placed objects answer (`rv_object_laws`, specs/Values), and which relocations
+-- have none (RISC-V ELF psABI, "PC-Relative Symbol Addresses").
+
+use Rattle.std.specs.Prelude.{◌≡◌, ◌⊎◌, ℕ, ◌+◌, ℤ, pos, true, List, map, Some, None}
+use Rattle.std.specs.List.{slice_get}
+use Rattle.rv_map.specs.Map.{Global}
+use Rattle.rv_object.specs.Object.{Relocation, Object}
+use Rattle.rv_object_laws.specs.Inputs.{Starts, InputSection}
+use Rattle.rv_object_laws.specs.Values.{is_low, value}
+use Rattle.rv_shorten.specs.View.{short_object_of}
+use Rattle.rv_placement.specs.declared.placement.Placement.{Placement}
+use Rattle.rv_placement.specs.Placement.{IsPlacement}
+use Rattle.rv_resolve.specs.Names.{IsNames}
+use Rattle.rv_link_values.specs.declared.values.Values.{Values}
+use Rattle.rv_link_values.specs.Highs.{found, high_of}
+
+-- the section at an index of a file, both from 0
+pub record IsInputAt (os : List Object) (file index : ℕ) (i : InputSection) : Type 0 where
+  pub numbered : i.file ≡ file + 1
+  pub at : slice_get os file ≡ Some i.object
+  pub indexed : i.index ≡ index
+  pub there : slice_get i.object.sections index ≡ Some i.section
+
+-- the value of a relocation; a low part has no addend
+abbrev pub IsValueOf : List Global → Starts → List Object → InputSection → Relocation → ℤ → Type 0
+IsValueOf globals starts os i r v =
+    (value globals starts os i r ≡ Some v) × (is_low r.kind ≡ true → r.addend ≡ pos 0)
+
+-- a low part without its high part, or with an addend
+abbrev pub IsDangling : List Global → Starts → List Object → InputSection → Relocation → Type 0
+IsDangling globals starts os i r =
+    (is_low r.kind ≡ true)
+    × ((value globals starts os i r ≡ None) ⊎ (r.addend ≡ pos 0 → ⊥))
+
+-- these are the values of objects that are placed so
+pub record IsValues (os : List Object) (p : Placement) (v : Values) : Type 0 where
+  pub objects : map short_object_of v.objects.now ≡ os
+  pub placement : v.placement.now ≡ p
+  pub names : IsNames os v.names.now
+  -- the text begins anywhere
+  pub start : ℕ
+  pub placed : IsPlacement os start p
+  -- the high parts are found by where they stand
+  pub highs : (file section offset : ℕ) →
+      found v.highs file section offset ≡ high_of p os file section offset

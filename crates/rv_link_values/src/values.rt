@@ -1,0 +1,159 @@
+//! The values of relocations.
+
+ghost use Rattle.std.specs.Prelude.{◌≡◌, ◌+◌, ◌%◌, ◌^◌, ℕ, List, map, option_map, unwrap_or, Some, IfOk, IfErr};
+ghost use Rattle.std.specs.List.{slice_get};
+ghost use Rattle.rv_object.specs.Object.{Object as PlainObject};
+ghost use Rattle.rv_object.specs.Parts.{relocation_of};
+ghost use Rattle.rv_object_laws.specs.Inputs.{InputSection};
+ghost use Rattle.rv_object_laws.specs.Values as laws;
+ghost use Rattle.rv_shorten.specs.View.{short_object_of};
+ghost use Rattle.rv_placement.specs.declared.placement.Placement.{Placement as Placed};
+ghost use Rattle.rv_placement.specs.Placement.{placed_at, starts_of, IsPlacement};
+ghost use Rattle.rv_resolve.specs.Names.{IsNames, place_of};
+ghost use Rattle.rv_resolve.specs.Shown.{shown_globals};
+ghost use Rattle.rv_link_values.specs.Values.{IsInputAt, IsValueOf, IsDangling, IsValues};
+
+use crate::fault::ValueFault;
+use crate::high::Highs;
+use rv_isa::Kind;
+use rv_object::Relocation;
+use rv_placement::{PlacedSection, Placement};
+use rv_resolve::Names;
+use rv_shorten::ShortObject;
+use std::alloc::{AllocError, Global};
+
+/// What the relocations of placed objects are worth.
+#[derive(Drop)]
+pub struct Values<'p, 'o> {
+    pub(crate) objects: &'p [ShortObject<'o>],
+    pub(crate) placement: &'p Placement,
+    pub(crate) names: &'p Names<'o>,
+    pub(crate) highs: Highs,
+}
+
+/// Whether a relocation is the low part of a distance, whose high part is another.
+fn is_low(kind: Kind) -> bool
+    ensures { result ≡ laws.is_low kind }
+{
+    matches!(kind, Kind::PcrelLo12I | Kind::PcrelLo12S)
+}
+
+/// The place of a section by its file and its index there, both from 0.
+fn placed(placement: &Placement, file: usize, index: usize) -> Option<&PlacedSection>
+    ensures { option_map (λ q. q.now) result ≡ placed_at placement.now file index }
+{
+    let sections = placement.files.get(file)?;
+    sections.get(index)
+}
+
+impl<'p, 'o> Values<'p, 'o> {
+    /// Those of objects, with their sections placed, and of what their names mean.
+    pub fn of(
+        alloc: Global,
+        objects: &'p [ShortObject<'o>],
+        placement: &'p Placement,
+        names: &'p Names<'o>,
+    ) -> Result<Values<'p, 'o>, AllocError>
+        ensures { (start : ℕ) → IsNames (map short_object_of objects.now) names.now
+            → IsPlacement (map short_object_of objects.now) start placement.now
+            → IfOk result (IsValues (map short_object_of objects.now) placement.now) }
+    {
+        let highs = Highs::of(alloc, objects, placement)?;
+        Ok(Values {
+            objects,
+            placement,
+            names,
+            highs,
+        })
+    }
+
+    /// The value of a relocation of a section, by its file and its index there, both from 0. The relocation stands where calls
+    /// that are cut short have moved it.
+    ///
+    /// `Dangling`: it is the low part of a distance (`PcrelLo12I`, `PcrelLo12S`), and has no high part,
+    /// or an addend.
+    pub fn value(
+        &self,
+        file: usize,
+        index: usize,
+        relocation: &Relocation,
+    ) -> Result<i64, ValueFault>
+        ensures value { (os : List PlainObject) (p : Placed) (i : InputSection)
+            → IsValues os p self.now → IsInputAt os file index i → IfOk result
+            (IsValueOf (shown_globals os p) (starts_of p) os i (relocation_of relocation.now)) }
+        ensures refuses { (os : List PlainObject) (p : Placed) (i : InputSection)
+            → IsValues os p self.now → IsInputAt os file index i → IfErr result (λ _.
+            IsDangling (shown_globals os p) (starts_of p) os i (relocation_of relocation.now)) }
+    {
+        if !is_low(relocation.kind) {
+            return Ok(self.own_value(file, index, relocation));
+        }
+        if relocation.addend != 0 {
+            return Err(ValueFault::Dangling);
+        }
+        self.paired(file, relocation.symbol)
+            .ok_or(ValueFault::Dangling)
+    }
+
+    /// The value by the relocation's own symbol, addend and place.
+    fn own_value(&self, file: usize, index: usize, relocation: &Relocation) -> i64
+        ensures { (os : List PlainObject) (p : Placed) (i : InputSection) → IsValues os p self.now
+            → IsInputAt os file index i → result
+            ≡ laws.own_value (shown_globals os p) (starts_of p i.file) i.object
+            (starts_of p i.file i.index) i.section (relocation_of relocation.now) }
+    {
+        let symbol = self.target(file, relocation.symbol);
+        let place = self.moved(file, index, relocation.place);
+        rv_reloc::value(relocation.kind, symbol, relocation.addend, place)
+    }
+
+    /// The address of a relocation's symbol; 0 where it has none.
+    fn target(&self, file: usize, symbol: Option<u32>) -> u64
+        ensures { (os : List PlainObject) (p : Placed) (o : PlainObject) → IsValues os p self.now
+            → slice_get os file ≡ Some o → result
+            ≡ unwrap_or (laws.target (shown_globals os p) (starts_of p (file + 1)) o symbol) 0 }
+    {
+        match symbol {
+            Some(index) => self
+                .names
+                .address(self.objects, self.placement, file, index)
+                .unwrap_or(0),
+            None => 0,
+        }
+    }
+
+    /// The address of an old offset in a section, modulo 2^64.
+    fn moved(&self, file: usize, index: usize, offset: u64) -> u64
+        ensures { (os : List PlainObject) (p : Placed) (i : InputSection) → IsValues os p self.now
+            → IsInputAt os file index i
+            → result ≡ laws.moved (starts_of p i.file i.index) i.section offset % 2 ^ 64 }
+    {
+        match placed(self.placement, file, index) {
+            Some(place) => place.start.wrapping_add(place.plan.new_offset(offset)),
+            None => 0,
+        }
+    }
+
+    /// The value of the high part at the place of a symbol of a file.
+    fn paired(&self, file: usize, symbol: Option<u32>) -> Option<i64>
+        ensures { (os : List PlainObject) (p : Placed) (o : PlainObject) → IsValues os p self.now
+            → slice_get os file ≡ Some o
+            → result ≡ laws.paired (shown_globals os p) (starts_of p) os (file + 1) o symbol }
+    {
+        let index = symbol?;
+        let (file, section, offset) = self.names.place(self.objects, file, index)?;
+        self.value_at(file, section, offset)
+    }
+
+    /// The value of the high part at an old offset of a section.
+    fn value_at(&self, file: usize, section: u32, offset: u64) -> Option<i64>
+        ensures { (os : List PlainObject) (p : Placed) → IsValues os p self.now → result
+            ≡ laws.value_at (shown_globals os p) (starts_of p) os
+            (Some (place_of (file, section, offset))) }
+    {
+        let section = section as usize;
+        let place = placed(self.placement, file, section)?;
+        let high = self.highs.at(file, section, place.plan.new_offset(offset))?;
+        Some(self.own_value(file, section, &high))
+    }
+}

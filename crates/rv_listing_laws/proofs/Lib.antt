@@ -1,6 +1,0 @@
-pub mod Ascending
-pub mod Encodings
-pub mod Entries
-pub mod Listed
-pub mod OneListing
-pub mod Segments

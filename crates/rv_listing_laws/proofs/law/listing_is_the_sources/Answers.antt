@@ -1,5 +1,0 @@
-use Rattle.rv_listing_laws.proofs.Listed.{listed_is}
-use Rattle.rv_listing_laws.proofs.law.listing_is_the_sources.Goals as goal
-
-pub returns : goal.returns
-returns c = listed_is

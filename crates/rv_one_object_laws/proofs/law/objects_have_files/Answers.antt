@@ -1,5 +1,0 @@
-use Rattle.rv_one_object_laws.proofs.FileRoom.{has_file}
-use Rattle.rv_one_object_laws.proofs.law.objects_have_files.Goals as goal
-
-pub returns : goal.returns
-returns c = has_file

@@ -1,0 +1,42 @@
+-- What the types of words and slots stand for.
+
+use Rattle.std.specs.Prelude.{ℕ, List, Option, None}
+use Rattle.std.specs.Borrow.{Bor}
+use Rattle.rv_text_laws.specs.Grammar.{Kind, Name}
+use Rattle.rv_statement.specs.declared.directive.Choice.{Choice}
+use Rattle.rv_statement.specs.Statement.{Operand, Word, Quoted}
+use Rattle.rv_statement.specs.View.{now_of, quoted}
+use Rattle.rv_parse_laws.specs.Syntax as syntax
+use Rattle.rv_parse_laws.specs.Words as words
+use Rattle.rv_parse_words.specs.declared.fault.Slot.{Slot}
+use Rattle.rv_parse_words.specs.declared.fault.Slot.TheVariants as slots
+
+abbrev pub slot_of : Slot → syntax.Slot
+slot_of slots.Register = syntax.A_register
+slot_of (slots.Value role) = syntax.A_value role
+slot_of slots.Address = syntax.An_address
+slot_of slots.Callee = syntax.A_callee
+slot_of slots.Zero = syntax.A_zero
+slot_of slots.Accesses = syntax.Some_accesses
+slot_of slots.Symbol = syntax.A_symbol
+slot_of slots.Text = syntax.A_string
+slot_of slots.Section = syntax.A_section
+slot_of slots.Flags = syntax.Some_flags
+slot_of slots.Type = syntax.A_type
+slot_of slots.Choice = syntax.An_option
+
+-- a row of a table of names
+abbrev pub named_of : {X : Type 0} → Bor (List ℕ) × X → List ℕ × X
+named_of row = (row.0.now, row.1)
+
+-- the choice of `.option` that a token names
+abbrev pub choice_of : Kind → Option Choice
+choice_of (Name name) = words.named_in words.choices name
+choice_of _ = None
+
+-- a symbol and a string as operands
+abbrev pub word_of : Bor (List ℕ) → Operand
+word_of name = Word (now_of name)
+
+abbrev pub string_of : Bor (List ℕ) → Operand
+string_of text = Quoted (quoted text)

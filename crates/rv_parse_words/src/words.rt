@@ -1,0 +1,719 @@
+//! The words that may begin a statement.
+
+ghost use Rattle.std.specs.Prelude.{◌≡◌, map, ◌||◌, ◌&&◌, take, drop, length, option_map, is_some, codes};
+ghost use Rattle.std.specs.Str.{bytes_eq};
+ghost use Rattle.rv_parse_laws.specs.Words.{function_words, left_out_words, left_out_options, section_types, choices, is_among, is_frame, frame_directive, directive_words, directive_named, beginning, register, named_in, atomic_forms, form_behind, either, atomic_in, atomic_operations, instruction_words, mnemonic_named};
+ghost use Rattle.rv_statement.specs.declared.mnemonic.Mnemonic.TheVariants.{LoadReserved};
+ghost use Rattle.std.specs.List.{list_all};
+ghost use Rattle.rv_parse_laws.specs.Syntax.{access_sets, with_constant, is_flag};
+ghost use Rattle.rv_parse_laws.specs.Faults.{is_known_flag};
+ghost use Rattle.rv_parse_words.specs.View.{named_of};
+
+use rv_isa::{
+    AccessSet, AtomicForm, AtomicOperation, BranchOperation, ImmediateOperation, LoadOperation,
+    Reg, RegisterOperation, ShiftOperation, StoreOperation, UpperOperation, reg_named,
+};
+use rv_parse_laws::Beginning;
+use rv_statement::{
+    Choice, CompareOperation, DirectiveWord, Function, Mnemonic, Standard, SwappedBranchOperation,
+    UnaryOperation, Width, ZeroBranchOperation,
+};
+use rv_text::LONGEST_NAME;
+
+/// What the language leaves out by name: a mnemonic, and directives.
+const LEFT_OUT_WORDS: [&str; 13] = [
+    "unimp",
+    ".weak",
+    ".comm",
+    ".macro",
+    ".rept",
+    ".if",
+    ".include",
+    ".pushsection",
+    ".popsection",
+    ".previous",
+    ".insn",
+    ".uleb128",
+    ".loc",
+];
+
+/// The options that the language leaves out by name.
+const LEFT_OUT_OPTIONS: [&str; 2] = ["arch", "pic"];
+
+/// The word is in the list.
+fn is_among(words: &[&str], word: &[u8]) -> bool
+    ensures { result ≡ is_among (map (λ w. w.now) words.now) word.now }
+{
+    for candidate in words {
+        if candidate.as_bytes() == word {
+            return true;
+        }
+    }
+    false
+}
+
+/// A mnemonic or a directive that the language leaves out by name.
+#[tactic(auto, unfolding(rv_parse_laws::specs::Words::left_out_words))]
+pub fn is_left_out(word: &[u8]) -> bool
+    ensures { result ≡ is_among left_out_words word.now }
+{
+    is_among(&LEFT_OUT_WORDS, word)
+}
+
+/// An option that the language leaves out by name.
+#[tactic(auto, unfolding(rv_parse_laws::specs::Words::left_out_options))]
+pub fn is_left_out_option(word: &[u8]) -> bool
+    ensures { result ≡ is_among left_out_options word.now }
+{
+    is_among(&LEFT_OUT_OPTIONS, word)
+}
+
+/// The types that sections may have.
+const SECTION_TYPES: [&str; 3] = ["progbits", "nobits", "note"];
+
+/// A type that a section may have.
+#[tactic(auto, unfolding(rv_parse_laws::specs::Words::section_types))]
+pub fn is_section_type(word: &[u8]) -> bool
+    ensures { result ≡ is_among section_types word.now }
+{
+    is_among(&SECTION_TYPES, word)
+}
+
+/// A letter of a section's flags: a w x, and M and S, which are dropped.
+fn is_flag(letter: u8) -> bool
+    ensures { result ≡ is_flag letter }
+{
+    matches!(letter, b'a' | b'w' | b'x' | b'M' | b'S')
+}
+
+/// A letter of flags that the language has, or leaves out by name.
+fn is_known_flag(letter: u8) -> bool
+    ensures { result ≡ is_known_flag letter }
+{
+    is_flag(letter) || matches!(letter, b'G' | b'T')
+}
+
+/// The flags of a section.
+pub fn are_flags(letters: &[u8]) -> bool
+    ensures { result ≡ list_all is_flag letters.now }
+{
+    for letter in letters {
+        if !is_flag(*letter) {
+            return false;
+        }
+    }
+    true
+}
+
+/// Flags that the language has, or leaves out by name.
+pub fn are_known_flags(letters: &[u8]) -> bool
+    ensures { result ≡ list_all is_known_flag letters.now }
+{
+    for letter in letters {
+        if !is_known_flag(*letter) {
+            return false;
+        }
+    }
+    true
+}
+
+/// The register of this name.
+pub fn register_named(name: &[u8]) -> Option<Reg>
+    ensures { result ≡ register name.now }
+{
+    reg_named(name)
+}
+
+/// The mnemonics but the atomics, of 1 letter.
+const OF_ONE: [(&str, Mnemonic); 1] = [("j", Mnemonic::J)];
+
+/// The mnemonics but the atomics, of 2 letters.
+const OF_TWO: [(&str, Mnemonic); 13] = [
+    ("lb", Mnemonic::Load(LoadOperation::Lb)),
+    ("lh", Mnemonic::Load(LoadOperation::Lh)),
+    ("lw", Mnemonic::Load(LoadOperation::Lw)),
+    ("ld", Mnemonic::Load(LoadOperation::Ld)),
+    ("sb", Mnemonic::Store(StoreOperation::Sb)),
+    ("sh", Mnemonic::Store(StoreOperation::Sh)),
+    ("sw", Mnemonic::Store(StoreOperation::Sw)),
+    ("sd", Mnemonic::Store(StoreOperation::Sd)),
+    ("or", Mnemonic::Registers(RegisterOperation::Or)),
+    ("li", Mnemonic::Li),
+    ("mv", Mnemonic::Unary(UnaryOperation::Mv)),
+    ("jr", Mnemonic::Jr),
+    ("la", Mnemonic::La),
+];
+
+/// The mnemonics but the atomics, of 3 letters.
+const OF_THREE: [(&str, Mnemonic); 29] = [
+    ("lui", Mnemonic::Upper(UpperOperation::Lui)),
+    ("jal", Mnemonic::Jal),
+    ("beq", Mnemonic::Branch(BranchOperation::Beq)),
+    ("bne", Mnemonic::Branch(BranchOperation::Bne)),
+    ("blt", Mnemonic::Branch(BranchOperation::Blt)),
+    ("bge", Mnemonic::Branch(BranchOperation::Bge)),
+    ("lbu", Mnemonic::Load(LoadOperation::Lbu)),
+    ("lhu", Mnemonic::Load(LoadOperation::Lhu)),
+    ("lwu", Mnemonic::Load(LoadOperation::Lwu)),
+    ("ori", Mnemonic::Immediate(ImmediateOperation::Ori)),
+    ("add", Mnemonic::Registers(RegisterOperation::Add)),
+    ("sub", Mnemonic::Registers(RegisterOperation::Sub)),
+    ("sll", Mnemonic::Registers(RegisterOperation::Sll)),
+    ("slt", Mnemonic::Registers(RegisterOperation::Slt)),
+    ("xor", Mnemonic::Registers(RegisterOperation::Xor)),
+    ("srl", Mnemonic::Registers(RegisterOperation::Srl)),
+    ("sra", Mnemonic::Registers(RegisterOperation::Sra)),
+    ("and", Mnemonic::Registers(RegisterOperation::And)),
+    ("mul", Mnemonic::Registers(RegisterOperation::Mul)),
+    ("div", Mnemonic::Registers(RegisterOperation::Div)),
+    ("rem", Mnemonic::Registers(RegisterOperation::Rem)),
+    ("nop", Mnemonic::Nop),
+    ("not", Mnemonic::Unary(UnaryOperation::Not)),
+    ("neg", Mnemonic::Unary(UnaryOperation::Neg)),
+    ("sgt", Mnemonic::Compare(CompareOperation::Sgt)),
+    ("bgt", Mnemonic::SwappedBranch(SwappedBranchOperation::Bgt)),
+    ("ble", Mnemonic::SwappedBranch(SwappedBranchOperation::Ble)),
+    ("ret", Mnemonic::Ret),
+    ("lla", Mnemonic::La),
+];
+
+/// The mnemonics but the atomics, of 4 letters.
+const OF_FOUR: [(&str, Mnemonic); 39] = [
+    ("jalr", Mnemonic::Jalr),
+    ("bltu", Mnemonic::Branch(BranchOperation::Bltu)),
+    ("bgeu", Mnemonic::Branch(BranchOperation::Bgeu)),
+    ("addi", Mnemonic::Immediate(ImmediateOperation::Addi)),
+    ("slti", Mnemonic::Immediate(ImmediateOperation::Slti)),
+    ("xori", Mnemonic::Immediate(ImmediateOperation::Xori)),
+    ("andi", Mnemonic::Immediate(ImmediateOperation::Andi)),
+    ("slli", Mnemonic::Shift(ShiftOperation::Slli)),
+    ("srli", Mnemonic::Shift(ShiftOperation::Srli)),
+    ("srai", Mnemonic::Shift(ShiftOperation::Srai)),
+    ("sltu", Mnemonic::Registers(RegisterOperation::Sltu)),
+    ("addw", Mnemonic::Registers(RegisterOperation::Addw)),
+    ("subw", Mnemonic::Registers(RegisterOperation::Subw)),
+    ("sllw", Mnemonic::Registers(RegisterOperation::Sllw)),
+    ("srlw", Mnemonic::Registers(RegisterOperation::Srlw)),
+    ("sraw", Mnemonic::Registers(RegisterOperation::Sraw)),
+    ("mulh", Mnemonic::Registers(RegisterOperation::Mulh)),
+    ("divu", Mnemonic::Registers(RegisterOperation::Divu)),
+    ("remu", Mnemonic::Registers(RegisterOperation::Remu)),
+    ("mulw", Mnemonic::Registers(RegisterOperation::Mulw)),
+    ("divw", Mnemonic::Registers(RegisterOperation::Divw)),
+    ("remw", Mnemonic::Registers(RegisterOperation::Remw)),
+    ("negw", Mnemonic::Unary(UnaryOperation::Negw)),
+    ("seqz", Mnemonic::Unary(UnaryOperation::Seqz)),
+    ("snez", Mnemonic::Unary(UnaryOperation::Snez)),
+    ("sltz", Mnemonic::Unary(UnaryOperation::Sltz)),
+    ("sgtz", Mnemonic::Unary(UnaryOperation::Sgtz)),
+    ("sgtu", Mnemonic::Compare(CompareOperation::Sgtu)),
+    ("beqz", Mnemonic::ZeroBranch(ZeroBranchOperation::Beqz)),
+    ("bnez", Mnemonic::ZeroBranch(ZeroBranchOperation::Bnez)),
+    ("bgez", Mnemonic::ZeroBranch(ZeroBranchOperation::Bgez)),
+    ("bltz", Mnemonic::ZeroBranch(ZeroBranchOperation::Bltz)),
+    ("blez", Mnemonic::ZeroBranch(ZeroBranchOperation::Blez)),
+    ("bgtz", Mnemonic::ZeroBranch(ZeroBranchOperation::Bgtz)),
+    (
+        "bgtu",
+        Mnemonic::SwappedBranch(SwappedBranchOperation::Bgtu),
+    ),
+    (
+        "bleu",
+        Mnemonic::SwappedBranch(SwappedBranchOperation::Bleu),
+    ),
+    ("call", Mnemonic::Call),
+    ("tail", Mnemonic::Tail),
+    ("jump", Mnemonic::Jump),
+];
+
+/// The mnemonics but the atomics, of 5 letters.
+const OF_FIVE: [(&str, Mnemonic); 11] = [
+    ("auipc", Mnemonic::Upper(UpperOperation::Auipc)),
+    ("sltiu", Mnemonic::Immediate(ImmediateOperation::Sltiu)),
+    ("addiw", Mnemonic::Immediate(ImmediateOperation::Addiw)),
+    ("slliw", Mnemonic::Shift(ShiftOperation::Slliw)),
+    ("srliw", Mnemonic::Shift(ShiftOperation::Srliw)),
+    ("sraiw", Mnemonic::Shift(ShiftOperation::Sraiw)),
+    ("fence", Mnemonic::Fence),
+    ("ecall", Mnemonic::Ecall),
+    ("mulhu", Mnemonic::Registers(RegisterOperation::Mulhu)),
+    ("divuw", Mnemonic::Registers(RegisterOperation::Divuw)),
+    ("remuw", Mnemonic::Registers(RegisterOperation::Remuw)),
+];
+
+/// The mnemonics but the atomics, of 6 letters.
+const OF_SIX: [(&str, Mnemonic); 8] = [
+    ("ebreak", Mnemonic::Ebreak),
+    ("mulhsu", Mnemonic::Registers(RegisterOperation::Mulhsu)),
+    ("sext.b", Mnemonic::Unary(UnaryOperation::SextB)),
+    ("sext.h", Mnemonic::Unary(UnaryOperation::SextH)),
+    ("sext.w", Mnemonic::Unary(UnaryOperation::SextW)),
+    ("zext.b", Mnemonic::Unary(UnaryOperation::ZextB)),
+    ("zext.h", Mnemonic::Unary(UnaryOperation::ZextH)),
+    ("zext.w", Mnemonic::Unary(UnaryOperation::ZextW)),
+];
+
+/// The mnemonics but the atomics, of 9 letters.
+const OF_NINE: [(&str, Mnemonic); 1] = [("fence.tso", Mnemonic::FenceTso)];
+
+/// The atomics that have a second source.
+const ATOMICS: [(&str, AtomicOperation); 10] = [
+    ("sc", AtomicOperation::Sc),
+    ("amoswap", AtomicOperation::Amoswap),
+    ("amoadd", AtomicOperation::Amoadd),
+    ("amoxor", AtomicOperation::Amoxor),
+    ("amoand", AtomicOperation::Amoand),
+    ("amoor", AtomicOperation::Amoor),
+    ("amomin", AtomicOperation::Amomin),
+    ("amomax", AtomicOperation::Amomax),
+    ("amominu", AtomicOperation::Amominu),
+    ("amomaxu", AtomicOperation::Amomaxu),
+];
+
+/// What stands after an atomic's operation.
+const FORMS: [(&str, AtomicForm); 8] = [
+    (
+        ".w",
+        AtomicForm {
+            double: false,
+            acquire: false,
+            release: false,
+        },
+    ),
+    (
+        ".w.aq",
+        AtomicForm {
+            double: false,
+            acquire: true,
+            release: false,
+        },
+    ),
+    (
+        ".w.rl",
+        AtomicForm {
+            double: false,
+            acquire: false,
+            release: true,
+        },
+    ),
+    (
+        ".w.aqrl",
+        AtomicForm {
+            double: false,
+            acquire: true,
+            release: true,
+        },
+    ),
+    (
+        ".d",
+        AtomicForm {
+            double: true,
+            acquire: false,
+            release: false,
+        },
+    ),
+    (
+        ".d.aq",
+        AtomicForm {
+            double: true,
+            acquire: true,
+            release: false,
+        },
+    ),
+    (
+        ".d.rl",
+        AtomicForm {
+            double: true,
+            acquire: false,
+            release: true,
+        },
+    ),
+    (
+        ".d.aqrl",
+        AtomicForm {
+            double: true,
+            acquire: true,
+            release: true,
+        },
+    ),
+];
+
+/// What a table has for a word.
+fn named_in<X: Copy>(table: &[(&str, X)], word: &[u8]) -> Option<X>
+    ensures { result ≡ named_in (map named_of table.now) word.now }
+{
+    for row in table {
+        if row.0.as_bytes() == word {
+            return Some(row.1);
+        }
+    }
+    None
+}
+
+/// The width and the ordering of an atomic, after its operation.
+#[tactic(auto, unfolding(rv_parse_laws::specs::Words::atomic_forms))]
+fn form_of(end: &[u8]) -> Option<AtomicForm>
+    ensures { result ≡ named_in atomic_forms end.now }
+{
+    named_in(&FORMS, end)
+}
+
+/// The form of an atomic whose operation stands in front.
+fn form_behind(front: &[u8], word: &[u8]) -> Option<AtomicForm>
+    ensures { result ≡ form_behind front.now word.now }
+{
+    match word.strip_prefix(front) {
+        Some(end) => form_of(end),
+        None => None,
+    }
+}
+
+/// The atomic of a table that the word is.
+fn atomic_in(table: &[(&str, AtomicOperation)], word: &[u8]) -> Option<Mnemonic>
+    ensures { result ≡ atomic_in (map named_of table.now) word.now }
+{
+    for row in table {
+        if let Some(form) = form_behind(row.0.as_bytes(), word) {
+            return Some(Mnemonic::Atomic(row.1, form));
+        }
+    }
+    None
+}
+
+/// The load-reserved or the atomic that the word is.
+#[tactic(auto, unfolding(rv_parse_laws::specs::Words::atomic_operations))]
+fn atomic_named(word: &[u8]) -> Option<Mnemonic>
+    ensures { result
+        ≡ either (option_map LoadReserved (form_behind (codes "lr") word.now))
+        (atomic_in atomic_operations word.now) }
+{
+    match form_behind(b"lr", word) {
+        Some(form) => Some(Mnemonic::LoadReserved(form)),
+        None => atomic_in(&ATOMICS, word),
+    }
+}
+
+/// The mnemonic but the atomics that the word is: a look-up among the names of its length.
+fn instruction_named(word: &[u8]) -> Option<Mnemonic>
+    ensures { result ≡ named_in instruction_words word.now }
+{
+    match word.len() {
+        1 => named_in(&OF_ONE, word),
+        2 => named_in(&OF_TWO, word),
+        3 => named_in(&OF_THREE, word),
+        4 => named_in(&OF_FOUR, word),
+        5 => named_in(&OF_FIVE, word),
+        6 => named_in(&OF_SIX, word),
+        9 => named_in(&OF_NINE, word),
+        _ => None,
+    }
+}
+
+/// The mnemonic that the word is; none begins as directives do.
+#[tactic(auto, unfolding(rv_parse_laws::specs::Words::mnemonic_named, rv_parse_laws::specs::Words::instruction_words, rv_parse_laws::specs::Words::atomic_operations))]
+fn mnemonic_named(word: &[u8]) -> Option<Mnemonic>
+    ensures { result ≡ mnemonic_named word.now }
+{
+    if let [b'.', ..] = word {
+        return None;
+    }
+    match instruction_named(word) {
+        Some(mnemonic) => Some(mnemonic),
+        None => atomic_named(word),
+    }
+}
+
+/// The functions of a value.
+const FUNCTIONS: [(&str, Function); 4] = [
+    ("hi", Function::Hi),
+    ("lo", Function::Lo),
+    ("pcrel_hi", Function::PcrelHi),
+    ("pcrel_lo", Function::PcrelLo),
+];
+
+/// The function of this name.
+#[tactic(auto, unfolding(rv_parse_laws::specs::Words::function_words))]
+pub fn function_named(word: &[u8]) -> Option<Function>
+    ensures { result ≡ named_in function_words word.now }
+{
+    named_in(&FUNCTIONS, word)
+}
+
+/// The directives but those of call frames.
+const DIRECTIVES: [(&str, DirectiveWord); 36] = [
+    (".text", DirectiveWord::Enters(Standard::Text)),
+    (".data", DirectiveWord::Enters(Standard::Data)),
+    (".rodata", DirectiveWord::Enters(Standard::Rodata)),
+    (".bss", DirectiveWord::Enters(Standard::Bss)),
+    (".section", DirectiveWord::Section),
+    (".globl", DirectiveWord::Globl),
+    (".global", DirectiveWord::Globl),
+    (".local", DirectiveWord::Local),
+    (".set", DirectiveWord::Set),
+    (".equ", DirectiveWord::Set),
+    (".align", DirectiveWord::AlignToPower),
+    (".p2align", DirectiveWord::AlignToPower),
+    (".balign", DirectiveWord::AlignToBytes),
+    (".byte", DirectiveWord::Value(Width::Byte)),
+    (".half", DirectiveWord::Value(Width::Half)),
+    (".2byte", DirectiveWord::Value(Width::Half)),
+    (".word", DirectiveWord::Value(Width::Word)),
+    (".4byte", DirectiveWord::Value(Width::Word)),
+    (".dword", DirectiveWord::Value(Width::Double)),
+    (".8byte", DirectiveWord::Value(Width::Double)),
+    (".quad", DirectiveWord::Value(Width::Double)),
+    (".ascii", DirectiveWord::Ascii),
+    (".asciz", DirectiveWord::Asciz),
+    (".string", DirectiveWord::Asciz),
+    (".zero", DirectiveWord::Zero),
+    (".space", DirectiveWord::Zero),
+    (".skip", DirectiveWord::Zero),
+    (".option", DirectiveWord::Option),
+    (".file", DirectiveWord::Ignored),
+    (".ident", DirectiveWord::Ignored),
+    (".type", DirectiveWord::Ignored),
+    (".size", DirectiveWord::Ignored),
+    (".attribute", DirectiveWord::Ignored),
+    (".hidden", DirectiveWord::Ignored),
+    (".protected", DirectiveWord::Ignored),
+    (".internal", DirectiveWord::Ignored),
+];
+
+/// Call frame information, whatever follows the common front.
+pub fn is_frame(word: &[u8]) -> bool
+    ensures { result ≡ is_frame word.now }
+{
+    word.starts_with(b".cfi_")
+}
+
+/// The directive of call frame information, which has a name's length at most.
+fn frame_directive(word: &[u8]) -> Option<DirectiveWord>
+    ensures { result ≡ frame_directive word.now }
+{
+    if is_frame(word) && word.len() <= LONGEST_NAME {
+        Some(DirectiveWord::Ignored)
+    } else {
+        None
+    }
+}
+
+/// The directive of the table that the word is.
+#[tactic(auto, unfolding(rv_parse_laws::specs::Words::directive_words))]
+fn listed_directive(word: &[u8]) -> Option<DirectiveWord>
+    ensures { result ≡ named_in directive_words word.now }
+{
+    named_in(&DIRECTIVES, word)
+}
+
+/// The directive that the word is.
+#[tactic(auto, unfolding(rv_parse_laws::specs::Words::directive_named))]
+fn directive_named(word: &[u8]) -> Option<DirectiveWord>
+    ensures { result ≡ directive_named word.now }
+{
+    match listed_directive(word) {
+        Some(directive) => Some(directive),
+        None => frame_directive(word),
+    }
+}
+
+/// What the word begins.
+#[tactic(auto, unfolding(rv_parse_laws::specs::Words::beginning))]
+pub fn beginning_with(word: &[u8]) -> Beginning
+    ensures { result ≡ beginning word.now }
+{
+    if let Some(mnemonic) = mnemonic_named(word) {
+        Beginning::Instruction(mnemonic)
+    } else if let Some(directive) = directive_named(word) {
+        Beginning::Directive(directive)
+    } else {
+        Beginning::Nothing
+    }
+}
+
+/// What `.option` may say.
+const OPTIONS: [(&str, Choice); 7] = [
+    ("rvc", Choice::Rvc),
+    ("norvc", Choice::Norvc),
+    ("relax", Choice::Relax),
+    ("norelax", Choice::Norelax),
+    ("push", Choice::Push),
+    ("pop", Choice::Pop),
+    ("nopic", Choice::Nopic),
+];
+
+/// The choice of this name.
+#[tactic(auto, unfolding(rv_parse_laws::specs::Words::choices))]
+pub fn choice_named(word: &[u8]) -> Option<Choice>
+    ensures { result ≡ named_in choices word.now }
+{
+    named_in(&OPTIONS, word)
+}
+
+/// The sets of accesses by their letters.
+const ACCESSES: [(&str, AccessSet); 15] = [
+    (
+        "w",
+        AccessSet {
+            input: false,
+            output: false,
+            reads: false,
+            writes: true,
+        },
+    ),
+    (
+        "r",
+        AccessSet {
+            input: false,
+            output: false,
+            reads: true,
+            writes: false,
+        },
+    ),
+    (
+        "rw",
+        AccessSet {
+            input: false,
+            output: false,
+            reads: true,
+            writes: true,
+        },
+    ),
+    (
+        "o",
+        AccessSet {
+            input: false,
+            output: true,
+            reads: false,
+            writes: false,
+        },
+    ),
+    (
+        "ow",
+        AccessSet {
+            input: false,
+            output: true,
+            reads: false,
+            writes: true,
+        },
+    ),
+    (
+        "or",
+        AccessSet {
+            input: false,
+            output: true,
+            reads: true,
+            writes: false,
+        },
+    ),
+    (
+        "orw",
+        AccessSet {
+            input: false,
+            output: true,
+            reads: true,
+            writes: true,
+        },
+    ),
+    (
+        "i",
+        AccessSet {
+            input: true,
+            output: false,
+            reads: false,
+            writes: false,
+        },
+    ),
+    (
+        "iw",
+        AccessSet {
+            input: true,
+            output: false,
+            reads: false,
+            writes: true,
+        },
+    ),
+    (
+        "ir",
+        AccessSet {
+            input: true,
+            output: false,
+            reads: true,
+            writes: false,
+        },
+    ),
+    (
+        "irw",
+        AccessSet {
+            input: true,
+            output: false,
+            reads: true,
+            writes: true,
+        },
+    ),
+    (
+        "io",
+        AccessSet {
+            input: true,
+            output: true,
+            reads: false,
+            writes: false,
+        },
+    ),
+    (
+        "iow",
+        AccessSet {
+            input: true,
+            output: true,
+            reads: false,
+            writes: true,
+        },
+    ),
+    (
+        "ior",
+        AccessSet {
+            input: true,
+            output: true,
+            reads: true,
+            writes: false,
+        },
+    ),
+    (
+        "iorw",
+        AccessSet {
+            input: true,
+            output: true,
+            reads: true,
+            writes: true,
+        },
+    ),
+];
+
+/// The set of accesses of these letters.
+#[tactic(auto, unfolding(rv_parse_laws::specs::Syntax::access_sets))]
+pub fn accesses_named(letters: &[u8]) -> Option<AccessSet>
+    ensures { result ≡ named_in access_sets letters.now }
+{
+    named_in(&ACCESSES, letters)
+}
+
+/// The operation has a form with a constant.
+pub fn has_constant(operation: RegisterOperation) -> bool
+    ensures { result ≡ is_some (with_constant operation) }
+{
+    match operation {
+        RegisterOperation::Add
+        | RegisterOperation::Slt
+        | RegisterOperation::Sltu
+        | RegisterOperation::Xor
+        | RegisterOperation::Or
+        | RegisterOperation::And
+        | RegisterOperation::Addw
+        | RegisterOperation::Sll
+        | RegisterOperation::Srl
+        | RegisterOperation::Sra
+        | RegisterOperation::Sllw
+        | RegisterOperation::Srlw
+        | RegisterOperation::Sraw => true,
+        _ => false,
+    }
+}

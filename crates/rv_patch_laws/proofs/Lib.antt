@@ -1,3 +1,0 @@
-mod Fields
-mod Parcels
-pub mod Formats

@@ -1,2 +1,0 @@
-pub mod Encoded
-pub mod Filled

@@ -1,6 +1,0 @@
-use Rattle.std.proofs.Common.{◌≡◌, ◌++◌}
-use Rattle.rv_assemble_laws.specs.Templates.{zeros}
-use Rattle.rv_sites.proofs.data.put_zeros.Given as goal
-
-abbrev pub invariant-loop : goal.invariant-loop
-invariant-loop l = l.bytes.items ≡ l.fn.bytes.items ++ zeros l.counter

@@ -1,5 +1,0 @@
-use Rattle.std.proofs.Common.{◌+◌}
-use Rattle.rv_sites.proofs.measure.seen.Goals as goal
-
-pub returns : goal.returns
-returns c = λ index filled stands. (c.padding_of-padding.result + c.from.result, c.item.ensures index filled stands)

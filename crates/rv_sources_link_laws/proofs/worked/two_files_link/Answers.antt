@@ -1,0 +1,5 @@
+use Rattle.rv_sources_link_laws.proofs.TwoLinked.{linked}
+use Rattle.rv_sources_link_laws.proofs.worked.two_files_link.Goals as goal
+
+pub returns : goal.returns
+returns c = linked

@@ -1,0 +1,12 @@
+use Rattle.rv_unique_link_laws.proofs.Placed.{rows_placed}
+use Rattle.rv_unique_link_laws.proofs.LeftSound.{leaves_even, leaves_below}
+use Rattle.rv_unique_link_laws.proofs.law.objects_keep_it.Goals as goal
+
+pub returns-clause-rows : goal.returns-clause-rows
+returns-clause-rows c = rows_placed
+
+pub returns-clause-runs : goal.returns-clause-runs
+returns-clause-runs c = leaves_even
+
+pub returns-clause-texts : goal.returns-clause-texts
+returns-clause-texts c = leaves_below

@@ -1,0 +1,275 @@
+//! What each statement changes in the tables.
+
+ghost use Rattle.std.specs.Prelude.{◌≡◌, ℕ, false, option_map, map, OnOk, IfOk, IfSome};
+ghost use Rattle.rv_text_laws.specs.Expression.{Primary, Here, Tree as Expression};
+ghost use Rattle.rv_text_laws.specs.Values as values;
+ghost use Rattle.rv_text_laws.specs.Values.{Symbolic, value_of};
+ghost use Rattle.rv_text.specs.Nodes.{symbol_of};
+ghost use Rattle.rv_text.specs.Expr.{tree_of_expr};
+ghost use Rattle.rv_text.specs.Eval.{meaning_of, value_told, IsOutcome};
+ghost use Rattle.rv_statement.specs.Statement.{Aligns_to_power, Aligns_to_bytes, Zeros};
+ghost use Rattle.rv_statement.specs.View.{statement_kind, opening_of, statement_of};
+ghost use Rattle.rv_unit_laws.specs.Sections.{entered_by};
+ghost use Rattle.rv_unit_laws.specs.Tables as laws;
+ghost use Rattle.rv_unit_laws.proofs.Before.{IsBefore};
+ghost use Rattle.rv_unit_tables.specs.Options.{options_of};
+ghost use Rattle.rv_unit_tables.specs.Sections.{offset_of};
+ghost use Rattle.rv_unit_tables.specs.Tables.{tables_of, assignment_of, IsIndexed};
+
+use crate::align::{
+    byte_alignment, counted, fitting, fitting_padding, power_alignment, strings_size, values_size,
+};
+use crate::options::Options;
+use crate::section::Section;
+use crate::section_offset::SectionOffset;
+use crate::tables::{Assignment, Tables};
+use rv_statement::{Opening, Setting, Statement, StatementKind};
+use rv_text::{Expr, Meaning, SourceFault, Symbol, Value};
+use rv_unit_laws::Binding;
+use std::alloc::{AllocError, Global};
+
+/// Whether a statement enters a section.
+fn enters(kind: &StatementKind<'_>) -> bool
+    ensures { result ≡ laws.enters (statement_kind kind.now) }
+{
+    matches!(kind, StatementKind::Enters(_) | StatementKind::Opens(_))
+}
+
+/// What a symbol and a number give the name of a `.set`, where `.` means this: a location, if the symbol is `.` in data.
+fn assigned_symbol<'a>(
+    here: Meaning,
+    ordinal: usize,
+    name: &'a [u8],
+    symbol: Symbol<'_>,
+    plus: u64,
+) -> Option<Assignment<'a>>
+    ensures ordinal { IfSome result (λ g. g.ordinal ≡ ordinal) }
+    ensures value { option_map assignment_of result
+        ≡ laws.assigned name.now ordinal
+        (Symbolic (symbol_of symbol.entry) (meaning_of here) plus) }
+{
+    match symbol {
+        Symbol::Here => match here {
+            Meaning::InSection(section, offset) => Some(Assignment {
+                name,
+                ordinal,
+                meaning: Meaning::InSection(section, offset.wrapping_add(plus)),
+                plus,
+            }),
+            Meaning::Constant(_) => None,
+            Meaning::Open => None,
+            Meaning::NotConstant => None,
+            Meaning::UndefinedLocal => None,
+        },
+        Symbol::Name(_) => None,
+        Symbol::Backward(_) => None,
+        Symbol::Forward(_) => None,
+    }
+}
+
+/// What a value gives the name of a `.set`, where `.` means this.
+fn assigned_value<'a>(
+    here: Meaning,
+    ordinal: usize,
+    name: &'a [u8],
+    value: Value<'_>,
+) -> Option<Assignment<'a>>
+    ensures ordinal { IfSome result (λ g. g.ordinal ≡ ordinal) }
+    ensures value { (means : Primary → values.Meaning) (e : Expression) →
+        meaning_of here ≡ means Here → value_told value.entry (value_of means e) →
+        option_map assignment_of result ≡ laws.assigned name.now ordinal (value_of means e) }
+{
+    match value {
+        Value::Constant(number) => Some(Assignment {
+            name,
+            ordinal,
+            meaning: Meaning::Constant(number),
+            plus: 0,
+        }),
+        Value::Symbolic(symbol, plus) => assigned_symbol(here, ordinal, name, symbol, plus),
+        Value::Difference(..) => None,
+    }
+}
+
+/// What the value of its expression gives the name of a `.set`, where `.` means this.
+pub fn assigned<'a>(
+    here: Meaning,
+    ordinal: usize,
+    name: &'a [u8],
+    value: Result<Value<'_>, SourceFault>,
+) -> Option<Assignment<'a>>
+    ensures ordinal { IfSome result (λ g. g.ordinal ≡ ordinal) }
+    ensures value { (means : Primary → values.Meaning) (e : Expression) →
+        meaning_of here ≡ means Here → IsOutcome value.entry 0 (value_of means e) →
+        option_map assignment_of result ≡ laws.assigned name.now ordinal (value_of means e) }
+{
+    match value {
+        Ok(value) => assigned_value(here, ordinal, name, value),
+        Err(_) => None,
+    }
+}
+
+/// Where each statement stands, and in which options.
+#[derive(Drop)]
+pub struct Filled {
+    pub places: Vec<SectionOffset>,
+    pub options: Vec<Options>,
+}
+
+impl<'a> Tables<'a> {
+    /// Enters the section of a `.section`.
+    fn add_section(&mut self, opening: &Opening<'a>) -> Result<(), AllocError>
+        ensures tables { OnOk result
+            (IsIndexed self.old →
+            tables_of self.new
+            ≡ laws.with_section (tables_of self.old) (entered_by (opening_of opening.now))) }
+        ensures indexed { OnOk result (IsIndexed self.old → IsIndexed self.new) }
+    {
+        self.enter(Section::of(opening.name, opening.flags, opening.kind))
+    }
+
+    /// Sets the name of a `.set`.
+    fn add_assignment(&mut self, ordinal: usize, assignment: &Setting<'a>) -> Result<(), AllocError>
+        ensures tables { OnOk result
+            (IsIndexed self.old → IsBefore (tables_of self.old) ordinal →
+            tables_of self.new
+            ≡ laws.with_assignment (tables_of self.old)
+            (laws.assigned (assignment.now).name.now ordinal
+            (laws.value (tables_of self.old) false ordinal (laws.here (tables_of self.old))
+            (tree_of_expr (assignment.now).expression)))) }
+        ensures indexed { OnOk result (IsIndexed self.old → IsIndexed self.new) }
+    {
+        let value = self.value(&assignment.expression);
+        match assigned(self.stands(self.here()), ordinal, assignment.name, value) {
+            Some(assigned) => self.set(assigned),
+            None => Ok(()),
+        }
+    }
+
+    /// Adds zero bytes.
+    fn add_zeros(&mut self, count: &Expr<'a>) -> Result<(), AllocError>
+        ensures tables { OnOk result
+            (IsIndexed self.old → (o : ℕ) → IsBefore (tables_of self.old) o →
+            tables_of self.new
+            ≡ laws.after_directive (tables_of self.old) o (Zeros (tree_of_expr count.now))) }
+        ensures indexed { OnOk result (IsIndexed self.old → IsIndexed self.new) }
+    {
+        let bytes = counted(self.value(count));
+        self.extend(fitting(self.offset(), bytes), None)
+    }
+
+    /// Aligns to a power of two.
+    fn align_to_power(&mut self, exponent: &Expr<'a>) -> Result<(), AllocError>
+        ensures tables { OnOk result
+            (IsIndexed self.old → (o : ℕ) → IsBefore (tables_of self.old) o →
+            tables_of self.new
+            ≡ laws.after_directive (tables_of self.old) o
+            (Aligns_to_power (tree_of_expr exponent.now))) }
+        ensures indexed { OnOk result (IsIndexed self.old → IsIndexed self.new) }
+    {
+        let alignment = power_alignment(self.value(exponent));
+        self.extend(fitting_padding(alignment, self.offset()), alignment)
+    }
+
+    /// Aligns to a number of bytes.
+    fn align_to_bytes(&mut self, bytes: &Expr<'a>) -> Result<(), AllocError>
+        ensures tables { OnOk result
+            (IsIndexed self.old → (o : ℕ) → IsBefore (tables_of self.old) o →
+            tables_of self.new
+            ≡ laws.after_directive (tables_of self.old) o
+            (Aligns_to_bytes (tree_of_expr bytes.now))) }
+        ensures indexed { OnOk result (IsIndexed self.old → IsIndexed self.new) }
+    {
+        let alignment = byte_alignment(self.value(bytes));
+        self.extend(fitting_padding(alignment, self.offset()), alignment)
+    }
+
+    /// What a statement of this ordinal changes.
+    fn add(&mut self, ordinal: usize, kind: &StatementKind<'a>) -> Result<(), AllocError>
+        ensures tables { OnOk result
+            (IsIndexed self.old → IsBefore (tables_of self.old) ordinal →
+            tables_of self.new
+            ≡ laws.after (tables_of self.old) ordinal (statement_kind kind.now)) }
+        ensures indexed { OnOk result
+            (IsIndexed self.old → IsBefore (tables_of self.old) ordinal → IsIndexed self.new) }
+    {
+        match kind {
+            StatementKind::Label(name) => self.add_label(ordinal, *name),
+            StatementKind::Numbered(digits) => self.add_numeric_label(ordinal, *digits),
+            StatementKind::Enters(section) => self.enter(Section::standard(*section)),
+            StatementKind::Opens(opening) => self.add_section(opening),
+            StatementKind::Sets(assignment) => self.add_assignment(ordinal, assignment),
+            StatementKind::Chooses(choice) => self.choose(*choice),
+            StatementKind::AlignsToPower(exponent) => self.align_to_power(exponent),
+            StatementKind::AlignsToBytes(bytes) => self.align_to_bytes(bytes),
+            StatementKind::Value(width, _) => self.extend_by(values_size(*width, 1)),
+            StatementKind::Values(width, values) => {
+                self.extend_by(values_size(*width, values.len()))
+            }
+            StatementKind::Ascii(strings) => self.extend_by(strings_size(false, strings)),
+            StatementKind::Asciz(strings) => self.extend_by(strings_size(true, strings)),
+            StatementKind::Zeros(count) => self.add_zeros(count),
+            StatementKind::Plain(_) => Ok(()),
+            StatementKind::With(..) => Ok(()),
+            StatementKind::WithFunction(..) => Ok(()),
+            StatementKind::Globl(names) => self.bind(Binding::Global, names.as_slice()),
+            StatementKind::Local(names) => self.bind(Binding::Local, names.as_slice()),
+            StatementKind::Ignored => Ok(()),
+        }
+    }
+
+    /// What a statement changes, and where it stands.
+    fn stand(
+        &mut self,
+        ordinal: usize,
+        kind: &StatementKind<'a>,
+    ) -> Result<SectionOffset, AllocError>
+        ensures tables { OnOk result
+            (IsIndexed self.old → IsBefore (tables_of self.old) ordinal →
+            tables_of self.new
+            ≡ laws.after (tables_of self.old) ordinal (statement_kind kind.now)) }
+        ensures indexed { OnOk result
+            (IsIndexed self.old → IsBefore (tables_of self.old) ordinal → IsIndexed self.new) }
+        ensures place { IfOk result
+            (λ place. IsIndexed self.old → IsBefore (tables_of self.old) ordinal →
+            offset_of place ≡ laws.stood (tables_of self.old) ordinal (statement_kind kind.now)) }
+    {
+        let before = self.here();
+        self.add(ordinal, kind)?;
+        if enters(kind) {
+            return Ok(self.here());
+        }
+        Ok(before)
+    }
+
+    /// What all statements change from the start on, and where each stands, in which options.
+    pub fn fill(
+        &mut self,
+        alloc: Global,
+        statements: &[Statement<'a>],
+    ) -> Result<Filled, AllocError>
+        ensures tables { OnOk result
+            (tables_of self.old ≡ laws.at_start → IsIndexed self.old →
+            tables_of self.new ≡ laws.tables (map statement_of statements.now)) }
+        ensures indexed { OnOk result
+            (tables_of self.old ≡ laws.at_start → IsIndexed self.old → IsIndexed self.new) }
+        ensures places { IfOk result
+            (λ filled. tables_of self.old ≡ laws.at_start → IsIndexed self.old →
+            map offset_of filled.places.items ≡ laws.places (map statement_of statements.now)) }
+        ensures options { IfOk result
+            (λ filled. tables_of self.old ≡ laws.at_start → IsIndexed self.old
+            → map options_of filled.options.items
+            ≡ laws.all_options (map statement_of statements.now)) }
+    {
+        let mut places = Vec::with_capacity(alloc, statements.len())?;
+        let mut options = Vec::with_capacity(alloc, statements.len())?;
+        let mut ordinal: usize = 0;
+        for statement in statements {
+            ordinal += 1;
+            options.push(self.options)?;
+            let place = self.stand(ordinal, &statement.kind)?;
+            places.push(place)?;
+        }
+        Ok(Filled { places, options })
+    }
+}

@@ -1,0 +1,527 @@
+//! The tables that statements fill, one after the other.
+
+ghost use Rattle.std.specs.Prelude.{◌≡◌, ℕ, ◌-◌, ◌^◌, min, ◌<◌, ◌||◌, ◌==◌, List, false, true, not, is_some, nat_lt, length, Some, None, option_map, map, reverse, IfOk, OnOk};
+ghost use Rattle.std.specs.List.{find};
+ghost use Rattle.rv_text_laws.specs.Bytes.{value as digits_value};
+ghost use Rattle.rv_text_laws.specs.Values.{Open};
+ghost use Rattle.rv_text.specs.Nodes.{symbol_of};
+ghost use Rattle.rv_text.specs.Expr.{tree_of_expr};
+ghost use Rattle.rv_text.specs.Eval.{meaning_of, IsOutcome};
+ghost use Rattle.rv_statement.specs.declared.directive.Choice.TheVariants.{Pop};
+ghost use Rattle.rv_statement.specs.View.{statement_kind, now_of};
+ghost use Rattle.rv_unit_laws.specs.Bindings.{bound};
+ghost use Rattle.rv_unit_laws.specs.Sections as sections;
+ghost use Rattle.rv_unit_laws.specs.Tables as laws;
+ghost use Rattle.rv_unit_laws.proofs.Before.{IsBefore, placed_latest};
+ghost use Rattle.rv_unit_tables.specs.Sections.{section_of, offset_of};
+ghost use Rattle.rv_unit_tables.specs.Tables.{tables_of, label_at, numeric_label_at, assignment_of, IsIndexed};
+
+use crate::assignments::{add_assigned, latest_before};
+use crate::bindings::bind_all;
+use crate::number::Number;
+use crate::numeric_labels::{add_numbered, first_after, last_before};
+use crate::options::Options;
+use crate::section::{Extent, Section};
+use crate::section_offset::SectionOffset;
+use indexmap::IndexMap;
+use rv_statement::Choice;
+use rv_text::{Expr, Meaning, SourceFault, Symbol, Value, eval};
+use rv_unit_laws::Binding;
+use std::alloc::{AllocError, Global};
+
+/// The most sections of a source.
+pub(crate) const MOST_SECTIONS: usize = 32_000;
+
+/// A label: the ordinal of its statement, and where it stands.
+#[derive(Clone, Copy, Drop)]
+pub struct Label {
+    /// The ordinal of its statement, from 1.
+    pub ordinal: usize,
+    pub place: SectionOffset,
+}
+
+/// A numeric label of a number: the ordinal of its statement, and where it stands.
+#[derive(Clone, Copy, Drop)]
+pub struct NumericLabel {
+    /// The ordinal of its statement, from 1.
+    pub ordinal: u32,
+    pub place: SectionOffset,
+}
+
+/// What a `.set` gives a name: a number, or a location and how far after the statement that is.
+#[derive(Clone, Copy, Drop)]
+pub struct Assignment<'a> {
+    pub name: &'a [u8],
+    /// The ordinal of its statement, from 1.
+    pub ordinal: usize,
+    pub meaning: Meaning,
+    /// The bytes between its statement and a location.
+    pub plus: u64,
+}
+
+impl Assignment<'_> {
+    /// Whether the name is a location.
+    pub fn is_location(&self) -> bool
+        ensures { result ≡ laws.is_location (assignment_of self.now) }
+    {
+        matches!(self.meaning, Meaning::InSection(..))
+    }
+}
+
+/// What the statements so far define.
+#[derive(Drop)]
+pub struct Tables<'a> {
+    /// The sections in their order, with the numbers of their names.
+    pub extents: Vec<Extent<'a>>,
+    pub(crate) numbers: IndexMap<&'a [u8], u32>,
+    /// The number of the current one.
+    pub(crate) current: u32,
+    pub(crate) labels: IndexMap<&'a [u8], Label>,
+    /// The numeric labels of each number, in their order.
+    pub(crate) numbered: IndexMap<Number<'a>, Vec<NumericLabel>>,
+    /// The assignments in their order, and those of each name.
+    pub assignments: Vec<Assignment<'a>>,
+    pub(crate) by_name: IndexMap<&'a [u8], Vec<Assignment<'a>>>,
+    /// The options that are set, and those that were kept, in their order.
+    pub(crate) options: Options,
+    pub(crate) kept: Vec<Options>,
+    /// What was said last of each name of which a binding was said.
+    pub(crate) bindings: IndexMap<&'a [u8], Binding>,
+}
+
+impl<'a> Tables<'a> {
+    /// The tables before the first statement.
+    pub fn new(alloc: Global) -> Result<Self, AllocError>
+        ensures tables { IfOk result (λ b. tables_of b ≡ laws.at_start) }
+        ensures indexed { IfOk result (λ b. IsIndexed b) }
+    {
+        let section = Section::text();
+        let mut extents = Vec::new(alloc);
+        extents.push(Extent {
+            section,
+            bytes: 0,
+            alignment: 1,
+        })?;
+        let mut numbers = IndexMap::new(alloc);
+        numbers.insert(section.name, 0)?;
+        Ok(Tables {
+            extents,
+            numbers,
+            current: 0,
+            labels: IndexMap::new(alloc),
+            numbered: IndexMap::new(alloc),
+            assignments: Vec::new(alloc),
+            by_name: IndexMap::new(alloc),
+            options: Options::Both,
+            kept: Vec::new(alloc),
+            bindings: IndexMap::new(alloc),
+        })
+    }
+
+    /// Where the next statement stands.
+    pub(crate) fn here(&self) -> SectionOffset
+        ensures { offset_of result ≡ laws.here (tables_of self.now) }
+    {
+        SectionOffset {
+            section: self.current,
+            offset: self.offset(),
+        }
+    }
+
+    /// The bytes of data so far in the current section.
+    pub(crate) fn offset(&self) -> u32
+        ensures { result ≡ (laws.here (tables_of self.now)).offset }
+    {
+        match self.extents.get(self.current as usize) {
+            Some(extent) => extent.bytes,
+            None => 0,
+        }
+    }
+
+    /// A section by its number.
+    pub fn section_at(&self, number: u32) -> Section<'a>
+        ensures { section_of result
+            ≡ sections.section_at (laws.opened_of (tables_of self.now)) number }
+    {
+        match self.extents.get(number as usize) {
+            Some(extent) => extent.section,
+            None => Section::text(),
+        }
+    }
+
+    /// What an offset means: in data it has a known distance from others of its section.
+    pub fn stands(&self, place: SectionOffset) -> Meaning
+        ensures { meaning_of result
+            ≡ laws.stands (laws.opened_of (tables_of self.now)) (offset_of place) }
+    {
+        if self.section_at(place.section).executable {
+            Meaning::Open
+        } else {
+            Meaning::InSection(place.section, u64::from(place.offset))
+        }
+    }
+
+    /// The label of a name.
+    pub fn label(&self, name: &[u8]) -> Option<Label>
+        ensures { option_map (label_at name.now) result
+            ≡ laws.label_of (tables_of self.now).labels true 0 name.now }
+    {
+        self.labels.get(&name).copied()
+    }
+
+    /// The label of a name, if it stands before an ordinal.
+    pub fn label_before(&self, ordinal: usize, name: &[u8]) -> Option<Label>
+        ensures { (o : ℕ) → IsBefore (tables_of self.now) o →
+            option_map (label_at name.now) result
+            ≡ laws.label_of (tables_of self.now).labels false ordinal name.now }
+    {
+        match self.label(name) {
+            Some(label) => {
+                if label.ordinal < ordinal {
+                    Some(label)
+                } else {
+                    None
+                }
+            }
+            None => None,
+        }
+    }
+
+    /// The latest assignment of a name.
+    pub fn assignment(&self, name: &[u8]) -> Option<Assignment<'a>>
+        ensures { IsIndexed self.now →
+            option_map assignment_of result
+            ≡ laws.assigned_ever (tables_of self.now).assignments name.now }
+    {
+        match self.by_name.get(&name) {
+            Some(assignments) => assignments.as_slice().last().copied(),
+            None => None,
+        }
+    }
+
+    /// The latest assignment of a name before an ordinal.
+    pub fn assignment_before(&self, ordinal: usize, name: &[u8]) -> Option<Assignment<'a>>
+        ensures { IsIndexed self.now → (o : ℕ) → IsBefore (tables_of self.now) o →
+            option_map assignment_of result
+            ≡ laws.assigned_before (tables_of self.now).assignments ordinal name.now }
+    {
+        match self.by_name.get(&name) {
+            Some(assignments) => latest_before(assignments.as_slice(), ordinal),
+            None => None,
+        }
+    }
+
+    /// The latest numeric label of a number.
+    pub(crate) fn latest_numeric_label(&self, digits: &[u8]) -> Option<NumericLabel>
+        ensures { IsIndexed self.now →
+            option_map (numeric_label_at (digits_value 10 digits.now)) result
+            ≡ find (λ m. m.number == digits_value 10 digits.now)
+            (tables_of self.now).numeric_labels }
+    {
+        match self.numbered.get(Number { digits }) {
+            Some(numeric_labels) => numeric_labels.as_slice().last().copied(),
+            None => None,
+        }
+    }
+
+    /// The nearest numeric label before an ordinal.
+    pub fn numeric_label_before(&self, ordinal: usize, digits: &[u8]) -> Option<NumericLabel>
+        ensures { IsIndexed self.now → (o : ℕ) → IsBefore (tables_of self.now) o →
+            option_map (numeric_label_at (digits_value 10 digits.now)) result
+            ≡ laws.numeric_label_before (tables_of self.now).numeric_labels ordinal
+            (digits_value 10 digits.now) }
+    {
+        match self.numbered.get(Number { digits }) {
+            Some(numeric_labels) => last_before(numeric_labels.as_slice(), ordinal),
+            None => None,
+        }
+    }
+
+    /// The nearest numeric label after an ordinal.
+    pub fn numeric_label_after(&self, ordinal: usize, digits: &[u8]) -> Option<NumericLabel>
+        ensures { IsIndexed self.now → (o : ℕ) → IsBefore (tables_of self.now) o →
+            option_map (numeric_label_at (digits_value 10 digits.now)) result
+            ≡ laws.numeric_label_after (tables_of self.now).numeric_labels ordinal
+            (digits_value 10 digits.now) }
+    {
+        match self.numbered.get(Number { digits }) {
+            Some(numeric_labels) => first_after(numeric_labels.as_slice(), ordinal),
+            None => None,
+        }
+    }
+
+    /// What a name means so far.
+    fn named(&self, name: &[u8]) -> Meaning
+        ensures { IsIndexed self.now → (o : ℕ) → IsBefore (tables_of self.now) o →
+            meaning_of result ≡ laws.named (tables_of self.now) false o name.now }
+    {
+        match self.assignment(name) {
+            Some(assignment) => assignment.meaning,
+            None => self.labelled(name),
+        }
+    }
+
+    /// What a name that is not set means so far.
+    fn labelled(&self, name: &[u8]) -> Meaning
+        ensures { meaning_of result
+            ≡ laws.labelled (laws.opened_of (tables_of self.now))
+            (laws.label_of (tables_of self.now).labels true 0 name.now) Open }
+    {
+        match self.label(name) {
+            Some(label) => self.stands(label.place),
+            None => Meaning::Open,
+        }
+    }
+
+    /// What a numeric label before means so far.
+    fn backward(&self, digits: &[u8]) -> Meaning
+        ensures { IsIndexed self.now → (o : ℕ) → IsBefore (tables_of self.now) o →
+            meaning_of result
+            ≡ laws.referred (tables_of self.now) false o (digits_value 10 digits.now) false }
+    {
+        match self.latest_numeric_label(digits) {
+            Some(numeric_label) => self.stands(numeric_label.place),
+            None => Meaning::UndefinedLocal,
+        }
+    }
+
+    /// What a symbol means in the next statement, as far as the statements before it say.
+    fn meaning(&self, symbol: Symbol<'a>) -> Meaning
+        ensures { IsIndexed self.now → (o : ℕ) → IsBefore (tables_of self.now) o →
+            meaning_of result
+            ≡ laws.meaning (tables_of self.now) false o (laws.here (tables_of self.now))
+            (symbol_of symbol.entry) }
+    {
+        match symbol {
+            Symbol::Name(name) => self.named(name),
+            Symbol::Here => self.stands(self.here()),
+            Symbol::Backward(digits) => self.backward(digits),
+            Symbol::Forward(_) => Meaning::UndefinedLocal,
+        }
+    }
+
+    /// The value of an expression of the next statement, as far as the statements before it say.
+    pub(crate) fn value(&self, expression: &Expr<'a>) -> Result<Value<'a>, SourceFault>
+        ensures { IsIndexed self.now → (o : ℕ) → IsBefore (tables_of self.now) o →
+            IsOutcome result 0
+            (laws.value (tables_of self.now) false o (laws.here (tables_of self.now))
+            (tree_of_expr expression.now)) }
+    {
+        eval(expression, 0, &|symbol| self.meaning(symbol))
+    }
+
+    /// Whether a section of the name is open.
+    pub fn knows(&self, name: &[u8]) -> bool
+        ensures { IsIndexed self.now →
+            result
+            ≡ is_some
+            (sections.place_of_name (laws.opened_of (tables_of self.now)).sections name.now) }
+    {
+        self.numbers.get(&name).is_some()
+    }
+
+    /// Whether a label or an assignment has the name.
+    pub(crate) fn is_defined(&self, name: &[u8]) -> bool
+        ensures { IsIndexed self.now → result
+            ≡ (is_some (laws.label_of (tables_of self.now).labels true 0 name.now)
+            || is_some (laws.assigned_ever (tables_of self.now).assignments name.now)) }
+    {
+        self.label(name).is_some() || self.assignment(name).is_some()
+    }
+
+    /// Whether a label or a location has the name.
+    pub(crate) fn has_location(&self, name: &[u8]) -> bool
+        ensures { IsIndexed self.now → result
+            ≡ (is_some (laws.label_of (tables_of self.now).labels true 0 name.now)
+            || placed_latest (laws.assigned_ever (tables_of self.now).assignments name.now)) }
+    {
+        if self.label(name).is_some() {
+            return true;
+        }
+        match self.assignment(name) {
+            Some(assignment) => assignment.is_location(),
+            None => false,
+        }
+    }
+
+    /// Enters a section; a new one while there is room.
+    pub(crate) fn enter(&mut self, section: Section<'a>) -> Result<(), AllocError>
+        ensures tables { OnOk result
+            (IsIndexed self.old →
+            tables_of self.new
+            ≡ laws.with_section (tables_of self.old) (Some (section_of section.entry))) }
+        ensures indexed { OnOk result (IsIndexed self.old → IsIndexed self.new) }
+    {
+        if let Some(number) = self.numbers.get(&section.name).copied() {
+            self.current = number;
+            return Ok(());
+        }
+        let count = self.extents.len();
+        if count >= MOST_SECTIONS {
+            return Ok(());
+        }
+        let number = count as u32;
+        self.extents.push(Extent {
+            section,
+            bytes: 0,
+            alignment: 1,
+        })?;
+        self.numbers.insert(section.name, number)?;
+        self.current = number;
+        Ok(())
+    }
+
+    /// Defines a label, unless its name is defined.
+    pub(crate) fn add_label(&mut self, ordinal: usize, name: &'a [u8]) -> Result<(), AllocError>
+        ensures tables { OnOk result
+            (IsIndexed self.old → IsBefore (tables_of self.old) ordinal →
+            tables_of self.new ≡ laws.with_label (tables_of self.old) ordinal name.now) }
+        ensures indexed { OnOk result (IsIndexed self.old → IsIndexed self.new) }
+    {
+        if self.is_defined(name) {
+            return Ok(());
+        }
+        let place = self.here();
+        self.labels.insert(name, Label { ordinal, place })?;
+        Ok(())
+    }
+
+    /// Defines a numeric label.
+    pub(crate) fn add_numeric_label(
+        &mut self,
+        ordinal: usize,
+        digits: &'a [u8],
+    ) -> Result<(), AllocError>
+        ensures tables { OnOk result
+            (IsBefore (tables_of self.old) ordinal →
+            tables_of self.new
+            ≡ laws.with_numeric_label (tables_of self.old) ordinal (digits_value 10 digits.now)) }
+        ensures indexed { OnOk result
+            (IsIndexed self.old → IsBefore (tables_of self.old) ordinal → IsIndexed self.new) }
+    {
+        // ordinals have 32 bits; no source comes near
+        if ordinal > u32::MAX as usize {
+            return Err(AllocError);
+        }
+        let label = NumericLabel {
+            ordinal: ordinal as u32,
+            place: self.here(),
+        };
+        add_numbered(
+            *self.extents.allocator(),
+            &mut self.numbered,
+            Number { digits },
+            label,
+        )
+    }
+
+    /// Whether a setting's name is defined, where one of the two is a label or a location.
+    pub(crate) fn is_taken(&self, assigned: &Assignment<'a>) -> bool
+        ensures { IsIndexed self.now → IsBefore (tables_of self.now) (assigned.now).ordinal →
+            not result
+            ≡ laws.may_set (tables_of self.now) (assigned.now).ordinal (assigned.now).name.now
+            (meaning_of (assigned.now).meaning) }
+    {
+        if assigned.is_location() {
+            self.is_defined(assigned.name)
+        } else {
+            self.has_location(assigned.name)
+        }
+    }
+
+    /// Sets a name, unless one of the two is a label or a location.
+    pub(crate) fn set(&mut self, assigned: Assignment<'a>) -> Result<(), AllocError>
+        ensures tables { OnOk result
+            (IsIndexed self.old → IsBefore (tables_of self.old) (assigned.entry).ordinal →
+            tables_of self.new
+            ≡ laws.with_assignment (tables_of self.old) (Some (assignment_of assigned.entry))) }
+        ensures indexed { OnOk result (IsIndexed self.old → IsIndexed self.new) }
+    {
+        if self.is_taken(&assigned) {
+            return Ok(());
+        }
+        self.assignments.push(assigned)?;
+        add_assigned(*self.assignments.allocator(), &mut self.by_name, assigned)
+    }
+
+    /// Adds data at the end of the current section, which one of code does not count, and an alignment of it.
+    pub(crate) fn extend(&mut self, bytes: u64, alignment: Option<u32>) -> Result<(), AllocError>
+        ensures tables { OnOk result
+            (tables_of self.new ≡ laws.with_data (tables_of self.old) bytes alignment) }
+        ensures indexed { OnOk result (IsIndexed self.old → IsIndexed self.new) }
+    {
+        let number = self.current as usize;
+        if number >= self.extents.len() {
+            return Ok(());
+        }
+        let extent = self.extents[number];
+        match extent.end_after(bytes) {
+            Some(end) => {
+                self.extents[number] = extent.longer(end, alignment);
+                Ok(())
+            }
+            None => Err(AllocError),
+        }
+    }
+
+    /// Adds data of a size that shows all its bytes, or as many as a number can.
+    pub(crate) fn extend_by(&mut self, size: u64) -> Result<(), AllocError>
+        ensures tables { OnOk result
+            ((bytes : ℕ) → size ≡ min bytes (2 ^ 64 - 1) →
+            tables_of self.new ≡ laws.with_data (tables_of self.old) bytes None) }
+        ensures indexed { OnOk result (IsIndexed self.old → IsIndexed self.new) }
+    {
+        if size == u64::MAX {
+            return Err(AllocError);
+        }
+        self.extend(size, None)
+    }
+
+    /// Sets an option, keeps the options, or takes them back.
+    pub(crate) fn choose(&mut self, choice: Choice) -> Result<(), AllocError>
+        ensures tables { OnOk result
+            (tables_of self.new ≡ laws.with_choice (tables_of self.old) choice) }
+        ensures indexed { OnOk result (IsIndexed self.old → IsIndexed self.new) }
+    {
+        match choice {
+            Choice::Rvc => self.options = Options::new(true, self.options.relax()),
+            Choice::Norvc => self.options = Options::new(false, self.options.relax()),
+            Choice::Relax => self.options = Options::new(self.options.rvc(), true),
+            Choice::Norelax => self.options = Options::new(self.options.rvc(), false),
+            Choice::Push => self.kept.push(self.options)?,
+            Choice::Pop => self.take_back(),
+            Choice::Nopic => (),
+        }
+        Ok(())
+    }
+
+    /// Gives names a binding.
+    pub(crate) fn bind(&mut self, binding: Binding, names: &[&'a [u8]]) -> Result<(), AllocError>
+        ensures tables { OnOk result (tables_of self.new
+            ≡ record
+            (tables_of self.old) {
+              bindings = bound binding (map now_of names.now)
+                  (tables_of self.old).bindings;
+            }) }
+        ensures indexed { OnOk result (IsIndexed self.old → IsIndexed self.new) }
+    {
+        bind_all(&mut self.bindings, binding, names)
+    }
+
+    /// The binding of a name: what was said last of it.
+    pub fn binding(&self, name: &[u8]) -> Binding
+        ensures { result ≡ (tables_of self.now).bindings name.now }
+    {
+        self.bindings.get(&name).copied().unwrap_or(Binding::Local)
+    }
+
+    /// The options that were kept last are set again, if there are any.
+    fn take_back(&mut self)
+        ensures tables { tables_of self.new ≡ laws.with_choice (tables_of self.old) Pop }
+        ensures indexed { IsIndexed self.old → IsIndexed self.new }
+    {
+        if let Some(options) = self.kept.pop() {
+            self.options = options;
+        }
+    }
+}

@@ -1,7 +1,0 @@
-use Rattle.std.specs.Prelude.{true, false}
-use Rattle.rv_worked.proofs.OpenCodes.{short, word, far}
-use Rattle.rv_worked.proofs.code.branches_have_three_sizes.Goals as goal
-
-pub returns : goal.returns
-returns c =
-    record { parcel = short; word = word false; compressed_word = word true; over = far }

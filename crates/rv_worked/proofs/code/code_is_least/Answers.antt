@@ -1,5 +1,0 @@
-use Rattle.rv_worked.proofs.KnownCodes.{word, parcel}
-use Rattle.rv_worked.proofs.code.code_is_least.Goals as goal
-
-pub returns : goal.returns
-returns c = record { word = word; parcel = parcel }

@@ -1,5 +1,0 @@
-use Rattle.rv_worked.proofs.KnownCodes.{words, mixed}
-use Rattle.rv_worked.proofs.code.long_constants_are_two.Goals as goal
-
-pub returns : goal.returns
-returns c = record { words = words; both = mixed }

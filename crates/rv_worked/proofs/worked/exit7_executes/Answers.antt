@@ -1,5 +1,0 @@
-use Rattle.rv_worked.proofs.Exit7Program.{executes}
-use Rattle.rv_worked.proofs.worked.exit7_executes.Goals as goal
-
-pub returns : goal.returns
-returns c = executes

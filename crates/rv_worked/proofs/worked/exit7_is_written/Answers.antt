@@ -1,7 +1,0 @@
-use Rattle.std.proofs.Common.{refl}
-use Rattle.rv_elf.specs.Records.{file_header_bytes, program_header_bytes}
-use Rattle.rv_worked.proofs.worked.exit7_is_written.Goals as goal
-
-pub returns : goal.returns
-unfolding file_header_bytes program_header_bytes
-returns c = record { bytes = refl; size = refl }

@@ -1,5 +1,0 @@
-use Rattle.rv_worked.proofs.Exit7Listing.{lists}
-use Rattle.rv_worked.proofs.worked.exit7_lists.Goals as goal
-
-pub returns : goal.returns
-returns c = lists
