@@ -32,7 +32,7 @@ pub(crate) fn relocations(
 }
 
 /// `count` lists without a relocation.
-#[tactic(auto, using(crate::proofs::ListsSoFar::empty_behind))]
+#[tactic(auto, using(crate::proofs::ListsSoFarLemmas::empty_behind))]
 fn empty_lists(alloc: Global, count: usize) -> Result<Vec<Vec<Relocation>>, AllocError>
     ensures count { IfOk result (λ lists. length lists.items ≡ count) }
     ensures empty { IfOk result (λ lists. (j : ℕ) → list_in lists.items j ≡ []) }

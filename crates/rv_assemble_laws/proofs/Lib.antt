@@ -1,4 +1,4 @@
-pub mod Filled
-pub mod SpelledNames
-pub mod Faultless
-pub mod OpenedNames
+pub mod FilledLemmas
+pub mod SpelledNamesLemmas
+pub mod FaultlessLemmas
+pub mod OpenedNamesLemmas

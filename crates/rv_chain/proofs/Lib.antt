@@ -1,6 +1,6 @@
-pub mod Agreed
-pub mod Gathered
-pub mod Headlined
-pub mod Shown
-pub mod Unread
-pub mod Written
+pub mod AgreedLemmas
+pub mod GatheredLemmas
+pub mod HeadlinedLemmas
+pub mod ShownLemmas
+pub mod UnreadLemmas
+pub mod WrittenLemmas

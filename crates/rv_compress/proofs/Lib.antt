@@ -1,3 +1,3 @@
-pub mod AtFront
-pub mod Jump
-pub mod Reader
+pub mod AtFrontLemmas
+pub mod JumpLemmas
+pub mod ReaderLemmas

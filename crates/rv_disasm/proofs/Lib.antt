@@ -1,7 +1,7 @@
-pub mod DumpLines
-pub mod Fronts
-pub mod Held
-pub mod LinesOn
-pub mod Ordered
-pub mod Padded
-pub mod Registers
+pub mod DumpLinesLemmas
+pub mod FrontsLemmas
+pub mod HeldLemmas
+pub mod LinesOnLemmas
+pub mod OrderedLemmas
+pub mod PaddedLemmas
+pub mod RegistersLemmas

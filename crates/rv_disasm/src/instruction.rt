@@ -52,7 +52,7 @@ fn put(text: &mut Vec<u8>, name: &str) -> Result<(), AllocError>
 }
 
 /// Adds a register by its ABI name, after a byte.
-#[tactic(auto, using(crate::proofs::Registers::register_is))]
+#[tactic(auto, using(crate::proofs::RegistersLemmas::register_is))]
 fn put_register(text: &mut Vec<u8>, before: u8, reg: Reg) -> Result<(), AllocError>
     ensures { OnOk result (text.new.items ≡ text.old.items ++ before ∷ shows.register reg) }
 {

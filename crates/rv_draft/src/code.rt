@@ -41,7 +41,7 @@ fn put(bytes: &mut Vec<u8>, encoded: Encoded) -> Result<(), AllocError>
 }
 
 /// Adds two words.
-#[tactic(auto, using(crate::proofs::Joined::put_twice))]
+#[tactic(auto, using(crate::proofs::JoinedLemmas::put_twice))]
 fn put_pair(bytes: &mut Vec<u8>, first: u32, second: u32) -> Result<(), AllocError>
     ensures { OnOk result (bytes.new.items
         ≡ bytes.old.items ++ (little_endian 4 first ++ little_endian 4 second)) }
@@ -62,7 +62,7 @@ fn put_all(bytes: &mut Vec<u8>, code: &[Coded]) -> Result<(), AllocError>
 }
 
 /// Adds the code of a statement: its padding, or its parts.
-#[tactic(auto, using(crate::proofs::Joined::put_twice))]
+#[tactic(auto, using(crate::proofs::JoinedLemmas::put_twice))]
 fn put_statement(bytes: &mut Vec<u8>, padding: u32, code: &[Coded]) -> Result<(), AllocError>
     ensures { OnOk result
         (bytes.new.items ≡ bytes.old.items ++ laws.code_bytes padding code.now) }
@@ -87,7 +87,7 @@ fn put_section(
 }
 
 /// Adds the code of a statement that is one instruction: its part, after its padding if it has any.
-#[tactic(auto, using(crate::proofs::Joined::alone_bytes))]
+#[tactic(auto, using(crate::proofs::JoinedLemmas::alone_bytes))]
 fn put_one(bytes: &mut Vec<u8>, padding: u32, encoded: Encoded) -> Result<(), AllocError>
     ensures { OnOk result (bytes.new.items
         ≡ bytes.old.items ++ laws.code_bytes padding (alone_coded encoded).items) }
@@ -177,7 +177,7 @@ fn size_of(padding: u32, code: &[Coded]) -> CodeSize
 }
 
 /// How large the code of a statement is that is one instruction.
-#[tactic(auto, using(crate::proofs::Joined::alone_size))]
+#[tactic(auto, using(crate::proofs::JoinedLemmas::alone_size))]
 fn size_of_one(padding: u32, encoded: Encoded) -> CodeSize
     requires { padding ≤ 65535 }
     ensures { result ≡ laws.size_of padding (alone_coded encoded).items }
@@ -220,7 +220,7 @@ pub(crate) fn asked(kind: &StatementKind<'_>, compressed: bool, length: u32) -> 
 }
 
 /// `count` sections without code.
-#[tactic(auto, using(crate::proofs::SoFar::empty_behind))]
+#[tactic(auto, using(crate::proofs::SoFarLemmas::empty_behind))]
 pub(crate) fn empty_sections(alloc: Global, count: usize) -> Result<Vec<Vec<u8>>, AllocError>
     ensures count { IfOk result (λ sections. length sections.items ≡ count) }
     ensures empty { IfOk result (λ sections. (j : ℕ) → laws.bytes_in sections.items j ≡ []) }
@@ -288,7 +288,7 @@ pub(crate) struct Coder {
 
 impl Coder {
     /// The code of `sections` sections before the first statement, with room for the sizes of `statements`.
-    #[tactic(auto, using(crate::proofs::SoFar::begun))]
+    #[tactic(auto, using(crate::proofs::SoFarLemmas::begun))]
     pub(crate) fn new(alloc: Global, sections: usize, statements: usize) -> Result<Self, AllocError>
         ensures count { IfOk result (λ c. length c.sections.items ≡ sections) }
         ensures begun { IfOk result (λ c. (t : Tables) (all : List Located)

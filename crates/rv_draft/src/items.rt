@@ -261,7 +261,7 @@ fn no_bytes(alloc: Global, count: usize) -> Result<Vec<u32>, AllocError>
 }
 
 /// The section at a place.
-#[tactic(auto, using(crate::proofs::Itemized::got_map, crate::proofs::Itemized::read_map))]
+#[tactic(auto, using(crate::proofs::ItemizedLemmas::got_map, crate::proofs::ItemizedLemmas::read_map))]
 pub(crate) fn extent_at<'a>(extents: &[Extent<'a>], section: u32) -> Extent<'a>
     requires { section < length extents.now }
     ensures { IsExtentAt extents.now section result }

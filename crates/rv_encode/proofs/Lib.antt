@@ -1,1 +1,1 @@
-pub mod Reader
+pub mod ReaderLemmas

@@ -1,6 +1,6 @@
-pub mod Exit7Listing
-pub mod Exit7Program
-pub mod FiguresProgram
-pub mod KnownCodes
-pub mod OpenCodes
-pub mod LeastSizes
+pub mod Exit7ListingLemmas
+pub mod Exit7ProgramLemmas
+pub mod FiguresProgramLemmas
+pub mod KnownCodesLemmas
+pub mod OpenCodesLemmas
+pub mod LeastSizesLemmas

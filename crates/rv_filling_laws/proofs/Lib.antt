@@ -1,7 +1,7 @@
-mod Fields
-mod Parcels
-mod Formats
-mod Forms
-pub mod One
-pub mod All
-pub mod Rows
+mod FieldsLemmas
+mod ParcelsLemmas
+mod FormatsLemmas
+mod FormsLemmas
+pub mod OneLemmas
+pub mod AllLemmas
+pub mod RowsLemmas

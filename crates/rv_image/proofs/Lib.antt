@@ -1,8 +1,8 @@
-pub mod Programs
-pub mod Loaded
-pub mod Apart
-pub mod Whole
-pub mod Parts
-pub mod Contents
-pub mod Sound
-pub mod LoadedAgain
+pub mod ProgramsLemmas
+pub mod LoadedLemmas
+pub mod ApartLemmas
+pub mod WholeLemmas
+pub mod PartsLemmas
+pub mod ContentsLemmas
+pub mod SoundLemmas
+pub mod LoadedAgainLemmas

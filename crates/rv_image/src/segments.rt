@@ -71,7 +71,7 @@ fn check_program(
 }
 
 /// Looks at what is loaded.
-#[tactic(auto, unfolding(crate::specs::FirstFault::segment_tests), using(crate::proofs::Programs::none_meets))]
+#[tactic(auto, unfolding(crate::specs::FirstFault::segment_tests), using(crate::proofs::ProgramsLemmas::none_meets))]
 fn check_segment(
     view: &ElfView<'_>,
     earlier: u16,

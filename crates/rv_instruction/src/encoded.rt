@@ -53,7 +53,7 @@ pub type Code = ArrayVec<Coded, 8>;
 // ---- one part
 
 /// The parcel that is chosen for an instruction, where compressed code is on and there is one.
-#[tactic(auto, using(crate::proofs::Encoding::shortest))]
+#[tactic(auto, using(crate::proofs::EncodingLemmas::shortest))]
 fn shortened(inst: &Inst, compressed: bool) -> Option<u16>
     ensures { MatchOption result (compressed ≡ true → HasShort inst.now → ⊥)
         (λ p. (compressed ≡ true) × IsShortOf inst.now p) }
@@ -62,7 +62,7 @@ fn shortened(inst: &Inst, compressed: bool) -> Option<u16>
 }
 
 /// An instruction in its least form.
-#[tactic(auto, using(crate::proofs::Encoding::as_parcel, crate::proofs::Encoding::as_word))]
+#[tactic(auto, using(crate::proofs::EncodingLemmas::as_parcel, crate::proofs::EncodingLemmas::as_word))]
 pub(crate) fn in_least_form(inst: Inst, compressed: bool) -> Encoded
     requires { IsValid inst }
     ensures is { IsCodedPart compressed (Closed inst) (encoded_bytes result) }
@@ -75,7 +75,7 @@ pub(crate) fn in_least_form(inst: Inst, compressed: bool) -> Encoded
 }
 
 /// An instruction with an open field in a parcel.
-#[tactic(auto, using(crate::proofs::Encoding::open_parcel, crate::proofs::Encoding::no_parcel))]
+#[tactic(auto, using(crate::proofs::EncodingLemmas::open_parcel, crate::proofs::EncodingLemmas::no_parcel))]
 fn as_parcel(inst: Inst, kind: Kind) -> Encoded
     requires codable { IsCodable (Open kind inst) }
     requires short { laws.is_short kind ≡ true }
@@ -90,7 +90,7 @@ fn as_parcel(inst: Inst, kind: Kind) -> Encoded
 }
 
 /// An instruction with an open field in a word.
-#[tactic(auto, using(crate::proofs::Encoding::open_word))]
+#[tactic(auto, using(crate::proofs::EncodingLemmas::open_word))]
 fn as_word(inst: Inst, kind: Kind) -> Encoded
     requires codable { IsCodable (Open kind inst) }
     requires whole { laws.is_short kind ≡ false }

@@ -38,7 +38,7 @@ pub struct Reference<'a> {
 
 /// Whether the code of an operation with an expression leaves no field open: that is a number, and
 /// no target.
-#[tactic(auto, using(crate::proofs::FreeRows::operand_free))]
+#[tactic(auto, using(crate::proofs::FreeRowsLemmas::operand_free))]
 fn takes_number(operation: &Operation) -> bool
     ensures { result ≡ true
         → (e : Expression) → laws.LeavesNone (statement_with operation.now None e) }

@@ -80,7 +80,7 @@ fn faulty_if(test: bool, code: SourceCode) -> Option<SourceCode>
 }
 
 /// The fault of a statement that also has that of a scratch register, if it has: the lower one.
-#[tactic(auto, using(crate::proofs::Unplaced::first_lowest))]
+#[tactic(auto, using(crate::proofs::UnplacedLemmas::first_lowest))]
 fn beside_scratch(is_bad: bool, fault: Option<SourceCode>) -> Option<SourceCode>
     ensures { (cs : List ℕ) → IsLowest fault cs
         → IsLowest result (faults.faulty_if is_bad scratch_register ++ cs) }
@@ -188,7 +188,7 @@ fn low_fault(operation: Operation, value: &Outcome<'_>) -> Option<SourceCode>
 }
 
 /// Whether a symbol of the next statement stands somewhere in its source.
-#[tactic(auto, using(crate::proofs::Unplaced::some_mapped))]
+#[tactic(auto, using(crate::proofs::UnplacedLemmas::some_mapped))]
 fn is_defined<'a>(scope: &Scope<'_, 'a>, symbol: Symbol<'a>) -> bool
     ensures { (index : ℕ) → IsFilled (scope.now).unit.now → IsScope scope.now index
         → result ≡ is_some

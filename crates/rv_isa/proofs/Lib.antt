@@ -1,1 +1,1 @@
-pub mod AbiNames
+pub mod AbiNamesLemmas

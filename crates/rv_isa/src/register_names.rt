@@ -27,7 +27,7 @@ fn nth(first: u32, digit: u8) -> Reg
 }
 
 /// The one register that can have this ABI name.
-#[tactic(auto, using(crate::proofs::AbiNames::family))]
+#[tactic(auto, using(crate::proofs::AbiNamesLemmas::family))]
 fn likely(name: &[u8]) -> Reg
     ensures { (r : ℕ) → slice_get abi_names r ≡ Some name.now → result ≡ r }
 {

@@ -1,2 +1,2 @@
-pub mod EffectLaws
-pub mod Readings
+pub mod EffectLawsLemmas
+pub mod ReadingsLemmas

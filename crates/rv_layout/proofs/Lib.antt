@@ -1,2 +1,2 @@
-pub mod Places
-pub mod Going
+pub mod PlacesLemmas
+pub mod GoingLemmas

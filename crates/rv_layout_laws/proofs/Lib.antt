@@ -1,6 +1,6 @@
-pub mod Reaching
-pub mod Widening
-pub mod Dropping
-pub mod Shortening
-pub mod Regrowing
-pub mod Worked
+pub mod ReachingLemmas
+pub mod WideningLemmas
+pub mod DroppingLemmas
+pub mod ShorteningLemmas
+pub mod RegrowingLemmas
+pub mod WorkedLemmas

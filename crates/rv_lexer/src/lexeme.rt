@@ -30,7 +30,7 @@ pub(crate) enum LexemeKind<'a> {
 
 impl<'a> LexemeKind<'a> {
     /// The token that the lexeme is; `None` for blanks and comments.
-    #[tactic(auto, using(crate::proofs::Steps::no_gap))]
+    #[tactic(auto, using(crate::proofs::StepsLemmas::no_gap))]
     pub(crate) fn token(self) -> Option<TokenKind<'a>>
         ensures { MatchOption result (is_gap (lexeme_kind_of self.entry) ≡ true)
             (λ kind. (lexeme_kind_of self.entry ≡ kind_of kind)
@@ -64,7 +64,7 @@ pub(crate) struct Lexeme<'a> {
 }
 
 /// The line feeds of a lexeme that has this text.
-#[tactic(auto, using(crate::proofs::Feeds::no_feeds))]
+#[tactic(auto, using(crate::proofs::FeedsLemmas::no_feeds))]
 pub(crate) fn line_feeds_of(kind: LexemeKind<'_>, text: &[u8]) -> usize
     requires { Spells (lexeme_kind_of kind) text.now }
     ensures count { result ≡ newlines text.now }

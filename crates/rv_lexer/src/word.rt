@@ -42,7 +42,7 @@ pub(crate) fn number_by(base: u8, digits: &[u8]) -> Option<u64>
 }
 
 /// The number that a word writes after its leading `0`.
-#[tactic(auto, using(crate::proofs::Numbers::short_zero, crate::proofs::Numbers::long_zero))]
+#[tactic(auto, using(crate::proofs::NumbersLemmas::short_zero, crate::proofs::NumbersLemmas::long_zero))]
 fn after_zero(rest: &[u8]) -> Option<u64>
     ensures { result ≡ after_zero rest.now }
 {

@@ -1,7 +1,7 @@
-mod Adding
-mod Taken
-mod Steps
-mod Places
-mod Calculated
-mod Symbols
-mod Pairs
+mod AddingLemmas
+mod TakenLemmas
+mod StepsLemmas
+mod PlacesLemmas
+mod CalculatedLemmas
+mod SymbolsLemmas
+mod PairsLemmas

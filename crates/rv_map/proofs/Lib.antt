@@ -1,6 +1,6 @@
-pub mod Hexadecimal
-pub mod Cutting
-pub mod Digits
-pub mod Numbers
-pub mod Lines
-pub mod Whole
+pub mod HexadecimalLemmas
+pub mod CuttingLemmas
+pub mod DigitsLemmas
+pub mod NumbersLemmas
+pub mod LinesLemmas
+pub mod WholeLemmas

@@ -11,7 +11,7 @@ use crate::writing::write;
 use std::alloc::{AllocError, Global as Allocator};
 
 /// Two maps have different texts: maps of one text are the same.
-#[tactic(auto, using(crate::proofs::Whole::one_text))]
+#[tactic(auto, using(crate::proofs::WholeLemmas::one_text))]
 pub fn one_map()
     ensures { (m n : PlainMap) → IsMap m → IsMap n → map_text m ≡ map_text n → m ≡ n }
 {}

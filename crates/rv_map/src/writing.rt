@@ -151,7 +151,7 @@ fn put_hexadecimal(text: &mut Vec<u8>, number: u64, end: u8) -> Result<(), Alloc
     Ok(text.push(end)?)
 }
 
-#[tactic(auto, using(crate::proofs::Hexadecimal::hexadecimal_step, crate::proofs::Hexadecimal::hexadecimal_digit))]
+#[tactic(auto, using(crate::proofs::HexadecimalLemmas::hexadecimal_step, crate::proofs::HexadecimalLemmas::hexadecimal_digit))]
 fn put_digits(text: &mut Vec<u8>, number: u64) -> Result<(), AllocError>
     ensures { OnOk result (text.new.items ≡ text.old.items ++ hexadecimal number) }
 {

@@ -1,1 +1,1 @@
-pub mod Nops
+pub mod NopsLemmas

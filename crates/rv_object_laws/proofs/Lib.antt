@@ -1,5 +1,5 @@
-pub mod Ordinals
-pub mod Changes
-pub mod TextInputs
-pub mod TextPlaces
-pub mod TextLine
+pub mod OrdinalsLemmas
+pub mod ChangesLemmas
+pub mod TextInputsLemmas
+pub mod TextPlacesLemmas
+pub mod TextLineLemmas

@@ -80,7 +80,7 @@ pub(crate) fn name_in(names: &[u8], offset: u32) -> &[u8]
 }
 
 /// The name of the section of this header; none where the file has no names.
-#[tactic(auto, using(crate::proofs::Tables::names_within))]
+#[tactic(auto, using(crate::proofs::TablesLemmas::names_within))]
 pub(crate) fn name(
     alloc: Global,
     view: &ElfView<'_>,

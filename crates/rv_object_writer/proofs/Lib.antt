@@ -1,3 +1,3 @@
-pub mod Cut
-pub mod Naming
-pub mod Steps
+pub mod CutLemmas
+pub mod NamingLemmas
+pub mod StepsLemmas

@@ -131,7 +131,7 @@ fn put_double(out: &mut ElfWriter, number: u64) -> Result<(), AllocError>
 }
 
 /// Writes the index of a row's section in the file.
-#[tactic(auto, using(crate::proofs::Cut::word_cut))]
+#[tactic(auto, using(crate::proofs::CutLemmas::word_cut))]
 fn put_row_section(out: &mut ElfWriter, row: &Row) -> Result<(), AllocError>
     ensures { OnOk result (out.new ≡ out.old ++ bytes_of fields.section (suc (row.now).section)) }
 {

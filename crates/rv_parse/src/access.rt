@@ -33,7 +33,7 @@ pub enum Location<'a> {
 }
 
 /// The address that a register and what stands before its parentheses give, or a target.
-#[tactic(auto, using(crate::proofs::Located::number_err, crate::proofs::Located::target_ok), unfolding(rv_lexer::specs::Cursor::left))]
+#[tactic(auto, using(crate::proofs::LocatedLemmas::number_err, crate::proofs::LocatedLemmas::target_ok), unfolding(rv_lexer::specs::Cursor::left))]
 fn located<'a>(alloc: Global, cursor: &mut Cursor<'a>) -> Result<Location<'a>, ReadError>
     ensures { Answers (λ l. (location_of l, left cursor.new)) result
         (location_at (left cursor.old)) }

@@ -22,7 +22,7 @@ use rv_text::{Cursor, Expr, ReadError, SyntaxError};
 use std::alloc::Global;
 
 /// One symbol or more, with commas between.
-#[tactic(auto, using(crate::proofs::Lists::names_first_wrong, crate::proofs::Lists::names_begin, crate::proofs::Lists::names_wrong, crate::proofs::Lists::names_done))]
+#[tactic(auto, using(crate::proofs::ListsLemmas::names_first_wrong, crate::proofs::ListsLemmas::names_begin, crate::proofs::ListsLemmas::names_wrong, crate::proofs::ListsLemmas::names_done))]
 fn names<'a>(alloc: Global, cursor: &mut Cursor<'a>) -> Result<Vec<&'a [u8]>, ReadError>
     ensures { Answers (λ names. (map word_of names.items, left cursor.new)) result
         (items_at A_symbol (left cursor.old)) }
@@ -38,7 +38,7 @@ fn names<'a>(alloc: Global, cursor: &mut Cursor<'a>) -> Result<Vec<&'a [u8]>, Re
 }
 
 /// One string or more, with commas between.
-#[tactic(auto, using(crate::proofs::Lists::strings_first_wrong, crate::proofs::Lists::strings_begin, crate::proofs::Lists::strings_wrong, crate::proofs::Lists::strings_done))]
+#[tactic(auto, using(crate::proofs::ListsLemmas::strings_first_wrong, crate::proofs::ListsLemmas::strings_begin, crate::proofs::ListsLemmas::strings_wrong, crate::proofs::ListsLemmas::strings_done))]
 fn strings<'a>(alloc: Global, cursor: &mut Cursor<'a>) -> Result<Vec<&'a [u8]>, ReadError>
     ensures { Answers (λ strings. (map string_of strings.items, left cursor.new)) result
         (items_at A_string (left cursor.old)) }
@@ -54,7 +54,7 @@ fn strings<'a>(alloc: Global, cursor: &mut Cursor<'a>) -> Result<Vec<&'a [u8]>, 
 }
 
 /// The first of several values, and the others after it, with a comma before each.
-#[tactic(auto, using(crate::proofs::Lists::values_start, crate::proofs::Lists::value_shorter, crate::proofs::Lists::values_wrong, crate::proofs::Lists::values_done))]
+#[tactic(auto, using(crate::proofs::ListsLemmas::values_start, crate::proofs::ListsLemmas::value_shorter, crate::proofs::ListsLemmas::values_wrong, crate::proofs::ListsLemmas::values_done))]
 fn several<'a>(
     alloc: Global,
     cursor: &mut Cursor<'a>,
@@ -91,7 +91,7 @@ fn values<'a>(
 }
 
 /// The names of `.globl`.
-#[tactic(auto, using(crate::proofs::Lists::all_names), unfolding(rv_parse_laws::specs::Parsing::operands_at))]
+#[tactic(auto, using(crate::proofs::ListsLemmas::all_names), unfolding(rv_parse_laws::specs::Parsing::operands_at))]
 fn globl<'a>(alloc: Global, cursor: &mut Cursor<'a>) -> Result<StatementKind<'a>, ReadError>
     ensures { ReadsDirective Globl cursor.old cursor.new result }
 {
@@ -99,7 +99,7 @@ fn globl<'a>(alloc: Global, cursor: &mut Cursor<'a>) -> Result<StatementKind<'a>
 }
 
 /// The names of `.local`.
-#[tactic(auto, using(crate::proofs::Lists::all_names), unfolding(rv_parse_laws::specs::Parsing::operands_at))]
+#[tactic(auto, using(crate::proofs::ListsLemmas::all_names), unfolding(rv_parse_laws::specs::Parsing::operands_at))]
 fn local<'a>(alloc: Global, cursor: &mut Cursor<'a>) -> Result<StatementKind<'a>, ReadError>
     ensures { ReadsDirective Local cursor.old cursor.new result }
 {
@@ -107,7 +107,7 @@ fn local<'a>(alloc: Global, cursor: &mut Cursor<'a>) -> Result<StatementKind<'a>
 }
 
 /// The strings of `.ascii`.
-#[tactic(auto, using(crate::proofs::Lists::all_strings), unfolding(rv_parse_laws::specs::Parsing::operands_at))]
+#[tactic(auto, using(crate::proofs::ListsLemmas::all_strings), unfolding(rv_parse_laws::specs::Parsing::operands_at))]
 fn ascii<'a>(alloc: Global, cursor: &mut Cursor<'a>) -> Result<StatementKind<'a>, ReadError>
     ensures { ReadsDirective Ascii cursor.old cursor.new result }
 {
@@ -115,7 +115,7 @@ fn ascii<'a>(alloc: Global, cursor: &mut Cursor<'a>) -> Result<StatementKind<'a>
 }
 
 /// The strings of `.asciz`.
-#[tactic(auto, using(crate::proofs::Lists::all_strings), unfolding(rv_parse_laws::specs::Parsing::operands_at))]
+#[tactic(auto, using(crate::proofs::ListsLemmas::all_strings), unfolding(rv_parse_laws::specs::Parsing::operands_at))]
 fn asciz<'a>(alloc: Global, cursor: &mut Cursor<'a>) -> Result<StatementKind<'a>, ReadError>
     ensures { ReadsDirective Asciz cursor.old cursor.new result }
 {
@@ -172,7 +172,7 @@ fn set<'a>(alloc: Global, cursor: &mut Cursor<'a>) -> Result<StatementKind<'a>, 
 }
 
 /// The word of `.option`.
-#[tactic(auto, using(crate::proofs::Tokens::choice_no_last), unfolding(rv_lexer::specs::Cursor::left, rv_parse_laws::specs::Parsing::operands_at))]
+#[tactic(auto, using(crate::proofs::TokensLemmas::choice_no_last), unfolding(rv_lexer::specs::Cursor::left, rv_parse_laws::specs::Parsing::operands_at))]
 fn option<'a>(cursor: &mut Cursor<'a>) -> Result<StatementKind<'a>, SyntaxError>
     ensures { GivesDirective Option cursor.old cursor.new result }
 {
@@ -270,7 +270,7 @@ fn enters<'a>(cursor: &mut Cursor<'a>, section: Standard) -> Result<StatementKin
 }
 
 /// Operands that are not looked at.
-#[tactic(auto, using(crate::proofs::Tokens::any_no_last), unfolding(rv_lexer::specs::Cursor::left))]
+#[tactic(auto, using(crate::proofs::TokensLemmas::any_no_last), unfolding(rv_lexer::specs::Cursor::left))]
 fn anything(cursor: &mut Cursor<'_>) -> Result<(), SyntaxError>
     ensures { Gives (λ _. ([], left cursor.new)) result (any_at (left cursor.old)) }
 {

@@ -145,7 +145,7 @@ fn flags_wrong(
 }
 
 /// What is wrong with the flags or the type of an opening that begins here: they count where the name is new.
-#[tactic(auto, using(crate::proofs::Opened::section_no_last, crate::proofs::Opened::named_left, crate::proofs::Opened::name_wrong, crate::proofs::Opened::comma_wrong), unfolding(rv_lexer::specs::Cursor::left, rv_parse_laws::specs::Parsing::opening_at))]
+#[tactic(auto, using(crate::proofs::OpenedLemmas::section_no_last, crate::proofs::OpenedLemmas::named_left, crate::proofs::OpenedLemmas::name_wrong, crate::proofs::OpenedLemmas::comma_wrong), unfolding(rv_lexer::specs::Cursor::left, rv_parse_laws::specs::Parsing::opening_at))]
 pub fn wrong_opening(
     alloc: Global,
     cursor: &Cursor<'_>,

@@ -14,7 +14,7 @@ use rv_parse_words::kinds;
 use rv_text::{Cursor, LONGEST_NAME, SourceCode, SyntaxError};
 
 /// A register.
-#[tactic(auto, using(crate::proofs::Tokens::register_no_last), unfolding(rv_lexer::specs::Cursor::left))]
+#[tactic(auto, using(crate::proofs::TokensLemmas::register_no_last), unfolding(rv_lexer::specs::Cursor::left))]
 pub fn register(cursor: &mut Cursor<'_>) -> Result<Reg, SyntaxError>
     ensures { Gives (λ r. (Register r ∷ [], left cursor.new)) result
         (operand_at A_register (left cursor.old)) }
@@ -87,7 +87,7 @@ pub fn begins_accesses(cursor: &Cursor<'_>) -> bool
 }
 
 /// A set of accesses.
-#[tactic(auto, using(crate::proofs::Tokens::accesses_no_last), unfolding(rv_lexer::specs::Cursor::left))]
+#[tactic(auto, using(crate::proofs::TokensLemmas::accesses_no_last), unfolding(rv_lexer::specs::Cursor::left))]
 pub fn accesses(cursor: &mut Cursor<'_>) -> Result<AccessSet, SyntaxError>
     ensures { Gives (λ set. (Accesses set ∷ [], left cursor.new)) result
         (operand_at Some_accesses (left cursor.old)) }
@@ -102,7 +102,7 @@ pub fn accesses(cursor: &mut Cursor<'_>) -> Result<AccessSet, SyntaxError>
 }
 
 /// A literal 0.
-#[tactic(auto, using(crate::proofs::Tokens::zero_no_last), unfolding(rv_lexer::specs::Cursor::left))]
+#[tactic(auto, using(crate::proofs::TokensLemmas::zero_no_last), unfolding(rv_lexer::specs::Cursor::left))]
 pub fn zero(cursor: &mut Cursor<'_>) -> Result<(), SyntaxError>
     ensures { Gives (λ _. ([], left cursor.new)) result (operand_at A_zero (left cursor.old)) }
 {
@@ -115,7 +115,7 @@ pub fn zero(cursor: &mut Cursor<'_>) -> Result<(), SyntaxError>
 }
 
 /// An opening parenthesis, after what stands in this slot.
-#[tactic(auto, using(crate::proofs::Tokens::opening_no_last), unfolding(rv_lexer::specs::Cursor::left))]
+#[tactic(auto, using(crate::proofs::TokensLemmas::opening_no_last), unfolding(rv_lexer::specs::Cursor::left))]
 pub fn opening(cursor: &mut Cursor<'_>, behind: Slot) -> Result<(), SyntaxError>
     ensures { Gives (λ _. ([], left cursor.new)) result
         (operand_at (An_opening (slot_of behind)) (left cursor.old)) }
@@ -129,7 +129,7 @@ pub fn opening(cursor: &mut Cursor<'_>, behind: Slot) -> Result<(), SyntaxError>
 }
 
 /// A closing parenthesis.
-#[tactic(auto, using(crate::proofs::Tokens::closing_no_last), unfolding(rv_lexer::specs::Cursor::left))]
+#[tactic(auto, using(crate::proofs::TokensLemmas::closing_no_last), unfolding(rv_lexer::specs::Cursor::left))]
 pub fn closing(cursor: &mut Cursor<'_>) -> Result<(), SyntaxError>
     ensures { Gives (λ _. ([], left cursor.new)) result (operand_at A_closing (left cursor.old)) }
 {
@@ -152,7 +152,7 @@ pub fn base(cursor: &mut Cursor<'_>) -> Result<Reg, SyntaxError>
 }
 
 /// A symbol, in a directive.
-#[tactic(auto, using(crate::proofs::Tokens::symbol_no_last), unfolding(rv_lexer::specs::Cursor::left))]
+#[tactic(auto, using(crate::proofs::TokensLemmas::symbol_no_last), unfolding(rv_lexer::specs::Cursor::left))]
 pub fn symbol<'a>(cursor: &mut Cursor<'a>) -> Result<&'a [u8], SyntaxError>
     ensures { Gives (λ name. (word_of name ∷ [], left cursor.new)) result
         (operand_at A_symbol (left cursor.old)) }
@@ -167,7 +167,7 @@ pub fn symbol<'a>(cursor: &mut Cursor<'a>) -> Result<&'a [u8], SyntaxError>
 }
 
 /// A string.
-#[tactic(auto, using(crate::proofs::Tokens::string_no_last), unfolding(rv_lexer::specs::Cursor::left))]
+#[tactic(auto, using(crate::proofs::TokensLemmas::string_no_last), unfolding(rv_lexer::specs::Cursor::left))]
 pub fn string<'a>(cursor: &mut Cursor<'a>) -> Result<&'a [u8], SyntaxError>
     ensures { Gives (λ text. (string_of text ∷ [], left cursor.new)) result
         (operand_at A_string (left cursor.old)) }
@@ -182,7 +182,7 @@ pub fn string<'a>(cursor: &mut Cursor<'a>) -> Result<&'a [u8], SyntaxError>
 }
 
 /// The `@` before a section's type.
-#[tactic(auto, using(crate::proofs::Tokens::at_no_last), unfolding(rv_lexer::specs::Cursor::left))]
+#[tactic(auto, using(crate::proofs::TokensLemmas::at_no_last), unfolding(rv_lexer::specs::Cursor::left))]
 pub fn at_sign(cursor: &mut Cursor<'_>) -> Result<(), SyntaxError>
     ensures { Gives (λ _. ([], left cursor.new)) result (operand_at At_sign (left cursor.old)) }
 {
@@ -195,7 +195,7 @@ pub fn at_sign(cursor: &mut Cursor<'_>) -> Result<(), SyntaxError>
 }
 
 /// The `plt` after `@` in a call.
-#[tactic(auto, using(crate::proofs::Tokens::plt_no_last), unfolding(rv_lexer::specs::Cursor::left))]
+#[tactic(auto, using(crate::proofs::TokensLemmas::plt_no_last), unfolding(rv_lexer::specs::Cursor::left))]
 pub fn plt(cursor: &mut Cursor<'_>) -> Result<(), SyntaxError>
     ensures { Gives (λ _. ([], left cursor.new)) result (operand_at A_plt (left cursor.old)) }
 {
@@ -208,7 +208,7 @@ pub fn plt(cursor: &mut Cursor<'_>) -> Result<(), SyntaxError>
 }
 
 /// A section's type.
-#[tactic(auto, using(crate::proofs::Tokens::type_no_last), unfolding(rv_lexer::specs::Cursor::left))]
+#[tactic(auto, using(crate::proofs::TokensLemmas::type_no_last), unfolding(rv_lexer::specs::Cursor::left))]
 pub fn section_type<'a>(cursor: &mut Cursor<'a>) -> Result<&'a [u8], SyntaxError>
     ensures { Gives (λ name. (word_of name ∷ [], left cursor.new)) result
         (operand_at A_type (left cursor.old)) }
@@ -223,7 +223,7 @@ pub fn section_type<'a>(cursor: &mut Cursor<'a>) -> Result<&'a [u8], SyntaxError
 }
 
 /// A comma, after an operand in this slot.
-#[tactic(auto, using(crate::proofs::Tokens::comma_no_last), unfolding(rv_lexer::specs::Cursor::left))]
+#[tactic(auto, using(crate::proofs::TokensLemmas::comma_no_last), unfolding(rv_lexer::specs::Cursor::left))]
 pub fn comma(cursor: &mut Cursor<'_>, behind: Slot) -> Result<(), SyntaxError>
     ensures { Gives (λ _. ([], left cursor.new)) result
         (operand_at (A_comma (slot_of behind)) (left cursor.old)) }
@@ -249,7 +249,7 @@ pub fn end(cursor: &Cursor<'_>, behind: Slot) -> Result<(), SyntaxError>
 }
 
 /// The first token with which a name of several tokens is too long; nowhere if there is none.
-#[tactic(auto, using(crate::proofs::Tokens::last_width), unfolding(rv_lexer::specs::Cursor::left))]
+#[tactic(auto, using(crate::proofs::TokensLemmas::last_width), unfolding(rv_lexer::specs::Cursor::left))]
 fn too_long(cursor: Cursor<'_>) -> SyntaxError
     ensures { syntax_error_of result ≡ too_long 0 (left cursor.entry) }
 {
@@ -291,7 +291,7 @@ pub fn section_name<'a>(cursor: &mut Cursor<'a>) -> Result<&'a [u8], SyntaxError
 }
 
 /// The flags of a section.
-#[tactic(auto, using(crate::proofs::Tokens::string_no_last), unfolding(rv_lexer::specs::Cursor::left))]
+#[tactic(auto, using(crate::proofs::TokensLemmas::string_no_last), unfolding(rv_lexer::specs::Cursor::left))]
 pub fn flags<'a>(cursor: &mut Cursor<'a>) -> Result<&'a [u8], SyntaxError>
     ensures { Gives (λ text. (string_of text ∷ [], left cursor.new)) result
         (operand_at Some_flags (left cursor.old)) }

@@ -123,7 +123,7 @@ fn next_statement<'a>(
 }
 
 /// The statements that the tokens say, up to the source's end.
-#[tactic(auto, using(rv_parse_laws::proofs::Progress::end_no_last))]
+#[tactic(auto, using(rv_parse_laws::proofs::ProgressLemmas::end_no_last))]
 fn statements<'a>(alloc: Global, lexer: Lexer<'a>) -> Result<Vec<Statement<'a>>, ReadError>
     ensures says { IfOk result
         (λ v. SaysUpTo (tokens_left lexer.entry) [] (map statement_of v.items)) }

@@ -16,7 +16,7 @@ use rv_text::{Cursor, ReadError, SyntaxError, Token};
 use std::alloc::Global;
 
 /// A label, after its name or its digits: the colon comes next.
-#[tactic(auto, using(crate::proofs::Tokens::colon_no_last), unfolding(rv_lexer::specs::Cursor::left))]
+#[tactic(auto, using(crate::proofs::TokensLemmas::colon_no_last), unfolding(rv_lexer::specs::Cursor::left))]
 fn label<'a>(cursor: &mut Cursor<'a>, first: Token<'a>) -> Result<StatementKind<'a>, ReadError>
     requires { is_colon (kind_of cursor.old.next.kind) ≡ true }
     ensures { Answers (λ k. (statement_kind k, left cursor.new)) result
@@ -70,7 +70,7 @@ fn statement_after<'a>(
 }
 
 /// A label, or another statement up to its end; the next token ends none.
-#[tactic(auto, using(rv_parse_laws::proofs::Parts::last_begins_nothing), unfolding(rv_lexer::specs::Cursor::left, rv_parse_laws::specs::Parsing::part_at, rv_parse_laws::specs::Parsing::statement_at, rv_parse_laws::specs::Parsing::begun_at))]
+#[tactic(auto, using(rv_parse_laws::proofs::PartsLemmas::last_begins_nothing), unfolding(rv_lexer::specs::Cursor::left, rv_parse_laws::specs::Parsing::part_at, rv_parse_laws::specs::Parsing::statement_at, rv_parse_laws::specs::Parsing::begun_at))]
 pub fn statement<'a>(alloc: Global, cursor: &mut Cursor<'a>) -> Result<StatementKind<'a>, ReadError>
     requires { is_end (kind_of cursor.old.next.kind) ≡ false }
     ensures { Answers (λ k. (Says (statement_kind k), left cursor.new)) result

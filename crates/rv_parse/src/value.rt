@@ -34,7 +34,7 @@ impl Registers for RegisterNames {
 }
 
 /// An expression.
-#[tactic(auto, using(crate::proofs::Targets::read_numbers))]
+#[tactic(auto, using(crate::proofs::TargetsLemmas::read_numbers))]
 fn expression<'a>(alloc: Global, cursor: &mut Cursor<'a>) -> Result<Expr<'a>, ReadError>
     ensures read { Answers (λ e. (tree_of_expr e, left cursor.new)) result
         (value_at (left cursor.old)) }
@@ -100,7 +100,7 @@ impl Argument<'_> {
 }
 
 /// A label.
-#[tactic(auto, using(crate::proofs::Tokens::label_no_last), unfolding(rv_lexer::specs::Cursor::left))]
+#[tactic(auto, using(crate::proofs::TokensLemmas::label_no_last), unfolding(rv_lexer::specs::Cursor::left))]
 fn label<'a>(cursor: &mut Cursor<'a>) -> Result<Expr<'a>, SyntaxError>
     ensures { Gives (λ e. (tree_of_expr e, left cursor.new)) result (label_at (left cursor.old)) }
 {
@@ -189,7 +189,7 @@ fn wrong_function(cursor: &Cursor<'_>, percent: Token<'_>) -> SyntaxError
 }
 
 /// A function of an expression, after its `%`.
-#[tactic(auto, using(crate::proofs::Tokens::function_no_last), unfolding(rv_lexer::specs::Cursor::left))]
+#[tactic(auto, using(crate::proofs::TokensLemmas::function_no_last), unfolding(rv_lexer::specs::Cursor::left))]
 fn applied<'a>(
     alloc: Global,
     cursor: &mut Cursor<'a>,
@@ -214,7 +214,7 @@ fn applied<'a>(
 }
 
 /// An expression, or a function of one, of an instruction that goes nowhere by it.
-#[tactic(auto, using(crate::proofs::Tokens::percent_no_last), unfolding(rv_lexer::specs::Cursor::left))]
+#[tactic(auto, using(crate::proofs::TokensLemmas::percent_no_last), unfolding(rv_lexer::specs::Cursor::left))]
 pub fn value_or_function<'a>(
     alloc: Global,
     cursor: &mut Cursor<'a>,

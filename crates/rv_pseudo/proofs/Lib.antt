@@ -1,3 +1,3 @@
-pub mod InRange
-pub mod OneRow
-pub mod Rows
+pub mod InRangeLemmas
+pub mod OneRowLemmas
+pub mod RowsLemmas

@@ -1,6 +1,6 @@
-pub mod Modulo
-pub mod Zeros
-pub mod Sequences
-pub mod Formats
-pub mod Filling
-pub mod Parts
+pub mod ModuloLemmas
+pub mod ZerosLemmas
+pub mod SequencesLemmas
+pub mod FormatsLemmas
+pub mod FillingLemmas
+pub mod PartsLemmas

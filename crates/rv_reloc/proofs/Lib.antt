@@ -1,3 +1,3 @@
-mod Halves
-mod Immediates
-mod Wrapping
+mod HalvesLemmas
+mod ImmediatesLemmas
+mod WrappingLemmas

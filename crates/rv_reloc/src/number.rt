@@ -107,7 +107,7 @@ pub(crate) fn upper(value: i64) -> u64
 }
 
 /// The low 12 bits of the lower half, which are those of the value.
-#[tactic(auto, using(crate::proofs::Halves::lo_keeps))]
+#[tactic(auto, using(crate::proofs::HalvesLemmas::lo_keeps))]
 pub(crate) fn lower(value: i64) -> u64
     ensures value { result ≡ modulo 12 (lo value) }
     ensures below { result < 2 ^ 12 }

@@ -1,13 +1,13 @@
-mod Adding
-mod Cuts
-mod Distinct
-pub mod Entry
-pub mod FirstSome
-pub mod Found
-pub mod LinkerNames
-mod Meant
-mod Numbers
-mod Resolved
-pub mod Shown
-mod Steps
-mod Table
+mod AddingLemmas
+mod CutsLemmas
+mod DistinctLemmas
+pub mod EntryLemmas
+pub mod FirstSomeLemmas
+pub mod FoundLemmas
+pub mod LinkerNamesLemmas
+mod MeantLemmas
+mod NumbersLemmas
+mod ResolvedLemmas
+pub mod ShownLemmas
+mod StepsLemmas
+mod TableLemmas

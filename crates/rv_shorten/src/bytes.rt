@@ -61,7 +61,7 @@ fn word_of(cut: &Cut) -> u64
 }
 
 /// Adds the low bytes of a number.
-#[tactic(auto, using(crate::proofs::Running::low_bytes))]
+#[tactic(auto, using(crate::proofs::RunningLemmas::low_bytes))]
 fn put_low(out: &mut Vec<u8>, word: u64, bytes: u64) -> Result<(), AllocError>
     requires { bytes ≤ 8 }
     ensures { OnOk result (out.new.items ≡ out.old.items ++ little_endian bytes word) }

@@ -1,3 +1,3 @@
-pub mod Settling
-pub mod Homes
-pub mod Held
+pub mod SettlingLemmas
+pub mod HomesLemmas
+pub mod HeldLemmas

@@ -1,4 +1,4 @@
-pub mod Exprs
-pub mod ReadingSteps
-pub mod Evals
-pub mod Fronts
+pub mod ExprsLemmas
+pub mod ReadingStepsLemmas
+pub mod EvalsLemmas
+pub mod FrontsLemmas

@@ -19,7 +19,7 @@ use rv_text_laws::{BinaryOperator, Frame, UnaryOperator};
 use std::alloc::{AllocError, Global};
 
 /// An operator that waits for its operand.
-#[tactic(auto, using(crate::proofs::Exprs::stack_push, crate::proofs::Exprs::stack_none))]
+#[tactic(auto, using(crate::proofs::ExprsLemmas::stack_push, crate::proofs::ExprsLemmas::stack_none))]
 fn waiting(alloc: Global, frame: Frame) -> Result<Vec<Frame>, AllocError>
     ensures { IfOk result (λ frames. stack_of frames.items ≡ frame ∷ []) }
 {
@@ -48,7 +48,7 @@ fn ends(kind: TokenKind<'_>) -> bool
 
 /// The expression that begins with a number.
 #[inline(always)]
-#[tactic(auto, using(crate::proofs::Exprs::stack_none))]
+#[tactic(auto, using(crate::proofs::ExprsLemmas::stack_none))]
 pub(crate) fn after_number<'a, R: Registers>(
     alloc: Global,
     cursor: &mut Cursor<'a>,
@@ -146,7 +146,7 @@ fn after_operator<'a, R: Registers>(
 
 /// The expression that begins with a symbol.
 #[inline(always)]
-#[tactic(auto, using(crate::proofs::Exprs::stack_none))]
+#[tactic(auto, using(crate::proofs::ExprsLemmas::stack_none))]
 pub(crate) fn after_symbol<'a, R: Registers>(
     alloc: Global,
     cursor: &mut Cursor<'a>,

@@ -70,7 +70,7 @@ impl<'a> Nodes<'a> {
     }
 
     /// One more node.
-    #[tactic(auto, using(crate::proofs::Exprs::nodes_push))]
+    #[tactic(auto, using(crate::proofs::ExprsLemmas::nodes_push))]
     pub(crate) fn push(&mut self, node: Node<'a>) -> Result<(), AllocError>
         ensures { IfOk result
             (λ _. nodes_of self.new ≡ nodes_of self.old ++ node_of node.entry ∷ []) }

@@ -221,7 +221,7 @@ fn nests(frame: Frame) -> bool
 }
 
 /// How many parentheses and operators of one operand are open.
-#[tactic(auto, using(crate::proofs::Exprs::depth_count))]
+#[tactic(auto, using(crate::proofs::ExprsLemmas::depth_count))]
 fn depth(frames: &[Frame]) -> usize
     ensures { result ≡ reading.depth (stack_of frames.now) }
 {
@@ -229,7 +229,7 @@ fn depth(frames: &[Frame]) -> usize
 }
 
 /// The operators that take the operand after them before one of this level does.
-#[tactic(auto, using(crate::proofs::Exprs::stack_push, crate::proofs::Exprs::stack_none))]
+#[tactic(auto, using(crate::proofs::ExprsLemmas::stack_push, crate::proofs::ExprsLemmas::stack_none))]
 fn settle<'a>(frames: &mut Vec<Frame>, nodes: &mut Nodes<'a>, level: u8) -> Result<(), AllocError>
     ensures { IfOk result
         (λ _. reading.settle level (stack_of frames.old.items) (nodes_of nodes.old)
@@ -246,7 +246,7 @@ fn settle<'a>(frames: &mut Vec<Frame>, nodes: &mut Nodes<'a>, level: u8) -> Resu
 }
 
 /// One level deeper, up to the limit.
-#[tactic(auto, using(crate::proofs::Exprs::stack_push))]
+#[tactic(auto, using(crate::proofs::ExprsLemmas::stack_push))]
 fn deeper<'a>(
     frames: &mut Vec<Frame>,
     frame: Frame,
@@ -310,7 +310,7 @@ fn wants<'a, R: Registers>(
 }
 
 /// A `)`, where all that binds has its operand.
-#[tactic(auto, using(crate::proofs::Exprs::stack_push, crate::proofs::Exprs::stack_none))]
+#[tactic(auto, using(crate::proofs::ExprsLemmas::stack_push, crate::proofs::ExprsLemmas::stack_none))]
 fn close<'a>(frames: &mut Vec<Frame>, nodes: Nodes<'a>) -> Result<Step<'a>, Stop>
     ensures { Steps frames.new.items result
         (reading.close (stack_of frames.old.items) (nodes_of nodes.entry)) }
@@ -322,7 +322,7 @@ fn close<'a>(frames: &mut Vec<Frame>, nodes: Nodes<'a>) -> Result<Step<'a>, Stop
 }
 
 /// A token that no expression goes on with, where all that binds has its operand; `code` is its fault in a parenthesis.
-#[tactic(auto, using(crate::proofs::Exprs::end_none, crate::proofs::Exprs::end_open))]
+#[tactic(auto, using(crate::proofs::ExprsLemmas::end_none, crate::proofs::ExprsLemmas::end_open))]
 fn end<'a>(frames: &[Frame], nodes: Nodes<'a>, code: SourceCode) -> Result<Step<'a>, Stop>
     ensures { Steps frames.now result
         (reading.end (number_of code) (stack_of frames.now) (nodes_of nodes.entry)) }
@@ -335,7 +335,7 @@ fn end<'a>(frames: &[Frame], nodes: Nodes<'a>, code: SourceCode) -> Result<Step<
 }
 
 /// An operator after an operand.
-#[tactic(auto, using(crate::proofs::Exprs::stack_push))]
+#[tactic(auto, using(crate::proofs::ExprsLemmas::stack_push))]
 fn operator<'a>(
     frames: &mut Vec<Frame>,
     nodes: Nodes<'a>,
@@ -415,7 +415,7 @@ pub(crate) fn read_on<'a, R: Registers>(
 }
 
 /// The expression at the front of a cursor's tokens. An error names the first token that is wrong.
-#[tactic(auto, using(crate::proofs::Exprs::stack_none), unfolding(rv_text_laws::specs::ExpressionAt::expression_at))]
+#[tactic(auto, using(crate::proofs::ExprsLemmas::stack_none), unfolding(rv_text_laws::specs::ExpressionAt::expression_at))]
 pub fn expression<'a, R: Registers>(
     alloc: Global,
     cursor: &mut Cursor<'a>,

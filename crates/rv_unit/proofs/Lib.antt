@@ -1,9 +1,9 @@
-mod Lowest
-mod Checked
-mod Each
-mod Passed
-mod Scoped
-mod Standing
-mod Instructions
-mod Sized
-pub mod Constants
+mod LowestLemmas
+mod CheckedLemmas
+mod EachLemmas
+mod PassedLemmas
+mod ScopedLemmas
+mod StandingLemmas
+mod InstructionsLemmas
+mod SizedLemmas
+pub mod ConstantsLemmas

@@ -10,7 +10,7 @@ ghost use Rattle.rv_statement.specs.declared.mnemonic.Mnemonic.{Mnemonic as Spec
 ghost use Rattle.rv_statement.specs.View.{bytes_of, quoted, setting_of, statement_kind};
 ghost use Rattle.rv_unit_laws.specs.Faults as faults;
 ghost use Rattle.rv_unit_laws.specs.Tables as laws;
-ghost use Rattle.rv_unit_laws.proofs.Asked.{depth_after as depth_then};
+ghost use Rattle.rv_unit_laws.proofs.AskedLemmas.{depth_after as depth_then};
 ghost use Rattle.rv_unit_tables.specs.Sections.{section_of, offset_of};
 ghost use Rattle.rv_unit_tables.specs.declared.section_offset.SectionOffset.{SectionOffset as SectionOffsetOf};
 ghost use Rattle.rv_unit.specs.Faults.{IsLowest};

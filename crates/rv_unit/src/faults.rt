@@ -17,7 +17,7 @@ use rv_unit_tables::{GREATEST_ALIGNMENT, LONGEST_SECTION, Section, is_power_belo
 pub(crate) type Outcome<'a> = Result<Value<'a>, SourceFault>;
 
 /// The lower of two codes, where there are any.
-#[tactic(auto, using(crate::proofs::Lowest::lowest_append))]
+#[tactic(auto, using(crate::proofs::LowestLemmas::lowest_append))]
 pub(crate) fn lower(one: Option<SourceCode>, other: Option<SourceCode>) -> Option<SourceCode>
     ensures { (cs ds : List ℕ) → IsLowest one cs → IsLowest other ds → IsLowest result (cs ++ ds) }
 {

@@ -1,7 +1,7 @@
-mod Bound
-mod Digits
-mod Gives
-pub mod Lookups
-mod Numbered
-mod Ordered
-pub mod Filling
+mod BoundLemmas
+mod DigitsLemmas
+mod GivesLemmas
+pub mod LookupsLemmas
+mod NumberedLemmas
+mod OrderedLemmas
+pub mod FillingLemmas

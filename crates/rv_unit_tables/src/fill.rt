@@ -11,7 +11,7 @@ ghost use Rattle.rv_statement.specs.Statement.{Aligns_to_power, Aligns_to_bytes,
 ghost use Rattle.rv_statement.specs.View.{statement_kind, opening_of, statement_of};
 ghost use Rattle.rv_unit_laws.specs.Sections.{entered_by};
 ghost use Rattle.rv_unit_laws.specs.Tables as laws;
-ghost use Rattle.rv_unit_laws.proofs.Before.{IsBefore};
+ghost use Rattle.rv_unit_laws.proofs.BeforeLemmas.{IsBefore};
 ghost use Rattle.rv_unit_tables.specs.Options.{options_of};
 ghost use Rattle.rv_unit_tables.specs.Sections.{offset_of};
 ghost use Rattle.rv_unit_tables.specs.Tables.{tables_of, assignment_of, IsIndexed};

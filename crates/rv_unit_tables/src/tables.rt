@@ -12,7 +12,7 @@ ghost use Rattle.rv_statement.specs.View.{statement_kind, now_of};
 ghost use Rattle.rv_unit_laws.specs.Bindings.{bound};
 ghost use Rattle.rv_unit_laws.specs.Sections as sections;
 ghost use Rattle.rv_unit_laws.specs.Tables as laws;
-ghost use Rattle.rv_unit_laws.proofs.Before.{IsBefore, placed_latest};
+ghost use Rattle.rv_unit_laws.proofs.BeforeLemmas.{IsBefore, placed_latest};
 ghost use Rattle.rv_unit_tables.specs.Sections.{section_of, offset_of};
 ghost use Rattle.rv_unit_tables.specs.Tables.{tables_of, label_at, numeric_label_at, assignment_of, IsIndexed};
 

@@ -1,4 +1,4 @@
-use Rattle.rv_isa_laws.proofs.EffectLaws as laws
+use Rattle.rv_isa_laws.proofs.EffectLawsLemmas as laws
 use Rattle.rv_isa_laws.proofs.effect_keeps.Goals as goal
 
 pub returns : goal.returns

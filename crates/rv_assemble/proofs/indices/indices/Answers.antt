@@ -3,8 +3,8 @@ use Rattle.rv_isa.specs.declared.kind.Kind.TheVariants as kinds
 use Rattle.rv_draft.specs.declared.field.OpenField.{OpenField}
 use Rattle.rv_draft.specs.Draft.{field_of}
 use Rattle.rv_assemble.specs.Making.{next_of, indices_of}
-use Rattle.rv_assemble.proofs.ListsSoFar.{left_map}
-use Rattle.rv_assemble.proofs.IndicesSoFar.{indices_more, next_within}
+use Rattle.rv_assemble.proofs.ListsSoFarLemmas.{left_map}
+use Rattle.rv_assemble.proofs.IndicesSoFarLemmas.{indices_more, next_within}
 use Rattle.rv_assemble.proofs.indices.indices.Goals as goal
 
 abbrev no_field : OpenField

@@ -6,8 +6,8 @@ use Rattle.rv_draft.specs.declared.field.OpenField.{OpenField}
 use Rattle.rv_draft.specs.Draft.{field_of}
 use Rattle.rv_assemble.specs.Lists.{list_in}
 use Rattle.rv_assemble.specs.Making.{rows_from, indices_of, relocations_in, IsMakeable, sections_by}
-use Rattle.rv_assemble.proofs.Uses.{items_count}
-use Rattle.rv_assemble.proofs.Joining.{indices_count, inside, makeable, indexed, defined, lie, is_object}
+use Rattle.rv_assemble.proofs.UsesLemmas.{items_count}
+use Rattle.rv_assemble.proofs.JoiningLemmas.{indices_count, inside, makeable, indexed, defined, lie, is_object}
 use Rattle.rv_assemble.proofs.object.object.Goals as goal
 
 pub relocations-requires-clause-each : goal.relocations-requires-clause-each

@@ -3,7 +3,7 @@ use Rattle.std.proofs.lemmas.Int.{to_z-of_z}
 use Rattle.std.specs.Prelude.{slice_get}
 use Rattle.std.proofs.lemmas.Option.{slice_get_read}
 use Rattle.rv_draft.specs.Draft.{field_of}
-use Rattle.rv_assemble.proofs.ListsSoFar.{gains_one, same_relocation}
+use Rattle.rv_assemble.proofs.ListsSoFarLemmas.{gains_one, same_relocation}
 use Rattle.rv_assemble.proofs.relocations.put_relocation.Goals as goal
 
 pub returns : goal.returns

@@ -1,7 +1,7 @@
 use Rattle.std.proofs.Common.{length, map, ◌∙◌}
 use Rattle.rv_draft.specs.Draft.{field_of}
 use Rattle.rv_assemble.specs.Making.{relocations_in}
-use Rattle.rv_assemble.proofs.ListsSoFar.{next_inside, next_one}
+use Rattle.rv_assemble.proofs.ListsSoFarLemmas.{next_inside, next_one}
 use Rattle.rv_assemble.proofs.relocations.relocations.Goals as goal
 
 pub put_relocation-requires : goal.put_relocation-requires

@@ -1,4 +1,4 @@
-use Rattle.rv_assemble.proofs.SectionsSoFar.{IsSoFar}
+use Rattle.rv_assemble.proofs.SectionsSoFarLemmas.{IsSoFar}
 use Rattle.rv_assemble.proofs.sections.sections.Given as goal
 
 -- the sections so far, and those of what is left, are all sections

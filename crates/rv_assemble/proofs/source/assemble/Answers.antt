@@ -2,8 +2,8 @@ use Rattle.std.proofs.Common.{map, sym, subst}
 use Rattle.rv_statement.specs.View.{statement_of}
 use Rattle.rv_parse_laws.specs.Reading.{Reads}
 use Rattle.rv_unit.specs.Unit.{said}
-use Rattle.rv_assemble.proofs.OpenedKept.{sections_kept}
-use Rattle.rv_assemble.proofs.Refused.{object_read, fault_read}
+use Rattle.rv_assemble.proofs.OpenedKeptLemmas.{sections_kept}
+use Rattle.rv_assemble.proofs.RefusedLemmas.{object_read, fault_read}
 use Rattle.rv_assemble.proofs.source.assemble.Goals as goal
 
 pub assembled-requires-clause-names : goal.assembled-requires-clause-names

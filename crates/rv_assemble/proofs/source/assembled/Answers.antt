@@ -1,5 +1,5 @@
 use Rattle.rv_unit.specs.Unit.{said}
-use Rattle.rv_assemble.proofs.Refused.{all_sound}
+use Rattle.rv_assemble.proofs.RefusedLemmas.{all_sound}
 use Rattle.rv_assemble.proofs.source.assembled.Goals as goal
 
 pub returns-clause-sound : goal.returns-clause-sound

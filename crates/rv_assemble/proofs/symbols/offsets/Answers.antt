@@ -1,6 +1,6 @@
 use Rattle.std.proofs.Common.{◌+◌, ◌++◌, ap, ◌∙◌, drop}
 use Rattle.rv_assemble.specs.Tabled.{offsets_of}
-use Rattle.rv_assemble.proofs.Uses.{offsets_more}
+use Rattle.rv_assemble.proofs.UsesLemmas.{offsets_more}
 use Rattle.rv_assemble.proofs.symbols.offsets.Goals as goal
 
 pub loop-index-preserved : goal.loop-index-preserved

@@ -5,7 +5,7 @@ use Rattle.rv_unit.specs.Unit.{said}
 use Rattle.rv_assemble_laws.specs.ShownNames.{AreShown}
 use Rattle.rv_symbols.specs.SymbolUse.{AreMeant, uses_of}
 use Rattle.rv_assemble.specs.Tabled.{use_of, offsets_of}
-use Rattle.rv_assemble.proofs.Uses.{uses_shown, uses_meant, offsets_count}
+use Rattle.rv_assemble.proofs.UsesLemmas.{uses_shown, uses_meant, offsets_count}
 use Rattle.rv_assemble.proofs.symbols.table.Goals as goal
 
 pub symbols-requires-clause-shown : goal.symbols-requires-clause-shown

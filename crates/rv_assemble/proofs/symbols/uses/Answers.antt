@@ -1,4 +1,4 @@
-use Rattle.rv_assemble.proofs.Uses.{uses_more}
+use Rattle.rv_assemble.proofs.UsesLemmas.{uses_more}
 use Rattle.rv_assemble.proofs.symbols.uses.Goals as goal
 
 pub loop-index-preserved : goal.loop-index-preserved

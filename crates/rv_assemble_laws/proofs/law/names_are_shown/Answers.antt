@@ -1,4 +1,4 @@
-use Rattle.rv_assemble_laws.proofs.SpelledNames.{spelled_names}
+use Rattle.rv_assemble_laws.proofs.SpelledNamesLemmas.{spelled_names}
 use Rattle.rv_assemble_laws.proofs.law.names_are_shown.Goals as goal
 
 pub returns : goal.returns

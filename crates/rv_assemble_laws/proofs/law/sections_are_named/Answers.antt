@@ -1,4 +1,4 @@
-use Rattle.rv_assemble_laws.proofs.OpenedNames.{sections_named}
+use Rattle.rv_assemble_laws.proofs.OpenedNamesLemmas.{sections_named}
 use Rattle.rv_assemble_laws.proofs.law.sections_are_named.Goals as goal
 
 pub returns : goal.returns

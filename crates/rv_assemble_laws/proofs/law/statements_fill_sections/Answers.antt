@@ -1,6 +1,6 @@
 use Rattle.std.proofs.Common.{◌≡◌, ◌∙◌, ◌+◌, arith, length, flat_map}
 use Rattle.rv_assemble_laws.specs.Sites.{part_bytes, parts}
-use Rattle.rv_assemble_laws.proofs.Filled.{filled}
+use Rattle.rv_assemble_laws.proofs.FilledLemmas.{filled}
 use Rattle.rv_assemble_laws.proofs.law.statements_fill_sections.Goals as goal
 
 -- src/law.rt:8:1

@@ -1,9 +1,9 @@
 use Rattle.std.proofs.Common.{map, sym, subst}
 use Rattle.rv_statement.specs.View.{now_of}
 use Rattle.rv_chain_laws.specs.Headline.{TheHeadline}
-use Rattle.rv_chain.proofs.Headlined.{headlined}
-use Rattle.rv_chain.proofs.Shown.{listed_as}
-use Rattle.rv_chain.proofs.Written.{built_of}
+use Rattle.rv_chain.proofs.HeadlinedLemmas.{headlined}
+use Rattle.rv_chain.proofs.ShownLemmas.{listed_as}
+use Rattle.rv_chain.proofs.WrittenLemmas.{built_of}
 use Rattle.rv_chain.proofs.building.build.Goals as goal
 
 pub returns-clause-headline : goal.returns-clause-headline

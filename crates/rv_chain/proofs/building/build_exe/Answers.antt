@@ -2,7 +2,7 @@ use Rattle.std.proofs.Common.{map}
 use Rattle.rv_statement.specs.View.{now_of}
 use Rattle.rv_map.specs.Text.{map_text}
 use Rattle.rv_image.specs.Linked.{linked_of}
-use Rattle.rv_chain.proofs.Headlined.{headlined}
+use Rattle.rv_chain.proofs.HeadlinedLemmas.{headlined}
 use Rattle.rv_chain.proofs.building.build_exe.Goals as goal
 
 pub returns-clause-headline : goal.returns-clause-headline

@@ -6,7 +6,7 @@ use Rattle.rv_object.specs.View.{object_of}
 use Rattle.rv_object_laws.specs.Shortened.{IsProgramOf}
 use Rattle.rv_link.specs.Refusals.{AreWithin, HasNoProgram}
 use Rattle.rv_chain.specs.Refusals.{IsRefusedFor}
-use Rattle.rv_chain.proofs.Gathered.{err_given, gathered, link_refused}
+use Rattle.rv_chain.proofs.GatheredLemmas.{err_given, gathered, link_refused}
 use Rattle.rv_chain.proofs.building.linked.Goals as goal
 
 pub returns-in_err-linked-clause-refuses : goal.returns-in_err-linked-clause-refuses

@@ -4,7 +4,7 @@ use Rattle.rv_statement.specs.View.{now_of}
 use Rattle.rv_object.specs.View.{object_of}
 use Rattle.rv_chain.specs.Objects.{IsObjectFrom, AreObjectsFrom}
 use Rattle.rv_chain.specs.Refusals.{IsRefusedAt, IsRefusedIn}
-use Rattle.rv_chain.proofs.Gathered.{err_given, one_more, refused_in, source_at, take_one_more}
+use Rattle.rv_chain.proofs.GatheredLemmas.{err_given, one_more, refused_in, source_at, take_one_more}
 use Rattle.rv_chain.proofs.building.objects.Goals as goal
 
 pub returns-in_err-object-clause-refuses : goal.returns-in_err-object-clause-refuses

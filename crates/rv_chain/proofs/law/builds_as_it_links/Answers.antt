@@ -1,4 +1,4 @@
-use Rattle.rv_chain.proofs.Agreed.{agreed}
+use Rattle.rv_chain.proofs.AgreedLemmas.{agreed}
 use Rattle.rv_chain.proofs.law.builds_as_it_links.Goals as goal
 
 pub returns : goal.returns

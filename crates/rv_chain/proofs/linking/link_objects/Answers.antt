@@ -6,9 +6,9 @@ use Rattle.rv_object.specs.View.{object_of}
 use Rattle.rv_object_laws.specs.Shortened.{IsProgramOf}
 use Rattle.rv_link.specs.Refusals.{AreWithin, HasNoProgram}
 use Rattle.rv_chain.specs.LinkRefusals.{AreUnlinkable}
-use Rattle.rv_chain.proofs.Gathered.{err_given}
-use Rattle.rv_chain.proofs.Unread.{link_unlinkable}
-use Rattle.rv_chain.proofs.Written.{built_of}
+use Rattle.rv_chain.proofs.GatheredLemmas.{err_given}
+use Rattle.rv_chain.proofs.UnreadLemmas.{link_unlinkable}
+use Rattle.rv_chain.proofs.WrittenLemmas.{built_of}
 use Rattle.rv_chain.proofs.linking.link_objects.Goals as goal
 
 pub returns-in_err-linked-clause-refuses : goal.returns-in_err-linked-clause-refuses

@@ -4,8 +4,8 @@ use Rattle.rv_statement.specs.View.{now_of}
 use Rattle.rv_object.specs.View.{object_of}
 use Rattle.rv_chain.specs.Objects.{IsObjectIn, AreObjectsIn}
 use Rattle.rv_chain.specs.LinkRefusals.{IsUnreadAt, AreUnread}
-use Rattle.rv_chain.proofs.Gathered.{err_given, one_more, source_at, take_one_more}
-use Rattle.rv_chain.proofs.Unread.{unread_in}
+use Rattle.rv_chain.proofs.GatheredLemmas.{err_given, one_more, source_at, take_one_more}
+use Rattle.rv_chain.proofs.UnreadLemmas.{unread_in}
 use Rattle.rv_chain.proofs.linking.read_objects.Goals as goal
 
 pub returns-in_err-read_object-clause-refuses : goal.returns-in_err-read_object-clause-refuses

@@ -1,6 +1,6 @@
 use Rattle.std.proofs.Common.{◌%◌, ◌≢◌, slice_index, arith}
 use Rattle.std.proofs.lemmas.Grind.{common_steps}
-use Rattle.rv_compress.proofs.AtFront.{parcel-front, no_parcel-front}
+use Rattle.rv_compress.proofs.AtFrontLemmas.{parcel-front, no_parcel-front}
 use Rattle.rv_compress.proofs.front.next_inst.Goals as goal
 
 pub returns-in-Some-parcel_inst-clause-exact : goal.returns-in-Some-parcel_inst-clause-exact

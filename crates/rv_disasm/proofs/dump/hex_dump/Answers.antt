@@ -1,7 +1,7 @@
 use Rattle.std.proofs.Common.{arith}
 use Rattle.std.proofs.lemmas.List.{take_rest}
 use Rattle.rv_disasm.specs.Dump.{dump_of}
-use Rattle.rv_disasm.proofs.DumpLines.{dump_more, dump_done}
+use Rattle.rv_disasm.proofs.DumpLinesLemmas.{dump_more, dump_done}
 use Rattle.rv_disasm.proofs.dump.hex_dump.Goals as goal
 
 pub loop-offset-preserved : goal.loop-offset-preserved

@@ -1,5 +1,5 @@
 use Rattle.std.proofs.Common.{◌≡◌, ◌-◌, ◌≤◌, ◌⊎◌, inl, inr, max, arith}
-use Rattle.rv_disasm.proofs.Padded.{padded_first, padded_grows}
+use Rattle.rv_disasm.proofs.PaddedLemmas.{padded_first, padded_grows}
 use Rattle.rv_disasm.proofs.numbers.+put_padded.Goals.{else-number-lt16-via-then-number-lt16+else-width-eq1, else-number-lt16-via-else-number-lt16}
 use Rattle.rv_disasm.proofs.numbers.+put_padded.Goals as goal
 

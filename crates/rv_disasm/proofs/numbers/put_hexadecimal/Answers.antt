@@ -1,5 +1,5 @@
 use Rattle.std.proofs.Common.{◌++◌, ap, ◌∙◌, arith}
-use Rattle.rv_disasm.proofs.Padded.{padded_one}
+use Rattle.rv_disasm.proofs.PaddedLemmas.{padded_one}
 use Rattle.rv_disasm.proofs.numbers.put_hexadecimal.Goals as goal
 
 pub returns : goal.returns

@@ -1,7 +1,7 @@
 use Rattle.std.proofs.Common.{map}
 use Rattle.rv_image.specs.Segment.{segment_of}
 use Rattle.rv_disasm.specs.Listing as shows
-use Rattle.rv_disasm.proofs.LinesOn.{rows_more}
+use Rattle.rv_disasm.proofs.LinesOnLemmas.{rows_more}
 use Rattle.rv_disasm.proofs.rows.entries.Goals as goal
 
 pub loop-row-preserved : goal.loop-row-preserved

@@ -1,7 +1,7 @@
 use Rattle.std.proofs.Common.{rules, ◌+◌, ◌<◌, length, drop, arith}
 use Rattle.rv_instruction.specs.declared.encoded.Coded.{Coded}
 use Rattle.rv_instruction.specs.Code.{encoded_bytes, coded_by}
-use Rattle.rv_draft.proofs.Joined.{left_at, long_more}
+use Rattle.rv_draft.proofs.JoinedLemmas.{left_at, long_more}
 use Rattle.rv_draft.proofs.code.bytes_of.Goals as goal
 
 pub loop-coded-preserved : goal.loop-coded-preserved

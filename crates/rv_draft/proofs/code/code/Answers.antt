@@ -9,11 +9,11 @@ use Rattle.rv_unit_tables.specs.Sections.{extent_section, offset_of}
 use Rattle.rv_unit_laws.specs.Tables.{tables, value as value_of}
 use Rattle.rv_unit_laws.specs.Options.{Options}
 use Rattle.rv_draft.specs.Added.{IsAdded, Adds}
-use Rattle.rv_draft.proofs.Standing.{StandsAt, stands_at, places_count, got_inside, located_at, stated_none}
+use Rattle.rv_draft.proofs.StandingLemmas.{StandsAt, stands_at, places_count, got_inside, located_at, stated_none}
 use Rattle.rv_draft.specs.Measured.{IsExtentAt}
-use Rattle.rv_draft.proofs.Itemized.{place_inside}
+use Rattle.rv_draft.proofs.ItemizedLemmas.{place_inside}
 use Rattle.rv_draft.specs.declared.code.SectionCode.{SectionCode}
-use Rattle.rv_draft.proofs.Whole.{faults_in, faults_there, code_there, code_more, code_wrong, code_whole}
+use Rattle.rv_draft.proofs.WholeLemmas.{faults_in, faults_there, code_there, code_more, code_wrong, code_whole}
 use Rattle.rv_draft.proofs.code.code.Goals as goal
 
 pub loop-index-init : goal.loop-index-init

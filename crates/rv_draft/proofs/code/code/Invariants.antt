@@ -1,6 +1,6 @@
 use Rattle.std.proofs.Common.{◌≡◌, length}
 use Rattle.rv_unit.specs.Unit.{said, IsScope}
-use Rattle.rv_draft.proofs.Whole.{CodeTo}
+use Rattle.rv_draft.proofs.WholeLemmas.{CodeTo}
 use Rattle.rv_draft.proofs.code.code.Given as goal
 
 -- the code of the first statements, and the scope of the next

@@ -2,7 +2,7 @@ use Rattle.std.proofs.Common.{List, ℕ, ◌++◌, ◌∙◌, ap}
 use Rattle.std.proofs.lemmas.Result.{on_ok_weaker}
 use Rattle.rv_instruction.specs.Code.{alone_coded}
 use Rattle.rv_draft.specs.Code.{code_bytes}
-use Rattle.rv_draft.proofs.Growing.{read_at, grows_set}
+use Rattle.rv_draft.proofs.GrowingLemmas.{read_at, grows_set}
 use Rattle.rv_draft.proofs.code.put_one_in.Goals as goal
 
 pub returns : goal.returns

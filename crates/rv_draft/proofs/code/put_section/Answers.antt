@@ -1,7 +1,7 @@
 use Rattle.std.proofs.Common.{List, ℕ, ◌++◌, ◌∙◌, ap}
 use Rattle.std.proofs.lemmas.Result.{on_ok_weaker}
 use Rattle.rv_draft.specs.Code.{code_bytes}
-use Rattle.rv_draft.proofs.Growing.{read_at, grows_set}
+use Rattle.rv_draft.proofs.GrowingLemmas.{read_at, grows_set}
 use Rattle.rv_draft.proofs.code.put_section.Goals as goal
 
 pub returns : goal.returns

@@ -1,5 +1,5 @@
 use Rattle.rv_unit.specs.Unit.{said}
-use Rattle.rv_draft.proofs.FirstCode.{Decides}
+use Rattle.rv_draft.proofs.FirstCodeLemmas.{Decides}
 use Rattle.rv_draft.proofs.compressed.has_compressed.Given as goal
 
 -- the statements that are left decide

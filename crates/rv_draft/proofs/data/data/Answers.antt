@@ -3,9 +3,9 @@ use Rattle.std.proofs.lemmas.List.{length-map}
 use Rattle.rv_statement.specs.View.{statement_of}
 use Rattle.rv_unit.specs.Unit.{said}
 use Rattle.rv_draft.specs.DataParts.{IsDataTo}
-use Rattle.rv_draft.proofs.Growing.{written_back}
-use Rattle.rv_draft.proofs.Standing.{stated_none}
-use Rattle.rv_draft.proofs.DataSoFar.{data_begin, data_all}
+use Rattle.rv_draft.proofs.GrowingLemmas.{written_back}
+use Rattle.rv_draft.proofs.StandingLemmas.{stated_none}
+use Rattle.rv_draft.proofs.DataSoFarLemmas.{data_begin, data_all}
 use Rattle.rv_draft.proofs.data.data.Goals as goal
 
 pub loop-index-init : goal.loop-index-init

@@ -13,7 +13,7 @@ use Rattle.rv_assemble_laws.specs.Sites.{part_of, part_bytes}
 use Rattle.rv_instruction.specs.Scoped.{values_at}
 use Rattle.rv_draft.specs.DataParts.{data_said, fields_said}
 use Rattle.rv_draft.specs.Draft.{field_of}
-use Rattle.rv_draft.proofs.FieldsSoFar.{bytes_as, parts_as}
+use Rattle.rv_draft.proofs.FieldsSoFarLemmas.{bytes_as, parts_as}
 use Rattle.rv_draft.proofs.data.put_data.Goals as goal
 
 pub put_values-requires : goal.put_values-requires

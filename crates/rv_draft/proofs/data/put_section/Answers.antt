@@ -5,7 +5,7 @@ use Rattle.rv_assemble_laws.specs.Sites.{part_bytes}
 use Rattle.rv_instruction.specs.Scoped.{values_at}
 use Rattle.rv_draft.specs.DataParts.{data_said}
 use Rattle.std.proofs.lemmas.Result.{on_ok_weaker}
-use Rattle.rv_draft.proofs.Growing.{read_at, grows_set}
+use Rattle.rv_draft.proofs.GrowingLemmas.{read_at, grows_set}
 use Rattle.rv_draft.proofs.data.put_section.Goals as goal
 
 pub returns-clause-bytes : goal.returns-clause-bytes

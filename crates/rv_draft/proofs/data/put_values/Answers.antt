@@ -6,8 +6,8 @@ use Rattle.rv_statement.specs.Statement.{Expression}
 use Rattle.rv_statement.specs.View.{bytes_of}
 use Rattle.rv_assemble_laws.specs.Templates.{value_bytes}
 use Rattle.rv_instruction.specs.Scoped.{values_at}
-use Rattle.rv_draft.proofs.Joined.{left_map, flat_more, flat_done}
-use Rattle.rv_draft.proofs.FieldsSoFar.{fields_more, fields_done, place_more}
+use Rattle.rv_draft.proofs.JoinedLemmas.{left_map, flat_more, flat_done}
+use Rattle.rv_draft.proofs.FieldsSoFarLemmas.{fields_more, fields_done, place_more}
 use Rattle.rv_draft.proofs.data.put_values.Goals as goal
 
 pub loop-value-preserved : goal.loop-value-preserved

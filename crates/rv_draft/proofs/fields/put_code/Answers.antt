@@ -7,7 +7,7 @@ use Rattle.rv_assemble_laws.specs.Fields.{Field, fields_from}
 use Rattle.rv_draft.specs.DataParts.{is_alignment, padding_said, code_said}
 use Rattle.rv_draft.specs.Draft.{field_of}
 use Rattle.rv_draft.specs.Seated.{site_of}
-use Rattle.rv_draft.proofs.CodeFields.{aligned_said}
+use Rattle.rv_draft.proofs.CodeFieldsLemmas.{aligned_said}
 use Rattle.rv_draft.proofs.fields.put_code.Goals as goal
 
 pub returns-then-is_alignment : goal.returns-then-is_alignment

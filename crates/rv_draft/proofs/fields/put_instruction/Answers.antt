@@ -6,7 +6,7 @@ use Rattle.rv_unit.specs.Unit.{said}
 use Rattle.rv_instruction.specs.Opened.{LeavesNone}
 use Rattle.rv_draft.specs.Draft.{field_of}
 use Rattle.rv_draft.specs.Spots.{fields_coded}
-use Rattle.rv_draft.proofs.CodeFields.{free_fields, spot_fields}
+use Rattle.rv_draft.proofs.CodeFieldsLemmas.{free_fields, spot_fields}
 use Rattle.rv_draft.proofs.fields.put_instruction.Goals as goal
 
 pub returns-then-is_closed : goal.returns-then-is_closed

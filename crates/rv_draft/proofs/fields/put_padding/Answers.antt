@@ -1,7 +1,7 @@
 use Rattle.std.proofs.Common.{◌++◌, ◌∷◌, [], ◌∙◌, map, sym, ap, append-nil}
 use Rattle.std.proofs.lemmas.Result.{on_ok_weaker}
 use Rattle.rv_draft.specs.Draft.{field_of}
-use Rattle.rv_draft.proofs.CodeFields.{padding_none, padding_one}
+use Rattle.rv_draft.proofs.CodeFieldsLemmas.{padding_none, padding_one}
 use Rattle.rv_draft.proofs.fields.put_padding.Goals as goal
 
 pub returns-then-item-eq0 : goal.returns-then-item-eq0

@@ -5,8 +5,8 @@ use Rattle.rv_assemble_laws.specs.CodeFields.{relax_fields}
 use Rattle.rv_instruction.specs.declared.encoded.Coded.{Coded}
 use Rattle.rv_instruction.specs.Code.{encoded_bytes, coded_by}
 use Rattle.rv_draft.specs.Spots.{own_opens}
-use Rattle.rv_draft.proofs.Joined.{left_at, long_more}
-use Rattle.rv_draft.proofs.CodeFields.{coded_more}
+use Rattle.rv_draft.proofs.JoinedLemmas.{left_at, long_more}
+use Rattle.rv_draft.proofs.CodeFieldsLemmas.{coded_more}
 use Rattle.rv_draft.proofs.fields.put_parts.Goals as goal
 
 pub loop-part-preserved : goal.loop-part-preserved

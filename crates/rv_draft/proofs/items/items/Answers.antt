@@ -11,13 +11,13 @@ use Rattle.rv_draft.specs.Items.{IsItem, grown}
 use Rattle.rv_draft.specs.declared.item.CodeSize.{CodeSize}
 use Rattle.rv_draft.specs.Sized.{IsSized, bytes_of_sizes}
 use Rattle.rv_draft.specs.Measured.{IsExtentAt, HasRoom}
-use Rattle.rv_draft.proofs.Standing.{StandsAt, stands_at, places_count, located_at}
-use Rattle.rv_draft.proofs.Joined.{left_at}
-use Rattle.rv_draft.proofs.Itemized.{item_at, room_at, sized_at, grown_by, low_by, stands_inside, place_inside}
-use Rattle.rv_draft.proofs.Roomy.{err_always}
-use Rattle.rv_draft.proofs.Rooms.{rooms_begin, rooms_more, roomy_now}
-use Rattle.rv_draft.proofs.SoFarItems.{AreItemsSoFar, items_begin, items_more, items_all}
-use Rattle.rv_draft.proofs.SoFarSized.{AreSizedSoFar, IsSizedAt, sized_begin, sized_more, sized_all}
+use Rattle.rv_draft.proofs.StandingLemmas.{StandsAt, stands_at, places_count, located_at}
+use Rattle.rv_draft.proofs.JoinedLemmas.{left_at}
+use Rattle.rv_draft.proofs.ItemizedLemmas.{item_at, room_at, sized_at, grown_by, low_by, stands_inside, place_inside}
+use Rattle.rv_draft.proofs.RoomyLemmas.{err_always}
+use Rattle.rv_draft.proofs.RoomsLemmas.{rooms_begin, rooms_more, roomy_now}
+use Rattle.rv_draft.proofs.SoFarItemsLemmas.{AreItemsSoFar, items_begin, items_more, items_all}
+use Rattle.rv_draft.proofs.SoFarSizedLemmas.{AreSizedSoFar, IsSizedAt, sized_begin, sized_more, sized_all}
 use Rattle.rv_draft.proofs.items.items.Goals as goal
 
 pub loop-index-init : goal.loop-index-init

@@ -5,10 +5,10 @@ use Rattle.rv_unit_laws.specs.Tables.{tables}
 use Rattle.rv_source_laws.specs.Located.{located}
 use Rattle.rv_assemble_laws.specs.Refusals.{size_fault_from}
 use Rattle.rv_draft.specs.Sized.{bytes_of_sizes}
-use Rattle.rv_draft.proofs.Rooms.{HasRoomLeft}
+use Rattle.rv_draft.proofs.RoomsLemmas.{HasRoomLeft}
 use Rattle.rv_unit.specs.Unit.{said, IsScope}
-use Rattle.rv_draft.proofs.SoFarItems.{AreItemsSoFar}
-use Rattle.rv_draft.proofs.SoFarSized.{AreSizedSoFar}
+use Rattle.rv_draft.proofs.SoFarItemsLemmas.{AreItemsSoFar}
+use Rattle.rv_draft.proofs.SoFarSizedLemmas.{AreSizedSoFar}
 use Rattle.rv_draft.proofs.items.items.Given as goal
 
 -- the items of the first statements, and the scope of the next

@@ -5,8 +5,8 @@ use Rattle.rv_statement.specs.View.{statement_kind}
 use Rattle.rv_unit_laws.specs.Tables as laws
 use Rattle.rv_unit_tables.specs.Sections.{offset_of}
 use Rattle.rv_unit.specs.Unit.{said}
-use Rattle.rv_draft.proofs.Roomy.{err_always, room_by}
-use Rattle.rv_draft.proofs.Stretched.{sized_as}
+use Rattle.rv_draft.proofs.RoomyLemmas.{err_always, room_by}
+use Rattle.rv_draft.proofs.StretchedLemmas.{sized_as}
 use Rattle.rv_draft.proofs.items.next_item.Goals as goal
 
 pub returns-clause-absent : goal.returns-clause-absent

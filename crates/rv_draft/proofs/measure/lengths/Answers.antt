@@ -3,7 +3,7 @@ use Rattle.std.proofs.lemmas.List.{length-map}
 use Rattle.rv_layout_laws.specs.Branches.{IsLeastGood}
 use Rattle.rv_statement.specs.View.{statement_of}
 use Rattle.rv_unit.specs.Unit.{said}
-use Rattle.rv_draft.proofs.Seen.{measured_count, measured_least}
+use Rattle.rv_draft.proofs.SeenLemmas.{measured_count, measured_least}
 use Rattle.rv_draft.proofs.measure.lengths.Goals as goal
 
 pub returns-clause-count : goal.returns-clause-count

@@ -1,5 +1,5 @@
 use Rattle.rv_instruction.specs.Near.{section_in, item_in}
-use Rattle.rv_draft.proofs.Seen.{MeasuredTo, measured_begin, measured_more, measured_whole}
+use Rattle.rv_draft.proofs.SeenLemmas.{MeasuredTo, measured_begin, measured_more, measured_whole}
 use Rattle.std.proofs.Common.{rules, ℕ, [], ◌^◌}
 use Rattle.rv_unit_laws.specs.Tables.{value as value_of}
 use Rattle.std.proofs.Common.{◌≡◌, ◌+◌, ◌<◌, ◌≤◌, length, get_or, sym, ap, subst, ◌∙◌, true}
@@ -11,8 +11,8 @@ use Rattle.rv_unit.specs.Unit.{said, IsFilled}
 use Rattle.rv_unit_tables.specs.Sections.{offset_of}
 use Rattle.rv_unit_laws.specs.Tables.{tables}
 use Rattle.rv_unit_laws.specs.Options.{Options}
-use Rattle.rv_draft.proofs.Standing.{StandsAt, stands_at, places_count, located_at, stated_none}
-use Rattle.rv_draft.proofs.Itemized.{place_inside}
+use Rattle.rv_draft.proofs.StandingLemmas.{StandsAt, stands_at, places_count, located_at, stated_none}
+use Rattle.rv_draft.proofs.ItemizedLemmas.{place_inside}
 use Rattle.rv_draft.proofs.measure.measured.Goals as goal
 
 pub loop-index-init : goal.loop-index-init

@@ -1,6 +1,6 @@
 use Rattle.std.proofs.Common.{◌≡◌}
 use Rattle.rv_unit.specs.Unit.{said, IsScope}
-use Rattle.rv_draft.proofs.Seen.{MeasuredTo}
+use Rattle.rv_draft.proofs.SeenLemmas.{MeasuredTo}
 use Rattle.rv_draft.proofs.measure.measured.Given as goal
 
 -- what sizes see of the first statements, and the scope of the next

@@ -6,7 +6,7 @@ use Rattle.rv_unit_laws.specs.Tables.{or_none, power_alignment, byte_alignment}
 use Rattle.rv_source_laws.specs.Sizes.{code_padding}
 use Rattle.rv_instruction.specs.Scoped.{values_at}
 use Rattle.rv_draft.specs.Code.{padding_of}
-use Rattle.rv_draft.proofs.Evens.{power_low, bytes_low}
+use Rattle.rv_draft.proofs.EvensLemmas.{power_low, bytes_low}
 use Rattle.rv_draft.proofs.paddings.padding_of.Goals as goal
 
 pub returns-in-AlignsToPower-clause-is : goal.returns-in-AlignsToPower-clause-is

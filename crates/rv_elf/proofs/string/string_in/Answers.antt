@@ -1,6 +1,6 @@
 use Rattle.std.proofs.Common.{sym, ap, ◌∙◌}
 use Rattle.rv_elf.specs.Sections.{before_zero}
-use Rattle.rv_elf.proofs.Strings.{no_string, string_there, rest_is}
+use Rattle.rv_elf.proofs.StringsLemmas.{no_string, string_there, rest_is}
 use Rattle.rv_elf.proofs.string.string_in.Goals as goal
 
 pub returns-in_err-end : goal.returns-in_err-end

@@ -1,4 +1,4 @@
-use Rattle.rv_examples.proofs.LeastSizes.{branches_in_two, branches_in_four, branches_in_eight}
+use Rattle.rv_examples.proofs.LeastSizesLemmas.{branches_in_two, branches_in_four, branches_in_eight}
 use Rattle.rv_examples.proofs.code.branches_are_least.Goals as goal
 
 pub returns : goal.returns

@@ -1,5 +1,5 @@
 use Rattle.std.specs.Prelude.{true, false}
-use Rattle.rv_examples.proofs.OpenCodes.{short, word, far}
+use Rattle.rv_examples.proofs.OpenCodesLemmas.{short, word, far}
 use Rattle.rv_examples.proofs.code.branches_have_three_sizes.Goals as goal
 
 pub returns : goal.returns

@@ -1,4 +1,4 @@
-use Rattle.rv_examples.proofs.KnownCodes.{word, parcel}
+use Rattle.rv_examples.proofs.KnownCodesLemmas.{word, parcel}
 use Rattle.rv_examples.proofs.code.code_is_least.Goals as goal
 
 pub returns : goal.returns

@@ -1,5 +1,5 @@
 use Rattle.std.specs.Prelude.{true, false}
-use Rattle.rv_examples.proofs.OpenCodes.{call, address}
+use Rattle.rv_examples.proofs.OpenCodesLemmas.{call, address}
 use Rattle.rv_examples.proofs.code.symbols_take_words.Goals as goal
 
 pub returns : goal.returns

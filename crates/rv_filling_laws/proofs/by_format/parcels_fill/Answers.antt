@@ -1,4 +1,4 @@
-use Rattle.rv_filling_laws.proofs.Formats.{zero, nonzero, short_jumps}
+use Rattle.rv_filling_laws.proofs.FormatsLemmas.{zero, nonzero, short_jumps}
 use Rattle.rv_filling_laws.proofs.by_format.parcels_fill.Goals as goal
 
 -- src/by_format.rt:27:1

@@ -1,4 +1,4 @@
-use Rattle.rv_filling_laws.proofs.Formats.{branches, jumps, uppers, immediates, stores, calls}
+use Rattle.rv_filling_laws.proofs.FormatsLemmas.{branches, jumps, uppers, immediates, stores, calls}
 use Rattle.rv_filling_laws.proofs.by_format.words_fill.Goals as goal
 
 -- src/by_format.rt:17:1

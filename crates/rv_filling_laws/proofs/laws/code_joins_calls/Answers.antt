@@ -1,4 +1,4 @@
-use Rattle.rv_filling_laws.proofs.Rows.{code_calls}
+use Rattle.rv_filling_laws.proofs.RowsLemmas.{code_calls}
 use Rattle.rv_filling_laws.proofs.laws.code_joins_calls.Goals as goal
 
 pub returns : goal.returns

@@ -1,4 +1,4 @@
-use Rattle.rv_filling_laws.proofs.One.{open_filled, call_filled}
+use Rattle.rv_filling_laws.proofs.OneLemmas.{open_filled, call_filled}
 use Rattle.rv_filling_laws.proofs.laws.open_fields_fill.Goals as goal
 
 pub returns-clause-alone : goal.returns-clause-alone

@@ -1,4 +1,4 @@
-use Rattle.rv_filling_laws.proofs.All.{parts_say, parts_encoded, parts_long, all_valid}
+use Rattle.rv_filling_laws.proofs.AllLemmas.{parts_say, parts_encoded, parts_long, all_valid}
 use Rattle.rv_filling_laws.proofs.laws.parts_fill.Goals as goal
 
 pub returns-clause-instructions : goal.returns-clause-instructions

@@ -1,4 +1,4 @@
-use Rattle.rv_filling_laws.proofs.All.{all_long, all_few, open_long}
+use Rattle.rv_filling_laws.proofs.AllLemmas.{all_long, all_few, open_long}
 use Rattle.rv_filling_laws.proofs.laws.sizes_agree.Goals as goal
 
 pub returns-clause-total : goal.returns-clause-total

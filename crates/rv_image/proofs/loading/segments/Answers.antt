@@ -5,7 +5,7 @@ use Rattle.rv_elf.specs.Sections.{is_load}
 use Rattle.rv_image.specs.FirstFault.{programs_from}
 use Rattle.rv_image.specs.ImageOf.{segment_in}
 use Rattle.rv_image.specs.Segment.{segment_of}
-use Rattle.rv_image.proofs.Loaded.{segments_step}
+use Rattle.rv_image.proofs.LoadedLemmas.{segments_step}
 use Rattle.rv_image.proofs.loading.segments.Goals as goal
 
 pub loop-index-preserved : goal.loop-index-preserved

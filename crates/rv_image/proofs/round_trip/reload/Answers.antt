@@ -6,7 +6,7 @@ use Rattle.rv_image.specs.FirstFault.{first_fault}
 use Rattle.rv_image.specs.Image.{image_of}
 use Rattle.rv_image.specs.Linked.{linked_of}
 use Rattle.rv_image.specs.Executable.{exe_of, linked_image}
-use Rattle.rv_image.proofs.LoadedAgain.{laid_out, reload_fault, reload_image, one_image}
+use Rattle.rv_image.proofs.LoadedAgainLemmas.{laid_out, reload_fault, reload_image, one_image}
 use Rattle.rv_image.proofs.round_trip.reload.Goals as goal
 
 not_some : (fault : FileFault) → ◌≡◌ {A = Option FileFault} None (Some fault) → ⊥

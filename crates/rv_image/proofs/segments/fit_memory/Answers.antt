@@ -4,7 +4,7 @@ use Rattle.rv_elf.specs.Fields.{number_in, e_phoff}
 use Rattle.rv_elf.specs.Records.{program_header_at}
 use Rattle.rv_elf.specs.Sections.{program_count}
 use Rattle.rv_image.specs.FirstFault.{loaded_size, programs_from}
-use Rattle.rv_image.proofs.Loaded.{loaded_step}
+use Rattle.rv_image.proofs.LoadedLemmas.{loaded_step}
 use Rattle.rv_image.proofs.segments.fit_memory.Goals as goal
 
 pub returns-then-size-left : goal.returns-then-size-left

@@ -1,7 +1,7 @@
 use Rattle.std.proofs.Common.{◌≡◌, ◌∙◌, sym, subst, false}
 use Rattle.rv_elf.specs.Fields.{number_in, e_phoff}
 use Rattle.rv_image.specs.FirstFault.{do_overlap}
-use Rattle.rv_image.proofs.Programs.{any_step}
+use Rattle.rv_image.proofs.ProgramsLemmas.{any_step}
 use Rattle.rv_image.proofs.segments.meets_earlier.Goals as goal
 
 pub loop-index-preserved : goal.loop-index-preserved

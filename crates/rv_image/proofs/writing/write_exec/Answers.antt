@@ -1,5 +1,5 @@
 use Rattle.rv_image.specs.Linked.{linked_of}
-use Rattle.rv_image.proofs.LoadedAgain.{short}
+use Rattle.rv_image.proofs.LoadedAgainLemmas.{short}
 use Rattle.rv_image.proofs.writing.write_exec.Goals as goal
 
 pub put_parts-requires : goal.put_parts-requires

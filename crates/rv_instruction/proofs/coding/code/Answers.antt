@@ -1,6 +1,6 @@
 use Rattle.rv_statement.specs.View.{statement_of}
 use Rattle.rv_instruction.specs.Scoped.{values_at, labels_at}
-use Rattle.rv_instruction.proofs.StatementKinds.{codes_of, refused_codes}
+use Rattle.rv_instruction.proofs.StatementKindsLemmas.{codes_of, refused_codes}
 use Rattle.rv_instruction.proofs.coding.code.Goals as goal
 
 pub returns-in-Ok-clause-codes : goal.returns-in-Ok-clause-codes

@@ -2,7 +2,7 @@ use Rattle.std.proofs.Common.{ap, None, Some}
 use Rattle.rv_text.specs.Expr.{tree_of_expr}
 use Rattle.rv_statement.specs.View.{statement_of, statement_kind}
 use Rattle.rv_instruction.specs.Scoped.{values_at, labels_at}
-use Rattle.rv_instruction.proofs.StatementKinds.{plain_expanded, operand_expanded}
+use Rattle.rv_instruction.proofs.StatementKindsLemmas.{plain_expanded, operand_expanded}
 use Rattle.rv_instruction.proofs.coding.expanded.Goals as goal
 
 pub returns-in-Plain-clause-built : goal.returns-in-Plain-clause-built

@@ -3,8 +3,8 @@ use Rattle.rv_text.specs.Expr.{tree_of_expr}
 use Rattle.rv_statement.specs.View.{statement_of, statement_kind}
 use Rattle.rv_instruction.specs.Code.{alone}
 use Rattle.rv_instruction.specs.Scoped.{values_at, labels_at}
-use Rattle.rv_instruction.proofs.StatementKinds.{plain_expanded, operand_expanded}
-use Rattle.rv_instruction.proofs.OneInstruction.{some_more}
+use Rattle.rv_instruction.proofs.StatementKindsLemmas.{plain_expanded, operand_expanded}
+use Rattle.rv_instruction.proofs.OneInstructionLemmas.{some_more}
 use Rattle.rv_instruction.proofs.coding.expanded_one.Goals as goal
 
 pub returns-in-Plain-clause-built : goal.returns-in-Plain-clause-built

@@ -1,8 +1,8 @@
 use Rattle.rv_statement.specs.View.{statement_of}
 use Rattle.rv_instruction.specs.Code.{alone, alone_coded}
 use Rattle.rv_instruction.specs.Scoped.{values_at, labels_at}
-use Rattle.rv_instruction.proofs.StatementKinds.{codes_of}
-use Rattle.rv_instruction.proofs.OneInstruction.{coded_alone, shapes_alone}
+use Rattle.rv_instruction.proofs.StatementKindsLemmas.{codes_of}
+use Rattle.rv_instruction.proofs.OneInstructionLemmas.{coded_alone, shapes_alone}
 use Rattle.rv_instruction.proofs.coding.one_code.Goals as goal
 
 pub returns-in-Some-clause-codes : goal.returns-in-Some-clause-codes

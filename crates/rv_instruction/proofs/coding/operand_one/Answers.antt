@@ -1,6 +1,6 @@
 use Rattle.rv_text.specs.Expr.{tree_of_expr}
 use Rattle.rv_instruction.specs.Scoped.{values_at}
-use Rattle.rv_instruction.proofs.OneInstruction.{some_more}
+use Rattle.rv_instruction.proofs.OneInstructionLemmas.{some_more}
 use Rattle.rv_instruction.proofs.coding.operand_one.Goals as goal
 
 pub returns-clause-built : goal.returns-clause-built

@@ -1,4 +1,4 @@
-use Rattle.rv_instruction.proofs.OneInstruction.{built_alone}
+use Rattle.rv_instruction.proofs.OneInstructionLemmas.{built_alone}
 use Rattle.rv_instruction.proofs.coding.with_one.Goals as goal
 
 pub returns-in-None-clause-built : goal.returns-in-None-clause-built

@@ -1,5 +1,5 @@
 use Rattle.rv_instruction.specs.Scoped.{labels_at}
-use Rattle.rv_instruction.proofs.Unplaced.{built_by}
+use Rattle.rv_instruction.proofs.UnplacedLemmas.{built_by}
 use Rattle.rv_instruction.proofs.coding.with_value.Goals as goal
 
 pub returns-in-None-clause-built : goal.returns-in-None-clause-built

@@ -1,4 +1,4 @@
-use Rattle.rv_instruction.proofs.Encoding.{no_parcel}
+use Rattle.rv_instruction.proofs.EncodingLemmas.{no_parcel}
 use Rattle.rv_instruction.proofs.encoded.as_parcel.Goals as goal
 
 pub returns-in-None-clause-is : goal.returns-in-None-clause-is

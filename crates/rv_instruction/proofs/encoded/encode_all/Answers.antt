@@ -3,7 +3,7 @@ use Rattle.std.specs.Prelude.{◌&&◌}
 use Rattle.rv_pseudo_laws.specs.Filled.{are_closed}
 use Rattle.rv_assemble_laws.specs.Coded.{AreCodedParts}
 use Rattle.rv_instruction.specs.Code.{coded_by, parts_in, part_of, shape_of, is_pair, AreCodable}
-use Rattle.rv_instruction.proofs.Encoding.{pair_coded, pair_shapes, each_coded, each_codable, each_parts, each_shapes}
+use Rattle.rv_instruction.proofs.EncodingLemmas.{pair_coded, pair_shapes, each_coded, each_codable, each_parts, each_shapes}
 use Rattle.rv_instruction.proofs.encoded.encode_all.Goals as goal
 
 pub returns-then-is_pair-clause-parts : goal.returns-then-is_pair-clause-parts

@@ -2,7 +2,7 @@ use Rattle.std.proofs.Common.{rules, arith, ◌≡◌, ◌+◌, sym, subst, take
 use Rattle.std.specs.Prelude.{suc}
 use Rattle.rv_assemble_laws.specs.Coded.{AreCodedParts}
 use Rattle.rv_instruction.specs.Code.{coded_by, shape_in, shape_of, part_of}
-use Rattle.rv_instruction.proofs.Encoding.{coded_more, shapes_more, shape_is}
+use Rattle.rv_instruction.proofs.EncodingLemmas.{coded_more, shapes_more, shape_is}
 use Rattle.rv_instruction.proofs.encoded.encode_each.Goals as goal
 
 pub loop-template-preserved : goal.loop-template-preserved

@@ -1,6 +1,6 @@
 use Rattle.std.proofs.Common.{rules, ◌≡◌, []}
 use Rattle.rv_instruction.specs.Code.{call_of}
-use Rattle.rv_instruction.proofs.Encoding.{open_pair, pair_made}
+use Rattle.rv_instruction.proofs.EncodingLemmas.{open_pair, pair_made}
 use Rattle.rv_instruction.proofs.encoded.encode_pair.Goals as goal
 
 pub returns-clause-parts : goal.returns-clause-parts

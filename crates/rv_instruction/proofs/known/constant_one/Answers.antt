@@ -1,7 +1,7 @@
 use Rattle.std.proofs.Common.{rules, ◌≡◌, ◌∙◌, w64, to_z, of_z, FitsSigned}
 use Rattle.std.proofs.lemmas.Int.{to_z-of_z}
 use Rattle.rv_isa_laws.specs.Arithmetic.{signed}
-use Rattle.rv_instruction.proofs.OneInstruction.{constant_alone, constant_valid}
+use Rattle.rv_instruction.proofs.OneInstructionLemmas.{constant_alone, constant_valid}
 use Rattle.rv_instruction.proofs.known.constant_one.Goals as goal
 
 pub returns-clause-is : goal.returns-clause-is

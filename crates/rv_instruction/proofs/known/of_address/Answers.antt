@@ -1,5 +1,5 @@
 use Rattle.std.proofs.Common.{None}
-use Rattle.rv_instruction.proofs.Ranges.{answered, refused, address_codable}
+use Rattle.rv_instruction.proofs.RangesLemmas.{answered, refused, address_codable}
 use Rattle.rv_instruction.proofs.known.of_address.Goals as goal
 
 pub returns-in-Ok-clause-is : goal.returns-in-Ok-clause-is

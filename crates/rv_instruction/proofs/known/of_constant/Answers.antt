@@ -5,7 +5,7 @@ use Rattle.rv_statement.specs.Statement.{Expression}
 use Rattle.rv_pseudo.specs.Faults.{fault}
 use Rattle.rv_pseudo.specs.Templates.{templates, statement_with, Answers}
 use Rattle.rv_instruction.specs.Code.{form_by}
-use Rattle.rv_instruction.proofs.Ranges.{answered, refused, constant_codable}
+use Rattle.rv_instruction.proofs.RangesLemmas.{answered, refused, constant_codable}
 use Rattle.rv_instruction.proofs.known.of_constant.Goals as goal
 
 pub returns-in-Ok-clause-is : goal.returns-in-Ok-clause-is

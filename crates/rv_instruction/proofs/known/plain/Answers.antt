@@ -1,4 +1,4 @@
-use Rattle.rv_instruction.proofs.Ranges.{plain_codable}
+use Rattle.rv_instruction.proofs.RangesLemmas.{plain_codable}
 use Rattle.rv_instruction.proofs.known.plain.Goals as goal
 
 pub returns-clause-codable : goal.returns-clause-codable

@@ -1,4 +1,4 @@
-use Rattle.rv_instruction.proofs.OneInstruction.{plain_valid, plain_alone}
+use Rattle.rv_instruction.proofs.OneInstructionLemmas.{plain_valid, plain_alone}
 use Rattle.rv_instruction.proofs.known.plain_one.Goals as goal
 
 pub returns-clause-valid : goal.returns-clause-valid

@@ -1,7 +1,7 @@
 use Rattle.std.proofs.Common.{sym, subst, ap, ◌∙◌}
 use Rattle.rv_pseudo.specs.Templates.{statement_with}
 use Rattle.rv_instruction.specs.Code.{MayHave}
-use Rattle.rv_instruction.proofs.Taken.{part_statement}
+use Rattle.rv_instruction.proofs.TakenLemmas.{part_statement}
 use Rattle.rv_instruction.proofs.known.taken.Goals as goal
 
 pub returns-in-Ok-Symbolic-clause-codable : goal.returns-in-Ok-Symbolic-clause-codable

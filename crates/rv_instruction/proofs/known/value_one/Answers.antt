@@ -1,4 +1,4 @@
-use Rattle.rv_instruction.proofs.OneInstruction.{told_alone}
+use Rattle.rv_instruction.proofs.OneInstructionLemmas.{told_alone}
 use Rattle.rv_instruction.proofs.known.value_one.Goals as goal
 
 pub returns-in-Constant-clause-is : goal.returns-in-Constant-clause-is

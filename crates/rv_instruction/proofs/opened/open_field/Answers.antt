@@ -4,7 +4,7 @@ use Rattle.rv_statement.specs.View.{statement_kind}
 use Rattle.rv_unit_laws.specs.Tables.{tables}
 use Rattle.rv_unit.specs.Unit.{said}
 use Rattle.rv_instruction.specs.Scoped.{values_at}
-use Rattle.rv_instruction.proofs.OpenFields.{function_fields}
+use Rattle.rv_instruction.proofs.OpenFieldsLemmas.{function_fields}
 use Rattle.rv_instruction.proofs.opened.open_field.Goals as goal
 
 pub returns-in-WithFunction : goal.returns-in-WithFunction

@@ -1,6 +1,6 @@
 use Rattle.std.proofs.Common.{rules, ◌≡◌, codes, Some, refl, subst, sym}
 use Rattle.rv_isa.specs.RegisterNames.{IsNameOf}
-use Rattle.rv_isa.proofs.AbiNames.{found_x, found_fp}
+use Rattle.rv_isa.proofs.AbiNamesLemmas.{found_x, found_fp}
 use Rattle.rv_isa.proofs.register_names.reg_named.Goals as goal
 
 pub returns-then-eq : goal.returns-then-eq

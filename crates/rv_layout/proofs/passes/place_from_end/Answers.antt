@@ -2,8 +2,8 @@ use Rattle.std.proofs.Common.{◌≡◌, ℕ, ◌+◌, ◌-◌, ◌<◌, ◌≤�
 use Rattle.std.proofs.lemmas.List.{length-set}
 use Rattle.rv_layout_laws.specs.Branches.{item_at}
 use Rattle.rv_layout.specs.Passes.{AreRests, IsInput, rest, around}
-use Rattle.rv_layout.proofs.Places.{places_small}
-use Rattle.rv_layout.proofs.Going.{RestsFrom, rests_step, own_rest, ends_step, none_left}
+use Rattle.rv_layout.proofs.PlacesLemmas.{places_small}
+use Rattle.rv_layout.proofs.GoingLemmas.{RestsFrom, rests_step, own_rest, ends_step, none_left}
 use Rattle.rv_layout.proofs.passes.place_from_end.Goals as goal
 
 pub loop-i-init : goal.loop-i-init

@@ -1,6 +1,6 @@
 use Rattle.std.proofs.Common.{◌≡◌, ◌≤◌, length}
 use Rattle.rv_layout.specs.Passes.{AreRests, IsInput}
-use Rattle.rv_layout.proofs.Going.{RestsFrom}
+use Rattle.rv_layout.proofs.GoingLemmas.{RestsFrom}
 use Rattle.rv_layout.proofs.passes.place_from_end.Given as goal
 
 abbrev pub invariant-loop-i : goal.invariant-loop-i

@@ -1,7 +1,7 @@
 use Rattle.std.proofs.Common.{◌+◌, ◌*◌, ◌<◌, ◌≤◌, ◌-◌, arith, sym, subst, ◌∙◌}
 use Rattle.rv_layout_laws.specs.Branches.{Rounds, Begins, smallest_sizes, branches}
 use Rattle.rv_layout.specs.Passes.{IsInput}
-use Rattle.rv_layout.proofs.Going.{round_more, settled_least, rounds_few}
+use Rattle.rv_layout.proofs.GoingLemmas.{round_more, settled_least, rounds_few}
 use Rattle.rv_layout.proofs.passes.settle.Goals as goal
 
 pub rounds-init : goal.rounds-init

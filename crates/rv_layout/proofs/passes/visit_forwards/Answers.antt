@@ -2,7 +2,7 @@ use Rattle.std.proofs.lemmas.Int.{ints}
 use Rattle.std.proofs.Common.{◌≡◌, ◌+◌, ltb, length, slice_index, ℕ, slice_set, w64, to_z, of_z, arith, refl, sym, subst}
 use Rattle.rv_layout_laws.specs.Branches.{item_at}
 use Rattle.rv_layout.specs.Passes.{AreStarts, IsJudged}
-use Rattle.rv_layout.proofs.Places.{start_small, table_small, forward_is, forward_table, forward_ends, judged_offered, visit_told, told_up, told_same}
+use Rattle.rv_layout.proofs.PlacesLemmas.{start_small, table_small, forward_is, forward_table, forward_ends, judged_offered, visit_told, told_up, told_same}
 use Rattle.rv_layout.proofs.passes.visit_forwards.Goals as goal
 
 pub distance_forwards-requires-clause-start : goal.distance_forwards-requires-clause-start

@@ -1,6 +1,6 @@
 use Rattle.std.proofs.Common.{◌+◌, ◌-◌, ◌<◌, ◌≤◌, length, arith, sym, subst}
 use Rattle.rv_layout.specs.Passes.{IsInput}
-use Rattle.rv_layout.proofs.Going.{goes_begins, goes_widened, goes_kept, step_down, none_left}
+use Rattle.rv_layout.proofs.GoingLemmas.{goes_begins, goes_widened, goes_kept, step_down, none_left}
 use Rattle.rv_layout.proofs.passes.widen_backwards.Goals as goal
 
 pub loop-i-init : goal.loop-i-init

@@ -1,6 +1,6 @@
 use Rattle.std.proofs.Common.{◌≤◌, ◌+◌, length}
 use Rattle.rv_layout.specs.Passes.{AreRests, IsInput, IsTable}
-use Rattle.rv_layout.proofs.Going.{Goes}
+use Rattle.rv_layout.proofs.GoingLemmas.{Goes}
 use Rattle.rv_layout.proofs.passes.widen_backwards.Given as goal
 
 abbrev pub invariant-loop-i : goal.invariant-loop-i

@@ -1,6 +1,6 @@
 use Rattle.std.proofs.Common.{◌+◌, arith, sym, subst}
 use Rattle.rv_layout.specs.Passes.{IsInput}
-use Rattle.rv_layout.proofs.Going.{Goes, goes_begins, goes_widened, goes_kept, step_up}
+use Rattle.rv_layout.proofs.GoingLemmas.{Goes, goes_begins, goes_widened, goes_kept, step_up}
 use Rattle.rv_layout.proofs.passes.widen_forwards.Goals.{then-visit_forwards, else-visit_forwards}
 use Rattle.rv_layout.proofs.passes.widen_forwards.Goals as goal
 

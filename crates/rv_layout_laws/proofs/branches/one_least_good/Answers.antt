@@ -1,4 +1,4 @@
-use Rattle.rv_layout_laws.proofs.Widening.{one_least_good}
+use Rattle.rv_layout_laws.proofs.WideningLemmas.{one_least_good}
 use Rattle.rv_layout_laws.proofs.branches.one_least_good.Goals as goal
 
 pub returns : goal.returns

@@ -1,5 +1,5 @@
 use Rattle.std.proofs.Common.{slice_index}
-use Rattle.rv_layout_laws.proofs.Widening.{reaches_shrunk}
+use Rattle.rv_layout_laws.proofs.WideningLemmas.{reaches_shrunk}
 use Rattle.rv_layout_laws.proofs.branches.shrunk_branches_reach.Goals as goal
 
 pub returns : goal.returns

@@ -1,5 +1,5 @@
 use Rattle.rv_layout_laws.specs.Branches.{smallest_sizes}
-use Rattle.rv_layout_laws.proofs.Widening.{smallest_family, widening_ends, rounds_end}
+use Rattle.rv_layout_laws.proofs.WideningLemmas.{smallest_family, widening_ends, rounds_end}
 use Rattle.rv_layout_laws.proofs.branches.widening_ends.Goals as goal
 
 pub returns-clause-widenings : goal.returns-clause-widenings

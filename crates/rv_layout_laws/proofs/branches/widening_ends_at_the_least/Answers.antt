@@ -1,4 +1,4 @@
-use Rattle.rv_layout_laws.proofs.Widening.{widened_least}
+use Rattle.rv_layout_laws.proofs.WideningLemmas.{widened_least}
 use Rattle.rv_layout_laws.proofs.branches.widening_ends_at_the_least.Goals as goal
 
 pub returns : goal.returns

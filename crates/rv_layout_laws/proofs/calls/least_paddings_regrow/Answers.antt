@@ -1,4 +1,4 @@
-use Rattle.rv_layout_laws.proofs.Regrowing.{padded_regrows}
+use Rattle.rv_layout_laws.proofs.RegrowingLemmas.{padded_regrows}
 use Rattle.rv_layout_laws.proofs.calls.least_paddings_regrow.Goals as goal
 
 pub returns : goal.returns

@@ -1,4 +1,4 @@
-use Rattle.rv_layout_laws.proofs.Shortening.{one_greatest_closed}
+use Rattle.rv_layout_laws.proofs.ShorteningLemmas.{one_greatest_closed}
 use Rattle.rv_layout_laws.proofs.calls.one_greatest_closed.Goals as goal
 
 pub returns : goal.returns

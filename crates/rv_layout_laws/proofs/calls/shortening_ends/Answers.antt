@@ -1,4 +1,4 @@
-use Rattle.rv_layout_laws.proofs.Shortening.{shortening_ends, rounds_end}
+use Rattle.rv_layout_laws.proofs.ShorteningLemmas.{shortening_ends, rounds_end}
 use Rattle.rv_layout_laws.proofs.calls.shortening_ends.Goals as goal
 
 pub returns-clause-shortenings : goal.returns-clause-shortenings

@@ -1,4 +1,4 @@
-use Rattle.rv_layout_laws.proofs.Shortening.{shortened_greatest}
+use Rattle.rv_layout_laws.proofs.ShorteningLemmas.{shortened_greatest}
 use Rattle.rv_layout_laws.proofs.calls.shortening_ends_at_the_greatest.Goals as goal
 
 pub returns : goal.returns

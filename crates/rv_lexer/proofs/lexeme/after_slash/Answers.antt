@@ -1,7 +1,7 @@
 -- A comment ends inside the bytes.
 use Rattle.std.proofs.Common.{◌+◌, ◌-◌, ◌≤◌, length, take, drop, ap, arith, length-drop}
 use Rattle.std.proofs.lemmas.List.{take_rest}
-use Rattle.rv_lexer.proofs.Scans.{close_within}
+use Rattle.rv_lexer.proofs.ScansLemmas.{close_within}
 use Rattle.rv_lexer.proofs.lexeme.after_slash.Goals as goal
 
 pub overflow_add-result : goal.overflow_add-result

@@ -1,5 +1,5 @@
 -- What `memmem` finds is the first `*/`.
-use Rattle.rv_lexer.proofs.Scans.{found_close}
+use Rattle.rv_lexer.proofs.ScansLemmas.{found_close}
 use Rattle.rv_lexer.proofs.lexeme.close_at.Goals as goal
 
 pub returns : goal.returns

@@ -1,7 +1,7 @@
 -- A name lies within the bytes.
 use Rattle.std.proofs.Common.{length, ap, arith}
 use Rattle.rv_text_laws.specs.Bytes.{is_word}
-use Rattle.rv_text_laws.proofs.Runs.{run_within}
+use Rattle.rv_text_laws.proofs.RunsLemmas.{run_within}
 use Rattle.rv_lexer.proofs.lexeme.frequent_by.Goals as goal
 
 pub overflow_add-length : goal.overflow_add-length

@@ -1,8 +1,8 @@
 -- Each lexeme lies within the bytes.
 use Rattle.std.proofs.Common.{length, ap, arith}
 use Rattle.rv_text_laws.specs.Bytes.{is_word, in_line}
-use Rattle.rv_text_laws.proofs.Runs.{run_within}
-use Rattle.rv_lexer.proofs.Inside.{string_within}
+use Rattle.rv_text_laws.proofs.RunsLemmas.{run_within}
+use Rattle.rv_lexer.proofs.InsideLemmas.{string_within}
 use Rattle.rv_lexer.proofs.lexeme.lexeme_by.Goals as goal
 
 pub overflow_add-length : goal.overflow_add-length

@@ -1,5 +1,5 @@
 -- What `memchr` finds is the end of the line.
-use Rattle.rv_lexer.proofs.Scans.{line_some, line_none}
+use Rattle.rv_lexer.proofs.ScansLemmas.{line_some, line_none}
 use Rattle.rv_lexer.proofs.lexeme.line_length.Goals as goal
 
 pub returns-in-Some : goal.returns-in-Some

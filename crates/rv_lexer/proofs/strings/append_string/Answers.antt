@@ -2,7 +2,7 @@
 use Rattle.std.proofs.Common.{◌∷◌, ◌++◌, sym, ◌∙◌, ap, arith}
 use Rattle.std.proofs.lemmas.List.{append-nil}
 use Rattle.rv_lexer.specs.Token.{string_bytes}
-use Rattle.rv_lexer.proofs.Inside.{atom_within, string_more, string_none, string_on}
+use Rattle.rv_lexer.proofs.InsideLemmas.{atom_within, string_more, string_none, string_on}
 use Rattle.rv_lexer.proofs.strings.append_string.Goals as goal
 
 pub split_at-requires : goal.split_at-requires

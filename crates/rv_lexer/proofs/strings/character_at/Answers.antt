@@ -2,7 +2,7 @@
 use Rattle.std.proofs.Common.{◌≡◌, ◌+◌, suc, true, false, sym, ◌∙◌, ap, arith, Some}
 use Rattle.rv_text_laws.specs.Grammar as grammar
 use Rattle.rv_text_laws.specs.Front.{begins}
-use Rattle.rv_lexer.proofs.Inside.{atom_within, escaped, not_escaped}
+use Rattle.rv_lexer.proofs.InsideLemmas.{atom_within, escaped, not_escaped}
 use Rattle.rv_lexer.proofs.strings.character_at.Goals as goal
 
 pub split_at-requires : goal.split_at-requires

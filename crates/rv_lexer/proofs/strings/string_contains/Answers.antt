@@ -2,7 +2,7 @@
 use Rattle.std.proofs.Common.{◌==◌, ◌||◌, drop, sym, eq-eqb, ne_eqb, ◌∙◌, ap, arith}
 use Rattle.std.specs.List.{list_any}
 use Rattle.rv_lexer.specs.Token.{string_bytes}
-use Rattle.rv_lexer.proofs.Inside.{atom_within, string_more, string_none}
+use Rattle.rv_lexer.proofs.InsideLemmas.{atom_within, string_more, string_none}
 use Rattle.rv_lexer.proofs.strings.string_contains.Goals as goal
 
 pub returns-then-byte-wanted : goal.returns-then-byte-wanted

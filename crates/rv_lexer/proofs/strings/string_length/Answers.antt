@@ -2,7 +2,7 @@
 use Rattle.std.proofs.Common.{◌-◌, length, sym, ◌∙◌, ap, arith}
 use Rattle.rv_text_laws.specs.Cut.{cut}
 use Rattle.rv_text_laws.specs.Front.{atom_at}
-use Rattle.rv_lexer.proofs.Inside.{atom_within, atoms_end, closed, unclosed}
+use Rattle.rv_lexer.proofs.InsideLemmas.{atom_within, atoms_end, closed, unclosed}
 use Rattle.rv_lexer.proofs.strings.string_length.Goals as goal
 
 pub split_at-requires : goal.split_at-requires

@@ -1,7 +1,7 @@
 -- Atom by atom.
 use Rattle.std.proofs.Common.{◌≡◌, length, suc, sym, ◌∙◌, ap, arith}
 use Rattle.rv_lexer.specs.Token.{string_bytes}
-use Rattle.rv_lexer.proofs.Inside.{atom_within, string_more, string_none}
+use Rattle.rv_lexer.proofs.InsideLemmas.{atom_within, string_more, string_none}
 use Rattle.rv_lexer.proofs.strings.string_size.Goals as goal
 
 pub split_at-requires : goal.split_at-requires

@@ -1,6 +1,6 @@
 -- An empty word, and one whose last byte is no letter of a direction.
 use Rattle.std.proofs.Common.{◌∙◌, sym}
-use Rattle.rv_lexer.proofs.Directions.{wordless, undirected}
+use Rattle.rv_lexer.proofs.DirectionsLemmas.{wordless, undirected}
 use Rattle.rv_lexer.proofs.word.directed.Goals as goal
 
 pub returns-in-empty : goal.returns-in-empty

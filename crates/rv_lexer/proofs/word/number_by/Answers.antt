@@ -3,7 +3,7 @@ use Rattle.std.proofs.Common.{◌≡◌, ◌+◌, ◌*◌, ◌^◌, ◌<◌, ◌
 use Rattle.std.proofs.lemmas.Bool.{lt-ltb}
 use Rattle.std.proofs.lemmas.List.{drop_all}
 use Rattle.rv_text_laws.specs.Bytes.{digit, is_digit}
-use Rattle.rv_lexer.proofs.Numbers.{number_on, next_digit, too_large, on_end}
+use Rattle.rv_lexer.proofs.NumbersLemmas.{number_on, next_digit, too_large, on_end}
 use Rattle.rv_lexer.proofs.word.number_by.Goals as goal
 
 pub returns-in_err-checked_mul : goal.returns-in_err-checked_mul

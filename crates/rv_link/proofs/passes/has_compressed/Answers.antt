@@ -2,7 +2,7 @@ use Rattle.std.proofs.Common.{◌+◌, map, drop, sym, ap, ◌∙◌}
 use Rattle.std.specs.Prelude.{◌||◌}
 use Rattle.std.specs.List.{list_any}
 use Rattle.rv_shorten.specs.View.{short_object_of}
-use Rattle.rv_link.proofs.Steps.{next_of}
+use Rattle.rv_link.proofs.StepsLemmas.{next_of}
 use Rattle.rv_link.proofs.passes.has_compressed.Goals as goal
 
 pub returns-then-object : goal.returns-then-object

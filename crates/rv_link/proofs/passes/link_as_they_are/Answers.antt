@@ -8,8 +8,8 @@ use Rattle.rv_object_laws.specs.IsLinkOf.{IsLinkOf}
 use Rattle.rv_resolve.specs.Entry.{has_entry}
 use Rattle.rv_placement.specs.Placement.{starts_of, AreRoomy}
 use Rattle.rv_link.specs.Refusals.{ComesToPlaces, IsUnlinked}
-use Rattle.rv_link.proofs.Unlinked.{unfilled}
-use Rattle.rv_link.proofs.Links.{is_link}
+use Rattle.rv_link.proofs.UnlinkedLemmas.{unfilled}
+use Rattle.rv_link.proofs.LinksLemmas.{is_link}
 use Rattle.rv_link.proofs.passes.link_as_they_are.Goals as goal
 
 pub returns-clause-links : goal.returns-clause-links

@@ -1,7 +1,7 @@
 use Rattle.std.proofs.Common.{map, subst}
 use Rattle.rv_shorten.specs.View.{short_object_of}
 use Rattle.rv_placement.specs.Placement.{IsUnplaced}
-use Rattle.rv_placement.proofs.Layouts.{has_layout}
+use Rattle.rv_placement.proofs.LayoutsLemmas.{has_layout}
 use Rattle.rv_link.proofs.passes.place.Goals as goal
 
 pub returns-in-Err-Short-clause-refuses : goal.returns-in-Err-Short-clause-refuses

@@ -3,7 +3,7 @@ use Rattle.std.proofs.lemmas.Result.{err_from_is_err_and, IfErr-weaker}
 use Rattle.rv_object.specs.View.{object_of}
 use Rattle.rv_shorten.specs.View.{short_object_of}
 use Rattle.rv_link.specs.Refusals.{IsUnlinked, HasNoProgram}
-use Rattle.rv_link.proofs.Left.{past, doubled}
+use Rattle.rv_link.proofs.LeftLemmas.{past, doubled}
 use Rattle.rv_link.proofs.programs.link.Goals as goal
 
 pub returns-in_err-within_limits-clause-refuses : goal.returns-in_err-within_limits-clause-refuses

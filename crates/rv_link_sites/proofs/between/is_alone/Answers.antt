@@ -1,6 +1,6 @@
 use Rattle.std.proofs.Common.{nat_le, map, sym, ap, ◌∙◌}
 use Rattle.rv_object.specs.Parts.{relocation_of}
-use Rattle.rv_link_sites.proofs.Alone.{alone_past, alone_next, alone_last}
+use Rattle.rv_link_sites.proofs.AloneLemmas.{alone_past, alone_next, alone_last}
 use Rattle.rv_link_sites.proofs.between.is_alone.Goals as goal
 
 pub returns-then-call-before : goal.returns-then-call-before

@@ -1,6 +1,6 @@
 use Rattle.std.proofs.Common.{◌≡◌, Some, map, ◌∙◌, rules}
 use Rattle.rv_object.specs.Parts.{relocation_of}
-use Rattle.rv_link_sites.proofs.Alone.{rise_behind, relaxed_before, relaxed_behind}
+use Rattle.rv_link_sites.proofs.AloneLemmas.{rise_behind, relaxed_before, relaxed_behind}
 use Rattle.rv_link_sites.proofs.between.is_relaxed.Goals as goal
 
 pub returns-then-eq : goal.returns-then-eq

@@ -9,7 +9,7 @@ use Rattle.rv_object.specs.Sections.{section_of}
 use Rattle.rv_object.specs.View.{object_of}
 use Rattle.rv_object_laws.specs.Calls as laws
 use Rattle.rv_link_sites.specs.Text.{objects_of, input_of}
-use Rattle.rv_link_sites.proofs.Changed.{one_call}
+use Rattle.rv_link_sites.proofs.ChangedLemmas.{one_call}
 use Rattle.rv_link_sites.proofs.changes.call.Goals as goal
 
 pub returns-then-input : goal.returns-then-input

@@ -1,7 +1,7 @@
 use Rattle.std.proofs.Common.{◌∷◌, ◌++◌, map, sym, ◌∙◌, arith}
 use Rattle.rv_object.specs.Parts.{relocation_of}
 use Rattle.rv_link_sites.specs.Text.{objects_of, input_of}
-use Rattle.rv_link_sites.proofs.Changed.{may_not, may_if, none_added, call_added}
+use Rattle.rv_link_sites.proofs.ChangedLemmas.{may_not, may_if, none_added, call_added}
 use Rattle.rv_link_sites.proofs.changes.put_change.Goals as goal
 
 pub returns-then-not-is_allowed : goal.returns-then-not-is_allowed

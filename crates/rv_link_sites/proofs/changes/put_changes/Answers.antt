@@ -8,8 +8,8 @@ use Rattle.rv_object.specs.Sections.{section_of}
 use Rattle.rv_object_laws.specs.Calls as laws
 use Rattle.rv_link_sites.specs.Between.{Rise, IsBefore}
 use Rattle.rv_link_sites.specs.Text.{objects_of, input_of}
-use Rattle.rv_link_sites.proofs.Sorted.{rise_sorted, sorted_changes}
-use Rattle.rv_link_sites.proofs.Changed.{fine_at, field_low, section_apart, taken, whole_sliced, change_more}
+use Rattle.rv_link_sites.proofs.SortedLemmas.{rise_sorted, sorted_changes}
+use Rattle.rv_link_sites.proofs.ChangedLemmas.{fine_at, field_low, section_apart, taken, whole_sliced, change_more}
 use Rattle.rv_link_sites.proofs.changes.put_changes.Goals as goal
 
 pub put_change-requires-clause-lying : goal.put_change-requires-clause-lying

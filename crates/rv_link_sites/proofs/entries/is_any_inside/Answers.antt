@@ -1,5 +1,5 @@
 use Rattle.std.proofs.Common.{◌<◌, ◌≤◌, nat_lt, length, ap, ◌∙◌, rules}
-use Rattle.rv_link_sites.proofs.Inside.{none_inside, first_inside}
+use Rattle.rv_link_sites.proofs.InsideLemmas.{none_inside, first_inside}
 use Rattle.rv_link_sites.proofs.entries.is_any_inside.Goals as goal
 
 pub returns-then-behind-offsets : goal.returns-then-behind-offsets

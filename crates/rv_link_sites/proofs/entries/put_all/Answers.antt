@@ -1,6 +1,6 @@
 use Rattle.std.proofs.Common.{◌<◌, sym, subst, ◌∙◌}
 use Rattle.rv_link_sites.specs.Entries.{list_at}
-use Rattle.rv_link_sites.proofs.Inside.{offsets_more}
+use Rattle.rv_link_sites.proofs.InsideLemmas.{offsets_more}
 use Rattle.rv_link_sites.proofs.entries.put_all.Goals as goal
 
 pub loop-symbol-preserved : goal.loop-symbol-preserved

@@ -1,6 +1,6 @@
 use Rattle.std.proofs.Common.{◌<◌, length, rules}
 use Rattle.std.proofs.lemmas.List.Sorted.{IsNonDecreasingBy-from_sort}
-use Rattle.rv_link_sites.proofs.Inside.{sorted_none, sorted_more}
+use Rattle.rv_link_sites.proofs.InsideLemmas.{sorted_none, sorted_more}
 use Rattle.rv_link_sites.proofs.entries.sort_all.Goals as goal
 
 pub loop-i-init : goal.loop-i-init

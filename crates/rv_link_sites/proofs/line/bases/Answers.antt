@@ -2,7 +2,7 @@ use Rattle.std.proofs.Common.{◌∙◌, ◌<◌, ◌^◌, ◌++◌, ap, subst, 
 use Rattle.rv_object.specs.Sections.{section_of}
 use Rattle.rv_object.specs.View.{object_of}
 use Rattle.rv_link_sites.specs.Line.{ended, ended_files, firsts}
-use Rattle.rv_link_sites.proofs.Steps.{told, told_none, object_far, object_ends, object_firsts}
+use Rattle.rv_link_sites.proofs.StepsLemmas.{told, told_none, object_far, object_ends, object_firsts}
 use Rattle.rv_link_sites.proofs.line.bases.Goals as goal
 
 pub returns-in-None-clause-far : goal.returns-in-None-clause-far

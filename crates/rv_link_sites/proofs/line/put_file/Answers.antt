@@ -1,7 +1,7 @@
 use Rattle.std.proofs.Common.{◌^◌, map}
 use Rattle.rv_object.specs.Sections.{section_of}
 use Rattle.rv_link_sites.specs.Line.{ended}
-use Rattle.rv_link_sites.proofs.Steps.{told, told_none, section_far, section_ends, section_firsts}
+use Rattle.rv_link_sites.proofs.StepsLemmas.{told, told_none, section_far, section_ends, section_firsts}
 use Rattle.rv_link_sites.proofs.line.put_file.Goals as goal
 
 pub returns-in-None-clause-far : goal.returns-in-None-clause-far

@@ -1,4 +1,4 @@
-use Rattle.rv_link_sites.proofs.Loops.{ordered_by_place, rise_on, rise_all}
+use Rattle.rv_link_sites.proofs.LoopsLemmas.{ordered_by_place, rise_on, rise_all}
 use Rattle.rv_link_sites.proofs.order.are_ordered.Goals as goal
 
 pub loop-relocation-init : goal.loop-relocation-init

@@ -1,7 +1,7 @@
 use Rattle.std.proofs.Common.{nat_cmp, subst, rules}
 use Rattle.std.proofs.lemmas.List.Sorted.{answers_always, IsNonDecreasingBy-from_sort}
 use Rattle.std.specs.List.Sorted.{IsStableByKey}
-use Rattle.rv_link_sites.proofs.Sorted.{place_of}
+use Rattle.rv_link_sites.proofs.SortedLemmas.{place_of}
 use Rattle.rv_link_sites.proofs.order.by_place.Goals as goal
 
 pub returns-clause-rise : goal.returns-clause-rise

@@ -11,9 +11,9 @@ use Rattle.rv_relax.specs.Passes.{IsInput, LeadsLow}
 use Rattle.rv_relax.specs.Placed.{is_aligning}
 use Rattle.rv_link_sites.specs.Line.{ended_files, starts_of}
 use Rattle.rv_link_sites.specs.Text.{objects_of}
-use Rattle.rv_link_sites.proofs.Marks.{aligning, same_length}
-use Rattle.rv_link_sites.proofs.Steps.{told}
-use Rattle.rv_link_sites.proofs.Targets.{short_text, is_text, are_within}
+use Rattle.rv_link_sites.proofs.MarksLemmas.{aligning, same_length}
+use Rattle.rv_link_sites.proofs.StepsLemmas.{told}
+use Rattle.rv_link_sites.proofs.TargetsLemmas.{short_text, is_text, are_within}
 use Rattle.rv_link_sites.proofs.walk.placed.Goals as goal
 
 leads_low : (kind : SiteKind) → LeadsWithin (2 ^ 62) kind → LeadsLow kind

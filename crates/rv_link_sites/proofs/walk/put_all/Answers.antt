@@ -3,8 +3,8 @@ use Rattle.rv_object.specs.View.{object_of}
 use Rattle.std.proofs.lemmas.List.{length-map}
 use Rattle.rv_link_sites.specs.Line.{ended_files}
 use Rattle.rv_link_sites.specs.Text.{objects_of}
-use Rattle.rv_link_sites.proofs.Marks.{files_done, files_more}
-use Rattle.rv_link_sites.proofs.Walks.{mapped_at, object_low, object_ends, object_more, objects_done}
+use Rattle.rv_link_sites.proofs.MarksLemmas.{files_done, files_more}
+use Rattle.rv_link_sites.proofs.WalksLemmas.{mapped_at, object_low, object_ends, object_more, objects_done}
 use Rattle.rv_link_sites.proofs.walk.put_all.Goals as goal
 
 pub put_object-requires-clause-low : goal.put_object-requires-clause-low

@@ -5,8 +5,8 @@ use Rattle.rv_object.specs.View.{object_of}
 use Rattle.rv_object_laws.specs.Inputs.{InputSection, goes_to_text}
 use Rattle.rv_link_sites.specs.Line.{next, input, section_sites, section_starts}
 use Rattle.rv_link_sites.specs.Text.{objects_of}
-use Rattle.rv_link_sites.proofs.Marks.{starts_other, starts_text}
-use Rattle.rv_link_sites.proofs.Walks.{mapped_there, one_there, next_text, sites_other, sites_text}
+use Rattle.rv_link_sites.proofs.MarksLemmas.{starts_other, starts_text}
+use Rattle.rv_link_sites.proofs.WalksLemmas.{mapped_there, one_there, next_text, sites_other, sites_text}
 use Rattle.rv_link_sites.proofs.walk.put_at.Goals as goal
 
 pub returns-then-not-is_text-clause-sites : goal.returns-then-not-is_text-clause-sites

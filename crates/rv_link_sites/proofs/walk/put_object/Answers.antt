@@ -3,8 +3,8 @@ use Rattle.rv_object.specs.Sections.{section_of}
 use Rattle.rv_object.specs.View.{object_of}
 use Rattle.rv_link_sites.specs.Line.{ended}
 use Rattle.rv_link_sites.specs.Text.{objects_of}
-use Rattle.rv_link_sites.proofs.Marks.{starts_more}
-use Rattle.rv_link_sites.proofs.Walks.{some_mapped, section_low, section_ends, section_more}
+use Rattle.rv_link_sites.proofs.MarksLemmas.{starts_more}
+use Rattle.rv_link_sites.proofs.WalksLemmas.{some_mapped, section_low, section_ends, section_more}
 use Rattle.rv_link_sites.proofs.walk.put_object.Goals as goal
 
 pub put_at-requires-clause-low : goal.put_at-requires-clause-low

@@ -1,5 +1,5 @@
 use Rattle.std.proofs.Common.{◌∙◌}
-use Rattle.rv_link_tests.proofs.Rows.{lying}
+use Rattle.rv_link_tests.proofs.RowsLemmas.{lying}
 use Rattle.rv_link_tests.proofs.objects.are_all_lying.Goals as goal
 
 pub returns : goal.returns

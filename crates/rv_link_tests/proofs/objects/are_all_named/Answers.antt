@@ -1,5 +1,5 @@
 use Rattle.std.proofs.Common.{◌∙◌}
-use Rattle.rv_link_tests.proofs.Rows.{named}
+use Rattle.rv_link_tests.proofs.RowsLemmas.{named}
 use Rattle.rv_link_tests.proofs.objects.are_all_named.Goals as goal
 
 pub returns : goal.returns

@@ -1,4 +1,4 @@
-use Rattle.rv_map.proofs.Cutting.{cut_nowhere, cut_slices}
+use Rattle.rv_map.proofs.CuttingLemmas.{cut_nowhere, cut_slices}
 use Rattle.rv_map.proofs.numeral.cut.Goals as goal
 
 pub returns-in_err-at-clause-exact : goal.returns-in_err-at-clause-exact

@@ -1,6 +1,6 @@
 use Rattle.std.proofs.Common.{inl, inr, arith, ◌∙◌}
 use Rattle.std.proofs.lemmas.Bool.{lt-ltb, le-ltb}
-use Rattle.rv_map.proofs.Digits.{no_digit, digit_test}
+use Rattle.rv_map.proofs.DigitsLemmas.{no_digit, digit_test}
 use Rattle.rv_map.proofs.numeral.digit_of.Goals as goal
 use Rattle.rv_map.proofs.numeral.digit_of.Goals.{in-48-to-57, in-97-to-102}
 

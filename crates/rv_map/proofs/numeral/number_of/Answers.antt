@@ -1,5 +1,5 @@
 use Rattle.std.proofs.Common.{sym, ◌∙◌, arith}
-use Rattle.rv_map.proofs.Numbers.{number_none_begin, number_none_digit, number_none_value, number_done, number_only}
+use Rattle.rv_map.proofs.NumbersLemmas.{number_none_begin, number_none_digit, number_none_value, number_done, number_only}
 use Rattle.rv_map.proofs.numeral.number_of.Goals as goal
 
 pub returns-then-not-begins_numeral-clause-exact : goal.returns-then-not-begins_numeral-clause-exact

@@ -1,4 +1,4 @@
-use Rattle.rv_map.proofs.Cutting.{stripped}
+use Rattle.rv_map.proofs.CuttingLemmas.{stripped}
 use Rattle.rv_map.proofs.reading.behind.Goals as goal
 
 pub returns-clause-found : goal.returns-clause-found

@@ -1,7 +1,7 @@
 use Rattle.rv_map.specs.Limits.{IsRegion}
 use Rattle.rv_map.specs.Text.{gap_line}
-use Rattle.rv_map.proofs.Lines.{gap_taken}
-use Rattle.rv_map.proofs.Whole.{items_more, all_more, line_shorter}
+use Rattle.rv_map.proofs.LinesLemmas.{gap_taken}
+use Rattle.rv_map.proofs.WholeLemmas.{items_more, all_more, line_shorter}
 use Rattle.rv_map.proofs.reading.gaps_of.Goals as goal
 
 pub loop-gap-preserved : goal.loop-gap-preserved

@@ -1,4 +1,4 @@
-use Rattle.rv_map.proofs.Lines.{global_taken}
+use Rattle.rv_map.proofs.LinesLemmas.{global_taken}
 use Rattle.rv_map.proofs.reading.global_of.Goals as goal
 
 pub returns-then-is_name-clause-found : goal.returns-then-is_name-clause-found

@@ -1,5 +1,5 @@
 use Rattle.rv_map.specs.Text.{global_line}
-use Rattle.rv_map.proofs.Whole.{globals_more, globals_fit, line_shorter}
+use Rattle.rv_map.proofs.WholeLemmas.{globals_more, globals_fit, line_shorter}
 use Rattle.rv_map.proofs.reading.globals_of.Goals as goal
 
 pub loop-name-preserved : goal.loop-name-preserved

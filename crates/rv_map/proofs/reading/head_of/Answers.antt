@@ -1,4 +1,4 @@
-use Rattle.rv_map.proofs.Lines.{head_taken}
+use Rattle.rv_map.proofs.LinesLemmas.{head_taken}
 use Rattle.rv_map.proofs.reading.head_of.Goals as goal
 
 pub returns-clause-found : goal.returns-clause-found

@@ -1,4 +1,4 @@
-use Rattle.rv_map.proofs.Lines.{region_taken}
+use Rattle.rv_map.proofs.LinesLemmas.{region_taken}
 use Rattle.rv_map.proofs.reading.region_of.Goals as goal
 
 pub returns-clause-found : goal.returns-clause-found

@@ -1,4 +1,4 @@
-use Rattle.rv_map.proofs.Lines.{row_taken}
+use Rattle.rv_map.proofs.LinesLemmas.{row_taken}
 use Rattle.rv_map.proofs.reading.row_of.Goals as goal
 
 pub returns-clause-found : goal.returns-clause-found

@@ -1,6 +1,6 @@
 use Rattle.rv_map.specs.Limits.{IsRow}
 use Rattle.rv_map.specs.Text.{row_line}
-use Rattle.rv_map.proofs.Whole.{items_more, all_more, line_shorter}
+use Rattle.rv_map.proofs.WholeLemmas.{items_more, all_more, line_shorter}
 use Rattle.rv_map.proofs.reading.rows_of.Goals as goal
 
 pub loop-row-preserved : goal.loop-row-preserved

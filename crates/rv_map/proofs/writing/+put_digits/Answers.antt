@@ -1,5 +1,5 @@
 use Rattle.std.proofs.Common.{arith}
-use Rattle.rv_map.proofs.Hexadecimal.{hexadecimal_grows}
+use Rattle.rv_map.proofs.HexadecimalLemmas.{hexadecimal_grows}
 use Rattle.rv_map.proofs.writing.+put_digits.Goals as goal
 
 pub returns : goal.returns

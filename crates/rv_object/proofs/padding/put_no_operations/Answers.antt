@@ -1,6 +1,6 @@
 use Rattle.std.proofs.Common.{◌+◌, ◌-◌, ◌/◌, ◌++◌, ap, ◌∙◌}
 use Rattle.rv_object.specs.Padding.{four_each}
-use Rattle.rv_object.proofs.Nops.{four_more, whole, and_half}
+use Rattle.rv_object.proofs.NopsLemmas.{four_more, whole, and_half}
 use Rattle.rv_object.proofs.padding.put_no_operations.Goals as goal
 
 pub loop-preserved : goal.loop-preserved

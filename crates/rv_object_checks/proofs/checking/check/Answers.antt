@@ -1,6 +1,6 @@
 use Rattle.std.proofs.Common.{inr, ◌∙◌}
 use Rattle.std.proofs.lemmas.Result.{err_from_is_err_and}
-use Rattle.rv_object_checks.proofs.Opening.{opening_fails, sections_pass, sections_fail}
+use Rattle.rv_object_checks.proofs.OpeningLemmas.{opening_fails, sections_pass, sections_fail}
 use Rattle.rv_object_checks.proofs.checking.check.Goals as goal
 
 pub returns-in_err-view : goal.returns-in_err-view

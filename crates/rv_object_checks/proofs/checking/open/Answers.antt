@@ -4,7 +4,7 @@ use Rattle.std.proofs.lemmas.Bool.Decides.{nat_tests}
 use Rattle.std.proofs.lemmas.Result.{err_from_is_err_and}
 use Rattle.rv_elf.specs.Fields.{number_in, e_type}
 use Rattle.rv_elf.specs.Numbers.{et_rel}
-use Rattle.rv_object_checks.proofs.Opening.{header_stops, type_stops, tables_are, names_inside}
+use Rattle.rv_object_checks.proofs.OpeningLemmas.{header_stops, type_stops, tables_are, names_inside}
 use Rattle.rv_object_checks.proofs.checking.open.Goals as goal
 
 pub returns-in_err-file_type-clause-faults : goal.returns-in_err-file_type-clause-faults

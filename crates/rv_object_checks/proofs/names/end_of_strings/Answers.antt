@@ -1,5 +1,5 @@
 use Rattle.std.proofs.Common.{sym}
-use Rattle.rv_object_checks.proofs.Strings.{none_end, last_end}
+use Rattle.rv_object_checks.proofs.StringsLemmas.{none_end, last_end}
 use Rattle.rv_object_checks.proofs.names.end_of_strings.Goals as goal
 
 pub returns-in-Some : goal.returns-in-Some

@@ -4,7 +4,7 @@ use Rattle.rv_elf.specs.FirstFault.{first_true}
 use Rattle.rv_elf.specs.Sections.{relas_in}
 use Rattle.rv_elf.specs.declared.fault.FileFault.TheVariants.{OutOfMemory}
 use Rattle.rv_object_file_laws.specs.FirstFault.{relocations_tests}
-use Rattle.rv_object_checks.proofs.RelocationSteps.{left_of, left_next, step, fault}
+use Rattle.rv_object_checks.proofs.RelocationStepsLemmas.{left_of, left_next, step, fault}
 use Rattle.rv_object_checks.proofs.relocations.check_relocations.Goals as goal
 
 pub returns-in_err-check_relocation : goal.returns-in_err-check_relocation

@@ -2,7 +2,7 @@ use Rattle.std.proofs.Common.{◌/◌, length, List}
 use Rattle.rv_elf.specs.Sections.{relas_in}
 use Rattle.rv_object.specs.Object.{Relocation}
 use Rattle.rv_object_checks.specs.Stretches.{Holds}
-use Rattle.rv_object_checks.proofs.RelocationSteps.{Going, left_of}
+use Rattle.rv_object_checks.proofs.RelocationStepsLemmas.{Going, left_of}
 use Rattle.rv_object_checks.proofs.relocations.check_relocations.Given as goal
 
 abbrev pub invariant-loop-index : goal.invariant-loop-index

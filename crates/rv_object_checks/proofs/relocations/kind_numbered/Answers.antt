@@ -1,4 +1,4 @@
-use Rattle.rv_object_checks.proofs.KindNumbers.{kind_is}
+use Rattle.rv_object_checks.proofs.KindNumbersLemmas.{kind_is}
 use Rattle.rv_object_checks.proofs.relocations.kind_numbered.Goals as goal
 
 pub returns : goal.returns

@@ -4,7 +4,7 @@ use Rattle.std.proofs.lemmas.Result.{err_from_is_err_and}
 use Rattle.rv_elf.specs.FirstFault.{first_true}
 use Rattle.rv_object_file_laws.specs.FirstFault.{row_tests}
 use Rattle.rv_object_file_laws.specs.Rows.{row_at, rows_in}
-use Rattle.rv_object_checks.proofs.Records.{tests_step, tests_stop}
+use Rattle.rv_object_checks.proofs.RecordsLemmas.{tests_step, tests_stop}
 use Rattle.rv_object_checks.proofs.rows_reading.check_rows.Goals as goal
 
 pub loop-index-preserved : goal.loop-index-preserved

@@ -4,7 +4,7 @@ use Rattle.std.specs.Option.{is_some}
 use Rattle.std.proofs.lemmas.Bool.{cond-false}
 use Rattle.rv_elf.specs.Sections.{section_count}
 use Rattle.rv_object_checks.specs.Found.{section_at}
-use Rattle.rv_object_checks.proofs.KeptSections.{long_places, places_long, placed_at, kept_by, some_below, past_count, is_behind}
+use Rattle.rv_object_checks.proofs.KeptSectionsLemmas.{long_places, places_long, placed_at, kept_by, some_below, past_count, is_behind}
 use Rattle.rv_object_checks.proofs.rows_reading.is_kept_index.Goals as goal
 
 pub returns-then-index-len-clause-kept : goal.returns-then-index-len-clause-kept

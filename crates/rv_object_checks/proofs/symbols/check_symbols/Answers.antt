@@ -5,7 +5,7 @@ use Rattle.rv_elf.specs.FirstFault.{first_true}
 use Rattle.rv_elf.specs.Records.{symbol_at}
 use Rattle.rv_elf.specs.Sections.{records, symbols_in, contents_of}
 use Rattle.rv_object_file_laws.specs.FirstFault.{symbol_tests}
-use Rattle.rv_object_checks.proofs.Records.{records_behind, tests_step, tests_stop}
+use Rattle.rv_object_checks.proofs.RecordsLemmas.{records_behind, tests_step, tests_stop}
 use Rattle.rv_object_checks.proofs.symbols.check_symbols.Goals as goal
 
 pub loop-earlier-init : goal.loop-earlier-init

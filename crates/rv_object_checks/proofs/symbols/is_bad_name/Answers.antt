@@ -1,5 +1,5 @@
 use Rattle.std.proofs.Common.{sym, ◌∙◌, arith}
-use Rattle.rv_object_checks.proofs.SymbolFields.{no_name, local_name}
+use Rattle.rv_object_checks.proofs.SymbolFieldsLemmas.{no_name, local_name}
 use Rattle.rv_object_checks.proofs.symbols.is_bad_name.Goals as goal
 
 pub returns-then-from-end : goal.returns-then-from-end

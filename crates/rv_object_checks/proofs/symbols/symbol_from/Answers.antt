@@ -1,7 +1,7 @@
 use Rattle.std.proofs.Common.{◌*◌, ◌-◌, length, drop, ap, ◌∙◌}
 use Rattle.std.proofs.lemmas.List.{length-drop}
 use Rattle.rv_elf.specs.Records.{symbol_at}
-use Rattle.rv_object_checks.proofs.SymbolFields.{symbol_behind, take_whole}
+use Rattle.rv_object_checks.proofs.SymbolFieldsLemmas.{symbol_behind, take_whole}
 use Rattle.rv_object_checks.proofs.symbols.symbol_from.Goals as goal
 
 pub returns : goal.returns

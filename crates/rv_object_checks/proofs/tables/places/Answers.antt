@@ -1,7 +1,7 @@
 use Rattle.std.proofs.Common.{◌≡◌, ◌+◌, ap, ◌∙◌, arith}
 use Rattle.rv_object_file_laws.specs.Parts.{is_kept}
 use Rattle.rv_object_checks.specs.Found.{section_at}
-use Rattle.rv_object_checks.proofs.KeptSections.{places_more, counted_more, within_more, places_all}
+use Rattle.rv_object_checks.proofs.KeptSectionsLemmas.{places_more, counted_more, within_more, places_all}
 use Rattle.rv_object_checks.proofs.tables.places.Goals as goal
 
 pub loop-earlier-preserved : goal.loop-earlier-preserved

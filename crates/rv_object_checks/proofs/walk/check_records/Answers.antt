@@ -1,5 +1,5 @@
 use Rattle.std.proofs.Common.{◌∙◌, sym}
-use Rattle.rv_object_checks.proofs.Walking.{relas_done}
+use Rattle.rv_object_checks.proofs.WalkingLemmas.{relas_done}
 use Rattle.rv_object_checks.proofs.walk.check_records.Goals as goal
 
 pub returns-then-is_rela : goal.returns-then-is_rela

@@ -7,8 +7,8 @@ use Rattle.rv_object_file_laws.specs.FirstFault.{sections_tests}
 use Rattle.rv_object_file_laws.specs.Parts.{is_symbol_table, is_rows, sections}
 use Rattle.rv_object_checks.specs.Found.{sections_from}
 use Rattle.rv_object_checks.specs.Walk.{HoldBefore}
-use Rattle.rv_object_checks.proofs.SectionsFrom.{all_are}
-use Rattle.rv_object_checks.proofs.Walking.{walk_on, walk_ends, walk_ends_within, any_more, hold_on}
+use Rattle.rv_object_checks.proofs.SectionsFromLemmas.{all_are}
+use Rattle.rv_object_checks.proofs.WalkingLemmas.{walk_on, walk_ends, walk_ends_within, any_more, hold_on}
 use Rattle.rv_object_checks.proofs.walk.check_sections.Goals as goal
 
 pub loop-earlier-init : goal.loop-earlier-init

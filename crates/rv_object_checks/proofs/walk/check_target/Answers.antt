@@ -1,5 +1,5 @@
 use Rattle.std.proofs.Common.{◌∙◌, sym, ap, get_or}
-use Rattle.rv_object_checks.proofs.Walking.{target_done}
+use Rattle.rv_object_checks.proofs.WalkingLemmas.{target_done}
 use Rattle.rv_object_checks.proofs.walk.check_target.Goals as goal
 
 pub returns : goal.returns

@@ -1,6 +1,6 @@
 use Rattle.std.proofs.Common.{◌+◌, ◌∷◌, [], length, length-append, ap, sym, subst, ◌∙◌, arith}
 use Rattle.rv_object_checks.specs.Walk.{AreEmpty}
-use Rattle.rv_object_checks.proofs.Walking.{empty_more, hold_first}
+use Rattle.rv_object_checks.proofs.WalkingLemmas.{empty_more, hold_first}
 use Rattle.rv_object_checks.proofs.walk.no_places.Goals as goal
 
 pub loop-preserved : goal.loop-preserved

@@ -1,5 +1,5 @@
-use Rattle.rv_object_file_laws.proofs.FaultFree.{written_has_no_fault}
-use Rattle.rv_object_file_laws.proofs.ReadAgain.{written_is_read}
+use Rattle.rv_object_file_laws.proofs.FaultFreeLemmas.{written_has_no_fault}
+use Rattle.rv_object_file_laws.proofs.ReadAgainLemmas.{written_is_read}
 use Rattle.rv_object_file_laws.proofs.law.written_object_is_read.Goals as goal
 
 pub returns-clause-fault : goal.returns-clause-fault

@@ -1,4 +1,4 @@
-use Rattle.rv_object_laws.proofs.Ordinals.{rows_stay}
+use Rattle.rv_object_laws.proofs.OrdinalsLemmas.{rows_stay}
 use Rattle.rv_object_laws.proofs.law.rows_in_order_stay.Goals as goal
 
 pub returns : goal.returns

@@ -1,4 +1,4 @@
-use Rattle.rv_object_laws.proofs.TextLine.{sites_text, sites_within}
+use Rattle.rv_object_laws.proofs.TextLineLemmas.{sites_text, sites_within}
 use Rattle.rv_object_laws.proofs.law.sites_make_a_text.Goals as goal
 
 pub returns-clause-text : goal.returns-clause-text

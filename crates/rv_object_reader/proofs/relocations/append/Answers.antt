@@ -3,8 +3,8 @@ use Rattle.rv_elf.specs.Records.{rela_at}
 use Rattle.rv_elf.specs.Sections.{records, relas_in}
 use Rattle.rv_object.specs.Parts.{relocation_of}
 use Rattle.rv_object_file_laws.specs.Parts.{relocations_in}
-use Rattle.rv_object_reader.proofs.Made.{records_next}
-use Rattle.rv_object_reader.proofs.Relas.{relas_some, relas_none}
+use Rattle.rv_object_reader.proofs.MadeLemmas.{records_next}
+use Rattle.rv_object_reader.proofs.RelasLemmas.{relas_some, relas_none}
 use Rattle.rv_object_reader.proofs.relocations.append.Goals as goal
 
 pub loop-index-preserved-in_default : goal.loop-index-preserved-in_default

@@ -6,8 +6,8 @@ use Rattle.rv_object.specs.Parts.{relocation_of}
 use Rattle.rv_object_checks.specs.Found.{place_at, section_at}
 use Rattle.rv_object_file_laws.specs.FirstFault.{is_linked, first_fault}
 use Rattle.rv_object_file_laws.specs.Parts.{is_loaded, relocations_in}
-use Rattle.rv_object_reader.proofs.Collecting.{linked, rela_within, lists_unloaded, lists_unkept, lists_here, place_below}
-use Rattle.rv_object_reader.proofs.Tables.{few_sections}
+use Rattle.rv_object_reader.proofs.CollectingLemmas.{linked, rela_within, lists_unloaded, lists_unkept, lists_here, place_below}
+use Rattle.rv_object_reader.proofs.TablesLemmas.{few_sections}
 use Rattle.rv_object_reader.proofs.relocations.collect.Goals as goal
 
 -- the section that relocations name is one of the file's

@@ -4,8 +4,8 @@ use Rattle.rv_object.specs.Parts.{relocation_of}
 use Rattle.rv_object_checks.specs.Found.{section_at}
 use Rattle.rv_object_file_laws.specs.Parts.{kept}
 use Rattle.rv_object_reader.specs.Collected.{list_so_far, lists_in}
-use Rattle.rv_object_reader.proofs.Collecting.{kept_left, kept_all, kept_here, kept_past, all_units, lists_empty}
-use Rattle.rv_object_reader.proofs.Made.{so_far_start, so_far_past, so_far_more}
+use Rattle.rv_object_reader.proofs.CollectingLemmas.{kept_left, kept_all, kept_here, kept_past, all_units, lists_empty}
+use Rattle.rv_object_reader.proofs.MadeLemmas.{so_far_start, so_far_past, so_far_more}
 use Rattle.rv_object_reader.proofs.relocations.empty.Goals as goal
 
 pub loop-earlier-init : goal.loop-earlier-init

@@ -1,8 +1,8 @@
 use Rattle.std.proofs.Common.{[]}
 use Rattle.rv_object_file_laws.specs.Parts.{kept}
 use Rattle.rv_object_reader.specs.Collected.{lists_in, list_so_far}
-use Rattle.rv_object_reader.proofs.Collecting.{kept_left}
-use Rattle.rv_object_reader.proofs.Made.{SoFar}
+use Rattle.rv_object_reader.proofs.CollectingLemmas.{kept_left}
+use Rattle.rv_object_reader.proofs.MadeLemmas.{SoFar}
 use Rattle.rv_object_reader.proofs.relocations.empty.Given as goal
 
 -- the lists so far, and those of the sections that are left

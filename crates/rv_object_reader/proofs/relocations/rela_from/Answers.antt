@@ -1,7 +1,7 @@
 use Rattle.std.proofs.Common.{◌*◌, ◌-◌, length, drop, ap, ◌∙◌}
 use Rattle.std.proofs.lemmas.List.{length-drop}
 use Rattle.rv_elf.specs.Records.{rela_at}
-use Rattle.rv_object_reader.proofs.Relas.{rela_behind, take_whole}
+use Rattle.rv_object_reader.proofs.RelasLemmas.{rela_behind, take_whole}
 use Rattle.rv_object_reader.proofs.relocations.rela_from.Goals as goal
 
 pub returns : goal.returns

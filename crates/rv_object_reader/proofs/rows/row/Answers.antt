@@ -1,7 +1,7 @@
 use Rattle.std.proofs.Common.{ap, ◌∙◌, unwrap_or, arith}
 use Rattle.rv_object_checks.specs.Rows.{record_of}
-use Rattle.rv_object_reader.proofs.Made.{home_of}
-use Rattle.rv_object_reader.proofs.Tables.{few_sections}
+use Rattle.rv_object_reader.proofs.MadeLemmas.{home_of}
+use Rattle.rv_object_reader.proofs.TablesLemmas.{few_sections}
 use Rattle.rv_object_reader.proofs.rows.row.Goals as goal
 
 pub overflow_cast-entry : goal.overflow_cast-entry

@@ -2,7 +2,7 @@ use Rattle.std.proofs.Common.{subst, ap, sym, ◌∙◌}
 use Rattle.std.specs.List.{AllByRecursion}
 use Rattle.rv_object_file_laws.specs.Parts.{rows_of}
 use Rattle.rv_object_file_laws.specs.Rows.{rows_in}
-use Rattle.rv_object_reader.proofs.Made.{IsHome, rows_home}
+use Rattle.rv_object_reader.proofs.MadeLemmas.{IsHome, rows_home}
 use Rattle.rv_object_reader.proofs.rows.rows.Goals as goal
 
 pub rows_in-requires : goal.rows_in-requires

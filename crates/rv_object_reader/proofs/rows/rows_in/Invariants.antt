@@ -2,7 +2,7 @@ use Rattle.std.proofs.Common.{◌*◌, ◌-◌, ◌/◌, length}
 use Rattle.rv_elf.specs.Sections.{records}
 use Rattle.rv_object_file_laws.specs.ObjectOf.{row_in}
 use Rattle.rv_object_file_laws.specs.Rows.{row_at, rows_in}
-use Rattle.rv_object_reader.proofs.Made.{SoFar, IsHome}
+use Rattle.rv_object_reader.proofs.MadeLemmas.{SoFar, IsHome}
 use Rattle.rv_object_reader.proofs.rows.rows_in.Given as goal
 
 -- the rows so far, and those of the records that are left

@@ -5,8 +5,8 @@ use Rattle.rv_object.specs.Sections.{section_of}
 use Rattle.rv_object_checks.specs.Found.{section_at}
 use Rattle.rv_object_file_laws.specs.ObjectOf.{section_in}
 use Rattle.rv_object_file_laws.specs.Parts.{is_kept, kept}
-use Rattle.rv_object_reader.proofs.Collecting.{kept_left, kept_all, kept_here, all_units, left_first, left_taken, taken_below, taken_is}
-use Rattle.rv_object_reader.proofs.Made.{so_far_start, so_far_more}
+use Rattle.rv_object_reader.proofs.CollectingLemmas.{kept_left, kept_all, kept_here, all_units, left_first, left_taken, taken_below, taken_is}
+use Rattle.rv_object_reader.proofs.MadeLemmas.{so_far_start, so_far_more}
 use Rattle.rv_object_reader.proofs.sections.sections.Goals as goal
 
 pub loop-earlier-init : goal.loop-earlier-init

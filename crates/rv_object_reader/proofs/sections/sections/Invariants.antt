@@ -2,8 +2,8 @@ use Rattle.std.proofs.Common.{map}
 use Rattle.rv_object.specs.Sections.{section_of}
 use Rattle.rv_object_file_laws.specs.ObjectOf.{section_in}
 use Rattle.rv_object_file_laws.specs.Parts.{kept}
-use Rattle.rv_object_reader.proofs.Collecting.{kept_left, AreLeft}
-use Rattle.rv_object_reader.proofs.Made.{SoFar}
+use Rattle.rv_object_reader.proofs.CollectingLemmas.{kept_left, AreLeft}
+use Rattle.rv_object_reader.proofs.MadeLemmas.{SoFar}
 use Rattle.rv_object_reader.proofs.sections.sections.Given as goal
 
 -- the sections so far, and those that are left, whose lists are still there

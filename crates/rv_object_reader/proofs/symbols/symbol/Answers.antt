@@ -3,8 +3,8 @@ use Rattle.rv_elf.specs.FirstFault.{first_true}
 use Rattle.rv_object.specs.Valid.{is_shown}
 use Rattle.rv_object_file_laws.specs.FirstFault.{symbol_tests}
 use Rattle.rv_object_file_laws.specs.Parts.{name_at}
-use Rattle.rv_object_reader.proofs.Made.{symbol_has}
-use Rattle.rv_object_reader.proofs.ValidSymbols.{symbol_shown}
+use Rattle.rv_object_reader.proofs.MadeLemmas.{symbol_has}
+use Rattle.rv_object_reader.proofs.ValidSymbolsLemmas.{symbol_shown}
 use Rattle.rv_object_reader.proofs.symbols.symbol.Goals as goal
 
 pub definition-requires : goal.definition-requires

@@ -6,9 +6,9 @@ use Rattle.rv_object_checks.specs.Found.{section_at}
 use Rattle.rv_object_file_laws.specs.FirstFault.{symbol_tests}
 use Rattle.rv_object_file_laws.specs.ObjectOf.{names_of}
 use Rattle.rv_object_file_laws.specs.Parts.{symbols_of}
-use Rattle.rv_object_reader.proofs.Collecting.{table_linked}
-use Rattle.rv_object_reader.proofs.Tables.{few_sections}
-use Rattle.rv_object_reader.proofs.ValidSymbols.{IsGoodSymbol, good_symbols}
+use Rattle.rv_object_reader.proofs.CollectingLemmas.{table_linked}
+use Rattle.rv_object_reader.proofs.TablesLemmas.{few_sections}
+use Rattle.rv_object_reader.proofs.ValidSymbolsLemmas.{IsGoodSymbol, good_symbols}
 use Rattle.rv_object_reader.proofs.symbols.symbols.Goals as goal
 
 pub overflow_cast-header : goal.overflow_cast-header

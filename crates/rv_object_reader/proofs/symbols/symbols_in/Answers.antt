@@ -5,7 +5,7 @@ use Rattle.rv_elf.specs.Sections.{records, symbols_in}
 use Rattle.rv_object.specs.Parts.{symbol_of}
 use Rattle.rv_object_file_laws.specs.FirstFault.{symbol_tests}
 use Rattle.rv_object_file_laws.specs.ObjectOf.{symbol_in}
-use Rattle.rv_object_reader.proofs.Made.{records_next, records_behind, so_far_start, so_far_more}
+use Rattle.rv_object_reader.proofs.MadeLemmas.{records_next, records_behind, so_far_start, so_far_more}
 use Rattle.rv_object_reader.proofs.symbols.symbols_in.Goals as goal
 
 pub loop-earlier-init : goal.loop-earlier-init

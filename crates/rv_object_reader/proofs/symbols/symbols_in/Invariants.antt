@@ -5,7 +5,7 @@ use Rattle.rv_elf.specs.Sections.{records, symbols_in}
 use Rattle.rv_object.specs.Parts.{symbol_of}
 use Rattle.rv_object_file_laws.specs.FirstFault.{symbol_tests}
 use Rattle.rv_object_file_laws.specs.ObjectOf.{symbol_in}
-use Rattle.rv_object_reader.proofs.Made.{SoFar}
+use Rattle.rv_object_reader.proofs.MadeLemmas.{SoFar}
 use Rattle.rv_object_reader.proofs.symbols.symbols_in.Given as goal
 
 -- the symbols so far, and those of the records that are left

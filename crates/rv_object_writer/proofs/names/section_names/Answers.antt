@@ -4,8 +4,8 @@ use Rattle.rv_object_file_laws.specs.Written.{Piece, unseen, strings_of}
 use Rattle.rv_object_writer.specs.declared.piece.Piece.{Piece as DeclaredPiece}
 use Rattle.rv_object_writer.specs.Pieces.{piece_of}
 use Rattle.rv_object_writer.specs.Strings.{IsTable, with_string}
-use Rattle.rv_object_writer.proofs.Naming.{name_more}
-use Rattle.rv_object_writer.proofs.Steps.{left}
+use Rattle.rv_object_writer.proofs.NamingLemmas.{name_more}
+use Rattle.rv_object_writer.proofs.StepsLemmas.{left}
 use Rattle.rv_object_writer.proofs.names.section_names.Goals as goal
 
 abbrev no_piece : DeclaredPiece

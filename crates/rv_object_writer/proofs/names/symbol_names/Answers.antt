@@ -4,8 +4,8 @@ use Rattle.rv_object.specs.Object.{Symbol}
 use Rattle.rv_object.specs.Parts.{symbol_of}
 use Rattle.rv_object_file_laws.specs.Written.{unseen, strings_of}
 use Rattle.rv_object_writer.specs.Strings.{IsTable, with_string}
-use Rattle.rv_object_writer.proofs.Naming.{name_more}
-use Rattle.rv_object_writer.proofs.Steps.{left}
+use Rattle.rv_object_writer.proofs.NamingLemmas.{name_more}
+use Rattle.rv_object_writer.proofs.StepsLemmas.{left}
 use Rattle.rv_object_writer.proofs.names.symbol_names.Goals as goal
 
 pub loop-symbol-init : goal.loop-symbol-init

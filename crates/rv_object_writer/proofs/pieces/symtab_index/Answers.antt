@@ -4,7 +4,7 @@ use mir.Val.{bool_byte}
 use Rattle.rv_object.specs.Sections.{section_of}
 use Rattle.rv_object_file_laws.specs.Written.{row_pieces, has_relocations}
 use Rattle.rv_object_writer.specs.Pieces.{rela_piece}
-use Rattle.rv_object_writer.proofs.Steps.{relas_count, rows_count}
+use Rattle.rv_object_writer.proofs.StepsLemmas.{relas_count, rows_count}
 use Rattle.rv_object_writer.proofs.pieces.symtab_index.Goals as goal
 
 pub returns-clause-at : goal.returns-clause-at

@@ -1,4 +1,4 @@
-use Rattle.rv_object_writer.proofs.Steps.{three}
+use Rattle.rv_object_writer.proofs.StepsLemmas.{three}
 use Rattle.rv_object_writer.proofs.tables.put_row_extent.Goals as goal
 
 pub returns : goal.returns

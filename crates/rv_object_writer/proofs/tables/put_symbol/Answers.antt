@@ -3,7 +3,7 @@ use Rattle.rv_elf.specs.Records.{symbol_bytes}
 use Rattle.rv_object.specs.Object.{Symbol}
 use Rattle.rv_object.specs.Parts.{symbol_of}
 use Rattle.rv_object_file_laws.specs.Written.{strings_of, offset_in, name_offset, home_of, symbol_record}
-use Rattle.rv_object_writer.proofs.Cut.{symbol_cut}
+use Rattle.rv_object_writer.proofs.CutLemmas.{symbol_cut}
 use Rattle.rv_object_writer.proofs.tables.put_symbol.Goals as goal
 
 pub returns : goal.returns

@@ -1,6 +1,6 @@
 use Rattle.std.proofs.Common.{◌∙◌, map}
 use Rattle.rv_object_writer.specs.Pieces.{piece_of, header_by}
-use Rattle.rv_object_writer.proofs.Steps.{whole_file}
+use Rattle.rv_object_writer.proofs.StepsLemmas.{whole_file}
 use Rattle.rv_object_writer.proofs.writing.put_file.Goals as goal
 
 pub returns : goal.returns

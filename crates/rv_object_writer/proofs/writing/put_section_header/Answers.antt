@@ -2,7 +2,7 @@ use Rattle.std.proofs.Common.{◌≡◌, ◌++◌, ◌∙◌, ◌%◌, ◌^◌, 
 use Rattle.rv_elf.specs.Records.{section_header_bytes}
 use Rattle.rv_object_file_laws.specs.Written.{Piece, strings_of, name_offset, header_of}
 use Rattle.rv_object_writer.specs.Pieces.{piece_of}
-use Rattle.rv_object_writer.proofs.Cut.{section_cut}
+use Rattle.rv_object_writer.proofs.CutLemmas.{section_cut}
 use Rattle.rv_object_writer.proofs.writing.put_section_header.Goals as goal
 
 pub returns : goal.returns

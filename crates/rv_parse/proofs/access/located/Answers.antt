@@ -1,6 +1,6 @@
 use Rattle.std.proofs.Common.{◌∙◌, sym}
 use Rattle.std.proofs.lemmas.Result.{err_from_is_err_and}
-use Rattle.rv_parse.proofs.Located.{based_err, based_ok, unread_fail, offset_err, offset_ok}
+use Rattle.rv_parse.proofs.LocatedLemmas.{based_err, based_ok, unread_fail, offset_err, offset_ok}
 use Rattle.rv_parse.proofs.access.located.Goals as goal
 
 pub returns-in_err-rs : goal.returns-in_err-rs

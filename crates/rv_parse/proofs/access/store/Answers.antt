@@ -1,6 +1,6 @@
 use Rattle.std.proofs.Common.{refl}
 use Rattle.rv_statement.specs.declared.mnemonic.Mnemonic.TheVariants.{Store}
-use Rattle.rv_parse.proofs.Located.{accesses}
+use Rattle.rv_parse.proofs.LocatedLemmas.{accesses}
 use Rattle.rv_parse.proofs.access.store.Goals as goal
 
 pub returns : goal.returns

@@ -1,6 +1,6 @@
 use Rattle.std.proofs.Common.{◌∙◌, sym}
 use Rattle.rv_parse_laws.specs.Syntax.{A_section}
-use Rattle.rv_parse.proofs.Openings.{name_flagged}
+use Rattle.rv_parse.proofs.OpeningsLemmas.{name_flagged}
 use Rattle.rv_parse.proofs.directive.section.Goals as goal
 
 pub returns-then-begins_comma : goal.returns-then-begins_comma

@@ -1,6 +1,6 @@
 use Rattle.std.proofs.Common.{◌∙◌, sym}
 use Rattle.rv_parse_laws.specs.Syntax.{Some_flags}
-use Rattle.rv_parse.proofs.Openings.{flags_typed}
+use Rattle.rv_parse.proofs.OpeningsLemmas.{flags_typed}
 use Rattle.rv_parse.proofs.directive.section_flags.Goals as goal
 
 pub returns-then-begins_comma : goal.returns-then-begins_comma

@@ -2,7 +2,7 @@ use Rattle.std.proofs.Common.{◌∙◌, sym}
 use Rattle.std.proofs.lemmas.Result.{err_from_is_err_and}
 use Rattle.rv_lexer.specs.Token.{token_of}
 use Rattle.rv_lexer.specs.Cursor.{left}
-use Rattle.rv_parse.proofs.Lists.{values_go_on, values_fail, values_undone}
+use Rattle.rv_parse.proofs.ListsLemmas.{values_go_on, values_fail, values_undone}
 use Rattle.rv_parse.proofs.directive.several.Goals as goal
 
 pub loop-alloc-preserved : goal.loop-alloc-preserved

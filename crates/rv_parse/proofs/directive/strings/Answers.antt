@@ -2,7 +2,7 @@ use Rattle.std.proofs.Common.{◌∙◌, sym}
 use Rattle.std.proofs.lemmas.Result.{err_from_is_err_and}
 use Rattle.rv_lexer.specs.Token.{token_of}
 use Rattle.rv_lexer.specs.Cursor.{left}
-use Rattle.rv_parse.proofs.Lists.{strings_go_on, strings_undone}
+use Rattle.rv_parse.proofs.ListsLemmas.{strings_go_on, strings_undone}
 use Rattle.rv_parse.proofs.directive.strings.Goals as goal
 
 pub loop-cursor-preserved : goal.loop-cursor-preserved

@@ -1,6 +1,6 @@
 use Rattle.std.proofs.Common.{◌∙◌, sym}
 use Rattle.std.proofs.lemmas.Result.{err_from_is_err_and}
-use Rattle.rv_parse.proofs.Lists.{values, data_fail, several_fail, several_said, one_wrong, one_said}
+use Rattle.rv_parse.proofs.ListsLemmas.{values, data_fail, several_fail, several_said, one_wrong, one_said}
 use Rattle.rv_parse.proofs.directive.values.Goals as goal
 
 pub returns-in_err-first : goal.returns-in_err-first

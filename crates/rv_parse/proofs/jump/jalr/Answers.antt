@@ -1,6 +1,6 @@
 use Rattle.std.proofs.Common.{◌∙◌, sym}
 use Rattle.rv_parse_laws.specs.Syntax.{A_register}
-use Rattle.rv_parse.proofs.Jumps.{jalr_linked}
+use Rattle.rv_parse.proofs.JumpsLemmas.{jalr_linked}
 use Rattle.rv_parse.proofs.jump.jalr.Goals as goal
 
 pub returns-then-begins_comma : goal.returns-then-begins_comma

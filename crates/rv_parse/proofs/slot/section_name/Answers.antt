@@ -1,7 +1,7 @@
 use Rattle.std.proofs.Common.{◌∙◌, sym, ap, Err}
 use Rattle.rv_text_laws.specs.SyntaxError.{SyntaxError}
 use Rattle.rv_lexer.specs.Cursor.{left}
-use Rattle.rv_parse.proofs.Openings.{name_read, name_too_long, name_left_out}
+use Rattle.rv_parse.proofs.OpeningsLemmas.{name_read, name_too_long, name_left_out}
 use Rattle.rv_parse.proofs.slot.section_name.Goals as goal
 
 pub returns-then-is_section_name : goal.returns-then-is_section_name

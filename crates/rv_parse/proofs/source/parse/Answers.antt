@@ -1,7 +1,7 @@
 use Rattle.std.proofs.Common.{sym}
-use Rattle.rv_parse_laws.proofs.Whole.{reads_as}
-use Rattle.rv_parse.proofs.PastLine.{past_none}
-use Rattle.rv_parse.proofs.Refusals.{line_first, line_alone, token_before, token_alone}
+use Rattle.rv_parse_laws.proofs.WholeLemmas.{reads_as}
+use Rattle.rv_parse.proofs.PastLineLemmas.{past_none}
+use Rattle.rv_parse.proofs.RefusalsLemmas.{line_first, line_alone, token_before, token_alone}
 use Rattle.rv_parse.proofs.source.parse.Goals.{in_default-via-in-Some+else-place-wrong, in_default-via-in_default}
 use Rattle.rv_parse.proofs.source.parse.Goals as goal
 

@@ -1,5 +1,5 @@
 use Rattle.std.proofs.Common.{◌∙◌, sym, arith, rules}
-use Rattle.rv_parse.proofs.Lines.{line_ends, line_goes_on, line_within}
+use Rattle.rv_parse.proofs.LinesLemmas.{line_ends, line_goes_on, line_within}
 use Rattle.rv_parse.proofs.source.past_line.Goals as goal
 
 pub loop-start-preserved : goal.loop-start-preserved

@@ -1,12 +1,12 @@
 use Rattle.std.proofs.Common.{◌∙◌, sym, arith, map}
 use Rattle.rv_lexer.specs.Token.{token_of}
 use Rattle.rv_lexer.specs.Cursor.{left}
-use Rattle.rv_parse_laws.proofs.Progress.{push_end, statement_shorter}
+use Rattle.rv_parse_laws.proofs.ProgressLemmas.{push_end, statement_shorter}
 use Rattle.std.proofs.lemmas.Result.{err_from_is_err_and}
-use Rattle.rv_parse.proofs.Statements.{statements_push, counted_push, behind, left_is, statements_end, refuses_here}
+use Rattle.rv_parse.proofs.StatementsLemmas.{statements_push, counted_push, behind, left_is, statements_end, refuses_here}
 use Rattle.rv_statement.specs.View.{statement_of}
 use Rattle.rv_parse.specs.Opened.{is_had}
-use Rattle.rv_parse.proofs.Opened.{knows_push}
+use Rattle.rv_parse.proofs.OpenedLemmas.{knows_push}
 use Rattle.rv_parse.proofs.source.statements.Goals as goal
 
 pub loop-cursor-preserved-then-is_end : goal.loop-cursor-preserved-then-is_end

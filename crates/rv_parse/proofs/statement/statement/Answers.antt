@@ -1,5 +1,5 @@
 use Rattle.rv_lexer.specs.Token.{token_of}
-use Rattle.rv_parse.proofs.Statements.{said_as}
+use Rattle.rv_parse.proofs.StatementsLemmas.{said_as}
 use Rattle.rv_parse.proofs.statement.statement.Goals as goal
 
 pub returns : goal.returns

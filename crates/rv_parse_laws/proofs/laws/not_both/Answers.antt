@@ -1,4 +1,4 @@
-use Rattle.rv_parse_laws.proofs.FirstFault.{not_both}
+use Rattle.rv_parse_laws.proofs.FirstFaultLemmas.{not_both}
 use Rattle.rv_parse_laws.proofs.laws.not_both.Goals as goal
 
 pub returns : goal.returns

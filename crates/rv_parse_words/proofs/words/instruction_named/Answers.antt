@@ -1,7 +1,7 @@
 use Rattle.std.proofs.Common.{◌≡◌, ◌∙◌, sym, false, [], ◌∷◌, length, arith}
 use Rattle.std.proofs.lemmas.Bool.Decides.{nat_tests}
 use Rattle.rv_parse_laws.specs.Words.{instruction_words}
-use Rattle.rv_parse_words.proofs.Tables.{is_one_of, of_this_length, of_no_length}
+use Rattle.rv_parse_words.proofs.TablesLemmas.{is_one_of, of_this_length, of_no_length}
 use Rattle.rv_parse_words.proofs.words.instruction_named.Goals as goal
 
 pub returns-in-1 : goal.returns-in-1

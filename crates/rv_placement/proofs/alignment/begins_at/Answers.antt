@@ -3,7 +3,7 @@ use Rattle.rv_object.specs.Parts.{relocation_of}
 use Rattle.rv_object.specs.Sections.{section_of}
 use Rattle.rv_object_laws.specs.Inputs.{goes_to_text}
 use Rattle.rv_placement.specs.Alignments.{raised_by}
-use Rattle.rv_placement.proofs.Alignments.{begins_text}
+use Rattle.rv_placement.proofs.AlignmentsLemmas.{begins_text}
 use Rattle.rv_placement.proofs.alignment.begins_at.Goals as goal
 
 pub returns-then-is_text-clause-value : goal.returns-then-is_text-clause-value

@@ -1,7 +1,7 @@
 use Rattle.std.proofs.Common.{map, arith}
 use Rattle.rv_shorten.specs.Sections.{short_section_of}
 use Rattle.rv_placement.specs.Walk.{goes}
-use Rattle.rv_placement.proofs.Alignments.{greatest_start}
+use Rattle.rv_placement.proofs.AlignmentsLemmas.{greatest_start}
 use Rattle.rv_placement.proofs.alignment.greatest_in.Goals as goal
 
 pub loop-section-init : goal.loop-section-init

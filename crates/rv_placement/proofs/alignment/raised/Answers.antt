@@ -1,5 +1,5 @@
 use Rattle.std.proofs.Common.{arith}
-use Rattle.rv_placement.proofs.Alignments.{raised_more}
+use Rattle.rv_placement.proofs.AlignmentsLemmas.{raised_more}
 use Rattle.rv_placement.proofs.alignment.raised.Goals as goal
 
 pub loop-relocation-preserved : goal.loop-relocation-preserved

@@ -1,4 +1,4 @@
-use Rattle.rv_placement.proofs.Layouts.{has_layout}
+use Rattle.rv_placement.proofs.LayoutsLemmas.{has_layout}
 use Rattle.rv_placement.proofs.law.sections_stand.Goals as goal
 
 pub returns : goal.returns

@@ -1,7 +1,7 @@
 use Rattle.std.proofs.Common.{arith, map}
 use Rattle.rv_shorten.specs.View.{short_object_of}
 use Rattle.rv_placement.specs.Walk.{goes}
-use Rattle.rv_placement.proofs.Walks.{grows_files}
+use Rattle.rv_placement.proofs.WalksLemmas.{grows_files}
 use Rattle.rv_placement.proofs.regions.region.Goals as goal
 
 pub returns-then-start-gt-STACK_START-clause-far : goal.returns-then-start-gt-STACK_START-clause-far

@@ -3,8 +3,8 @@ use Rattle.rv_object_laws.specs.Inputs.{goes_to_text}
 use Rattle.rv_shorten.specs.Sections.{short_section_of}
 use Rattle.rv_placement.specs.Placement.{farthest}
 use Rattle.rv_placement.specs.Walk.{ended, capped, are_roomy_behind}
-use Rattle.rv_placement.proofs.Texts.{told}
-use Rattle.rv_placement.proofs.RoomsBehind.{object_roomy}
+use Rattle.rv_placement.proofs.TextsLemmas.{told}
+use Rattle.rv_placement.proofs.RoomsBehindLemmas.{object_roomy}
 use Rattle.rv_placement.proofs.room.is_roomy_below.Goals as goal
 
 pub loop-object-preserved : goal.loop-object-preserved

@@ -6,8 +6,8 @@ use Rattle.rv_object_laws.specs.Moves.{aligned, moves, has_room}
 use Rattle.rv_shorten.specs.Sections.{short_section_of}
 use Rattle.rv_placement.specs.Placement.{farthest}
 use Rattle.rv_placement.specs.Walk.{start_behind, end_from, capped}
-use Rattle.rv_placement.proofs.Huge.{huge_far, many_left}
-use Rattle.rv_placement.proofs.RoomsBehind.{behind_roomy}
+use Rattle.rv_placement.proofs.HugeLemmas.{huge_far, many_left}
+use Rattle.rv_placement.proofs.RoomsBehindLemmas.{behind_roomy}
 use Rattle.rv_placement.proofs.room.room_behind.Goals as goal
 
 pub returns-clause-roomy : goal.returns-clause-roomy

@@ -1,7 +1,7 @@
 use Rattle.std.proofs.Common.{arith, ◌≤◌}
 use Rattle.rv_placement.specs.Placement.{farthest}
-use Rattle.rv_placement.proofs.Texts.{told}
-use Rattle.rv_placement.proofs.RoomsBehind.{section_roomy, section_capped}
+use Rattle.rv_placement.proofs.TextsLemmas.{told}
+use Rattle.rv_placement.proofs.RoomsBehindLemmas.{section_roomy, section_capped}
 use Rattle.rv_placement.proofs.room.room_in.Goals as goal
 
 pub loop-section-preserved : goal.loop-section-preserved

@@ -1,6 +1,6 @@
 use Rattle.std.proofs.Common.{map}
 use Rattle.rv_shorten.specs.View.{short_object_of}
-use Rattle.rv_placement.proofs.RoomsBelow.{too_large_roomy, too_large_short}
+use Rattle.rv_placement.proofs.RoomsBelowLemmas.{too_large_roomy, too_large_short}
 use Rattle.rv_placement.proofs.room.unplaced.Goals as goal
 
 pub returns-then-roomy : goal.returns-then-roomy

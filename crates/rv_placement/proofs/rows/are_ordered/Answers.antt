@@ -1,7 +1,7 @@
 use Rattle.std.proofs.Common.{sym, subst}
 use Rattle.std.proofs.lemmas.List.{drop_all}
 use Rattle.rv_object_laws.specs.Rising.{Rise}
-use Rattle.rv_object_laws.proofs.Ordinals.{rows_stay}
+use Rattle.rv_object_laws.proofs.OrdinalsLemmas.{rows_stay}
 use Rattle.rv_placement.proofs.rows.are_ordered.Goals as goal
 
 pub returns : goal.returns

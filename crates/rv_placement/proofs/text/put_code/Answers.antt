@@ -3,8 +3,8 @@ use Rattle.rv_object.specs.Object.{size_of}
 use Rattle.rv_object_laws.specs.Moves.{moves}
 use Rattle.rv_shorten.specs.Sections.{short_section_of}
 use Rattle.rv_relax.specs.Plan.{moves_of}
-use Rattle.rv_placement.proofs.Texts.{shrunk}
-use Rattle.rv_placement.proofs.Huge.{huge, many_left}
+use Rattle.rv_placement.proofs.TextsLemmas.{shrunk}
+use Rattle.rv_placement.proofs.HugeLemmas.{huge, many_left}
 use Rattle.rv_placement.proofs.text.put_code.Goals as goal
 
 pub returns-then-size-gt-HUGE-clause-far : goal.returns-then-size-gt-HUGE-clause-far

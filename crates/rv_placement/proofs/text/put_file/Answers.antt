@@ -2,8 +2,8 @@ use Rattle.std.proofs.Common.{map}
 use Rattle.rv_object_laws.specs.Inputs.{goes_to_text}
 use Rattle.rv_shorten.specs.Sections.{short_section_of}
 use Rattle.rv_placement.specs.Walk.{ended}
-use Rattle.rv_placement.proofs.Walks.{file_far}
-use Rattle.rv_placement.proofs.Texts.{told, told_none, section_ends, section_starts, section_gaps, section_kept}
+use Rattle.rv_placement.proofs.WalksLemmas.{file_far}
+use Rattle.rv_placement.proofs.TextsLemmas.{told, told_none, section_ends, section_starts, section_gaps, section_kept}
 use Rattle.rv_placement.proofs.text.put_file.Goals as goal
 
 pub returns-in-None-clause-far : goal.returns-in-None-clause-far

@@ -4,8 +4,8 @@ use Rattle.rv_object_laws.specs.Inputs.{goes_to_text}
 use Rattle.rv_shorten.specs.Sections.{short_section_of}
 use Rattle.rv_shorten.specs.View.{short_object_of}
 use Rattle.rv_placement.specs.Walk.{ended, ended_files, text_starts, gapped, IsKept}
-use Rattle.rv_placement.proofs.Walks.{files_far}
-use Rattle.rv_placement.proofs.Texts.{told, told_none, object_ends, object_starts, object_gaps, object_kept}
+use Rattle.rv_placement.proofs.WalksLemmas.{files_far}
+use Rattle.rv_placement.proofs.TextsLemmas.{told, told_none, object_ends, object_starts, object_gaps, object_kept}
 use Rattle.rv_placement.proofs.text.put_files.Goals as goal
 
 pub returns-in-None-clause-far : goal.returns-in-None-clause-far

@@ -3,7 +3,7 @@ use Rattle.rv_object_laws.specs.Inputs.{goes_to_text}
 use Rattle.rv_object_laws.specs.Moves.{aligned}
 use Rattle.rv_shorten.specs.Sections.{short_section_of}
 use Rattle.rv_placement.specs.Walk.{start_behind}
-use Rattle.rv_placement.proofs.Texts.{told, put_at, put_text, next_other, start_other, gap_other}
+use Rattle.rv_placement.proofs.TextsLemmas.{told, put_at, put_text, next_other, start_other, gap_other}
 use Rattle.rv_placement.proofs.text.put_section.Goals as goal
 
 pub returns-then-not-is_text-clause-placed : goal.returns-then-not-is_text-clause-placed

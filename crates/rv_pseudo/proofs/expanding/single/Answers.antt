@@ -2,7 +2,7 @@ use Rattle.std.proofs.Common.{None, Some, sym, ap, subst, ◌∙◌, ℤ, w64}
 use Rattle.std.proofs.lemmas.Int.{to_z-of_z}
 use Rattle.rv_pseudo.specs.Faults.{fault}
 use Rattle.rv_pseudo.specs.Templates.{IsNumberedOne}
-use Rattle.rv_pseudo.proofs.OneRow.{one_of}
+use Rattle.rv_pseudo.proofs.OneRowLemmas.{one_of}
 use Rattle.rv_pseudo.proofs.expanding.single.Goals as goal
 
 pub returns-in-None : goal.returns-in-None

@@ -3,8 +3,8 @@ use Rattle.std.proofs.lemmas.Int.{to_z-of_z}
 use Rattle.rv_statement.specs.View.{with_operand}
 use Rattle.rv_pseudo.specs.Faults as faults
 use Rattle.rv_pseudo.specs.Templates as is
-use Rattle.rv_pseudo.proofs.InRange.{takes_number, no_operand_fault, good_scratch, target_alone}
-use Rattle.rv_pseudo.proofs.Rows.{away_operand, target_operand, row_some, row_known}
+use Rattle.rv_pseudo.proofs.InRangeLemmas.{takes_number, no_operand_fault, good_scratch, target_alone}
+use Rattle.rv_pseudo.proofs.RowsLemmas.{away_operand, target_operand, row_some, row_known}
 use Rattle.rv_pseudo.proofs.expanding.templates.Goals as goal
 
 pub targeted-requires-clause-scratch : goal.targeted-requires-clause-scratch

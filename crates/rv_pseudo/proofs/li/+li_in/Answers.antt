@@ -4,7 +4,7 @@ use Rattle.std.proofs.lemmas.Int.{to_z-of_z}
 use Rattle.rv_isa.specs.declared.instruction.Inst.{Inst}
 use Rattle.rv_pseudo_laws.specs.Li.{is_signed, slli, addi, unless_zero}
 use Rattle.rv_pseudo_laws.specs.Li as is
-use Rattle.rv_pseudo_laws.proofs.Sequences.{in_word, in_long, is_step}
+use Rattle.rv_pseudo_laws.proofs.SequencesLemmas.{in_word, in_long, is_step}
 use Rattle.rv_pseudo.proofs.li.+li_in.Goals as goal
 
 pub returns-then-is_word-clause-items : goal.returns-then-is_word-clause-items

@@ -1,4 +1,4 @@
-use Rattle.rv_pseudo_laws.proofs.Zeros.{zeros_within}
+use Rattle.rv_pseudo_laws.proofs.ZerosLemmas.{zeros_within}
 use Rattle.rv_pseudo.proofs.li.zero_bits.Goals as goal
 
 pub returns-clause-within : goal.returns-clause-within

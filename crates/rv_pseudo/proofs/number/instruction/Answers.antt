@@ -4,7 +4,7 @@ use Rattle.rv_isa.specs.Operations.{of_immediate, of_load, of_store}
 use Rattle.rv_parse_laws.specs.Syntax.{with_constant}
 use Rattle.rv_pseudo_laws.specs.Code.{i_type, s_type, jalr}
 use Rattle.rv_pseudo.specs.Templates.{with_reloc, IsConstantRow, AreNumbered}
-use Rattle.rv_pseudo.proofs.Rows.{registers_numbered, immediate_numbered, load_numbered, store_numbered, jalr_numbered, jalr_then_numbered, jalr_linked_numbered, jr_numbered, numbered_by}
+use Rattle.rv_pseudo.proofs.RowsLemmas.{registers_numbered, immediate_numbered, load_numbered, store_numbered, jalr_numbered, jalr_then_numbered, jalr_linked_numbered, jr_numbered, numbered_by}
 use Rattle.rv_pseudo.proofs.number.instruction.Goals as goal
 
 pub returns-in-Registers : goal.returns-in-Registers

@@ -2,7 +2,7 @@ use Rattle.std.proofs.Common.{ap, ◌∙◌, ℤ, w64, map}
 use Rattle.std.proofs.lemmas.Int.{to_z-of_z}
 use Rattle.rv_pseudo_laws.specs.Li.{li}
 use Rattle.rv_pseudo.specs.Templates.{plain}
-use Rattle.rv_pseudo.proofs.Rows.{li_numbered, numbered_by}
+use Rattle.rv_pseudo.proofs.RowsLemmas.{li_numbered, numbered_by}
 use Rattle.rv_pseudo.proofs.number.loaded.Goals as goal
 
 pub returns-in-Li : goal.returns-in-Li

@@ -1,5 +1,5 @@
 use Rattle.std.proofs.Common.{rules}
-use Rattle.rv_pseudo.proofs.Rows.{distance_high_put, distance_low_put, open_put}
+use Rattle.rv_pseudo.proofs.RowsLemmas.{distance_high_put, distance_low_put, open_put}
 use Rattle.rv_pseudo.proofs.number.relocation.Goals as goal
 
 pub returns-in-Some-PcrelHi-Some : goal.returns-in-Some-PcrelHi-Some

@@ -1,4 +1,4 @@
-use Rattle.rv_pseudo_laws.proofs.Parts.{code_valid}
+use Rattle.rv_pseudo_laws.proofs.PartsLemmas.{code_valid}
 use Rattle.rv_pseudo_laws.proofs.laws.code_valid.Goals as goal
 
 pub returns : goal.returns

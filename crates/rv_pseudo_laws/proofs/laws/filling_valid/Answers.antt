@@ -1,4 +1,4 @@
-use Rattle.rv_pseudo_laws.proofs.Filling.{filling_valid, filled_valid}
+use Rattle.rv_pseudo_laws.proofs.FillingLemmas.{filling_valid, filled_valid}
 use Rattle.rv_pseudo_laws.proofs.laws.filling_valid.Goals as goal
 
 pub returns-clause-one : goal.returns-clause-one

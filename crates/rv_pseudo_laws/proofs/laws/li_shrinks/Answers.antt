@@ -1,5 +1,5 @@
 use Rattle.std.proofs.Common.{sym}
-use Rattle.rv_pseudo_laws.proofs.Sequences.{above_whole, above_odd, above_fewer}
+use Rattle.rv_pseudo_laws.proofs.SequencesLemmas.{above_whole, above_odd, above_fewer}
 use Rattle.rv_pseudo_laws.proofs.laws.li_shrinks.Goals as goal
 
 pub returns-clause-whole : goal.returns-clause-whole

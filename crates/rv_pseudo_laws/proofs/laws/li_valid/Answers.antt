@@ -1,4 +1,4 @@
-use Rattle.rv_pseudo_laws.proofs.Sequences.{li_valid}
+use Rattle.rv_pseudo_laws.proofs.SequencesLemmas.{li_valid}
 use Rattle.rv_pseudo_laws.proofs.laws.li_valid.Goals as goal
 
 pub returns : goal.returns

@@ -1,4 +1,4 @@
-use Rattle.rv_reach_laws.proofs.Branched.{short_branches_reach}
+use Rattle.rv_reach_laws.proofs.BranchedLemmas.{short_branches_reach}
 use Rattle.rv_reach_laws.proofs.law.short_branches_reach.Goals as goal
 
 pub returns : goal.returns

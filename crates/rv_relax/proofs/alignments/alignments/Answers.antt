@@ -3,9 +3,9 @@ use Rattle.std.proofs.lemmas.List.Sorted.{answers_always, IsNonDecreasingBy-from
 use Rattle.rv_object.specs.Parts.{relocation_of}
 use Rattle.rv_object_laws.specs.Moves.{by_place}
 use Rattle.rv_shorten.specs.Sections.{short_section_of}
-use Rattle.rv_relax.proofs.ByPlace.{place_of, AreTold, all_told, map_ordered}
-use Rattle.rv_relax.proofs.Sorting.{backwards, backwards_back}
-use Rattle.rv_relax.proofs.Stable.{sorted_is}
+use Rattle.rv_relax.proofs.ByPlaceLemmas.{place_of, AreTold, all_told, map_ordered}
+use Rattle.rv_relax.proofs.SortingLemmas.{backwards, backwards_back}
+use Rattle.rv_relax.proofs.StableLemmas.{sorted_is}
 use Rattle.rv_relax.proofs.alignments.alignments.Goals as goal
 
 pub returns : goal.returns

@@ -2,7 +2,7 @@
 use Rattle.std.proofs.Common.{◌≡◌, ◌++◌, map, drop}
 use Rattle.rv_object.specs.Parts.{relocation_of}
 use Rattle.rv_shorten.specs.Sections.{moves_in}
-use Rattle.rv_relax.proofs.Moved.{padded_of}
+use Rattle.rv_relax.proofs.MovedLemmas.{padded_of}
 use Rattle.rv_relax.proofs.alignments.with_padding.Given as goal
 
 abbrev pub invariant-loop-relocation : goal.invariant-loop-relocation

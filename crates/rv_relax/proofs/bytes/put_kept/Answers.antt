@@ -4,9 +4,9 @@ use Rattle.rv_object.specs.Padding.{no_operations}
 use Rattle.rv_object_laws.specs.Moves.{kept}
 use Rattle.rv_shorten.specs.Bytes.{left_bytes}
 use Rattle.rv_relax.specs.Paddings.{are_in_order, move_of}
-use Rattle.rv_relax.proofs.Order.{first, rest, ends_low}
-use Rattle.rv_relax.proofs.Pieced.{no_piece}
-use Rattle.rv_relax.proofs.Kept.{kept_more}
+use Rattle.rv_relax.proofs.OrderLemmas.{first, rest, ends_low}
+use Rattle.rv_relax.proofs.PiecedLemmas.{no_piece}
+use Rattle.rv_relax.proofs.KeptLemmas.{kept_more}
 use Rattle.rv_relax.proofs.bytes.put_kept.Goals as goal
 
 pub overflow_sub-padding : goal.overflow_sub-padding

@@ -1,4 +1,4 @@
-use Rattle.rv_relax.proofs.Sizing.{sizes_more}
+use Rattle.rv_relax.proofs.SizingLemmas.{sizes_more}
 use Rattle.rv_relax.proofs.calls.call_sizes.Goals as goal
 
 pub loop-i-preserved : goal.loop-i-preserved

@@ -1,9 +1,9 @@
 use Rattle.std.proofs.Common.{inl, inr, ℕ, zero, suc, ◌+◌, ◌≤◌, ◌<◌, false, [], ◌∷◌, slice_index, pos, ◌-ℤ◌, refl, arith}
 use Rattle.rv_layout_laws.specs.Calls.{Offers, half, bytes_of, site_at, IsClosed, IsText, LeadsOutside, MayShorten, Shortenings, Unchanged, Shortens, whole_sizes}
-use Rattle.rv_layout_laws.proofs.Reaching.{reaches_tested}
-use Rattle.rv_layout_laws.proofs.Shortening.{shortened_greatest}
+use Rattle.rv_layout_laws.proofs.ReachingLemmas.{reaches_tested}
+use Rattle.rv_layout_laws.proofs.ShorteningLemmas.{shortened_greatest}
 use Rattle.rv_relax.specs.Worked.{calls_to_f}
-use Rattle.rv_relax.proofs.Judging.{four_is_shortest}
+use Rattle.rv_relax.proofs.JudgingLemmas.{four_is_shortest}
 use Rattle.rv_relax.proofs.law.three_calls.Goals as goal
 
 -- all end before the target

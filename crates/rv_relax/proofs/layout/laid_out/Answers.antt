@@ -1,8 +1,8 @@
 use Rattle.std.proofs.Common.{◌≡◌, ◌-◌, ap, ◌∙◌, arith}
 use Rattle.rv_layout_laws.specs.declared.site.Site.{Site}
 use Rattle.rv_layout_laws.specs.Calls.{bytes_of}
-use Rattle.rv_relax.proofs.Dropping.{site_read}
-use Rattle.rv_relax.proofs.Spread.{low_behind, one_pad_more, one_piece, start_pads, start_pieces}
+use Rattle.rv_relax.proofs.DroppingLemmas.{site_read}
+use Rattle.rv_relax.proofs.SpreadLemmas.{low_behind, one_pad_more, one_piece, start_pads, start_pieces}
 use Rattle.rv_relax.proofs.layout.laid_out.Goals as goal
 
 pub overflow_sub-site-in-loop-i : goal.overflow_sub-site-in-loop-i

@@ -1,6 +1,6 @@
 use Rattle.std.proofs.Common.{◌≡◌, ◌++◌, ◌<◌, ◌≤◌, ℕ, drop, length}
 use Rattle.rv_layout_laws.specs.Calls.{site_at}
-use Rattle.rv_relax.proofs.Spread.{pieces_from, pads_from}
+use Rattle.rv_relax.proofs.SpreadLemmas.{pieces_from, pads_from}
 use Rattle.rv_relax.proofs.layout.laid_out.Given as goal
 
 -- what is there so far, and what is left, make up the whole; no more is dropped before a site, and no

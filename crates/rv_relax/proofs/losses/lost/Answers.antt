@@ -1,7 +1,7 @@
 use Rattle.std.proofs.Common.{◌≡◌, length, ap, ◌∙◌, arith}
 use Rattle.rv_relax.specs.Paddings.{sum_of_first}
-use Rattle.rv_relax.proofs.Order.{as_pieces, ends_low}
-use Rattle.rv_relax.proofs.Losing.{counted, lost_by_first, sum_is, sums_length}
+use Rattle.rv_relax.proofs.OrderLemmas.{as_pieces, ends_low}
+use Rattle.rv_relax.proofs.LosingLemmas.{counted, lost_by_first, sum_is, sums_length}
 use Rattle.rv_relax.proofs.losses.lost.Goals as goal
 
 pub count_before-requires : goal.count_before-requires

@@ -1,9 +1,9 @@
 use Rattle.std.proofs.Common.{◌≡◌, ◌+◌, ◌-◌, ◌∷◌, ◌++◌, true, drop, slice_index_or, sym, ap, ◌∙◌, arith}
 use Rattle.std.proofs.lemmas.List.{drop_more}
 use Rattle.rv_relax.specs.Paddings.{are_in_order, loses, lost_sums}
-use Rattle.rv_relax.proofs.Pieced.{no_piece}
-use Rattle.rv_relax.proofs.Order.{first, rest}
-use Rattle.rv_relax.proofs.Losing.{few_lost, one_summed}
+use Rattle.rv_relax.proofs.PiecedLemmas.{no_piece}
+use Rattle.rv_relax.proofs.OrderLemmas.{first, rest}
+use Rattle.rv_relax.proofs.LosingLemmas.{few_lost, one_summed}
 use Rattle.rv_relax.proofs.losses.sums.Goals as goal
 
 pub overflow_add-lost : goal.overflow_add-lost

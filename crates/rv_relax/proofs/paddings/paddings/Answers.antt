@@ -2,9 +2,9 @@ use Rattle.std.proofs.Common.{◌≡◌, ◌+◌, ◌-◌, ◌%◌, ◌^◌, ◌
 use Rattle.rv_object.specs.Parts.{relocation_of}
 use Rattle.rv_object_laws.specs.Moves.{aligned, alignment_of, full_padding, plan}
 use Rattle.rv_relax.specs.Paddings.{are_in_order, move_of}
-use Rattle.rv_relax.proofs.Aligned.{same_least}
-use Rattle.rv_relax.proofs.Sorting.{nothing, backwards}
-use Rattle.rv_relax.proofs.Planned.{next_alignment, other_alignments, at_hand, plan_at, least_of, planned, one_behind}
+use Rattle.rv_relax.proofs.AlignedLemmas.{same_least}
+use Rattle.rv_relax.proofs.SortingLemmas.{nothing, backwards}
+use Rattle.rv_relax.proofs.PlannedLemmas.{next_alignment, other_alignments, at_hand, plan_at, least_of, planned, one_behind}
 use Rattle.rv_relax.proofs.paddings.paddings.Goals as goal
 
 pub overflow_cast-full : goal.overflow_cast-full

@@ -2,7 +2,7 @@ use Rattle.std.proofs.Common.{◌≡◌, ℕ, ◌≤◌, ◌++◌, true, length,
 use Rattle.rv_object_laws.specs.Moves.{plan}
 use Rattle.rv_relax.specs.declared.piece.Piece.{Piece}
 use Rattle.rv_relax.specs.Paddings.{are_alignments, are_in_order, move_of}
-use Rattle.rv_relax.proofs.Sorting.{backwards}
+use Rattle.rv_relax.proofs.SortingLemmas.{backwards}
 use Rattle.rv_relax.proofs.paddings.paddings.Given as goal
 
 -- what is planned so far, and the plan of the rest, make up the whole; the rest stands behind what is planned

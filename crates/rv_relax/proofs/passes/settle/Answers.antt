@@ -1,9 +1,9 @@
 use Rattle.std.proofs.Common.{◌+◌, ◌*◌, ◌^◌, ◌<◌, ◌≤◌, ◌-◌, arith, sym, subst}
 use Rattle.rv_layout_laws.specs.Calls.{Rounds, Begins, whole_sizes, calls}
-use Rattle.rv_layout_laws.proofs.Shortening.{rounds_end}
-use Rattle.rv_relax.proofs.Dropping.{calls_few}
-use Rattle.rv_relax.proofs.Tables.{first_table}
-use Rattle.rv_relax.proofs.Going.{round_more, settled_greatest}
+use Rattle.rv_layout_laws.proofs.ShorteningLemmas.{rounds_end}
+use Rattle.rv_relax.proofs.DroppingLemmas.{calls_few}
+use Rattle.rv_relax.proofs.TablesLemmas.{first_table}
+use Rattle.rv_relax.proofs.GoingLemmas.{round_more, settled_greatest}
 use Rattle.rv_relax.proofs.passes.settle.Goals as goal
 
 pub rounds-init : goal.rounds-init

@@ -1,7 +1,7 @@
 use Rattle.std.proofs.Common.{◌≡◌, ◌≤◌}
 use Rattle.rv_layout_laws.specs.Offsets.{offset}
 use Rattle.rv_relax.specs.Passes.{IsTable, drops}
-use Rattle.rv_relax.proofs.Going.{Goes}
+use Rattle.rv_relax.proofs.GoingLemmas.{Goes}
 use Rattle.rv_relax.proofs.passes.shorten_forwards.Given as goal
 
 abbrev pub invariant-loop-i : goal.invariant-loop-i

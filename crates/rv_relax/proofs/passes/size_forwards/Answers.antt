@@ -5,9 +5,9 @@ use Rattle.rv_layout_laws.specs.declared.site.Call.{Call as CallSite}
 use Rattle.rv_layout_laws.specs.declared.site.SiteKind.TheVariants.{Call}
 use Rattle.rv_layout_laws.specs.Calls.{site_at}
 use Rattle.rv_relax.specs.Passes.{IsPlace, LeadsTo}
-use Rattle.rv_relax.proofs.Dropping.{zeros_site, site_read}
-use Rattle.rv_relax.proofs.Judging.{turn_call}
-use Rattle.rv_relax.proofs.Tables.{offset_low, table_low, target_low, site_low, forward_is}
+use Rattle.rv_relax.proofs.DroppingLemmas.{zeros_site, site_read}
+use Rattle.rv_relax.proofs.JudgingLemmas.{turn_call}
+use Rattle.rv_relax.proofs.TablesLemmas.{offset_low, table_low, target_low, site_low, forward_is}
 use Rattle.rv_relax.proofs.passes.size_forwards.Goals as goal
 
 kind_is : (sites : List Site) (i : ℕ) (call : CallSite) → i < length sites → (slice_index_or sites i zeros_site).kind ≡ Call call → (site_at sites i).kind ≡ Call call

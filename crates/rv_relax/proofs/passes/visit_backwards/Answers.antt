@@ -2,9 +2,9 @@ use Rattle.std.proofs.Common.{◌≡◌, ◌+◌, ◌-◌, ◌*◌, ◌^◌, ◌
 use Rattle.rv_layout_laws.specs.declared.site.Site.{Site}
 use Rattle.rv_layout_laws.specs.Calls.{bytes_of}
 use Rattle.rv_relax.specs.Passes.{drops, rest}
-use Rattle.rv_relax.proofs.Dropping.{site_read}
-use Rattle.rv_relax.proofs.Judging.{turn_offered}
-use Rattle.rv_relax.proofs.Tables.{rest_low, set_family, backward_left, backward_table, backward_after}
+use Rattle.rv_relax.proofs.DroppingLemmas.{site_read}
+use Rattle.rv_relax.proofs.JudgingLemmas.{turn_offered}
+use Rattle.rv_relax.proofs.TablesLemmas.{rest_low, set_family, backward_left, backward_table, backward_after}
 use Rattle.rv_relax.proofs.passes.visit_backwards.Goals as goal
 
 pub overflow_add-left : goal.overflow_add-left

@@ -3,9 +3,9 @@ use Rattle.rv_layout_laws.specs.declared.site.Site.{Site}
 use Rattle.rv_layout_laws.specs.Offsets.{offset}
 use Rattle.rv_layout_laws.specs.Calls.{bytes_of}
 use Rattle.rv_relax.specs.Passes.{drops}
-use Rattle.rv_relax.proofs.Dropping.{site_read}
-use Rattle.rv_relax.proofs.Judging.{turn_offered}
-use Rattle.rv_relax.proofs.Tables.{offset_low, set_family, forward_table, forward_before}
+use Rattle.rv_relax.proofs.DroppingLemmas.{site_read}
+use Rattle.rv_relax.proofs.JudgingLemmas.{turn_offered}
+use Rattle.rv_relax.proofs.TablesLemmas.{offset_low, set_family, forward_table, forward_before}
 use Rattle.rv_relax.proofs.passes.visit_forwards.Goals as goal
 
 pub overflow_add-before : goal.overflow_add-before

@@ -1,5 +1,5 @@
 use Rattle.std.proofs.Common.{◌≡◌, suc, ◌<◌, length, arith, rules}
-use Rattle.rv_relax.proofs.Pieced.{no_piece, dropped_at, none_dropped, gone_low}
+use Rattle.rv_relax.proofs.PiecedLemmas.{no_piece, dropped_at, none_dropped, gone_low}
 use Rattle.rv_relax.proofs.pieces.dropped_before.Goals as goal
 
 pub all_dropped_before-requires : goal.all_dropped_before-requires

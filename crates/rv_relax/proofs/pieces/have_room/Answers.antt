@@ -1,5 +1,5 @@
 use Rattle.std.specs.List.{list_all}
-use Rattle.rv_relax.proofs.Pieced.{fits, one_fits, one_short}
+use Rattle.rv_relax.proofs.PiecedLemmas.{fits, one_fits, one_short}
 use Rattle.rv_relax.proofs.pieces.have_room.Goals as goal
 
 pub loop-piece-preserved : goal.loop-piece-preserved

@@ -1,6 +1,6 @@
 use Rattle.std.proofs.Common.{◌≡◌, drop}
 use Rattle.std.specs.List.{list_all}
-use Rattle.rv_relax.proofs.Pieced.{fits}
+use Rattle.rv_relax.proofs.PiecedLemmas.{fits}
 use Rattle.rv_relax.proofs.pieces.have_room.Given as goal
 
 -- those so far are long enough

@@ -4,7 +4,7 @@ use Rattle.std.proofs.lemmas.Bool.{leb-true, leb-false}
 use Rattle.rv_layout_laws.specs.declared.site.Site.{Site}
 use Rattle.rv_layout_laws.specs.Calls.{site_at}
 use Rattle.rv_relax.specs.Passes.{end_of}
-use Rattle.rv_relax.proofs.Laid.{no_site, partitioned}
+use Rattle.rv_relax.proofs.LaidLemmas.{no_site, partitioned}
 use Rattle.rv_relax.proofs.places.place_of.Goals as goal
 
 pub returns : goal.returns

@@ -1,7 +1,7 @@
 use Rattle.std.proofs.Common.{◌≡◌, ◌<◌, ◌≤◌, inr, true, to_z, of_z, w64, refl, sym, ◌∙◌, arith}
 use Rattle.std.proofs.lemmas.Int.{ints}
 use Rattle.std.proofs.lemmas.Bool.{ltb-true}
-use Rattle.rv_relax.proofs.Judging.{taken}
+use Rattle.rv_relax.proofs.JudgingLemmas.{taken}
 use Rattle.rv_relax.proofs.reach.may_be_c_j.Goals as goal
 use Rattle.rv_relax.proofs.reach.may_be_c_j.Goals.{then-size-gt2, else-size-gt2}
 

@@ -1,6 +1,6 @@
 use Rattle.std.proofs.Common.{inl, inr, to_z, of_z, w64, refl, arith}
 use Rattle.std.proofs.lemmas.Int.{ints}
-use Rattle.rv_relax.proofs.Judging.{taken}
+use Rattle.rv_relax.proofs.JudgingLemmas.{taken}
 use Rattle.rv_relax.proofs.reach.may_be_jal.Goals as goal
 
 pub returns-then-size-gt4 : goal.returns-then-size-gt4

@@ -1,7 +1,7 @@
 use Rattle.std.proofs.Common.{rules, ap, ◌∙◌, w64, to_z}
 use Rattle.std.specs.Int.{int_wrapping_add}
 use Rattle.std.proofs.lemmas.Int.{wrapping_add_is}
-use Rattle.rv_reloc.proofs.Wrapping.{added}
+use Rattle.rv_reloc.proofs.WrappingLemmas.{added}
 use Rattle.rv_reloc.proofs.calculation.absolute.Goals as goal
 
 -- src/calculation.rt:10:1

@@ -1,4 +1,4 @@
-use Rattle.rv_reloc.proofs.Immediates.{i_held, s_held, b_held, u_held, j_held, cb_held, cj_held, six_held}
+use Rattle.rv_reloc.proofs.ImmediatesLemmas.{i_held, s_held, b_held, u_held, j_held, cb_held, cj_held, six_held}
 use Rattle.rv_reloc.proofs.laws.immediates_are_held.Goals as goal
 
 pub returns-clause-i_type : goal.returns-clause-i_type

@@ -4,7 +4,7 @@ use Rattle.std.proofs.lemmas.Option.{slice_get-map, slice_get_read}
 use Rattle.rv_object.specs.Object.{Object}
 use Rattle.rv_object.specs.Parts.{symbol_of}
 use Rattle.rv_shorten.specs.View.{short_object_of}
-use Rattle.rv_resolve.proofs.Cuts.{symbol_there}
+use Rattle.rv_resolve.proofs.CutsLemmas.{symbol_there}
 use Rattle.rv_resolve.proofs.addresses.symbol_at.Goals as goal
 
 pub returns : goal.returns

@@ -4,7 +4,7 @@ use Rattle.rv_map.specs.Map.{global_of}
 use Rattle.rv_placement.specs.Placement.{starts_of}
 use Rattle.rv_resolve.specs.Moved.{moved_in}
 use Rattle.rv_resolve.specs.Shown.{shown_symbols}
-use Rattle.rv_resolve.proofs.Adding.{symbol_more}
+use Rattle.rv_resolve.proofs.AddingLemmas.{symbol_more}
 use Rattle.rv_resolve.proofs.globals.put_globals.Goals as goal
 
 pub loop-symbol-preserved : goal.loop-symbol-preserved

@@ -2,7 +2,7 @@ use Rattle.std.proofs.Common.{◌<◌, ◌≤◌, ◌++◌, ◌∙◌, [], lengt
 use Rattle.std.proofs.lemmas.List.{take_all}
 use Rattle.rv_object.specs.Parts.{symbol_of}
 use Rattle.rv_resolve.specs.Names.{outside, numbered, HaveMeanings}
-use Rattle.rv_resolve.proofs.Numbers.{grows_twice, number_more}
+use Rattle.rv_resolve.proofs.NumbersLemmas.{grows_twice, number_more}
 use Rattle.rv_resolve.proofs.meanings.file_numbers.Goals as goal
 
 pub loop-symbol-init : goal.loop-symbol-init

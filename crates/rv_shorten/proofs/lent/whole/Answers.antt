@@ -6,7 +6,7 @@ use Rattle.rv_object_laws.specs.Moves.{Move}
 use Rattle.rv_shorten.specs.Cutting.{AllCut, cut_sections, cut_object}
 use Rattle.rv_shorten.specs.Sections.{moves_in_all}
 use Rattle.rv_shorten.specs.View.{short_object_of}
-use Rattle.rv_shorten.proofs.Uncut.{none_in, none_cut, same_sections, same_object}
+use Rattle.rv_shorten.proofs.UncutLemmas.{none_in, none_cut, same_sections, same_object}
 use Rattle.rv_shorten.proofs.lent.whole.Goals as goal
 
 pub of-requires-clause-cuts : goal.of-requires-clause-cuts

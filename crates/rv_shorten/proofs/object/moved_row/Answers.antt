@@ -1,8 +1,8 @@
 use Rattle.std.proofs.Common.{◌≡◌, ◌-◌, ◌+◌, ◌^◌, map, min, arith, ap, ◌∙◌}
 use Rattle.rv_object_laws.specs.Moves.{new_offset, lost}
 use Rattle.rv_shorten.specs.Cut.{move_of}
-use Rattle.rv_shorten.proofs.Order.{as_cuts}
-use Rattle.rv_shorten.proofs.Shifts.{dropped_within}
+use Rattle.rv_shorten.proofs.OrderLemmas.{as_cuts}
+use Rattle.rv_shorten.proofs.ShiftsLemmas.{dropped_within}
 use Rattle.rv_shorten.proofs.object.moved_row.Goals as goal
 
 pub overflow_sub-within : goal.overflow_sub-within

@@ -2,7 +2,7 @@ use Rattle.std.proofs.Common.{nat_lt, slice_index_or, rules, of_calls}
 use Rattle.std.proofs.lemmas.Fn.{always_returns_same}
 use Rattle.std.proofs.lemmas.Bool.{ltb-true, ltb-false}
 use Rattle.rv_shorten.specs.declared.cut.Cut.{Cut}
-use Rattle.rv_shorten.proofs.Order.{partitioned}
+use Rattle.rv_shorten.proofs.OrderLemmas.{partitioned}
 use Rattle.rv_shorten.proofs.offsets.count_before.Goals as goal
 
 pub returns-clause-point : goal.returns-clause-point

@@ -1,5 +1,5 @@
 use Rattle.std.proofs.Common.{◌≡◌, suc, ◌<◌, length, arith, rules}
-use Rattle.rv_shorten.proofs.Order.{zeros, dropped_at, none_dropped, gone_low}
+use Rattle.rv_shorten.proofs.OrderLemmas.{zeros, dropped_at, none_dropped, gone_low}
 use Rattle.rv_shorten.proofs.offsets.dropped_before.Goals as goal
 
 pub all_dropped_before-requires : goal.all_dropped_before-requires

@@ -1,6 +1,6 @@
 use Rattle.std.proofs.Common.{arith}
-use Rattle.rv_shorten.proofs.Order.{ends_low}
-use Rattle.rv_shorten.proofs.Losses.{counted}
+use Rattle.rv_shorten.proofs.OrderLemmas.{ends_low}
+use Rattle.rv_shorten.proofs.LossesLemmas.{counted}
 use Rattle.rv_shorten.proofs.offsets.lost.Goals as goal
 
 pub returns : goal.returns

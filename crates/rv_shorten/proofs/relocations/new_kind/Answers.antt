@@ -3,8 +3,8 @@ use Rattle.rv_object_laws.specs.Calls.{is_call}
 use Rattle.rv_isa.specs.declared.kind.Kind.TheVariants as kinds
 use Rattle.rv_shorten.specs.Cut.{move_of}
 use Rattle.rv_shorten.specs.Cutting.{cut_at}
-use Rattle.rv_shorten.proofs.Order.{zeros}
-use Rattle.rv_shorten.proofs.CutKinds.{one_at, same_at, absent, kept_kind, left_kind}
+use Rattle.rv_shorten.proofs.OrderLemmas.{zeros}
+use Rattle.rv_shorten.proofs.CutKindsLemmas.{one_at, same_at, absent, kept_kind, left_kind}
 use Rattle.rv_shorten.proofs.relocations.new_kind.Goals as goal
 use Rattle.rv_shorten.proofs.relocations.new_kind.Goals.{then-index-cuts-via-then-index-cuts, then-index-cuts-via-else-index-cuts+then-cuts-index}
 

@@ -3,7 +3,7 @@ use Rattle.rv_object_laws.specs.Moves.{Move}
 use Rattle.rv_shorten.specs.declared.cut.Cut.{Cut}
 use Rattle.rv_shorten.specs.Cut.{move_of}
 use Rattle.rv_shorten.specs.Walk.{moves_of, end_of, cuts_of}
-use Rattle.rv_shorten.proofs.Steps.{Behind, past, moves_here, one_site, inside, next_behind, all_in_order}
+use Rattle.rv_shorten.proofs.StepsLemmas.{Behind, past, moves_here, one_site, inside, next_behind, all_in_order}
 use Rattle.rv_shorten.proofs.sites.cuts.Goals as goal
 
 pub returns-clause-order : goal.returns-clause-order

@@ -1,7 +1,7 @@
 use Rattle.std.proofs.Common.{◌≡◌, ◌++◌, length, map, drop}
 use Rattle.rv_shorten.specs.Cut.{move_of}
 use Rattle.rv_shorten.specs.Walk.{moves_of, end_of}
-use Rattle.rv_shorten.proofs.Steps.{Behind}
+use Rattle.rv_shorten.proofs.StepsLemmas.{Behind}
 use Rattle.rv_shorten.proofs.sites.cuts.Given as goal
 
 abbrev pub invariant-loop-i : goal.invariant-loop-i

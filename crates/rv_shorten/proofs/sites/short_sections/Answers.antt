@@ -7,7 +7,7 @@ use Rattle.rv_shorten.specs.Cut.{move_of}
 use Rattle.rv_shorten.specs.Cutting.{AreCuts, AllCut, are_cuts, cut_section, cut_sections}
 use Rattle.rv_shorten.specs.Sections.{moves_in, moves_in_all, short_section_of}
 use Rattle.rv_shorten.specs.Walk.{own_moves, section_moves, object_moves, passed, passed_all}
-use Rattle.rv_shorten.proofs.Steps.{stored_order, one_of_object, one_left}
+use Rattle.rv_shorten.proofs.StepsLemmas.{stored_order, one_of_object, one_left}
 use Rattle.rv_shorten.proofs.sites.short_sections.Goals as goal
 
 pub section_cuts-requires-clause-cuts : goal.section_cuts-requires-clause-cuts

@@ -1,5 +1,5 @@
 use Rattle.std.proofs.Common.{◌∙◌}
-use Rattle.rv_sources_link_laws.proofs.Flagged.{flagged, flags_stay}
+use Rattle.rv_sources_link_laws.proofs.names.FlaggedLemmas.{flagged, flags_stay}
 use Rattle.rv_sources_link_laws.proofs.law.linked_objects_are_flagged.Goals as goal
 
 pub returns : goal.returns

@@ -1,4 +1,4 @@
-use Rattle.rv_sources_link_laws.proofs.Shortens.{joins}
+use Rattle.rv_sources_link_laws.proofs.ShortensLemmas.{joins}
 use Rattle.rv_sources_link_laws.proofs.law.objects_of_sources_link.Goals as goal
 
 pub returns : goal.returns

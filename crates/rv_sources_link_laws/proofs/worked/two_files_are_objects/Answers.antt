@@ -1,4 +1,4 @@
-use Rattle.rv_sources_link_laws.proofs.TwoObjects.{first_is, second_is}
+use Rattle.rv_sources_link_laws.proofs.two_files.TwoObjectsLemmas.{first_is, second_is}
 use Rattle.rv_sources_link_laws.proofs.worked.two_files_are_objects.Goals as goal
 
 pub returns-clause-first : goal.returns-clause-first

@@ -2,7 +2,7 @@ use Rattle.std.proofs.Common.{◌≡◌, ◌≤◌, ◌<◌, ◌+◌, length, ta
 use Rattle.std.specs.Io.KnownBytes.{Consumes}
 use Rattle.std.proofs.KnownBytes.{Consumes-nil}
 use Rattle.std.proofs.lemmas.List.{length-append}
-use Rattle.rv_streams.proofs.Pieces.{front, has_room, read_nothing, read_more}
+use Rattle.rv_streams.proofs.PiecesLemmas.{front, has_room, read_nothing, read_more}
 use Rattle.rv_streams.proofs.whole.read_whole.Goals as goal
 
 pub loop-init : goal.loop-init

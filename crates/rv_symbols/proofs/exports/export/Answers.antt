@@ -4,8 +4,8 @@ use Rattle.rv_unit_laws.specs.Bindings.{is_global}
 use Rattle.rv_source_laws.specs.Resolves.{defined_name}
 use Rattle.rv_assemble_laws.specs.Symbols.{global_symbol, site_definition, exports_of}
 use Rattle.rv_symbols.specs.Source.{name_in, tables_of}
-use Rattle.rv_symbols.proofs.Stands.{ordinal_is}
-use Rattle.rv_symbols.proofs.Naming.{global_none, global_local, global_one, named_at}
+use Rattle.rv_symbols.proofs.StandsLemmas.{ordinal_is}
+use Rattle.rv_symbols.proofs.NamingLemmas.{global_none, global_local, global_one, named_at}
 use Rattle.rv_symbols.proofs.exports.export.Goals as goal
 
 pub returns-in_default-clause-symbols : goal.returns-in_default-clause-symbols

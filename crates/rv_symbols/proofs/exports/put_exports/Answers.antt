@@ -8,8 +8,8 @@ use Rattle.rv_assemble_laws.specs.Sites.{Site}
 use Rattle.rv_assemble_laws.specs.Symbols.{exports_of}
 use Rattle.rv_assemble_laws.specs.ShownNames.{said_names, are_shown}
 use Rattle.rv_symbols.specs.Source.{tables_of}
-use Rattle.rv_symbols.proofs.Stands.{kind_at, sites_inside, sites_past, said_at}
-use Rattle.rv_symbols.proofs.Naming.{there_is, drop_next, all_got}
+use Rattle.rv_symbols.proofs.StandsLemmas.{kind_at, sites_inside, sites_past, said_at}
+use Rattle.rv_symbols.proofs.NamingLemmas.{there_is, drop_next, all_got}
 use Rattle.rv_symbols.proofs.exports.put_exports.Goals as goal
 
 pub put_export-requires-clause-shown : goal.put_export-requires-clause-shown

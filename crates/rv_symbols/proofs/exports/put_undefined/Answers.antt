@@ -6,8 +6,8 @@ use Rattle.rv_assemble_laws.specs.Symbols.{global_symbol}
 use Rattle.std.specs.Prelude.{option_map}
 use Rattle.rv_map.specs.Name.{is_name}
 use Rattle.rv_statement.specs.View.{now_of}
-use Rattle.rv_symbols.proofs.Stands.{got_map, some_at}
-use Rattle.rv_symbols.proofs.Naming.{all_got, drop_next}
+use Rattle.rv_symbols.proofs.StandsLemmas.{got_map, some_at}
+use Rattle.rv_symbols.proofs.NamingLemmas.{all_got, drop_next}
 use Rattle.rv_symbols.proofs.exports.put_undefined.Goals as goal
 
 pub symbol-requires : goal.symbol-requires

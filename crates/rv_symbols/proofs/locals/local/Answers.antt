@@ -5,8 +5,8 @@ use Rattle.rv_source_laws.specs.Resolves.{defined_name}
 use Rattle.rv_assemble_laws.specs.Symbols.{local_symbol, site_definition, named_symbols}
 use Rattle.rv_symbols.specs.Source.{name_in, tables_of}
 use Rattle.rv_symbols.specs.Found.{is_number}
-use Rattle.rv_symbols.proofs.Stands.{ordinal_is}
-use Rattle.rv_symbols.proofs.Naming.{local_none, local_global, local_number, local_one, named_at}
+use Rattle.rv_symbols.proofs.StandsLemmas.{ordinal_is}
+use Rattle.rv_symbols.proofs.NamingLemmas.{local_none, local_global, local_number, local_one, named_at}
 use Rattle.rv_symbols.proofs.locals.local.Goals as goal
 
 pub returns-in_default-clause-symbols : goal.returns-in_default-clause-symbols

@@ -10,8 +10,8 @@ use Rattle.rv_assemble_laws.specs.Sites.{Site}
 use Rattle.rv_assemble_laws.specs.Symbols.{references, is_meant, local_symbols}
 use Rattle.rv_symbols.specs.Source.{tables_of, place_in}
 use Rattle.rv_symbols.specs.Found.{same_place, is_seen, any_means}
-use Rattle.rv_symbols.proofs.Stands.{ordinal_is, kind_at, sites_inside, sites_past, said_at}
-use Rattle.rv_symbols.proofs.Naming.{all_got, there_is, drop_next, take_next, locals_more, seen_more}
+use Rattle.rv_symbols.proofs.StandsLemmas.{ordinal_is, kind_at, sites_inside, sites_past, said_at}
+use Rattle.rv_symbols.proofs.NamingLemmas.{all_got, there_is, drop_next, take_next, locals_more, seen_more}
 use Rattle.rv_symbols.proofs.locals.locals.Goals as goal
 
 pub put_both-requires-clause-shown : goal.put_both-requires-clause-shown

@@ -1,4 +1,4 @@
-use Rattle.rv_symbols.proofs.Naming.{name_is_string}
+use Rattle.rv_symbols.proofs.NamingLemmas.{name_is_string}
 use Rattle.rv_symbols.proofs.locals.put_local.Goals as goal
 
 pub symbol-requires : goal.symbol-requires

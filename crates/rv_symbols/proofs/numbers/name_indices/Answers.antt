@@ -2,7 +2,7 @@ use Rattle.std.proofs.Common.{◌≡◌, ◌<◌, ◌≤◌, ◌+◌, [], ◌∷
 use Rattle.std.proofs.lemmas.List.{take_all}
 use Rattle.rv_object.specs.Parts.{symbol_of}
 use Rattle.rv_symbols.specs.Indices.{AreNameIndices}
-use Rattle.rv_symbols.proofs.Indexing.{symbols_next, symbols_count}
+use Rattle.rv_symbols.proofs.IndexingLemmas.{symbols_next, symbols_count}
 use Rattle.rv_symbols.proofs.numbers.name_indices.Goals as goal
 
 pub loop-i-preserved : goal.loop-i-preserved

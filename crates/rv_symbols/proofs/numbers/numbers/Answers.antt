@@ -10,7 +10,7 @@ use Rattle.rv_symbols.specs.SymbolUse.{use_of, uses_of}
 use Rattle.rv_symbols.specs.Source.{IsSource}
 use Rattle.rv_symbols.specs.Numbers.{number_by}
 use Rattle.rv_symbols.specs.Found.{definition_in}
-use Rattle.rv_symbols.proofs.Using.{use_at, found_at, numbers_more}
+use Rattle.rv_symbols.proofs.UsingLemmas.{use_at, found_at, numbers_more}
 use Rattle.rv_symbols.proofs.numbers.numbers.Goals as goal
 
 abbrev no_use : SymbolUse

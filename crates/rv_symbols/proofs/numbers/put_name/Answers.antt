@@ -1,5 +1,5 @@
 use Rattle.rv_object.specs.Parts.{symbol_of}
-use Rattle.rv_symbols.proofs.Indexing.{name_more}
+use Rattle.rv_symbols.proofs.IndexingLemmas.{name_more}
 use Rattle.rv_symbols.proofs.numbers.put_name.Goals as goal
 
 pub returns : goal.returns

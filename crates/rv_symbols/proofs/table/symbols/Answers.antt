@@ -1,6 +1,6 @@
 use Rattle.std.proofs.Math.Facts.{Fits-lt-pow}
-use Rattle.rv_symbols.proofs.Ordered.{rises_from}
-use Rattle.rv_symbols.proofs.All.{numbered, offset_low}
+use Rattle.rv_symbols.proofs.OrderedLemmas.{rises_from}
+use Rattle.rv_symbols.proofs.AllLemmas.{numbered, offset_low}
 use Rattle.rv_symbols.proofs.table.symbols.Goals as goal
 use Rattle.std.proofs.Common.{◌≡◌, ℕ, List, [], ◌++◌, length, map, sym, ap, ◌∙◌, subst, arith, append_assoc}
 use Rattle.std.specs.Prelude.{option_map}

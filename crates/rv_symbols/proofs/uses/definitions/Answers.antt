@@ -7,8 +7,8 @@ use Rattle.rv_unit.specs.Unit.{said, definition_of, IsFilled, IsScope}
 use Rattle.rv_symbols.specs.declared.symbol_use.SymbolUse.{SymbolUse}
 use Rattle.rv_symbols.specs.SymbolUse.{use_of, uses_of}
 use Rattle.rv_symbols.specs.Found.{definition_in, is_here, next_ordinal, IsNext, Rises}
-use Rattle.rv_symbols.proofs.Naming.{drop_next}
-use Rattle.rv_symbols.proofs.Using.{use_at, found_more, next_within, next_own}
+use Rattle.rv_symbols.proofs.NamingLemmas.{drop_next}
+use Rattle.rv_symbols.proofs.UsingLemmas.{use_at, found_more, next_within, next_own}
 use Rattle.rv_symbols.proofs.uses.definitions.Goals as goal
 
 abbrev no_use : SymbolUse

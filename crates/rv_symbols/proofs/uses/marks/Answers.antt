@@ -8,7 +8,7 @@ use Rattle.rv_unit.specs.Unit.{definition_of}
 use Rattle.rv_symbols.specs.declared.symbol_use.SymbolUse.{SymbolUse}
 use Rattle.rv_symbols.specs.SymbolUse.{use_of, uses_of}
 use Rattle.rv_symbols.specs.Found.{any_means}
-use Rattle.rv_symbols.proofs.Using.{use_at, found_at, mark_more}
+use Rattle.rv_symbols.proofs.UsingLemmas.{use_at, found_at, mark_more}
 use Rattle.rv_symbols.proofs.uses.marks.Goals as goal
 
 abbrev no_use : SymbolUse

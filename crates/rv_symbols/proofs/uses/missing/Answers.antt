@@ -7,11 +7,11 @@ use Rattle.rv_statement.specs.View.{now_of}
 use Rattle.rv_unit.specs.Unit.{definition_of}
 use Rattle.rv_assemble_laws.specs.Symbols.{missing_name}
 use Rattle.rv_assemble_laws.specs.ShownNames.{is_shown_use}
-use Rattle.rv_symbols.proofs.Naming.{all_got}
+use Rattle.rv_symbols.proofs.NamingLemmas.{all_got}
 use Rattle.rv_symbols.specs.declared.symbol_use.SymbolUse.{SymbolUse}
 use Rattle.rv_symbols.specs.SymbolUse.{use_of, uses_of}
 use Rattle.rv_symbols.specs.Found.{with_names}
-use Rattle.rv_symbols.proofs.Using.{use_at, found_at, missing_more, missing_are}
+use Rattle.rv_symbols.proofs.UsingLemmas.{use_at, found_at, missing_more, missing_are}
 use Rattle.rv_symbols.proofs.uses.missing.Goals as goal
 
 abbrev no_use : SymbolUse

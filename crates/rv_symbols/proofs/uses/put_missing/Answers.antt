@@ -5,7 +5,7 @@ use Rattle.rv_statement.specs.View.{now_of}
 use Rattle.rv_unit.specs.Unit.{definition_of}
 use Rattle.rv_assemble_laws.specs.ShownNames.{primary_names, are_shown}
 use Rattle.rv_symbols.specs.Found.{missing_by, with_names}
-use Rattle.rv_symbols.proofs.Using.{put_new, put_shown, none_by}
+use Rattle.rv_symbols.proofs.UsingLemmas.{put_new, put_shown, none_by}
 use Rattle.rv_symbols.proofs.uses.put_missing.Goals as goal
 
 pub returns-clause-names : goal.returns-clause-names

@@ -5,7 +5,7 @@ use Rattle.rv_text_laws.specs.Values as values
 use Rattle.rv_text.specs.declared.pair.Pair.{Pair}
 use Rattle.rv_text.specs.Nodes.{symbol_of}
 use Rattle.rv_text.specs.Expr.{expr_of, tree_of_expr}
-use Rattle.rv_text.proofs.Evals.{lone_value, lone_outcome, negative_value, pair_outcome}
+use Rattle.rv_text.proofs.EvalsLemmas.{lone_value, lone_outcome, negative_value, pair_outcome}
 use Rattle.rv_text.proofs.evaluation.eval.Goals as goal
 
 pub returns-in-Number : goal.returns-in-Number

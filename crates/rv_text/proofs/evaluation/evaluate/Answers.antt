@@ -3,10 +3,10 @@ use Rattle.std.proofs.Common.{◌∙◌, ◌+◌, refl, sym, ap, map, drop, leng
 use Rattle.rv_text_laws.specs.Values as values
 use Rattle.rv_text_laws.specs.Expression as expression
 use Rattle.rv_text.specs.declared.node.Node.TheVariants as nodes
-use Rattle.rv_text_laws.proofs.Trees.{nodes_value}
+use Rattle.rv_text_laws.proofs.TreesLemmas.{nodes_value}
 use Rattle.rv_text.specs.Nodes.{node_of, nodes_of}
 use Rattle.rv_text.specs.Eval.{tops}
-use Rattle.rv_text.proofs.Evals.{tops_none, rest_fits, last_value, next_node, no_node, next_fits, later_fit, last_fits}
+use Rattle.rv_text.proofs.EvalsLemmas.{tops_none, rest_fits, last_value, next_node, no_node, next_fits, later_fit, last_fits}
 use Rattle.rv_text.proofs.evaluation.evaluate.Goals as goal
 
 pub loop-node-init : goal.loop-node-init

@@ -6,7 +6,7 @@ use Rattle.rv_text.specs.declared.node.Node.{Node}
 use Rattle.rv_text.specs.declared.evaluation.Part.TheVariants as parts
 use Rattle.rv_text.specs.Nodes.{symbol_of, node_of}
 use Rattle.rv_text.specs.Eval.{part_of, meaning_of, tops}
-use Rattle.rv_text.proofs.Evals.{push_step, unary_step, binary_step, symbol_part}
+use Rattle.rv_text.proofs.EvalsLemmas.{push_step, unary_step, binary_step, symbol_part}
 use Rattle.rv_text.proofs.evaluation.step.Goals as goal
 
 pub returns-in-Number-clause-values : goal.returns-in-Number-clause-values

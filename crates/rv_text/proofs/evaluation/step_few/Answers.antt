@@ -6,7 +6,7 @@ use Rattle.rv_text.specs.declared.node.Node.{Node}
 use Rattle.rv_text.specs.declared.evaluation.Part.TheVariants as parts
 use Rattle.rv_text.specs.Nodes.{symbol_of, node_of}
 use Rattle.rv_text.specs.Eval.{tops}
-use Rattle.rv_text.proofs.Evals.{some_more, push_step, unary_step, binary_step}
+use Rattle.rv_text.proofs.EvalsLemmas.{some_more, push_step, unary_step, binary_step}
 use Rattle.rv_text.proofs.evaluation.step_few.Goals as goal
 
 pub returns-in-Number : goal.returns-in-Number

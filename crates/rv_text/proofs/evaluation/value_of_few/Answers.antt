@@ -2,10 +2,10 @@
 use Rattle.std.proofs.Common.{◌∙◌, sym, ap, map, List}
 use Rattle.rv_text_laws.specs.Values as values
 use Rattle.rv_text_laws.specs.Expression as expression
-use Rattle.rv_text_laws.proofs.Trees.{nodes_value}
+use Rattle.rv_text_laws.proofs.TreesLemmas.{nodes_value}
 use Rattle.rv_text.specs.Nodes.{node_of, nodes_of}
 use Rattle.rv_text.specs.Eval.{tops}
-use Rattle.rv_text.proofs.Evals.{some_more, tops_none, last_value, no_node}
+use Rattle.rv_text.proofs.EvalsLemmas.{some_more, tops_none, last_value, no_node}
 use Rattle.rv_text.proofs.evaluation.value_of_few.Goals as goal
 
 pub loop-node-init : goal.loop-node-init

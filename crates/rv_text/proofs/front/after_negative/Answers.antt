@@ -1,6 +1,6 @@
 -- The number ends the expression.
 use Rattle.std.proofs.Common.{refl, sym, ◌∙◌}
-use Rattle.rv_text.proofs.Fronts.{ended_at}
+use Rattle.rv_text.proofs.FrontsLemmas.{ended_at}
 use Rattle.rv_text.proofs.front.after_negative.Goals as goal
 
 pub returns-then-ends : goal.returns-then-ends

@@ -3,7 +3,7 @@ use Rattle.std.proofs.Common.{Ok, [], ◌∷◌, sym, ◌∙◌, ap}
 use Rattle.rv_text_laws.specs.Expression.{Primary_node, Literal}
 use Rattle.rv_lexer.specs.Cursor.{left}
 use Rattle.rv_text.specs.Nodes.{symbol_of}
-use Rattle.rv_text.proofs.Fronts.{ended_at, settled_infix}
+use Rattle.rv_text.proofs.FrontsLemmas.{ended_at, settled_infix}
 use Rattle.rv_text.proofs.front.after_pair.Goals as goal
 
 pub returns-then-ends : goal.returns-then-ends

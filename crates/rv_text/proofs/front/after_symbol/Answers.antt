@@ -2,7 +2,7 @@
 use Rattle.std.proofs.Common.{Ok, refl, sym, ◌∙◌, ap, List}
 use Rattle.rv_text_laws.specs.Expression.{Node}
 use Rattle.rv_lexer.specs.Cursor.{left}
-use Rattle.rv_text.proofs.Fronts.{ended_at}
+use Rattle.rv_text.proofs.FrontsLemmas.{ended_at}
 use Rattle.rv_text.proofs.front.after_symbol.Goals as goal
 
 pub returns-then-ends : goal.returns-then-ends

@@ -5,8 +5,8 @@ use Rattle.rv_lexer.specs.Token.{kind_of}
 use Rattle.rv_lexer.specs.Cursor.{left}
 use Rattle.rv_text.specs.Nodes.{symbol_of}
 use Rattle.rv_text.specs.Expr.{begin_of, stack_of}
-use Rattle.rv_text.proofs.Exprs.{stack_none}
-use Rattle.rv_text.proofs.Fronts.{started, at_start, primary_step, minus_step}
+use Rattle.rv_text.proofs.ExprsLemmas.{stack_none}
+use Rattle.rv_text.proofs.FrontsLemmas.{started, at_start, primary_step, minus_step}
 use Rattle.rv_text.proofs.reading.expression.Goals as goal
 
 pub after_number-requires : goal.after_number-requires

@@ -1,5 +1,5 @@
 -- The expression of the cursor is that of the lexer.
-use Rattle.rv_text.proofs.ReadingSteps.{parsed, only_read, unread}
+use Rattle.rv_text.proofs.ReadingStepsLemmas.{parsed, only_read, unread}
 use Rattle.rv_text.proofs.reading.parse_expr.Goals as goal
 
 pub returns-in-Ok-clause-reads : goal.returns-in-Ok-clause-reads

@@ -6,7 +6,7 @@ use Rattle.rv_text.specs.Nodes.{nodes_of}
 use Rattle.rv_lexer.specs.Cursor.{left}
 use Rattle.rv_lexer.specs.Fault.{number_of}
 use Rattle.rv_text.specs.Expr.{stage_of}
-use Rattle.rv_text.proofs.ReadingSteps.{ended, failed, read_fits}
+use Rattle.rv_text.proofs.ReadingStepsLemmas.{ended, failed, read_fits}
 use Rattle.rv_text.proofs.reading.read_on.Goals as goal
 
 pub new-requires : goal.new-requires

@@ -1,4 +1,4 @@
-use Rattle.rv_text_laws.proofs.Trees.{bare_value}
+use Rattle.rv_text_laws.proofs.TreesLemmas.{bare_value}
 use Rattle.rv_text_laws.proofs.laws.bare_value.Goals as goal
 
 pub returns : goal.returns

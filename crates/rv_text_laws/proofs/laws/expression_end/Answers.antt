@@ -1,4 +1,4 @@
-use Rattle.rv_text_laws.proofs.ExpressionWrong.{ends_there, end_at, whole_there}
+use Rattle.rv_text_laws.proofs.ExpressionWrongLemmas.{ends_there, end_at, whole_there}
 use Rattle.rv_text_laws.proofs.laws.expression_end.Goals as goal
 
 pub returns-clause-is : goal.returns-clause-is

@@ -1,4 +1,4 @@
-use Rattle.rv_text_laws.proofs.ExpressionFound.{expression_found}
+use Rattle.rv_text_laws.proofs.ExpressionFoundLemmas.{expression_found}
 use Rattle.rv_text_laws.proofs.laws.expression_found.Goals as goal
 
 pub returns : goal.returns

@@ -1,4 +1,4 @@
-use Rattle.rv_text_laws.proofs.Expressions.{expression_is}
+use Rattle.rv_text_laws.proofs.ExpressionsLemmas.{expression_is}
 use Rattle.rv_text_laws.proofs.laws.expression_is.Goals as goal
 
 pub returns : goal.returns

@@ -1,4 +1,4 @@
-use Rattle.rv_text_laws.proofs.Joins.{joined_is, joined_found}
+use Rattle.rv_text_laws.proofs.JoinsLemmas.{joined_is, joined_found}
 use Rattle.rv_text_laws.proofs.laws.joined_name.Goals as goal
 
 pub returns-clause-is : goal.returns-clause-is

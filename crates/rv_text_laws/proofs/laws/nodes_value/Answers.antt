@@ -1,4 +1,4 @@
-use Rattle.rv_text_laws.proofs.Trees.{nodes_value}
+use Rattle.rv_text_laws.proofs.TreesLemmas.{nodes_value}
 use Rattle.rv_text_laws.proofs.laws.nodes_value.Goals as goal
 
 pub returns : goal.returns

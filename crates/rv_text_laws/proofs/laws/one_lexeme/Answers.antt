@@ -3,7 +3,7 @@ use Rattle.std.proofs.Common.{◌≡◌, ◌++◌, length, take, sym, ◌∙◌,
 use Rattle.std.proofs.lemmas.Option.{some_pair_parts}
 use Rattle.std.proofs.Math.Seq.{take-append_seam}
 use Rattle.rv_text_laws.specs.Front.{lexeme_at}
-use Rattle.rv_text_laws.proofs.Lexemes.{lexeme_is}
+use Rattle.rv_text_laws.proofs.LexemesLemmas.{lexeme_is}
 use Rattle.rv_text_laws.proofs.laws.one_lexeme.Goals as goal
 
 pub returns : goal.returns

@@ -1,4 +1,4 @@
-use Rattle.rv_text_laws.proofs.ExpressionValues.{postfix_fits}
+use Rattle.rv_text_laws.proofs.ExpressionValuesLemmas.{postfix_fits}
 use Rattle.rv_text_laws.proofs.laws.postfix_fits.Goals as goal
 
 pub returns : goal.returns

@@ -1,4 +1,4 @@
-use Rattle.rv_text_laws.proofs.Trees.{postfix_tree}
+use Rattle.rv_text_laws.proofs.TreesLemmas.{postfix_tree}
 use Rattle.rv_text_laws.proofs.laws.postfix_tree.Goals as goal
 
 pub returns : goal.returns

@@ -1,5 +1,5 @@
-use Rattle.rv_unique_link_laws.proofs.Placed.{rows_placed}
-use Rattle.rv_unique_link_laws.proofs.LeftSound.{leaves_even, leaves_below}
+use Rattle.rv_unique_link_laws.proofs.PlacedLemmas.{rows_placed}
+use Rattle.rv_unique_link_laws.proofs.LeftSoundLemmas.{leaves_even, leaves_below}
 use Rattle.rv_unique_link_laws.proofs.law.objects_keep_it.Goals as goal
 
 pub returns-clause-rows : goal.returns-clause-rows

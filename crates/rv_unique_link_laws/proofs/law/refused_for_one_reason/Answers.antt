@@ -1,4 +1,4 @@
-use Rattle.rv_unique_link_laws.proofs.Whole.{one_refusal}
+use Rattle.rv_unique_link_laws.proofs.WholeLemmas.{one_refusal}
 use Rattle.rv_unique_link_laws.proofs.law.refused_for_one_reason.Goals as goal
 
 pub returns : goal.returns

@@ -1,4 +1,4 @@
-use Rattle.rv_unique_object_laws.proofs.NotTooLong.{not_too_long}
+use Rattle.rv_unique_object_laws.proofs.NotTooLongLemmas.{not_too_long}
 use Rattle.rv_unique_object_laws.proofs.law.objects_are_not_too_long.Goals as goal
 
 pub returns : goal.returns

@@ -1,4 +1,4 @@
-use Rattle.rv_unique_object_laws.proofs.Small.{few_sections, short_sections}
+use Rattle.rv_unique_object_laws.proofs.SmallLemmas.{few_sections, short_sections}
 use Rattle.rv_unique_object_laws.proofs.law.objects_are_small.Goals as goal
 
 pub returns-clause-few : goal.returns-clause-few

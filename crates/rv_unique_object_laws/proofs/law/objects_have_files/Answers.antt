@@ -1,4 +1,4 @@
-use Rattle.rv_unique_object_laws.proofs.FileRoom.{has_file}
+use Rattle.rv_unique_object_laws.proofs.FileRoomLemmas.{has_file}
 use Rattle.rv_unique_object_laws.proofs.law.objects_have_files.Goals as goal
 
 pub returns : goal.returns

@@ -1,4 +1,4 @@
-use Rattle.rv_unique_object_laws.proofs.OneObject.{one_object}
+use Rattle.rv_unique_object_laws.proofs.OneObjectLemmas.{one_object}
 use Rattle.rv_unique_object_laws.proofs.law.one_object_of_statements.Goals as goal
 
 pub returns : goal.returns

@@ -1,6 +1,6 @@
 use Rattle.std.proofs.Common.{◌≡◌, ◌∙◌, suc, rules}
 use Rattle.rv_unit_tables.specs.declared.tables.Assignment.{Assignment}
-use Rattle.rv_unit_tables.proofs.Ordered.{last_before, none_before, got}
+use Rattle.rv_unit_tables.proofs.OrderedLemmas.{last_before, none_before, got}
 use Rattle.rv_unit_tables.proofs.assignments.latest_before.Goals as goal
 
 pub returns-in-Some : goal.returns-in-Some

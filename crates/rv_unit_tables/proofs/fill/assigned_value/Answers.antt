@@ -1,6 +1,6 @@
 use Rattle.std.proofs.Common.{◌∙◌}
 use Rattle.rv_text.specs.Eval.{meaning_of}
-use Rattle.rv_unit_tables.proofs.Gives.{assigned_told}
+use Rattle.rv_unit_tables.proofs.GivesLemmas.{assigned_told}
 use Rattle.rv_unit_tables.proofs.fill.assigned_value.Goals as goal
 
 pub returns-in-Symbolic-clause-value : goal.returns-in-Symbolic-clause-value

@@ -1,5 +1,5 @@
 use Rattle.std.proofs.Common.{arith}
-use Rattle.rv_unit_tables.proofs.Digits.{behind_zero, first_some}
+use Rattle.rv_unit_tables.proofs.DigitsLemmas.{behind_zero, first_some}
 use Rattle.rv_unit_tables.proofs.number.behind_zero.Goals as goal
 
 pub returns-then-digit-eq0-clause-found : goal.returns-then-digit-eq0-clause-found

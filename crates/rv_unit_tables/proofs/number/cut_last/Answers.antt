@@ -1,6 +1,6 @@
 use Rattle.std.proofs.Common.{◌+◌, ◌-◌, ◌*◌, ◌<◌, length, take, ap, sym, ◌∙◌, arith}
 use Rattle.rv_text_laws.specs.Bytes.{value}
-use Rattle.rv_unit_tables.proofs.Digits.{value-cut}
+use Rattle.rv_unit_tables.proofs.DigitsLemmas.{value-cut}
 use Rattle.rv_unit_tables.proofs.number.cut_last.Goals as goal
 
 pub returns-in-len1-up-clause-value : goal.returns-in-len1-up-clause-value

@@ -2,7 +2,7 @@
 use Rattle.std.proofs.Common.{◌≡◌, ◌+◌, ◌/◌, ◌<◌, length, rules, arith, sym, ap, ◌∙◌}
 use Rattle.rv_text_laws.specs.Bytes.{value}
 use Rattle.rv_unit_tables.specs.Mixed.{basis, mix}
-use Rattle.rv_unit_tables.proofs.Digits.{mix_more, mix_first, mix_last, some_value, empty_value}
+use Rattle.rv_unit_tables.proofs.DigitsLemmas.{mix_more, mix_first, mix_last, some_value, empty_value}
 use Rattle.rv_unit_tables.proofs.number.mixed.Goals as goal
 
 pub loop-rest-preserved : goal.loop-rest-preserved

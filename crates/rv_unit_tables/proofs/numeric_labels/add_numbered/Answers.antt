@@ -5,8 +5,8 @@ use Rattle.indexmap.specs.IndexMap.{get_by, insert_entry}
 use Rattle.rv_text_laws.specs.Bytes.{value}
 use Rattle.rv_unit_tables.specs.declared.number.Number.{Number}
 use Rattle.rv_unit_tables.specs.Tables.{numbered_at, numeric_labels_in}
-use Rattle.rv_unit_tables.proofs.Numbered.{same, added}
-use Rattle.rv_unit_tables.proofs.Ordered.{kept_more}
+use Rattle.rv_unit_tables.proofs.NumberedLemmas.{same, added}
+use Rattle.rv_unit_tables.proofs.OrderedLemmas.{kept_more}
 use Rattle.rv_unit_tables.proofs.numeric_labels.add_numbered.Goals as goal
 
 pub returns-clause-each : goal.returns-clause-each

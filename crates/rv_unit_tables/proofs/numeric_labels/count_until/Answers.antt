@@ -2,7 +2,7 @@ use Rattle.std.proofs.Common.{nat_le, slice_index_or, rules, of_calls}
 use Rattle.std.proofs.lemmas.Fn.{always_returns_same}
 use Rattle.std.proofs.lemmas.Bool.{leb-true, leb-false}
 use Rattle.rv_unit_tables.specs.declared.tables.NumericLabel.{NumericLabel}
-use Rattle.rv_unit_tables.proofs.Ordered.{partitioned}
+use Rattle.rv_unit_tables.proofs.OrderedLemmas.{partitioned}
 use Rattle.rv_unit_tables.proofs.numeric_labels.count_until.Goals as goal
 
 pub returns : goal.returns

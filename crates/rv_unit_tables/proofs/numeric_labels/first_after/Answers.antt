@@ -1,6 +1,6 @@
 use Rattle.std.proofs.Common.{◌∙◌}
 use Rattle.rv_unit_tables.specs.declared.tables.NumericLabel.{NumericLabel}
-use Rattle.rv_unit_tables.proofs.Ordered.{found_at, got}
+use Rattle.rv_unit_tables.proofs.OrderedLemmas.{found_at, got}
 use Rattle.rv_unit_tables.proofs.numeric_labels.first_after.Goals as goal
 
 pub returns : goal.returns

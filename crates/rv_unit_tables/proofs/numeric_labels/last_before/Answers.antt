@@ -1,6 +1,6 @@
 use Rattle.std.proofs.Common.{◌≡◌, ◌∙◌, suc, rules}
 use Rattle.rv_unit_tables.specs.declared.tables.NumericLabel.{NumericLabel}
-use Rattle.rv_unit_tables.proofs.Ordered.{last_before, none_before, got}
+use Rattle.rv_unit_tables.proofs.OrderedLemmas.{last_before, none_before, got}
 use Rattle.rv_unit_tables.proofs.numeric_labels.last_before.Goals as goal
 
 pub returns-in-Some : goal.returns-in-Some

@@ -2,7 +2,7 @@ use Rattle.std.proofs.Common.{rules, ◌≡◌, subst, sym}
 use Rattle.rv_statement.specs.View.{statement_of}
 use Rattle.rv_instruction.specs.Code.{HasCode, Codes}
 use Rattle.rv_instruction.specs.Scoped.{values_at, labels_at, faults_at}
-use Rattle.rv_draft.proofs.Adding.{adds_fault}
+use Rattle.rv_draft.proofs.AddingLemmas.{adds_fault}
 use Rattle.rv_draft.proofs.code.Coder.add_code.Goals as goal
 
 pub returns-in-Ok : goal.returns-in-Ok

@@ -1,7 +1,7 @@
 use Rattle.std.proofs.Common.{arith, rules}
 use Rattle.std.proofs.lemmas.Grind.{common_steps}
 use Rattle.rv_statement.specs.View.{statement_of}
-use Rattle.rv_draft.proofs.Adding.{added_by}
+use Rattle.rv_draft.proofs.AddingLemmas.{added_by}
 use Rattle.rv_draft.proofs.code.Coder.add_found.Goals as goal
 
 pub returns : goal.returns

@@ -1,6 +1,6 @@
 use Rattle.std.proofs.Common.{◌≡◌, true, rules, ap, sym, ◌∙◌}
 use Rattle.rv_draft.specs.Sized.{bytes_of_sizes}
-use Rattle.rv_draft.proofs.SoFar.{whole_code, long_code}
+use Rattle.rv_draft.proofs.SoFarLemmas.{whole_code, long_code}
 use Rattle.rv_draft.proofs.code.Coder.finish.Goals as goal
 
 pub returns-in-Some-clause-code : goal.returns-in-Some-clause-code

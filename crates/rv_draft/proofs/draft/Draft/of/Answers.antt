@@ -3,7 +3,7 @@ use Rattle.std.proofs.lemmas.Result.{err_from_is_err_and}
 use Rattle.std.proofs.lemmas.List.{length-map}
 use Rattle.rv_statement.specs.View.{statement_of}
 use Rattle.rv_unit_tables.specs.Sections.{extent_section}
-use Rattle.rv_unit_tables.proofs.Lookups.{sections_are}
+use Rattle.rv_unit_tables.proofs.LookupsLemmas.{sections_are}
 use Rattle.rv_unit_laws.specs.Tables.{Tables, at_start, tables, opened_of}
 use Rattle.rv_source_laws.specs.Located.{located, located_from}
 use Rattle.rv_unit.specs.Unit.{said}
@@ -14,11 +14,11 @@ use Rattle.rv_draft.specs.Draft.{IsRefused}
 use Rattle.rv_draft.specs.Sized.{AreSized, bytes_of_sizes}
 use Rattle.rv_assemble_laws.specs.Refusals.{size_fault_from}
 use Rattle.rv_source_laws.specs.Sizes.{AreLeast}
-use Rattle.rv_draft.proofs.Drafted.{is_draft}
-use Rattle.rv_draft.proofs.SoFar.{sizes_count, sizes_short}
-use Rattle.rv_draft.proofs.Standing.{stated_length}
-use Rattle.rv_draft.proofs.Whole.{one_file}
-use Rattle.rv_draft.proofs.Widths.{all_wide}
+use Rattle.rv_draft.proofs.DraftedLemmas.{is_draft}
+use Rattle.rv_draft.proofs.SoFarLemmas.{sizes_count, sizes_short}
+use Rattle.rv_draft.proofs.StandingLemmas.{stated_length}
+use Rattle.rv_draft.proofs.WholeLemmas.{one_file}
+use Rattle.rv_draft.proofs.WidthsLemmas.{all_wide}
 use Rattle.rv_draft.proofs.draft.Draft.of.Goals as goal
 
 pub items-requires-clause-sizes : goal.items-requires-clause-sizes

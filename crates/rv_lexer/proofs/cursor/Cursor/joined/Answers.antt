@@ -2,7 +2,7 @@
 use Rattle.std.proofs.Common.{◌∙◌, sym, ap, Some}
 use Rattle.rv_lexer.specs.Token.{kind_of}
 use Rattle.rv_lexer.specs.Cursor.{left}
-use Rattle.rv_lexer.proofs.NamesJoined.{begun, went_on, ended, nameless}
+use Rattle.rv_lexer.proofs.NamesJoinedLemmas.{begun, went_on, ended, nameless}
 use Rattle.rv_lexer.proofs.cursor.Cursor.joined.Goals as goal
 use Rattle.rv_lexer.proofs.cursor.Cursor.joined.Goals.{then-loop-self-test+else-joins, else-loop-self-test}
 

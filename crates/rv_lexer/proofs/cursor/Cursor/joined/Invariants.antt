@@ -1,6 +1,6 @@
 -- The name so far is a part of the bytes.
 use Rattle.std.proofs.Common.{length}
-use Rattle.rv_text_laws.proofs.Joins.{Joining}
+use Rattle.rv_text_laws.proofs.JoinsLemmas.{Joining}
 use Rattle.rv_lexer.specs.Cursor.{left}
 use Rattle.rv_lexer.proofs.cursor.Cursor.joined.Given as goal
 

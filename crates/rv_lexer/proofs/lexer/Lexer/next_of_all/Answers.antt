@@ -3,8 +3,8 @@ use Rattle.std.proofs.Common.{◌≡◌, false, ◌∙◌, ap, arith, length, le
 use Rattle.rv_text_laws.specs.Lexing.{is_last}
 use Rattle.rv_lexer.specs.Token.{kind_of}
 use Rattle.rv_lexer.specs.Lexeme.{lexeme_kind_of}
-use Rattle.rv_lexer.proofs.Feeds.{found_spelled}
-use Rattle.rv_lexer.proofs.Steps.{goes_on_after, lexeme_within, gap_step, token_step, stop_step}
+use Rattle.rv_lexer.proofs.FeedsLemmas.{found_spelled}
+use Rattle.rv_lexer.proofs.StepsLemmas.{goes_on_after, lexeme_within, gap_step, token_step, stop_step}
 use Rattle.rv_lexer.proofs.lexer.Lexer.next_of_all.Goals as goal
 
 pub skip-requires : goal.skip-requires

@@ -2,8 +2,8 @@
 use Rattle.std.proofs.Common.{◌≡◌, ℕ, ◌+◌, ◌≤◌, Bool, true, false, cond, length, take, length-drop, refl, sym, ◌∙◌, ap, arith}
 use Rattle.rv_text_laws.specs.Lexing.{is_last}
 use Rattle.rv_lexer.specs.Token.{kind_of}
-use Rattle.rv_lexer.proofs.Feeds.{found_spelled, token_feeds}
-use Rattle.rv_lexer.proofs.Steps.{goes_on_after, lexeme_within, no_gap, token_step}
+use Rattle.rv_lexer.proofs.FeedsLemmas.{found_spelled, token_feeds}
+use Rattle.rv_lexer.proofs.StepsLemmas.{goes_on_after, lexeme_within, no_gap, token_step}
 use Rattle.rv_lexer.proofs.lexer.Lexer.put_next.Goals as goal
 
 one_at_most : (t : Bool) (n : ℕ) → n ≡ cond t 1 0 → n ≤ 1

@@ -1,5 +1,5 @@
 -- The lexer past its blanks.
-use Rattle.rv_lexer.proofs.Blanks.{past_blanks}
+use Rattle.rv_lexer.proofs.BlanksLemmas.{past_blanks}
 use Rattle.rv_lexer.proofs.lexer.Lexer.skip_blanks.Goals as goal
 use Rattle.std.proofs.Common.{refl}
 

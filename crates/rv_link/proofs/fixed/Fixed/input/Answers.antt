@@ -1,5 +1,5 @@
 use Rattle.std.proofs.Common.{refl, arith}
-use Rattle.rv_link.proofs.Standing.{index_low, places_long, input_is}
+use Rattle.rv_link.proofs.StandingLemmas.{index_low, places_long, input_is}
 use Rattle.rv_link.proofs.fixed.Fixed.input.Goals as goal
 
 pub index-requires-3 : goal.index-requires-3

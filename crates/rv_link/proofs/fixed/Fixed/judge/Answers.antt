@@ -1,6 +1,6 @@
 use Rattle.rv_shorten.specs.Sections.{short_section_of}
 use Rattle.rv_relax.specs.Plan.{moves_of}
-use Rattle.rv_link.proofs.Steps.{none_inside}
+use Rattle.rv_link.proofs.StepsLemmas.{none_inside}
 use Rattle.rv_link.proofs.fixed.Fixed.judge.Goals as goal
 
 pub relocate-requires-clause-inside : goal.relocate-requires-clause-inside

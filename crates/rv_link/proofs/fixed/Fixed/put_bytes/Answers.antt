@@ -7,7 +7,7 @@ use Rattle.rv_object_laws.specs.Moves.{Move, moves, kept, new_offset}
 use Rattle.rv_object_laws.specs.Values.{applied, initial_bytes}
 use Rattle.rv_relax.specs.Plan.{moves_of}
 use Rattle.rv_link.specs.Filled.{IsInside, objects_of, input_of, worth, linked_in}
-use Rattle.rv_link.proofs.Steps.{part_is, part_new, all_inside}
+use Rattle.rv_link.proofs.StepsLemmas.{part_is, part_new, all_inside}
 use Rattle.rv_link.proofs.fixed.Fixed.put_bytes.Goals as goal
 
 pub relocate-requires-clause-inside : goal.relocate-requires-clause-inside

@@ -11,7 +11,7 @@ use Rattle.rv_shorten.specs.Sections.{moves_in}
 use Rattle.rv_relax.specs.Plan.{moves_of}
 use Rattle.rv_link.specs.Fault.{IsOfPatch}
 use Rattle.rv_link.specs.Filled.{objects_of, input_of}
-use Rattle.rv_link.proofs.Steps.{moved_next, patched_step, patched_failed, untaken_by, inside_next}
+use Rattle.rv_link.proofs.StepsLemmas.{moved_next, patched_step, patched_failed, untaken_by, inside_next}
 use Rattle.rv_link.proofs.fixed.Fixed.relocate.Goals as goal
 
 abbrev zeroed : Relocation

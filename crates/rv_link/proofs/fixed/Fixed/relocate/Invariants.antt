@@ -2,7 +2,7 @@ use Rattle.std.proofs.Common.{drop}
 use Rattle.rv_shorten.specs.Sections.{short_section_of}
 use Rattle.rv_relax.specs.Plan.{moves_of}
 use Rattle.rv_link.specs.Filled.{objects_of, input_of}
-use Rattle.rv_link.proofs.Steps.{IsPatched}
+use Rattle.rv_link.proofs.StepsLemmas.{IsPatched}
 use Rattle.rv_link.proofs.fixed.Fixed.relocate.Given as goal
 
 abbrev pub invariant-loop-relocation : goal.invariant-loop-relocation

@@ -6,7 +6,7 @@ use Rattle.rv_placement.specs.Placement.{starts_of}
 use Rattle.rv_resolve.specs.Shown.{shown_globals}
 use Rattle.rv_link_values.specs.Values.{IsValueOf}
 use Rattle.rv_link.specs.Filled.{objects_of, input_of}
-use Rattle.rv_link.proofs.Growing.{found_section}
+use Rattle.rv_link.proofs.GrowingLemmas.{found_section}
 use Rattle.rv_link.proofs.fixed.Fixed.value.Goals as goal
 
 pub returns-in-Ok : goal.returns-in-Ok

@@ -3,7 +3,7 @@ use Rattle.std.proofs.lemmas.List.{length-map}
 use Rattle.rv_shorten.specs.View.{short_object_of}
 use Rattle.rv_link.specs.Filled.{objects_of}
 use Rattle.rv_link.specs.Regions.{left_files, AreGrown}
-use Rattle.rv_link.proofs.Turns.{opens, grown_along, files_close}
+use Rattle.rv_link.proofs.TurnsLemmas.{opens, grown_along, files_close}
 use Rattle.rv_link.proofs.regions.Regions.of.Goals as goal
 
 pub loop-file-init : goal.loop-file-init

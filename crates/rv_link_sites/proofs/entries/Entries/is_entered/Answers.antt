@@ -2,7 +2,7 @@ use Rattle.std.proofs.Common.{sym, ap, subst, ◌∙◌}
 use Rattle.std.specs.List.{list_any}
 use Rattle.std.specs.List.Sorted.{IsNonDecreasing}
 use Rattle.rv_link_sites.specs.Entries.{list_at, is_within_call}
-use Rattle.rv_link_sites.proofs.Inside.{entries_tell}
+use Rattle.rv_link_sites.proofs.InsideLemmas.{entries_tell}
 use Rattle.rv_link_sites.proofs.entries.Entries.is_entered.Goals as goal
 
 pub returns : goal.returns

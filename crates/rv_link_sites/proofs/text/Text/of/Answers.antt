@@ -1,7 +1,7 @@
 use Rattle.std.proofs.Common.{map}
 use Rattle.rv_object.specs.View.{object_of}
-use Rattle.rv_link_sites.proofs.Steps.{told_none}
-use Rattle.rv_link_sites.proofs.Targets.{long_text}
+use Rattle.rv_link_sites.proofs.StepsLemmas.{told_none}
+use Rattle.rv_link_sites.proofs.TargetsLemmas.{long_text}
 use Rattle.rv_link_sites.proofs.text.Text.of.Goals as goal
 
 pub returns-in-None-clause-long : goal.returns-in-None-clause-long

@@ -1,7 +1,7 @@
 use Rattle.std.proofs.Common.{◌+◌, ◌%◌, ◌^◌, refl, sym, ap, ◌∙◌}
 use Rattle.rv_link_sites.specs.Line.{base_at}
 use Rattle.rv_link_sites.specs.Text.{objects_of}
-use Rattle.rv_link_sites.proofs.Targets.{offset_none, offset_some}
+use Rattle.rv_link_sites.proofs.TargetsLemmas.{offset_none, offset_some}
 use Rattle.rv_link_sites.proofs.text.Text.offset.Goals as goal
 
 pub returns-then-not-is_in_text : goal.returns-then-not-is_in_text

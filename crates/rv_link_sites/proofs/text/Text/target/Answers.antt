@@ -1,7 +1,7 @@
 use Rattle.std.proofs.Common.{◌≡◌, ◌∙◌, ◌+◌, ap, sym, rules, Some, None}
 use Rattle.rv_object.specs.Parts.{relocation_of}
 use Rattle.rv_link_sites.specs.Text.{objects_of, text_target}
-use Rattle.rv_link_sites.proofs.Targets.{target_none, target_is}
+use Rattle.rv_link_sites.proofs.TargetsLemmas.{target_none, target_is}
 use Rattle.rv_link_sites.proofs.text.Text.target.Goals as goal
 
 pub returns-in_err-index : goal.returns-in_err-index

@@ -9,7 +9,7 @@ use Rattle.rv_shorten.specs.Sections.{moves_in}
 use Rattle.rv_relax.specs.Plan.{moves_of}
 use Rattle.rv_link_values.specs.declared.high.HighPlace.{HighPlace}
 use Rattle.rv_link_values.specs.Highs.{else_found, found, high_to, place_cmp}
-use Rattle.rv_link_values.proofs.Adding.{put_found, put_nothing, same_place, stays_high}
+use Rattle.rv_link_values.proofs.AddingLemmas.{put_found, put_nothing, same_place, stays_high}
 use Rattle.rv_link_values.proofs.high.Highs.add.Goals as goal
 
 pub returns-then-not-is_high : goal.returns-then-not-is_high

@@ -5,7 +5,7 @@ use Rattle.std.proofs.lemmas.Option.{slice_get_read}
 use Rattle.rv_shorten.specs.Sections.{short_section_of}
 use Rattle.rv_placement.specs.Placement.{placed_at, placed_in}
 use Rattle.rv_link_values.specs.Highs.{else_found, high_in}
-use Rattle.rv_link_values.proofs.Steps.{section_step}
+use Rattle.rv_link_values.proofs.StepsLemmas.{section_step}
 use Rattle.rv_link_values.proofs.high.Highs.add_object.Goals as goal
 
 pub loop-index-preserved : goal.loop-index-preserved

@@ -4,7 +4,7 @@ use Rattle.std.specs.List.{slice_get}
 use Rattle.rv_shorten.specs.View.{short_object_of}
 use Rattle.rv_placement.specs.Placement.{placed_at}
 use Rattle.rv_link_values.specs.Highs.{else_found, high_in}
-use Rattle.rv_link_values.proofs.Steps.{object_step}
+use Rattle.rv_link_values.proofs.StepsLemmas.{object_step}
 use Rattle.rv_link_values.proofs.high.Highs.of.Goals as goal
 
 pub loop-file-preserved : goal.loop-file-preserved

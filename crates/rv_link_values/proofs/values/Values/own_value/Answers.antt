@@ -5,7 +5,7 @@ use Rattle.rv_reloc.specs.Values.{value_of}
 use Rattle.rv_object_laws.specs.Values as laws
 use Rattle.rv_placement.specs.Placement.{starts_of}
 use Rattle.rv_resolve.specs.Shown.{shown_globals}
-use Rattle.rv_link_values.proofs.Calculated.{place_wraps}
+use Rattle.rv_link_values.proofs.CalculatedLemmas.{place_wraps}
 use Rattle.rv_link_values.proofs.values.Values.own_value.Goals as goal
 
 pub returns : goal.returns

@@ -2,7 +2,7 @@ use Rattle.std.proofs.Common.{◌≡◌, ◌∙◌, ◌+◌, ap, sym, rules, Som
 use Rattle.rv_object_laws.specs.Values.{paired, value_at}
 use Rattle.rv_placement.specs.Placement.{starts_of}
 use Rattle.rv_resolve.specs.Shown.{shown_globals}
-use Rattle.rv_link_values.proofs.Symbols.{place_is}
+use Rattle.rv_link_values.proofs.SymbolsLemmas.{place_is}
 use Rattle.rv_link_values.proofs.values.Values.paired.Goals as goal
 
 pub returns-in_err-index : goal.returns-in_err-index

@@ -3,7 +3,7 @@ use Rattle.std.specs.Prelude.{unwrap_or}
 use Rattle.rv_object_laws.specs.Values.{target}
 use Rattle.rv_placement.specs.Placement.{starts_of}
 use Rattle.rv_resolve.specs.Shown.{shown_globals}
-use Rattle.rv_link_values.proofs.Symbols.{address_is}
+use Rattle.rv_link_values.proofs.SymbolsLemmas.{address_is}
 use Rattle.rv_link_values.proofs.values.Values.target.Goals as goal
 
 pub returns-in-Some : goal.returns-in-Some

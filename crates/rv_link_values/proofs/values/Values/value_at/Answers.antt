@@ -6,7 +6,7 @@ use Rattle.rv_relax.specs.Plan.{moves_of}
 use Rattle.rv_placement.specs.Placement.{placed_at}
 use Rattle.rv_resolve.specs.Shown.{shown_globals}
 use Rattle.rv_link_values.specs.Highs.{high_of}
-use Rattle.rv_link_values.proofs.Pairs.{without_place, without_high, with_high}
+use Rattle.rv_link_values.proofs.PairsLemmas.{without_place, without_high, with_high}
 use Rattle.rv_link_values.proofs.values.Values.value_at.Goals as goal
 
 pub returns-in_err-place : goal.returns-in_err-place

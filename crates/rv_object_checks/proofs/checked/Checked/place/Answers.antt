@@ -1,6 +1,6 @@
 use Rattle.std.proofs.Common.{length, get_or, ap, ◌∙◌, arith}
 use Rattle.std.specs.Option.{is_some}
-use Rattle.rv_object_checks.proofs.KeptSections.{places_long, placed_at, has_place}
+use Rattle.rv_object_checks.proofs.KeptSectionsLemmas.{places_long, placed_at, has_place}
 use Rattle.rv_object_checks.proofs.checked.Checked.place.Goals as goal
 
 pub index-requires : goal.index-requires

@@ -4,7 +4,7 @@ use Rattle.std.specs.List.{list_any}
 use Rattle.std.specs.declared.ops.Bound.TheVariants.{Included, Excluded}
 use Rattle.std.specs.BTreeMap.Range.{range_contains}
 use Rattle.std.proofs.lemmas.Bool.Decides.{nat_tests}
-use Rattle.rv_object_checks.proofs.Entries.{short_meets, from_here, ends_after}
+use Rattle.rv_object_checks.proofs.EntriesLemmas.{short_meets, from_here, ends_after}
 use Rattle.rv_object_checks.proofs.fields.Fields.meet.Goals as goal
 
 test : (m a b : ℕ) → m ≡ a - 8 → (e : ℕ × ℕ) → range_contains nat_cmp (Included m) (Excluded b) e.0 ≡ (nat_le (a - 8) e.0 && nat_lt e.0 b)

@@ -1,7 +1,7 @@
 use Rattle.std.proofs.Common.{◌≡◌}
 use Rattle.std.specs.List.{list_any}
 use Rattle.rv_object_checks.specs.Stretches.{starts_in}
-use Rattle.rv_object_checks.proofs.Entries.{ends_after}
+use Rattle.rv_object_checks.proofs.EntriesLemmas.{ends_after}
 use Rattle.rv_object_checks.proofs.fields.Fields.meet.Given as goal
 
 abbrev pub invariant-loop-last : goal.invariant-loop-last

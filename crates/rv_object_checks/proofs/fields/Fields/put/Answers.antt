@@ -3,7 +3,7 @@ use Rattle.std.specs.List.{list_any, list_all}
 use Rattle.std.specs.Option.{option_copied}
 use Rattle.std.proofs.lemmas.Bool.Decides.{nat_tests}
 use Rattle.rv_object_checks.specs.Stretches.{starts_in, is_short}
-use Rattle.rv_object_checks.proofs.Entries.{put_starts, put_short, covered, ends_before, by_result}
+use Rattle.rv_object_checks.proofs.EntriesLemmas.{put_starts, put_short, covered, ends_before, by_result}
 use Rattle.rv_object_checks.proofs.fields.Fields.put.Goals as goal
 use Rattle.rv_object_checks.proofs.fields.Fields.put.Goals.{in-Some+else-other-end, in_default}
 

@@ -1,6 +1,6 @@
 use Rattle.std.proofs.Common.{ap, ◌∙◌, arith}
 use Rattle.std.specs.Prelude.{nat_lt}
-use Rattle.rv_object_checks.proofs.Strings.{named}
+use Rattle.rv_object_checks.proofs.StringsLemmas.{named}
 use Rattle.rv_object_checks.proofs.names.Names.has_name.Goals as goal
 
 pub returns-else-header-eq0 : goal.returns-else-header-eq0

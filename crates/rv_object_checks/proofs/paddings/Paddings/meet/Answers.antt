@@ -2,7 +2,7 @@ use Rattle.std.proofs.Common.{rules, ◌≡◌, ◌&&◌, true, false, ℕ, ◌+
 use Rattle.std.specs.Ordering.{nat_cmp}
 use Rattle.std.specs.declared.ops.Bound.TheVariants.{Included, Unbounded}
 use Rattle.std.specs.BTreeMap.Range.{range_contains}
-use Rattle.rv_object_checks.proofs.Entries.{first_meets, from_next, first_before}
+use Rattle.rv_object_checks.proofs.EntriesLemmas.{first_meets, from_next, first_before}
 use Rattle.rv_object_checks.proofs.paddings.Paddings.meet.Goals as goal
 
 test : (a : ℕ) (e : ℕ × ℕ) → range_contains nat_cmp (Included (a + 1)) Unbounded e.0 ≡ nat_lt a e.0

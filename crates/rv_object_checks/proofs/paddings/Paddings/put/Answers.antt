@@ -1,7 +1,7 @@
 use Rattle.std.proofs.Common.{◌≡◌, true, ap, ◌∙◌}
 use Rattle.std.specs.List.{list_any}
 use Rattle.rv_object_checks.specs.Stretches.{ends_in, is_spread}
-use Rattle.rv_object_checks.proofs.Entries.{put_meets, put_spread, by_result}
+use Rattle.rv_object_checks.proofs.EntriesLemmas.{put_meets, put_spread, by_result}
 use Rattle.rv_object_checks.proofs.paddings.Paddings.put.Goals as goal
 
 pub invariant_of-self : goal.invariant_of-self

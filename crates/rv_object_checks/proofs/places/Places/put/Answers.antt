@@ -1,6 +1,6 @@
 use Rattle.std.proofs.Common.{◌≡◌, ◌≢◌, ◌<◌, ◌≤◌, ◌^◌, ◌+◌, ℕ, sym, ◌∙◌, arith}
 use Rattle.rv_object_checks.specs.Stretches.{placed}
-use Rattle.rv_object_checks.proofs.Meeting.{put_nothing, put_field, put_padding, meets_padding, meets_field}
+use Rattle.rv_object_checks.proofs.MeetingLemmas.{put_nothing, put_field, put_padding, meets_padding, meets_field}
 use Rattle.rv_object_checks.proofs.places.Places.put.Goals as goal
 
 pub returns-then-count-eq0 : goal.returns-then-count-eq0

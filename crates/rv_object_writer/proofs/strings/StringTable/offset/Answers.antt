@@ -1,5 +1,5 @@
 use Rattle.std.proofs.Common.{◌≡◌, arith, ◌∙◌, sym, ap, length, option_copied}
-use Rattle.rv_object_writer.proofs.Naming.{offset_found, offset_end}
+use Rattle.rv_object_writer.proofs.NamingLemmas.{offset_found, offset_end}
 use Rattle.rv_object_writer.proofs.strings.StringTable.offset.Goals as goal
 
 pub returns-in-Some : goal.returns-in-Some

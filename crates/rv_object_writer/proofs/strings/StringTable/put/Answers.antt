@@ -1,6 +1,6 @@
 use Rattle.std.proofs.Common.{◌≡◌, arith, ◌∙◌, sym, ap, subst, true, false, is_some, length, List, ℕ, None, Some, cond, bytes_eq}
 use Rattle.rv_object_writer.specs.Strings.{IsTable, found_in}
-use Rattle.rv_object_writer.proofs.Naming.{put_again, put_first, lent, none_by, bytes_more, found_more}
+use Rattle.rv_object_writer.proofs.NamingLemmas.{put_again, put_first, lent, none_by, bytes_more, found_more}
 use Rattle.rv_object_writer.proofs.strings.StringTable.put.Goals as goal
 
 pub returns-then-is_some : goal.returns-then-is_some

@@ -1,7 +1,7 @@
 use Rattle.std.proofs.Common.{◌∙◌, sym, map}
 use Rattle.rv_shorten.specs.Sections.{short_section_of}
 use Rattle.rv_shorten.specs.View.{short_object_of}
-use Rattle.rv_placement.proofs.Found.{not_placed, address_none, address_unloaded, address_is}
+use Rattle.rv_placement.proofs.FoundLemmas.{not_placed, address_none, address_unloaded, address_is}
 use Rattle.rv_placement.proofs.placement.Placement.address.Goals as goal
 
 pub returns-in_err-place : goal.returns-in_err-place

@@ -1,4 +1,4 @@
-use Rattle.rv_placement.proofs.Rooms.{are_rooms}
+use Rattle.rv_placement.proofs.RoomsLemmas.{are_rooms}
 use Rattle.rv_placement.proofs.placement.Placement.is_roomy.Goals as goal
 
 pub returns-clause-room : goal.returns-clause-room

@@ -4,9 +4,9 @@ use Rattle.std.proofs.lemmas.List.{with_items_is}
 use Rattle.rv_isa_laws.specs.Platform.{memory_limit}
 use Rattle.rv_shorten.specs.View.{short_object_of}
 use Rattle.rv_placement.specs.Walk.{lists_of, behind_files, gapped_files}
-use Rattle.rv_placement.proofs.Behind.{data_up, bss_up}
-use Rattle.rv_placement.proofs.Texts.{told, told_none}
-use Rattle.rv_placement.proofs.Placed.{each_list, is_placement, text_too_large, behind_too_large, memory_too_large}
+use Rattle.rv_placement.proofs.BehindLemmas.{data_up, bss_up}
+use Rattle.rv_placement.proofs.TextsLemmas.{told, told_none}
+use Rattle.rv_placement.proofs.PlacedLemmas.{each_list, is_placement, text_too_large, behind_too_large, memory_too_large}
 use Rattle.rv_placement.proofs.placement.Placement.of.Goals as goal
 
 pub returns-in_default-clause-refuses : goal.returns-in_default-clause-refuses

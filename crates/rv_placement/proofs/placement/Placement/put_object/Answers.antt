@@ -7,7 +7,7 @@ use Rattle.rv_shorten.specs.Sections.{short_section_of}
 use Rattle.rv_shorten.specs.View.{short_object_of}
 use Rattle.rv_placement.specs.Moved.{moved_rows}
 use Rattle.rv_placement.specs.Placement.{starts_of}
-use Rattle.rv_placement.proofs.Sorted.{all_ordered, sorted_moved}
+use Rattle.rv_placement.proofs.SortedLemmas.{all_ordered, sorted_moved}
 use Rattle.rv_placement.proofs.placement.Placement.put_object.Goals as goal
 
 pub put_rows-requires-2-clause-own : goal.put_rows-requires-2-clause-own

@@ -1,5 +1,5 @@
 use Rattle.rv_object.specs.declared.row.Row.{Row}
-use Rattle.rv_placement.proofs.MapRows.{row_placed, row_more}
+use Rattle.rv_placement.proofs.MapRowsLemmas.{row_placed, row_more}
 use Rattle.rv_placement.proofs.placement.Placement.put_rows.Goals as goal
 
 abbrev blank : Row

@@ -1,6 +1,6 @@
 use Rattle.std.proofs.Common.{map}
 use Rattle.rv_shorten.specs.View.{short_object_of}
-use Rattle.rv_placement.proofs.MapRows.{file_more, object_here}
+use Rattle.rv_placement.proofs.MapRowsLemmas.{file_more, object_here}
 use Rattle.rv_placement.proofs.placement.Placement.rows.Goals as goal
 
 pub loop-i-preserved : goal.loop-i-preserved

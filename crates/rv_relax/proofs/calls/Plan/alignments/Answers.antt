@@ -1,9 +1,9 @@
 use Rattle.std.proofs.Common.{◌≡◌, ◌∙◌, ap, length, rules}
 use Rattle.rv_relax.specs.Padded.{alignments, inner, joined, padded}
 use Rattle.rv_relax.specs.Plan.{sites_in, starts_in}
-use Rattle.rv_relax.proofs.Laid.{laid_length}
-use Rattle.rv_relax.proofs.Sizing.{pads_length}
-use Rattle.rv_relax.proofs.Spread.{joined_length, padded_length}
+use Rattle.rv_relax.proofs.LaidLemmas.{laid_length}
+use Rattle.rv_relax.proofs.SizingLemmas.{pads_length}
+use Rattle.rv_relax.proofs.SpreadLemmas.{joined_length, padded_length}
 use Rattle.rv_relax.proofs.calls.Plan.alignments.Goals as goal
 
 pub returns : goal.returns

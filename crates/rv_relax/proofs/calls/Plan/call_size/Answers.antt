@@ -3,8 +3,8 @@ use Rattle.std.proofs.lemmas.List.{get_or_read}
 use Rattle.rv_layout_laws.specs.Calls.{calls}
 use Rattle.rv_relax.specs.declared.calls.Plan.{Plan}
 use Rattle.rv_relax.specs.Plan.{sites_in, kept_of}
-use Rattle.rv_relax.proofs.Laid.{laid_length}
-use Rattle.rv_relax.proofs.Sizing.{sizes_length}
+use Rattle.rv_relax.proofs.LaidLemmas.{laid_length}
+use Rattle.rv_relax.proofs.SizingLemmas.{sizes_length}
 use Rattle.rv_relax.proofs.calls.Plan.call_size.Goals as goal
 
 -- each call has a size

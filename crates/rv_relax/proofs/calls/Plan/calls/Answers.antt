@@ -1,8 +1,8 @@
 use Rattle.std.proofs.Common.{◌≡◌, ◌∙◌, ap, length, rules}
 use Rattle.rv_layout_laws.specs.Calls.{calls}
 use Rattle.rv_relax.specs.Plan.{sites_in}
-use Rattle.rv_relax.proofs.Laid.{laid_length}
-use Rattle.rv_relax.proofs.Sizing.{sizes_length}
+use Rattle.rv_relax.proofs.LaidLemmas.{laid_length}
+use Rattle.rv_relax.proofs.SizingLemmas.{sizes_length}
 use Rattle.rv_relax.proofs.calls.Plan.calls.Goals as goal
 
 pub returns : goal.returns

@@ -1,9 +1,9 @@
 use Rattle.std.proofs.Common.{ap, ◌∙◌}
 use Rattle.std.specs.List.{list_all}
 use Rattle.rv_relax.specs.Plan.{padded_of, sites_in, starts_in}
-use Rattle.rv_relax.proofs.Laid.{laid_most}
-use Rattle.rv_relax.proofs.Pieced.{fits}
-use Rattle.rv_relax.proofs.Spread.{same_room}
+use Rattle.rv_relax.proofs.LaidLemmas.{laid_most}
+use Rattle.rv_relax.proofs.PiecedLemmas.{fits}
+use Rattle.rv_relax.proofs.SpreadLemmas.{same_room}
 use Rattle.rv_relax.proofs.calls.Plan.is_roomy.Goals as goal
 
 pub returns : goal.returns

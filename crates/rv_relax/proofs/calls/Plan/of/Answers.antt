@@ -5,11 +5,11 @@ use Rattle.rv_relax.specs.Padded.{inner, joined, padded, pads}
 use Rattle.rv_relax.specs.Pieces.{are_pieces, pieces_of}
 use Rattle.rv_relax.specs.Plan.{kept_of, padded_of, rounds_of, sites_in, starts_in}
 use Rattle.rv_relax.specs.Sizes.{IsPlanned, call_sizes}
-use Rattle.rv_relax.proofs.Dropping.{family_most}
-use Rattle.rv_relax.proofs.Laid.{laid_from}
-use Rattle.rv_relax.proofs.Pieced.{in_order}
-use Rattle.rv_relax.proofs.Sizing.{planned_family}
-use Rattle.rv_relax.proofs.Spread.{is_padded, joined_order}
+use Rattle.rv_relax.proofs.DroppingLemmas.{family_most}
+use Rattle.rv_relax.proofs.LaidLemmas.{laid_from}
+use Rattle.rv_relax.proofs.PiecedLemmas.{in_order}
+use Rattle.rv_relax.proofs.SizingLemmas.{planned_family}
+use Rattle.rv_relax.proofs.SpreadLemmas.{is_padded, joined_order}
 use Rattle.rv_relax.proofs.calls.Plan.of.Goals as goal
 
 pub laid_out-requires-clause-starts : goal.laid_out-requires-clause-starts

@@ -3,9 +3,9 @@ use Rattle.std.proofs.lemmas.List.{get_or_read}
 use Rattle.rv_relax.specs.declared.calls.Plan.{Plan}
 use Rattle.rv_relax.specs.Padded.{alignments, inner, joined, padded}
 use Rattle.rv_relax.specs.Plan.{padded_of, sites_in, starts_in}
-use Rattle.rv_relax.proofs.Laid.{laid_length}
-use Rattle.rv_relax.proofs.Sizing.{pads_length}
-use Rattle.rv_relax.proofs.Spread.{joined_length, padded_length}
+use Rattle.rv_relax.proofs.LaidLemmas.{laid_length}
+use Rattle.rv_relax.proofs.SizingLemmas.{pads_length}
+use Rattle.rv_relax.proofs.SpreadLemmas.{joined_length, padded_length}
 use Rattle.rv_relax.proofs.calls.Plan.pad.Goals as goal
 
 -- each alignment has a pad

@@ -1,6 +1,6 @@
 use Rattle.std.proofs.Common.{refl}
 use Rattle.rv_relax.specs.Plan.{placed_sites, placed_starts}
-use Rattle.rv_relax.proofs.Placing.{placed_from}
+use Rattle.rv_relax.proofs.PlacingLemmas.{placed_from}
 use Rattle.rv_relax.proofs.placed.Placed.of.Goals as goal
 
 pub invariant_of-result : goal.invariant_of-result

@@ -4,7 +4,7 @@ use Rattle.rv_layout_laws.specs.Calls.{site_at}
 use Rattle.rv_relax.specs.Passes.{IsInput}
 use Rattle.rv_relax.specs.Placed.{is_aligning}
 use Rattle.rv_relax.specs.Plan.{placed_sites}
-use Rattle.rv_relax.proofs.Placing.{input_from}
+use Rattle.rv_relax.proofs.PlacingLemmas.{input_from}
 use Rattle.rv_relax.proofs.placed.Placed.sites.Goals as goal
 
 pub returns-clause-value : goal.returns-clause-value

@@ -1,8 +1,8 @@
 use Rattle.std.proofs.Common.{ap, ◌∙◌}
 use Rattle.std.specs.List.{list_all}
 use Rattle.rv_relax.specs.Plan.{moves_of}
-use Rattle.rv_relax.proofs.Order.{moves_roomy}
-use Rattle.rv_relax.proofs.Pieced.{fits}
+use Rattle.rv_relax.proofs.OrderLemmas.{moves_roomy}
+use Rattle.rv_relax.proofs.PiecedLemmas.{fits}
 use Rattle.rv_relax.proofs.section_plan.SectionPlan.is_roomy.Goals as goal
 
 pub returns : goal.returns

@@ -7,7 +7,7 @@ use Rattle.rv_object_laws.specs.Moves.{has_padding, by_place, plan}
 use Rattle.rv_shorten.specs.Sections.{short_section_of}
 use Rattle.rv_relax.specs.Plan.{moves_of}
 use Rattle.rv_relax.specs.Paddings.{move_of, are_alignments}
-use Rattle.rv_relax.proofs.Apart.{all_apart, of_section}
+use Rattle.rv_relax.proofs.ApartLemmas.{all_apart, of_section}
 use Rattle.rv_relax.proofs.section_plan.SectionPlan.of.Goals as goal
 use Rattle.rv_relax.proofs.section_plan.SectionPlan.of.Goals.{then-not-section-via-then-not-section, then-not-section-via-else-not-section+then-not-section-2}
 

@@ -11,9 +11,9 @@ use Rattle.rv_shorten.specs.View.{short_object_of}
 use Rattle.rv_resolve.specs.Exports.{exports_from, exports_in, names_of, first_again}
 use Rattle.rv_resolve.specs.Moved.{symbols_of}
 use Rattle.rv_resolve.specs.Names.{Answers, IsDuplicate}
-use Rattle.rv_resolve.proofs.Cuts.{symbols_are}
-use Rattle.rv_resolve.proofs.Distinct.{all_apart}
-use Rattle.rv_resolve.proofs.Steps.{viewed, files_more, files_left, names_of_exports}
+use Rattle.rv_resolve.proofs.CutsLemmas.{symbols_are}
+use Rattle.rv_resolve.proofs.DistinctLemmas.{all_apart}
+use Rattle.rv_resolve.proofs.StepsLemmas.{viewed, files_more, files_left, names_of_exports}
 use Rattle.rv_resolve.proofs.definitions.Definitions.of.Goals as goal
 
 pub loop-file-init : goal.loop-file-init

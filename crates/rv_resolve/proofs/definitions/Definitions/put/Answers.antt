@@ -5,7 +5,7 @@ use Rattle.rv_shorten.specs.View.{moves_of}
 use Rattle.rv_resolve.specs.Exports.{named}
 use Rattle.rv_resolve.specs.Moved.{moved_in}
 use Rattle.rv_resolve.specs.Names.{kept_of}
-use Rattle.rv_resolve.proofs.Table.{again, apart, answers_more, kept_some, none_kept}
+use Rattle.rv_resolve.proofs.TableLemmas.{again, apart, answers_more, kept_some, none_kept}
 use Rattle.rv_resolve.proofs.definitions.Definitions.put.Goals as goal
 
 pub returns-in-Some-clause-refuses : goal.returns-in-Some-clause-refuses

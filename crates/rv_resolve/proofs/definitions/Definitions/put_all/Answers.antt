@@ -3,7 +3,7 @@ use Rattle.std.proofs.lemmas.Result.{err_from_is_err_and}
 use Rattle.rv_resolve.specs.Exports.{exports_in, names_of, first_again}
 use Rattle.rv_resolve.specs.Moved.{moved_in}
 use Rattle.rv_resolve.specs.Names.{Answers, IsDuplicate}
-use Rattle.rv_resolve.proofs.Steps.{symbols_more, symbols_left}
+use Rattle.rv_resolve.proofs.StepsLemmas.{symbols_more, symbols_left}
 use Rattle.rv_resolve.proofs.definitions.Definitions.put_all.Goals as goal
 
 pub returns-in_err-put-clause-refuses : goal.returns-in_err-put-clause-refuses

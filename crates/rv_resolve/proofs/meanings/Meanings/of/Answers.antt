@@ -7,9 +7,9 @@ use Rattle.rv_shorten.specs.declared.object.ShortObject.{ShortObject}
 use Rattle.rv_shorten.specs.View.{moves_of, short_object_of}
 use Rattle.rv_resolve.specs.declared.definitions.Exported.{Exported}
 use Rattle.rv_resolve.specs.Names.{outside, numbered, HaveMeanings}
-use Rattle.rv_resolve.proofs.Cuts.{all_outside}
-use Rattle.rv_resolve.proofs.Numbers.{row_more, rows_are}
-use Rattle.rv_resolve.proofs.Steps.{viewed}
+use Rattle.rv_resolve.proofs.CutsLemmas.{all_outside}
+use Rattle.rv_resolve.proofs.NumbersLemmas.{row_more, rows_are}
+use Rattle.rv_resolve.proofs.StepsLemmas.{viewed}
 use Rattle.rv_resolve.proofs.meanings.Meanings.of.Goals as goal
 
 pub loop-file-init : goal.loop-file-init

@@ -4,7 +4,7 @@ use Rattle.rv_object.specs.Object.{Object}
 use Rattle.rv_shorten.specs.View.{short_object_of}
 use Rattle.rv_resolve.specs.Exports.{exports_from}
 use Rattle.rv_resolve.specs.Names.{Answers, outside}
-use Rattle.rv_resolve.proofs.Numbers.{HaveRows}
+use Rattle.rv_resolve.proofs.NumbersLemmas.{HaveRows}
 use Rattle.rv_resolve.proofs.meanings.Meanings.of.Given as goal
 
 abbrev pub invariant-loop-file : goal.invariant-loop-file

@@ -6,7 +6,7 @@ use Rattle.rv_placement.specs.Placement.{starts_of}
 use Rattle.rv_shorten.specs.View.{short_object_of}
 use Rattle.rv_resolve.specs.Moved.{with_definition}
 use Rattle.rv_resolve.specs.Shown.{shown_globals, regions_of}
-use Rattle.rv_resolve.proofs.Meant.{is_meant, address_none}
+use Rattle.rv_resolve.proofs.MeantLemmas.{is_meant, address_none}
 use Rattle.rv_resolve.proofs.names.Names.address.Goals as goal
 
 pub returns-in_err-symbol : goal.returns-in_err-symbol

@@ -6,9 +6,9 @@ use Rattle.rv_shorten.specs.View.{short_object_of}
 use Rattle.rv_resolve.specs.declared.definitions.Exported.{Exported}
 use Rattle.rv_resolve.specs.Exports.{export_of}
 use Rattle.rv_resolve.specs.Names.{kept_of}
-use Rattle.rv_resolve.proofs.Entry.{start_name, start_at, entry_found}
-use Rattle.rv_resolve.proofs.Meant.{kept_held}
-use Rattle.rv_resolve.proofs.Table.{none_kept}
+use Rattle.rv_resolve.proofs.EntryLemmas.{start_name, start_at, entry_found}
+use Rattle.rv_resolve.proofs.MeantLemmas.{kept_held}
+use Rattle.rv_resolve.proofs.TableLemmas.{none_kept}
 use Rattle.rv_resolve.proofs.names.Names.entry.Goals as goal
 
 pub returns-then-can_begin : goal.returns-then-can_begin

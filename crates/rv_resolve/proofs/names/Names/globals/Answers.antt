@@ -5,9 +5,9 @@ use Rattle.rv_object_laws.specs.Names.{globals_of, shown_linker_symbols}
 use Rattle.rv_placement.specs.Placement.{starts_of}
 use Rattle.rv_shorten.specs.View.{short_object_of}
 use Rattle.rv_resolve.specs.Shown.{shown_symbols, regions_of}
-use Rattle.rv_resolve.proofs.Adding.{file_more}
-use Rattle.rv_resolve.proofs.Cuts.{symbols_are}
-use Rattle.rv_resolve.proofs.Steps.{viewed, there}
+use Rattle.rv_resolve.proofs.AddingLemmas.{file_more}
+use Rattle.rv_resolve.proofs.CutsLemmas.{symbols_are}
+use Rattle.rv_resolve.proofs.StepsLemmas.{viewed, there}
 use Rattle.rv_resolve.proofs.names.Names.globals.Goals as goal
 
 pub loop-file-preserved : goal.loop-file-preserved

@@ -3,7 +3,7 @@ use Rattle.rv_object.specs.declared.symbol.Definition.TheVariants as definitions
 use Rattle.rv_object_laws.specs.Names.{is_one_of}
 use Rattle.rv_shorten.specs.View.{short_object_of}
 use Rattle.rv_resolve.specs.Undefined.{linker_names}
-use Rattle.rv_resolve.proofs.Meant.{is_meant, meant_at, resolved_none}
+use Rattle.rv_resolve.proofs.MeantLemmas.{is_meant, meant_at, resolved_none}
 use Rattle.rv_resolve.proofs.names.Names.is_known.Goals as goal
 
 pub returns-in-Some : goal.returns-in-Some

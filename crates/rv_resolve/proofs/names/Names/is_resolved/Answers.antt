@@ -3,7 +3,7 @@ use Rattle.rv_object.specs.declared.symbol.Definition.TheVariants as definitions
 use Rattle.rv_object.specs.Parts.{symbol_of}
 use Rattle.rv_shorten.specs.Cutting.{cut_definition, cut_symbol}
 use Rattle.rv_shorten.specs.View.{short_object_of}
-use Rattle.rv_resolve.proofs.Cuts.{own_resolved, known_resolved}
+use Rattle.rv_resolve.proofs.CutsLemmas.{own_resolved, known_resolved}
 use Rattle.rv_resolve.proofs.names.Names.is_resolved.Goals as goal
 
 pub returns-in-Undefined : goal.returns-in-Undefined

@@ -1,6 +1,6 @@
 use Rattle.std.proofs.Common.{◌≡◌, false, ap, ◌∙◌}
 use Rattle.rv_object_laws.specs.Names.{is_defined}
-use Rattle.rv_resolve.proofs.Numbers.{answered, meant_outside}
+use Rattle.rv_resolve.proofs.NumbersLemmas.{answered, meant_outside}
 use Rattle.rv_resolve.proofs.names.Names.meant.Goals as goal
 
 pub returns-in-Undefined : goal.returns-in-Undefined

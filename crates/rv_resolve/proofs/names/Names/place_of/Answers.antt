@@ -2,7 +2,7 @@ use Rattle.std.proofs.Common.{◌+◌, ap, sym, ◌∙◌}
 use Rattle.std.specs.Prelude.{option_and_then}
 use Rattle.rv_object_laws.specs.Names.{place_in}
 use Rattle.rv_resolve.specs.declared.definitions.Exported.{Exported}
-use Rattle.rv_resolve.proofs.Meant.{place_meant}
+use Rattle.rv_resolve.proofs.MeantLemmas.{place_meant}
 use Rattle.rv_resolve.proofs.names.Names.place_of.Goals as goal
 
 pub returns-in-Some : goal.returns-in-Some

@@ -2,7 +2,7 @@ use Rattle.std.proofs.Common.{◌∷◌, ◌++◌, ◌∙◌, [], Bool, ap, map,
 use Rattle.std.specs.Prelude.{not, codes, filter}
 use Rattle.rv_map.specs.Map.{Global, global_of}
 use Rattle.rv_object_laws.specs.Names.{is_one_of, global, global_names}
-use Rattle.rv_resolve.proofs.Adding.{filtered_more}
+use Rattle.rv_resolve.proofs.AddingLemmas.{filtered_more}
 use Rattle.rv_resolve.proofs.names.Names.put_linker_symbols.Goals as goal
 
 pub returns : goal.returns

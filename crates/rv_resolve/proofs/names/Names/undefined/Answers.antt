@@ -5,9 +5,9 @@ use Rattle.rv_shorten.specs.View.{short_object_of}
 use Rattle.rv_resolve.specs.Names.{bytes_of}
 use Rattle.rv_resolve.specs.Undefined.{first_some, undefined_in, first_undefined}
 use Rattle.rv_resolve.specs.Resolved.{AreResolved}
-use Rattle.rv_resolve.proofs.FirstSome.{none_here, one_here}
-use Rattle.rv_resolve.proofs.Resolved.{all_resolved}
-use Rattle.rv_resolve.proofs.Steps.{there}
+use Rattle.rv_resolve.proofs.FirstSomeLemmas.{none_here, one_here}
+use Rattle.rv_resolve.proofs.ResolvedLemmas.{all_resolved}
+use Rattle.rv_resolve.proofs.StepsLemmas.{there}
 use Rattle.rv_resolve.proofs.names.Names.undefined.Goals as goal
 
 pub loop-file-preserved : goal.loop-file-preserved

@@ -7,7 +7,7 @@ use Rattle.rv_object.specs.Parts.{relocation_of}
 use Rattle.rv_shorten.specs.View.{short_object_of}
 use Rattle.rv_resolve.specs.Names.{bytes_of}
 use Rattle.rv_resolve.specs.Undefined.{undefined_name}
-use Rattle.rv_resolve.proofs.FirstSome.{none_here, one_here}
+use Rattle.rv_resolve.proofs.FirstSomeLemmas.{none_here, one_here}
 use Rattle.rv_resolve.proofs.names.Names.undefined_among.Goals as goal
 
 abbrev no_relocation : DeclaredRelocation

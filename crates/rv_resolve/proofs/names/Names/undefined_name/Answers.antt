@@ -4,7 +4,7 @@ use Rattle.std.specs.List.{slice_get}
 use Rattle.rv_shorten.specs.View.{moves_of, short_object_of}
 use Rattle.rv_resolve.specs.Moved.{moved_in}
 use Rattle.rv_resolve.specs.Undefined.{is_resolved, undefined_name, undefined_symbol}
-use Rattle.rv_resolve.proofs.Cuts.{symbol_there, symbol_past}
+use Rattle.rv_resolve.proofs.CutsLemmas.{symbol_there, symbol_past}
 use Rattle.rv_resolve.proofs.names.Names.undefined_name.Goals as goal
 
 pub returns-then-is_resolved : goal.returns-then-is_resolved

@@ -1,8 +1,8 @@
 use Rattle.std.proofs.Common.{◌≡◌, ◌-◌, ◌∷◌, length, take, drop, slice_index_or, ap, sym, ◌∙◌}
 use Rattle.std.proofs.lemmas.List.{drop_more, take_rest}
 use Rattle.rv_shorten.specs.Bytes.{left_bytes}
-use Rattle.rv_shorten.proofs.Order.{zeros}
-use Rattle.rv_shorten.proofs.Running.{nothing_left, call_begun}
+use Rattle.rv_shorten.proofs.OrderLemmas.{zeros}
+use Rattle.rv_shorten.proofs.RunningLemmas.{nothing_left, call_begun}
 use Rattle.rv_shorten.proofs.bytes.LeftBytes.begin_call.Goals as goal
 
 pub returns-in_default-clause-none : goal.returns-in_default-clause-none

@@ -1,6 +1,6 @@
 use Rattle.std.proofs.Common.{◌-◌, ◌≤◌, ◌++◌, take, ap, ◌∙◌, arith}
 use Rattle.rv_shorten.specs.Bytes.{left_bytes, run_bytes}
-use Rattle.rv_shorten.proofs.Running.{put_more, skip_more}
+use Rattle.rv_shorten.proofs.RunningLemmas.{put_more, skip_more}
 use Rattle.rv_shorten.proofs.bytes.LeftBytes.put.Goals as goal
 
 pub loop-run-preserved : goal.loop-run-preserved

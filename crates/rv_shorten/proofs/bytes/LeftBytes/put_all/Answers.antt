@@ -1,7 +1,7 @@
 use Rattle.std.proofs.Common.{◌≡◌, ◌++◌, ◌-◌, ◌^◌, OnOk, subst, arith}
 use Rattle.std.proofs.lemmas.List.{take_all}
 use Rattle.rv_shorten.specs.Bytes.{left_bytes}
-use Rattle.rv_shorten.proofs.Running.{left_low}
+use Rattle.rv_shorten.proofs.RunningLemmas.{left_low}
 use Rattle.rv_shorten.proofs.bytes.LeftBytes.put_all.Goals as goal
 
 pub returns : goal.returns

@@ -2,7 +2,7 @@ use Rattle.std.proofs.Common.{arith}
 use Rattle.std.proofs.lemmas.List.{length-append}
 use Rattle.rv_shorten.specs.Bytes.{left_bytes, run_bytes}
 use Rattle.rv_isa_laws.specs.Bytes.{little_endian}
-use Rattle.rv_shorten.proofs.Running.{length_little, run_taken}
+use Rattle.rv_shorten.proofs.RunningLemmas.{length_little, run_taken}
 use Rattle.rv_shorten.proofs.bytes.LeftBytes.take.Goals as goal
 
 pub returns-clause-parts : goal.returns-clause-parts

@@ -2,7 +2,7 @@ use Rattle.std.proofs.Common.{arith}
 use Rattle.std.proofs.lemmas.List.{length-append}
 use Rattle.rv_shorten.specs.Bytes.{run_bytes}
 use Rattle.rv_isa_laws.specs.Bytes.{little_endian}
-use Rattle.rv_shorten.proofs.Running.{length_little}
+use Rattle.rv_shorten.proofs.RunningLemmas.{length_little}
 use Rattle.rv_shorten.proofs.bytes.Run.len.Goals as goal
 
 pub returns : goal.returns

@@ -4,7 +4,7 @@ use Rattle.rv_object.specs.Sections.{section_of}
 use Rattle.rv_object.specs.Valid.{are_rows}
 use Rattle.rv_shorten.specs.Cutting.{cut_symbol, cut_row_of}
 use Rattle.rv_shorten.specs.Sections.{moves_in_all}
-use Rattle.rv_shorten.proofs.Stays.{all_fitting, rows_stay}
+use Rattle.rv_shorten.proofs.StaysLemmas.{all_fitting, rows_stay}
 use Rattle.rv_shorten.proofs.object.ShortObject.of.Goals as goal
 
 pub invariant_of-result : goal.invariant_of-result

@@ -1,8 +1,8 @@
 use Rattle.std.proofs.Common.{map}
 use Rattle.rv_object.specs.Sections.{section_of}
 use Rattle.rv_shorten.specs.Cut.{move_of}
-use Rattle.rv_shorten.proofs.Short.{size_left, fit_stays, paddings_stay}
-use Rattle.rv_shorten.proofs.Steps.{stored_order}
+use Rattle.rv_shorten.proofs.ShortLemmas.{size_left, fit_stays, paddings_stay}
+use Rattle.rv_shorten.proofs.StepsLemmas.{stored_order}
 use Rattle.rv_shorten.proofs.section.ShortSection.of.Goals as goal
 
 pub invariant_of-result : goal.invariant_of-result

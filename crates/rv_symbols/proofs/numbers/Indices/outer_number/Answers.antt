@@ -3,7 +3,7 @@ use Rattle.std.specs.Prelude.{unwrap_or, position}
 use Rattle.std.specs.Str.{bytes_eq}
 use Rattle.rv_text.specs.Nodes.{symbol_of}
 use Rattle.rv_symbols.specs.Numbers.{outer_number}
-use Rattle.rv_symbols.proofs.Indexing.{position_is}
+use Rattle.rv_symbols.proofs.IndexingLemmas.{position_is}
 use Rattle.rv_symbols.proofs.numbers.Indices.outer_number.Goals as goal
 
 pub returns-in_ok-number-in-Name : goal.returns-in_ok-number-in-Name

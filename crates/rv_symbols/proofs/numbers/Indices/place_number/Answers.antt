@@ -2,8 +2,8 @@ use Rattle.std.proofs.Common.{◌≡◌, ◌+◌, ◌-◌, sym, ap, ◌∙◌, r
 use Rattle.std.specs.Prelude.{slice_get, unwrap_or}
 use Rattle.rv_assemble_laws.specs.Symbols.{site_at}
 use Rattle.rv_symbols.specs.Numbers.{place_number}
-use Rattle.rv_symbols.proofs.Stands.{site_none, site_next}
-use Rattle.rv_symbols.proofs.Indexing.{place_by, place_none}
+use Rattle.rv_symbols.proofs.StandsLemmas.{site_none, site_next}
+use Rattle.rv_symbols.proofs.IndexingLemmas.{place_by, place_none}
 use Rattle.rv_symbols.proofs.numbers.Indices.place_number.Goals as goal
 
 pub returns-then-ordinal-eq0 : goal.returns-then-ordinal-eq0

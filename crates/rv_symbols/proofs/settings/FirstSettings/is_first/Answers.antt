@@ -1,6 +1,6 @@
 use Rattle.std.proofs.Common.{◌≡◌, Some, None, sym, ap, ◌∙◌}
 use Rattle.rv_symbols.specs.Settings.{first_ordinal}
-use Rattle.rv_symbols.proofs.Firsts.{is_at, first_is}
+use Rattle.rv_symbols.proofs.FirstsLemmas.{is_at, first_is}
 use Rattle.rv_symbols.proofs.settings.FirstSettings.is_first.Goals as goal
 
 pub returns-in-Some : goal.returns-in-Some

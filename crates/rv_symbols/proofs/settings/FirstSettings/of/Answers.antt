@@ -4,7 +4,7 @@ use Rattle.rv_text.specs.declared.evaluation.Meaning.TheVariants as meanings
 use Rattle.rv_unit_tables.specs.declared.tables.Assignment.{Assignment}
 use Rattle.rv_unit_tables.specs.Tables.{assignment_of}
 use Rattle.rv_symbols.specs.Settings.{first_ordinal}
-use Rattle.rv_symbols.proofs.Firsts.{settings_more}
+use Rattle.rv_symbols.proofs.FirstsLemmas.{settings_more}
 use Rattle.rv_symbols.proofs.settings.FirstSettings.of.Goals as goal
 
 abbrev no_setting : Assignment

@@ -1,7 +1,7 @@
 use Rattle.std.proofs.Common.{◌≡◌, ◌+◌, ◌-◌, sym, ap, ◌∙◌, rules}
 use Rattle.std.specs.Prelude.{slice_get}
 use Rattle.rv_assemble_laws.specs.Symbols.{after_found, site_at}
-use Rattle.rv_symbols.proofs.Stands.{site_none, site_next, after_some, after_none}
+use Rattle.rv_symbols.proofs.StandsLemmas.{site_none, site_next, after_some, after_none}
 use Rattle.rv_symbols.proofs.source.Source.after.Goals as goal
 
 pub returns-then-ordinal-eq0 : goal.returns-then-ordinal-eq0

@@ -1,6 +1,6 @@
 use Rattle.std.proofs.Common.{◌≡◌, Some, None, sym, ap, ◌∙◌}
 use Rattle.std.specs.Prelude.{option_copied, slice_get}
-use Rattle.rv_symbols.proofs.Stands.{both, got, place_of}
+use Rattle.rv_symbols.proofs.StandsLemmas.{both, got, place_of}
 use Rattle.rv_symbols.proofs.source.Source.place.Goals as goal
 
 pub returns-in_default : goal.returns-in_default

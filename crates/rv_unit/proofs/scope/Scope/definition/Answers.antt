@@ -5,7 +5,7 @@ use Rattle.rv_text.specs.Nodes.{symbol_of}
 use Rattle.rv_unit_laws.specs.Tables.{definition, tables, definition_at, numeric_definition}
 use Rattle.rv_unit_tables.specs.Tables.{tables_of}
 use Rattle.rv_unit.specs.Unit.{said}
-use Rattle.rv_unit.proofs.Scoped.{whole_before}
+use Rattle.rv_unit.proofs.ScopedLemmas.{whole_before}
 use Rattle.rv_unit.proofs.scope.Scope.definition.Goals as goal
 
 pub returns-in-Name : goal.returns-in-Name

@@ -6,7 +6,7 @@ use Rattle.rv_unit_laws.specs.Tables as laws
 use Rattle.rv_unit_tables.specs.Sections.{offset_of}
 use Rattle.rv_unit_tables.specs.Tables.{assignment_of}
 use Rattle.rv_unit.specs.Unit.{said, passed}
-use Rattle.rv_unit.proofs.Scoped.{here_inside, past_here}
+use Rattle.rv_unit.proofs.ScopedLemmas.{here_inside, past_here}
 use Rattle.rv_unit.proofs.scope.Scope.gives_location.Goals as goal
 
 pub returns-in-Some : goal.returns-in-Some

@@ -5,7 +5,7 @@ use Rattle.rv_unit_laws.specs.Tables as laws
 use Rattle.rv_unit_tables.specs.Sections.{offset_of}
 use Rattle.rv_unit_tables.specs.Tables.{tables_of}
 use Rattle.rv_unit.specs.Unit.{said}
-use Rattle.rv_unit.proofs.Scoped.{whole_before}
+use Rattle.rv_unit.proofs.ScopedLemmas.{whole_before}
 use Rattle.rv_unit.proofs.unit.Unit.early_meaning.Goals as goal
 
 pub returns-in-Name : goal.returns-in-Name

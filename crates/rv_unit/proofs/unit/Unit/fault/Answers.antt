@@ -8,10 +8,10 @@ use Rattle.rv_statement.specs.Statement.{Applied, Directs, Enters}
 use Rattle.rv_unit_laws.specs.Faults as faults
 use Rattle.rv_unit_laws.specs.Sections.{section_of}
 use Rattle.rv_unit_laws.specs.Tables as laws
-use Rattle.rv_unit_laws.proofs.Opened.{after_opened}
+use Rattle.rv_unit_laws.proofs.OpenedLemmas.{after_opened}
 use Rattle.rv_unit.specs.Faults.{IsLowest}
 use Rattle.rv_unit.specs.Unit.{said, passed, IsAt}
-use Rattle.rv_unit.proofs.Instructions.{plain_is, with_is}
+use Rattle.rv_unit.proofs.InstructionsLemmas.{plain_is, with_is}
 use Rattle.rv_unit.proofs.unit.Unit.fault.Goals as goal
 
 pub returns-in-Label : goal.returns-in-Label

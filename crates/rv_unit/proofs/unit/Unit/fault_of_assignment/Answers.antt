@@ -7,8 +7,8 @@ use Rattle.rv_unit_laws.specs.Tables as laws
 use Rattle.rv_unit_tables.specs.Sections.{section_of}
 use Rattle.rv_unit.specs.Faults.{IsLowest}
 use Rattle.rv_unit.specs.Unit.{said, passed}
-use Rattle.rv_unit.proofs.Scoped.{whole_before}
-use Rattle.rv_unit.proofs.Standing.{at_here, at_home, at_defined, at_location}
+use Rattle.rv_unit.proofs.ScopedLemmas.{whole_before}
+use Rattle.rv_unit.proofs.StandingLemmas.{at_here, at_home, at_defined, at_location}
 use Rattle.rv_unit.proofs.unit.Unit.fault_of_assignment.Goals as goal
 
 pub returns : goal.returns

@@ -8,7 +8,7 @@ use Rattle.rv_unit_laws.specs.Tables as laws
 use Rattle.rv_unit.specs.Faults.{IsLowest}
 use Rattle.rv_unit_tables.specs.Sections.{offset_of}
 use Rattle.rv_unit.specs.Unit.{said}
-use Rattle.rv_unit.proofs.Each.{each_more}
+use Rattle.rv_unit.proofs.EachLemmas.{each_more}
 use Rattle.rv_unit.proofs.unit.Unit.fault_of_each.Goals as goal
 
 pub loop-value-preserved : goal.loop-value-preserved

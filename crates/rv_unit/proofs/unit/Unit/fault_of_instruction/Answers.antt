@@ -4,7 +4,7 @@ use Rattle.rv_statement.specs.Statement.{Instruction}
 use Rattle.rv_unit_laws.specs.Faults as faults
 use Rattle.rv_unit_laws.specs.Sections.{Section, is_nobits}
 use Rattle.rv_unit.specs.Faults.{IsLowest}
-use Rattle.rv_unit.proofs.Standing.{at_home}
+use Rattle.rv_unit.proofs.StandingLemmas.{at_home}
 use Rattle.rv_unit.proofs.unit.Unit.fault_of_instruction.Goals as goal
 
 pub returns : goal.returns

@@ -3,8 +3,8 @@ use Rattle.rv_statement.specs.Statement.{Label}
 use Rattle.rv_unit_laws.specs.Faults as faults
 use Rattle.rv_unit.specs.Faults.{IsLowest}
 use Rattle.rv_unit.specs.Unit.{said}
-use Rattle.rv_unit.proofs.Scoped.{whole_before}
-use Rattle.rv_unit.proofs.Standing.{at_defined}
+use Rattle.rv_unit.proofs.ScopedLemmas.{whole_before}
+use Rattle.rv_unit.proofs.StandingLemmas.{at_defined}
 use Rattle.rv_unit.proofs.unit.Unit.fault_of_label.Goals as goal
 
 pub returns : goal.returns

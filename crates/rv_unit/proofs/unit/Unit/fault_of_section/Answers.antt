@@ -3,7 +3,7 @@ use Rattle.std.specs.Prelude.{not}
 use Rattle.rv_unit_laws.specs.Faults as faults
 use Rattle.rv_unit_tables.specs.Sections.{section_of}
 use Rattle.rv_unit.specs.Faults.{IsLowest}
-use Rattle.rv_unit.proofs.Standing.{at_limit}
+use Rattle.rv_unit.proofs.StandingLemmas.{at_limit}
 use Rattle.rv_unit.proofs.unit.Unit.fault_of_section.Goals as goal
 
 pub returns : goal.returns

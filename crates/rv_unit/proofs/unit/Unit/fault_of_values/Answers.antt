@@ -9,8 +9,8 @@ use Rattle.rv_unit_laws.specs.Faults as faults
 use Rattle.rv_unit_laws.specs.Tables as laws
 use Rattle.rv_unit.specs.Faults.{IsLowest}
 use Rattle.rv_unit.specs.Unit.{said, passed}
-use Rattle.rv_unit.proofs.Sized.{data_faults, data_shown}
-use Rattle.rv_unit.proofs.Standing.{at_here, at_home}
+use Rattle.rv_unit.proofs.SizedLemmas.{data_faults, data_shown}
+use Rattle.rv_unit.proofs.StandingLemmas.{at_here, at_home}
 use Rattle.rv_unit.proofs.unit.Unit.fault_of_values.Goals as goal
 
 pub returns : goal.returns

@@ -7,8 +7,8 @@ use Rattle.rv_unit_laws.specs.Faults as faults
 use Rattle.rv_unit_laws.specs.Tables as laws
 use Rattle.rv_unit_tables.specs.declared.section_offset.SectionOffset.{SectionOffset}
 use Rattle.rv_unit.specs.Unit.{said, passed, IsAt}
-use Rattle.rv_unit.proofs.Standing.{is_at, places_count, depth_next}
-use Rattle.rv_unit.proofs.Checked.{check_more, check_found, check_lowest, next_said}
+use Rattle.rv_unit.proofs.StandingLemmas.{is_at, places_count, depth_next}
+use Rattle.rv_unit.proofs.CheckedLemmas.{check_more, check_found, check_lowest, next_said}
 use Rattle.rv_unit.proofs.unit.Unit.first_fault.Goals as goal
 
 pub bounds-places-index : goal.bounds-places-index

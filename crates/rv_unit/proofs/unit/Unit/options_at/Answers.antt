@@ -1,6 +1,6 @@
 use Rattle.std.proofs.Common.{◌≡◌, ◌<◌, ◌∙◌, nat_lt, true, false, length, get_or, sym, ap, subst}
 use Rattle.std.proofs.lemmas.Bool.{lt-ltb}
-use Rattle.rv_unit.proofs.Standing.{options_found, options_count}
+use Rattle.rv_unit.proofs.StandingLemmas.{options_found, options_count}
 use Rattle.rv_unit.proofs.unit.Unit.options_at.Goals as goal
 
 pub returns-in-Some : goal.returns-in-Some

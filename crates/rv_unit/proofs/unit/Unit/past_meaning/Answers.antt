@@ -3,7 +3,7 @@ use Rattle.rv_text.specs.Nodes.{symbol_of}
 use Rattle.rv_unit_laws.specs.Tables.{meaning}
 use Rattle.rv_unit_tables.specs.Sections.{offset_of}
 use Rattle.rv_unit.specs.Unit.{said, passed}
-use Rattle.rv_unit.proofs.Scoped.{past_ahead, past_symbol}
+use Rattle.rv_unit.proofs.ScopedLemmas.{past_ahead, past_symbol}
 use Rattle.rv_unit.proofs.unit.Unit.past_meaning.Goals as goal
 
 pub returns-in-Forward : goal.returns-in-Forward

@@ -2,7 +2,7 @@ use Rattle.std.proofs.Common.{◌∙◌, ap, sym}
 use Rattle.rv_statement.specs.View.{statement_kind}
 use Rattle.rv_unit_laws.specs.Tables.{after}
 use Rattle.rv_unit_tables.specs.Tables.{tables_of}
-use Rattle.rv_unit_tables.proofs.Gives.{on_ok}
+use Rattle.rv_unit_tables.proofs.GivesLemmas.{on_ok}
 use Rattle.rv_unit_tables.proofs.tables.Tables.add.Goals as goal
 
 pub returns-in-AlignsToBytes-clause-tables : goal.returns-in-AlignsToBytes-clause-tables

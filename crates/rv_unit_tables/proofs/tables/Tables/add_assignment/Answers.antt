@@ -1,9 +1,9 @@
 use Rattle.std.proofs.Common.{◌≡◌, ◌∙◌, ap, sym, subst, rules, false, Some, option_map}
 use Rattle.rv_text.specs.Expr.{tree_of_expr}
 use Rattle.rv_unit_laws.specs.Tables.{with_assignment, assigned, meaning, value, here, stands, opened_of}
-use Rattle.rv_unit_laws.proofs.Before.{IsBefore}
+use Rattle.rv_unit_laws.proofs.BeforeLemmas.{IsBefore}
 use Rattle.rv_unit_tables.specs.Tables.{tables_of, assignment_of, IsIndexed}
-use Rattle.rv_unit_tables.proofs.Gives.{on_ok}
+use Rattle.rv_unit_tables.proofs.GivesLemmas.{on_ok}
 use Rattle.rv_unit_tables.proofs.tables.Tables.add_assignment.Goals as goal
 
 pub returns-in-Some-clause-tables : goal.returns-in-Some-clause-tables

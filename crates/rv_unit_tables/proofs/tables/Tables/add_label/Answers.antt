@@ -6,7 +6,7 @@ use Rattle.std.proofs.lemmas.List.{map-append}
 use Rattle.indexmap.proofs.CallerLemmas.{insert_entry-new}
 use Rattle.rv_unit_laws.specs.Tables.{label_of, assigned_ever}
 use Rattle.rv_unit_tables.specs.Tables.{tables_of, labelled_of}
-use Rattle.rv_unit_tables.proofs.Lookups.{with_label_old, with_label_new, label_none}
+use Rattle.rv_unit_tables.proofs.LookupsLemmas.{with_label_old, with_label_new, label_none}
 use Rattle.rv_unit_tables.proofs.tables.Tables.add_label.Goals as goal
 
 pub returns-then-is_defined-clause-tables : goal.returns-then-is_defined-clause-tables

@@ -3,8 +3,8 @@ use Rattle.rv_text_laws.specs.Bytes.{value}
 use Rattle.rv_unit_laws.specs.Tables as laws
 use Rattle.rv_unit_tables.specs.declared.tables.NumericLabel.{NumericLabel}
 use Rattle.rv_unit_tables.specs.Tables.{tables_of, numbered_at, numeric_labels_in}
-use Rattle.rv_unit_tables.proofs.Gives.{on_ok, both_ok}
-use Rattle.rv_unit_tables.proofs.Numbered.{indexed_later}
+use Rattle.rv_unit_tables.proofs.GivesLemmas.{on_ok, both_ok}
+use Rattle.rv_unit_tables.proofs.NumberedLemmas.{indexed_later}
 use Rattle.rv_unit_tables.proofs.tables.Tables.add_numeric_label.Goals as goal
 
 pub returns-clause-tables : goal.returns-clause-tables

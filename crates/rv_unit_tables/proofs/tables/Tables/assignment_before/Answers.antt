@@ -5,7 +5,7 @@ use Rattle.std.specs.Option.{option_map_or, option_copied}
 use Rattle.std.specs.Str.{bytes_eq}
 use Rattle.rv_unit_tables.specs.declared.tables.Assignment.{Assignment}
 use Rattle.rv_unit_tables.specs.Tables.{assignment_of}
-use Rattle.rv_unit_tables.proofs.Ordered.{in_order, before_found, assigned_at}
+use Rattle.rv_unit_tables.proofs.OrderedLemmas.{in_order, before_found, assigned_at}
 use Rattle.rv_unit_tables.proofs.tables.Tables.assignment_before.Goals as goal
 
 pub returns-in-Some : goal.returns-in-Some

@@ -2,7 +2,7 @@ use Rattle.std.proofs.Common.{◌∙◌, ap, sym, option_map}
 use Rattle.rv_text_laws.specs.Bytes.{value}
 use Rattle.rv_unit_laws.specs.Tables.{backward_in, opened_of}
 use Rattle.rv_unit_tables.specs.Tables.{tables_of, numeric_label_at}
-use Rattle.rv_unit_tables.proofs.Lookups.{numeric_label_latest}
+use Rattle.rv_unit_tables.proofs.LookupsLemmas.{numeric_label_latest}
 use Rattle.rv_unit_tables.proofs.tables.Tables.backward.Goals as goal
 
 pub returns-in-Some : goal.returns-in-Some

@@ -1,5 +1,5 @@
 use Rattle.rv_unit_tables.specs.Tables.{tables_of}
-use Rattle.rv_unit_tables.proofs.Gives.{on_ok}
+use Rattle.rv_unit_tables.proofs.GivesLemmas.{on_ok}
 use Rattle.rv_unit_tables.proofs.tables.Tables.bind.Goals as goal
 
 pub returns-clause-tables : goal.returns-clause-tables

@@ -1,6 +1,6 @@
 use Rattle.std.proofs.Common.{◌≡◌, ◌∙◌, ap, sym, refl, length, rules}
 use Rattle.rv_unit_tables.specs.Sections.{section_of}
-use Rattle.rv_unit_tables.proofs.Lookups.{indexed_more, sections_in, sections_append, sections_length}
+use Rattle.rv_unit_tables.proofs.LookupsLemmas.{indexed_more, sections_in, sections_append, sections_length}
 use Rattle.rv_unit_tables.proofs.tables.Tables.enter.Goals as goal
 
 pub returns-clause-indexed : goal.returns-clause-indexed

@@ -4,7 +4,7 @@ use Rattle.rv_unit_laws.specs.Sections.{place_of_name}
 use Rattle.rv_unit_laws.specs.Tables as laws
 use Rattle.rv_unit_tables.specs.Sections.{section_of}
 use Rattle.rv_unit_tables.specs.Tables.{tables_of}
-use Rattle.rv_unit_tables.proofs.Lookups.{extend_is, extend_past, sections_set}
+use Rattle.rv_unit_tables.proofs.LookupsLemmas.{extend_is, extend_past, sections_set}
 use Rattle.rv_unit_tables.proofs.tables.Tables.extend.Goals as goal
 
 pub returns-then-number-len-clause-tables : goal.returns-then-number-len-clause-tables

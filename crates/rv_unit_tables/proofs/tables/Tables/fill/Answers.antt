@@ -4,7 +4,7 @@ use Rattle.rv_statement.specs.View.{statement_of}
 use Rattle.rv_unit_tables.specs.Options.{options_of}
 use Rattle.rv_unit_tables.specs.Sections.{offset_of}
 use Rattle.rv_unit_tables.specs.Tables.{tables_of}
-use Rattle.rv_unit_tables.proofs.Filling.{fills_more, options_more, drop_next}
+use Rattle.rv_unit_tables.proofs.FillingLemmas.{fills_more, options_more, drop_next}
 use Rattle.rv_unit_tables.proofs.tables.Tables.fill.Goals as goal
 
 pub loop-statement-preserved : goal.loop-statement-preserved

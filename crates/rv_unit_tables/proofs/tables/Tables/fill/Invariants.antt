@@ -5,7 +5,7 @@ use Rattle.rv_unit_laws.specs.Tables.{at_start, options_from, all_options}
 use Rattle.rv_unit_tables.specs.Options.{options_of}
 use Rattle.rv_unit_tables.specs.Sections.{offset_of}
 use Rattle.rv_unit_tables.specs.Tables.{tables_of, IsIndexed}
-use Rattle.rv_unit_tables.proofs.Filling.{FillsTo}
+use Rattle.rv_unit_tables.proofs.FillingLemmas.{FillsTo}
 use Rattle.rv_unit_tables.proofs.tables.Tables.fill.Given as goal
 
 abbrev pub invariant-loop-statement : goal.invariant-loop-statement

@@ -1,7 +1,7 @@
 use Rattle.std.proofs.Common.{◌∙◌, sym, refl}
 use Rattle.rv_text.specs.Eval.{meaning_of}
 use Rattle.rv_unit_tables.specs.Tables.{tables_of, assignment_of}
-use Rattle.rv_unit_tables.proofs.Lookups.{taken_place, taken_other}
+use Rattle.rv_unit_tables.proofs.LookupsLemmas.{taken_place, taken_other}
 use Rattle.rv_unit_tables.proofs.tables.Tables.is_taken.Goals as goal
 
 pub returns-then-is_location : goal.returns-then-is_location

@@ -1,6 +1,6 @@
 use Rattle.std.proofs.Common.{◌∙◌, ap, option_map}
 use Rattle.rv_unit_tables.specs.Tables.{label_at}
-use Rattle.rv_unit_tables.proofs.Lookups.{label_found}
+use Rattle.rv_unit_tables.proofs.LookupsLemmas.{label_found}
 use Rattle.rv_unit_tables.proofs.tables.Tables.label.Goals as goal
 
 pub returns : goal.returns

@@ -2,7 +2,7 @@ use Rattle.std.proofs.Common.{◌≡◌, ◌∙◌, ap, sym, true, option_map, S
 use Rattle.std.specs.Prelude.{if◌then◌else◌}
 use Rattle.std.proofs.lemmas.Bool.{lt-ltb, le-ltb}
 use Rattle.rv_unit_laws.specs.Tables.{Labelled, label_of}
-use Rattle.rv_unit_laws.proofs.Before.{label_below, below}
+use Rattle.rv_unit_laws.proofs.BeforeLemmas.{label_below, below}
 use Rattle.rv_unit_tables.specs.Tables.{tables_of, label_at}
 use Rattle.rv_unit_tables.proofs.tables.Tables.label_before.Goals as goal
 

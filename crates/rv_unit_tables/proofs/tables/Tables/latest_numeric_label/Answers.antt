@@ -4,8 +4,8 @@ use Rattle.std.specs.Option.{option_map_or, option_copied}
 use Rattle.rv_text_laws.specs.Bytes.{value}
 use Rattle.rv_unit_laws.specs.Tables as laws
 use Rattle.rv_unit_tables.specs.Tables.{numbered_at, numeric_label_at, numeric_labels_in}
-use Rattle.rv_unit_tables.proofs.Numbered.{latest_kept}
-use Rattle.rv_unit_tables.proofs.Ordered.{assigned_at}
+use Rattle.rv_unit_tables.proofs.NumberedLemmas.{latest_kept}
+use Rattle.rv_unit_tables.proofs.OrderedLemmas.{assigned_at}
 use Rattle.rv_unit_tables.proofs.tables.Tables.latest_numeric_label.Goals as goal
 
 pub returns-in-Some : goal.returns-in-Some

@@ -3,7 +3,7 @@ use Rattle.rv_text.specs.Nodes.{symbol_of}
 use Rattle.rv_text_laws.specs.Bytes.{value}
 use Rattle.rv_unit_laws.specs.Tables.{forward_in, meaning, here, opened_of}
 use Rattle.rv_unit_tables.specs.Tables.{tables_of}
-use Rattle.rv_unit_tables.proofs.Lookups.{numeric_label_none}
+use Rattle.rv_unit_tables.proofs.LookupsLemmas.{numeric_label_none}
 use Rattle.rv_unit_tables.proofs.tables.Tables.meaning.Goals as goal
 
 pub returns-in-Forward : goal.returns-in-Forward

@@ -1,6 +1,6 @@
 use Rattle.std.proofs.Common.{◌∙◌, ap, sym, option_map}
 use Rattle.rv_unit_tables.specs.Tables.{tables_of, assignment_of}
-use Rattle.rv_unit_tables.proofs.Lookups.{named_set, named_other}
+use Rattle.rv_unit_tables.proofs.LookupsLemmas.{named_set, named_other}
 use Rattle.rv_unit_tables.proofs.tables.Tables.named.Goals as goal
 
 pub returns-in-Some : goal.returns-in-Some

@@ -12,7 +12,7 @@ use Rattle.rv_unit_tables.specs.declared.tables.Assignment.{Assignment}
 use Rattle.rv_unit_tables.specs.declared.section.Extent.{Extent}
 use Rattle.rv_unit_tables.specs.Sections.{section_of}
 use Rattle.rv_unit_tables.specs.Tables.{numeric_label_at, numeric_labels_in}
-use Rattle.rv_unit_tables.proofs.Lookups.{indexed_first, sections_in}
+use Rattle.rv_unit_tables.proofs.LookupsLemmas.{indexed_first, sections_in}
 use Rattle.rv_unit_tables.proofs.tables.Tables.new.Goals as goal
 
 pub returns-clause-indexed : goal.returns-clause-indexed

@@ -6,8 +6,8 @@ use Rattle.rv_text_laws.specs.Bytes.{value}
 use Rattle.rv_unit_laws.specs.Tables as laws
 use Rattle.rv_unit_tables.specs.declared.tables.NumericLabel.{NumericLabel}
 use Rattle.rv_unit_tables.specs.Tables.{numbered_at, numeric_label_at, numeric_labels_in}
-use Rattle.rv_unit_tables.proofs.Numbered.{after_kept, kept_rise}
-use Rattle.rv_unit_tables.proofs.Ordered.{assigned_at}
+use Rattle.rv_unit_tables.proofs.NumberedLemmas.{after_kept, kept_rise}
+use Rattle.rv_unit_tables.proofs.OrderedLemmas.{assigned_at}
 use Rattle.rv_unit_tables.proofs.tables.Tables.numeric_label_after.Goals as goal
 
 pub returns-in-Some : goal.returns-in-Some

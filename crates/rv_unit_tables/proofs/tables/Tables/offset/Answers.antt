@@ -3,7 +3,7 @@ use Rattle.std.proofs.lemmas.Bool.{ltb-true}
 use Rattle.rv_unit_laws.specs.Tables as laws
 use Rattle.rv_unit_tables.specs.declared.section.Extent.{Extent}
 use Rattle.rv_unit_tables.specs.Sections.{extent_of}
-use Rattle.rv_unit_tables.proofs.Lookups.{bytes_found}
+use Rattle.rv_unit_tables.proofs.LookupsLemmas.{bytes_found}
 use Rattle.rv_unit_tables.proofs.tables.Tables.offset.Goals as goal
 
 pub returns-in-Some : goal.returns-in-Some

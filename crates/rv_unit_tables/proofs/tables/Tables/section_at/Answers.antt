@@ -2,7 +2,7 @@ use Rattle.std.proofs.Common.{◌∙◌, sym, ap, List, length, slice_index_or}
 use Rattle.std.proofs.lemmas.Bool.{ltb-true}
 use Rattle.rv_unit_laws.specs.Sections.{text_section}
 use Rattle.rv_unit_tables.specs.declared.section.Extent.{Extent}
-use Rattle.rv_unit_tables.proofs.Lookups.{section_found, sections_in}
+use Rattle.rv_unit_tables.proofs.LookupsLemmas.{section_found, sections_in}
 use Rattle.rv_unit_tables.proofs.tables.Tables.section_at.Goals as goal
 
 pub returns-in-Some : goal.returns-in-Some

@@ -4,8 +4,8 @@ use Rattle.std.proofs.lemmas.List.{map-append, reverse-append}
 use Rattle.rv_text.specs.Eval.{meaning_of}
 use Rattle.rv_unit_laws.specs.Tables.{may_set}
 use Rattle.rv_unit_tables.specs.Tables.{tables_of, assignment_of}
-use Rattle.rv_unit_tables.proofs.Gives.{on_ok}
-use Rattle.rv_unit_tables.proofs.Lookups.{set_one}
+use Rattle.rv_unit_tables.proofs.GivesLemmas.{on_ok}
+use Rattle.rv_unit_tables.proofs.LookupsLemmas.{set_one}
 use Rattle.rv_unit_tables.proofs.tables.Tables.set.Goals as goal
 
 pub returns-clause-tables : goal.returns-clause-tables

@@ -1,0 +1,109 @@
+-- Sections of code end at even offsets.
+
+use Rattle.std.proofs.Common.{◌≡◌, ℕ, zero, suc, ◌+◌, ◌%◌, ◌≤◌, Bool, true, false, List, [], ◌∷◌, length, refl, sym, ap, ◌∙◌, subst, arith, map, length-append, inl, inr}
+use Rattle.std.specs.Prelude.{◌&&◌, flat_map, unwrap_or}
+use Rattle.std.specs.List.{AllByRecursion}
+use Rattle.rv_isa.specs.declared.instruction.Inst.{Inst}
+use Rattle.rv_isa.specs.Kinds.{width_of}
+use Rattle.rv_compress.specs.Encoded.{IsLeast}
+use Rattle.rv_text_laws.specs.Values.{Value}
+use Rattle.rv_statement.specs.Statement.{StatementKind, Label, Numbered, Instruction, Directs, Expression}
+use Rattle.rv_pseudo_laws.specs.Code.{Part as CodePart, Closed, Open as OpenPart, Joined}
+use Rattle.rv_pseudo_laws.specs.Filled.{are_closed}
+use Rattle.rv_unit_laws.specs.Contributions.{Contribution, Nothing, Bytes, Zero_bytes, Alignment, contribution}
+use Rattle.rv_unit_laws.specs.Sections.{Section}
+use Rattle.rv_unit_laws.specs.Tables.{Tables}
+use Rattle.rv_assemble_laws.specs.CodeFields.{part_fields}
+use Rattle.rv_assemble_laws.specs.Coded.{IsCodedPart, AreCodedParts}
+use Rattle.rv_assemble_laws.specs.Templates.{Open, padding_templates, contribution_templates}
+use Rattle.rv_assemble_laws.specs.Sites.{Site, Part, form, part_of, part_bytes, parts_of, parts, coded_templates, templates, Tile, end_of, HasSize}
+use Rattle.rv_assemble_laws.proofs.FilledLemmas.{filled}
+use Rattle.rv_source_laws.proofs.HeldLemmas.{ContributionHeld, IsHeld}
+use Rattle.rv_assemble.proofs.SettledLemmas.{IsIn}
+use Rattle.rv_assemble.proofs.FieldListsLemmas.{all_join}
+use Rattle.rv_assemble.proofs.RoomLemmas.{nops_long, IsRoom, HasRoom, directive_room}
+use Rattle.rv_assemble.proofs.CodeFitsLemmas.{encoded_long, joined_long}
+
+least_even : (rvc : Bool) (i : Inst) (n : ℕ) → IsLeast rvc i n → n % 2 ≡ 0
+least_even true i n (inl (e, h)) = ap (λ m. m % 2) e
+least_even true i n (inr (e, h)) = ap (λ m. m % 2) e
+least_even false i n e = ap (λ m. m % 2) e
+
+-- a part has an even count of bytes
+abbrev pub IsEvenPart : Part → Type 0
+IsEvenPart p = length (part_bytes p) % 2 ≡ 0
+
+part_even : (rvc : Bool) (p : CodePart) (bytes : List ℕ) → IsCodedPart rvc p bytes → length bytes % 2 ≡ 0
+part_even rvc (Closed i) bytes h = least_even rvc i (length bytes) h.1
+part_even rvc (OpenPart k i) bytes (h, written) = let both = encoded_long i (width_of k) bytes written in ap (λ n. n % 2) both.0 ∙ both.1
+part_even rvc (Joined k i j) bytes (h, o, (first, (second, a, b, e))) = ap (λ n. n % 2) (joined_long i j bytes first second a b e)
+
+code_even : (rvc : Bool) (ordinal : ℕ) (fields : CodePart → List Open) (ps : List CodePart) (coded : List (List ℕ)) → AreCodedParts rvc ps coded
+    → AllByRecursion IsEvenPart (map (part_of ordinal) (coded_templates fields ps coded))
+code_even rvc ordinal fields [] [] h = tt
+code_even rvc ordinal fields [] (bytes ∷ coded) h = absurd h
+code_even rvc ordinal fields (p ∷ ps) [] h = absurd h
+code_even rvc ordinal fields (p ∷ ps) (bytes ∷ coded) (h, hs) = (part_even rvc p bytes h, code_even rvc ordinal fields ps coded hs)
+
+padding_even : (executable : Bool) (ordinal bytes : ℕ) → executable ≡ true → IsRoom bytes → AllByRecursion IsEvenPart (map (part_of ordinal) (padding_templates executable ordinal bytes))
+padding_even true ordinal zero e h = tt
+padding_even true ordinal (suc n) e h = (ap (λ m. m % 2) (nops_long (suc n) h.0) ∙ h.0, tt)
+padding_even false ordinal bytes e h = absurd (cc)
+
+contribution_even : (home : Section) (executable : Bool) (ordinal bytes : ℕ) (v : Expression → Value) (c : Contribution) → home.executable ≡ true → executable ≡ true → ContributionHeld home c → HasRoom c bytes
+    → AllByRecursion IsEvenPart (map (part_of ordinal) (contribution_templates executable ordinal v c bytes))
+contribution_even home executable ordinal bytes v Nothing code here held room = tt
+contribution_even home executable ordinal bytes v (Bytes contents) code here held room = absurd (let e = held.0 in cc)
+contribution_even home executable ordinal bytes v (Zero_bytes count) code here held room = absurd (cc)
+contribution_even home executable ordinal bytes v (Alignment f number) code here held room = padding_even executable ordinal bytes here room
+
+kind_even : (t : Tables) (home : Section) (s : Site) (multiple : ℕ) (kind : StatementKind) → home.executable ≡ true → s.located.home.executable ≡ true → IsHeld home kind → HasSize (form t s.located) s multiple kind
+    → AllByRecursion IsEvenPart (map (part_of s.located.ordinal) (templates t s kind))
+kind_even t home s multiple (Label name) code here held size = tt
+kind_even t home s multiple (Numbered number) code here held size = tt
+kind_even t home s multiple (Instruction mnemonic operands) code here held size =
+    subst (λ o. AllByRecursion IsEvenPart (map (part_of s.located.ordinal) (coded_templates (part_fields t (form t s.located) s.located) (unwrap_or o []) s.coded))) (sym size.parts)
+    (code_even (s.located.options.rvc && are_closed size.ps) s.located.ordinal (part_fields t (form t s.located) s.located) size.ps s.coded size.coded_as)
+kind_even t home s multiple (Directs d) code here held size =
+    contribution_even home s.located.home.executable s.located.ordinal s.bytes (form t s.located) (contribution d) code here held (directive_room (form t s.located) s multiple d here size)
+
+abbrev pub IsSized : Tables → ℕ → Site → Type 0
+IsSized t multiple s = s.located.placed ≡ true → HasSize (form t s.located) s multiple s.located.kind
+
+site_even : (t : Tables) (home : Section) (s : Site) (multiple : ℕ) → home.executable ≡ true → IsIn home s → IsSized t multiple s → AllByRecursion IsEvenPart (parts_of t s)
+site_even t home s multiple code h sized = go s.located.placed refl
+  where
+    go : (b : Bool) → s.located.placed ≡ b → AllByRecursion IsEvenPart (parts_of t s)
+    go true e = kind_even t home s multiple s.located.kind code (ap (λ (x : Section). x.executable) h.same ∙ code) h.held (sized e)
+    go false e = subst (λ ts. AllByRecursion IsEvenPart (map (part_of s.located.ordinal) ts)) (sym (h.bare e t s)) tt
+
+pub parts_even : (t : Tables) (home : Section) (multiple : ℕ) (sites : List Site) → home.executable ≡ true → AllByRecursion (IsIn home) sites → AllByRecursion (IsSized t multiple) sites
+    → AllByRecursion IsEvenPart (parts t sites)
+parts_even t home multiple [] code h sized = tt
+parts_even t home multiple (s ∷ ss) code (h, hs) (z, zs) =
+    all_join IsEvenPart (parts_of t s) (parts t ss) (site_even t home s multiple code h z) (parts_even t home multiple ss code hs zs)
+
+all_even : (ps : List Part) → AllByRecursion IsEvenPart ps → length (flat_map part_bytes ps) % 2 ≡ 0
+all_even [] h = refl
+all_even (p ∷ ps) (h, hs) =
+    let rest = all_even ps hs in
+    let l = length-append (part_bytes p) (flat_map part_bytes ps) in
+    omega (arith, h, rest, l)
+
+pub end_even : (t : Tables) (home : Section) (multiple : ℕ) (sites : List Site) → home.executable ≡ true → AllByRecursion (IsIn home) sites → AllByRecursion (IsSized t multiple) sites → Tile t 0 sites
+    → end_of 0 sites % 2 ≡ 0
+end_even t home multiple sites code h sized tile =
+    let whole = filled t 0 sites tile in
+    let even = all_even (parts t sites) (parts_even t home multiple sites code h sized) in
+    omega (arith, whole, even)
+
+-- each statement of a section ends within it
+pub ends_within : (t : Tables) (offset : ℕ) (sites : List Site) → Tile t offset sites → (stop : ℕ) → end_of offset sites ≡ stop → AllByRecursion (λ s. s.offset + s.bytes ≤ stop) sites
+ends_within t offset [] tile stop e = tt
+ends_within t offset (s ∷ ss) (at, bytes, tile) stop e =
+    let rest = no_less (offset + s.bytes) ss in
+    (omega (arith, rest, at, e), ends_within t (offset + s.bytes) ss tile stop e)
+  where
+    no_less : (n : ℕ) (sites : List Site) → n ≤ end_of n sites
+    no_less n [] = omega arith
+    no_less n (s ∷ ss) = let l = no_less (n + s.bytes) ss in omega (arith, l)

@@ -1,0 +1,109 @@
+-- The fields of a draft as the symbols that its source's relocations name.
+
+use Rattle.std.proofs.Common.{◌≡◌, ℕ, suc, ◌+◌, ◌<◌, List, [], ◌∷◌, ◌++◌, length, map, refl, sym, ap, ◌∙◌, subst, None, drop, get_or}
+use Rattle.std.proofs.lemmas.List.{length-map, drop_more}
+use Rattle.std.specs.List.{AllByRecursion}
+use Rattle.std.specs.Prelude.{Bool, true, false, flat_map, if◌then◌else◌}
+use Rattle.std.proofs.lemmas.Option.{slice_get_within}
+use Rattle.rv_statement.specs.Statement.{Statement}
+use Rattle.rv_unit_laws.specs.Faults.{first_fault}
+use Rattle.rv_unit_laws.specs.Sections.{Section}
+use Rattle.rv_unit_laws.specs.Tables.{Tables, at_start, after, tables, opened_of}
+use Rattle.rv_source_laws.specs.Located.{located_from}
+use Rattle.rv_assemble_laws.specs.Templates.{Open, template_fields}
+use Rattle.rv_assemble_laws.specs.Sites.{Site, Part, part_bytes, parts_of}
+use Rattle.rv_assemble_laws.specs.Symbols.{references}
+use Rattle.rv_assemble_laws.specs.Fields.{Field, field_at, fields_from, fields_at, fields}
+use Rattle.rv_assemble_laws.specs.ShownNames.{HasNames, AreShown}
+use Rattle.rv_draft.specs.declared.item.Item.{Item}
+use Rattle.rv_draft.specs.declared.field.OpenField.{OpenField}
+use Rattle.rv_draft.specs.declared.draft.Draft.{Draft}
+use Rattle.rv_draft.specs.Draft.{item_of, field_of, IsDraft}
+use Rattle.rv_symbols.specs.declared.symbol_use.SymbolUse.{SymbolUse as CodeUse}
+use Rattle.rv_symbols.specs.SymbolUse.{AreMeant, uses_of}
+use Rattle.rv_symbols.specs.HasSymbols.{AreSites}
+use Rattle.rv_assemble.specs.Tabled.{use_of, uses_in, offsets_of}
+use Rattle.rv_assemble.proofs.SettledLemmas.{IsSettled, settled}
+use Rattle.rv_assemble.proofs.FieldListsLemmas.{use_of_field, uses_of_fields, all_join, append_assoc}
+use Rattle.rv_assemble.proofs.UsesKnownLemmas.{are_shown_uses, are_meant_uses}
+
+offsets_are : (sites : List Site) → map (λ s. s.offset) sites ≡ offsets_of (map item_of sites)
+offsets_are [] = refl
+offsets_are (s ∷ ss) = ap (λ l. s.offset ∷ l) (offsets_are ss)
+
+uses_are : (fs : List OpenField) → flat_map use_of fs ≡ flat_map use_of_field (map field_of fs)
+uses_are [] = refl
+uses_are (f ∷ fs) = ap (λ l. use_of f ++ l) (uses_are fs)
+
+count_from : (k : ℕ) (t : Tables) (ss : List Statement) → length (located_from 1 k t ss) ≡ length ss
+count_from k t [] = refl
+count_from k t (s ∷ ss) = ap suc (count_from (suc k) (after t k s.kind) ss)
+
+-- ---- the sections of fields
+
+opens_inside : (n section offset : ℕ) → section < n → (fs : List Open) → AllByRecursion (λ (f : Field). f.section < n) (map (field_at section offset) fs)
+opens_inside n section offset h [] = tt
+opens_inside n section offset h (f ∷ fs) = (h, opens_inside n section offset h fs)
+
+parts_inside : (n section offset : ℕ) → section < n → (ps : List Part) → AllByRecursion (λ (f : Field). f.section < n) (fields_from section offset ps)
+parts_inside n section offset h [] = tt
+parts_inside n section offset h (p ∷ ps) =
+    all_join (λ (f : Field). f.section < n) (map (field_at section offset) (template_fields p.ordinal p.template)) (fields_from section (offset + length (part_bytes p)) ps) (opens_inside n section offset h (template_fields p.ordinal p.template))
+    (parts_inside n section (offset + length (part_bytes p)) h ps)
+
+site_inside : (n : ℕ) (t : Tables) (s : Site) → s.located.section < n → AllByRecursion (λ (f : Field). f.section < n) (fields_at t s)
+site_inside n t s h = go s.located.home.loaded
+  where
+    go : (b : Bool) → AllByRecursion (λ (f : Field). f.section < n) (if b then fields_from s.located.section s.offset (parts_of t s) else [])
+    go true = parts_inside n s.located.section s.offset h (parts_of t s)
+    go false = tt
+
+sites_inside : (t : Tables) (sections : List Section) (sites : List Site) → AllByRecursion (IsSettled sections) sites → AllByRecursion (λ (f : Field). f.section < length sections) (fields t sites)
+sites_inside t sections [] h = tt
+sites_inside t sections (s ∷ ss) (h, hs) =
+    all_join (λ (f : Field). f.section < length sections) (fields_at t s) (fields t ss)
+    (site_inside (length sections) t s (slice_get_within sections s.located.section s.located.home h.home)) (sites_inside t sections ss hs)
+
+unmapped : (n : ℕ) (fs : List OpenField) → AllByRecursion (λ (f : Field). f.section < n) (map field_of fs) → AllByRecursion (λ (f : OpenField). f.section < n) fs
+unmapped n [] h = tt
+unmapped n (f ∷ fs) (h, hs) = (h, unmapped n fs hs)
+
+module _ (ss : List Statement) (d : Draft) (h : IsDraft ss d) where
+  -- the symbols of the fields are those that relocations name
+  pub uses_named : uses_in d ≡ references (tables ss) h.sites
+  uses_named = uses_are d.fields.items ∙ ap (flat_map use_of_field) h.open_fields ∙ uses_of_fields (tables ss) h.sites
+
+  pub are_sites : AreSites ss (offsets_of d.items.items) (uses_in d) h.sites
+  are_sites = record { located = h.located; at = offsets_are h.sites ∙ ap offsets_of h.stand; named = sym uses_named }
+
+  pub items_count : length d.items.items ≡ length ss
+  items_count =
+      ap length (sym h.stand) ∙ length-map h.sites item_of ∙ sym (length-map h.sites (λ (s : Site). s.located)) ∙ ap length h.located ∙ count_from 1 at_start ss
+
+  pub offsets_count : length (offsets_of d.items.items) ≡ length ss
+  offsets_count = length-map d.items.items _ ∙ items_count
+
+  pub uses_shown : HasNames ss → AreShown (uses_in d)
+  uses_shown names = subst AreShown (sym uses_named) (are_shown_uses ss h.sites names h.located)
+
+  pub uses_meant : HasNames ss → AreMeant (tables ss) (uses_in d)
+  uses_meant names = subst (AreMeant (tables ss)) (sym uses_named) (are_meant_uses ss h.sites names h.located)
+
+  pub fields_inside : first_fault ss ≡ None → AllByRecursion (λ (f : OpenField). f.section < length (opened_of (tables ss)).sections) d.fields.items
+  fields_inside good =
+      unmapped (length (opened_of (tables ss)).sections) d.fields.items
+      (subst (λ fs. AllByRecursion (λ (f : Field). f.section < length (opened_of (tables ss)).sections) fs) (sym h.open_fields)
+      (sites_inside (tables ss) (opened_of (tables ss)).sections h.sites (settled ss h.sites good h.located)))
+
+-- ---- one more
+
+pub offsets_more : (made : List ℕ) (items : List Item) (i : ℕ) (d : Item) → i < length items → made ++ offsets_of (drop i items) ≡ offsets_of items
+    → (made ++ (get_or items i d).offset ∷ []) ++ offsets_of (drop (i + 1) items) ≡ offsets_of items
+offsets_more made items i d inside h =
+    append_assoc made ((get_or items i d).offset ∷ []) (offsets_of (drop (i + 1) items)) ∙ ap (λ l. made ++ offsets_of l) (sym (drop_more items i d inside)) ∙ h
+
+pub uses_more : (made now : List CodeUse) (fs : List OpenField) (i : ℕ) (d : OpenField) → i < length fs → uses_of now ≡ uses_of made ++ use_of (get_or fs i d) → uses_of made ++ flat_map use_of (drop i fs) ≡ flat_map use_of fs
+    → uses_of now ++ flat_map use_of (drop (i + 1) fs) ≡ flat_map use_of fs
+uses_more made now fs i d inside is h =
+    ap (λ l. l ++ flat_map use_of (drop (i + 1) fs)) is ∙ append_assoc (uses_of made) (use_of (get_or fs i d)) (flat_map use_of (drop (i + 1) fs))
+    ∙ ap (λ l. uses_of made ++ flat_map use_of l) (sym (drop_more fs i d inside)) ∙ h

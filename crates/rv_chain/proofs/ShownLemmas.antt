@@ -1,0 +1,44 @@
+-- The listing of the executable of a linked program is that of its sources.
+
+use Rattle.std.proofs.Common.{◌≡◌, ℕ, Bool, List, subst, sym, ◌∙◌}
+use Rattle.std.specs.Prelude.{◌↔◌}
+use Rattle.rv_encode.specs.Word.{Spells}
+use Rattle.rv_compress.specs.Parcel.{StandsFor}
+use Rattle.rv_isa_laws.specs.Reader.{Reader}
+use Rattle.rv_map.specs.Map.{Map}
+use Rattle.rv_map.specs.Limits.{IsMap}
+use Rattle.rv_map.specs.Text.{map_text}
+use Rattle.rv_map.proofs.WholeLemmas.{one_text}
+use Rattle.rv_image.specs.declared.linked.Linked.{Linked}
+use Rattle.rv_image.specs.Linked.{linked_of}
+use Rattle.rv_image.specs.Image.{Image}
+use Rattle.rv_image.specs.Executable.{exe_of, linked_image}
+use Rattle.rv_image.specs.ImageOf.{ImageOf}
+use Rattle.rv_image.proofs.LoadedAgainLemmas.{laid_out, reload_image}
+use Rattle.rv_source_laws.specs.Program.{program}
+use Rattle.rv_disasm.specs.Listing.{IsListing}
+use Rattle.rv_chain_laws.specs.SourceListing.{IsSourceListing}
+use Rattle.rv_chain_laws.proofs.ListedLemmas.{listed_is}
+use Rattle.rv_chain.specs.Building.{IsProgramFrom}
+use Rattle.rv_chain.specs.Listed.{IsListedAs}
+
+-- a file has one image
+one_image : (file : List ℕ) (image other : Image) → ImageOf file image → ImageOf file other → image ≡ other
+one_image file image other a b =
+    let entry : image.entry ≡ other.entry = a.entry ∙ sym b.entry in
+    let segments : image.segments ≡ other.segments = a.segments ∙ sym b.segments in
+    λ i. record { entry = entry i; segments = segments i }
+
+pub listed_as : (texts : List (List ℕ)) (start : ℕ) (relax : Bool) (linked : Linked) (exe map_bytes : List ℕ) → IsMap (linked_of linked).map → IsProgramFrom texts start relax (linked_of linked)
+    → exe ≡ exe_of (linked_of linked) → map_bytes ≡ map_text (linked_of linked).map → IsListedAs texts exe map_bytes
+listed_as texts start relax linked exe map_bytes is_map program_of written shown = record { sources = program_of.sources; read = program_of.read; listed = listed }
+  where
+    listed : (image : Image) → ImageOf exe image → (m : Map) → IsMap m → map_bytes ≡ map_text m → (reader : Reader Spells StandsFor) (text : List ℕ)
+        → IsListing reader image m text ↔ IsSourceListing (program program_of.sources m) text
+    listed image loads m is_one shows reader text =
+        let l = linked_of linked in
+        let same_map : l.map ≡ m = one_text l.map m is_map is_one (sym shown ∙ shows) in
+        let loaded : ImageOf exe (linked_image l) = subst (λ file. ImageOf file (linked_image l)) (sym written) (reload_image l (laid_out linked is_map.entry)) in
+        let same_image : linked_image l ≡ image = one_image exe (linked_image l) image loaded loads in
+        subst (λ n. IsListing reader image n text ↔ IsSourceListing (program program_of.sources n) text) same_map
+        (subst (λ im. IsListing reader im l.map text ↔ IsSourceListing (program program_of.sources l.map) text) same_image (listed_is start program_of.sources relax l program_of.linked reader text))

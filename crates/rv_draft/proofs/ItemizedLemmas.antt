@@ -1,0 +1,130 @@
+-- The item of a unit's statement at an index, and the bytes of each section after it.
+
+use Rattle.std.proofs.Common.{◌≡◌, ℕ, zero, suc, ◌+◌, ◌<◌, ◌≤◌, ◌^◌, ◌≢◌, ◌==◌, ◌&&◌, Bool, true, false, List, [], ◌∷◌, ◌++◌, length, map, set, get_or, inl, inr, Some, refl, sym, ap, ◌∙◌, subst, arith}
+use Rattle.std.specs.Prelude.{if◌then◌else◌, slice_index, slice_index_or, slice_get}
+use Rattle.std.proofs.lemmas.List.{length-map, get_or-set_same, get_or-set_other}
+use Rattle.std.proofs.lemmas.Bool.{eqb-true, eqb-false, cases_eq}
+use Rattle.rv_statement.specs.View.{statement_of, statement_kind}
+use Rattle.rv_statement.specs.declared.statement.Statement.{Statement}
+use Rattle.rv_statement.specs.declared.statement.StatementKind.TheVariants as kinds
+use Rattle.rv_unit_laws.specs.Sections.{Section}
+use Rattle.rv_unit_laws.specs.Tables.{Tables, SectionOffset as Standing, tables, value, stood, alignments_of}
+use Rattle.rv_unit_tables.specs.declared.section_offset.SectionOffset.{SectionOffset}
+use Rattle.rv_unit_tables.specs.declared.section.Extent.{Extent}
+use Rattle.rv_unit.specs.declared.unit.Unit.{Unit as SourceUnit}
+use Rattle.rv_unit_tables.specs.Sections.{offset_of, extent_section}
+use Rattle.rv_unit_tables.proofs.LookupsLemmas.{alignments_are}
+use Rattle.rv_unit.specs.Unit.{said, passed, IsFilled}
+use Rattle.rv_source_laws.specs.Located.{is_placed}
+use Rattle.rv_draft.specs.declared.item.CodeSize.{CodeSize}
+use Rattle.rv_draft.specs.declared.item.Item.{Item}
+use Rattle.rv_draft.specs.Items.{IsItem, grown}
+use Rattle.rv_draft.specs.Sized.{IsSized}
+use Rattle.rv_draft.specs.Code.{value_at}
+use Rattle.rv_draft.specs.Measured.{IsExtentAt, HasRoom}
+use Rattle.rv_draft.proofs.RoomyLemmas.{IsRoomy}
+use Rattle.rv_draft.proofs.StandingLemmas.{StandsAt, stands_at, located_at, got_inside}
+use Rattle.rv_draft.proofs.SoFarSizedLemmas.{IsSizedAt}
+
+-- ---- the bytes of each section
+
+grown_at : (b : Bool) (ends : List ℕ) (k n bytes j : ℕ) → k < length ends → n ≡ slice_index ends k + bytes → (b ≡ true → j ≡ k) → (b ≡ false → j ≢ k)
+    → slice_index (set ends k n) j ≡ (if b then slice_index ends j + bytes else slice_index ends j)
+grown_at true ends k n bytes j inside grows here other =
+    ap (λ i. get_or (set ends k n) i 0) (here refl) ∙ get_or-set_same ends k n 0 inside ∙ grows ∙ ap (λ i. slice_index ends i + bytes) (sym (here refl))
+grown_at false ends k n bytes j inside grows here other = get_or-set_other ends k j n 0 (other refl)
+
+-- the bytes of each section after an item that stands at the end of its own
+pub grown_by : (ends : List ℕ) (x : Item) (j : ℕ) → x.section < length ends → x.offset ≡ slice_index ends x.section
+    → slice_index (set ends x.section (x.offset + x.bytes)) j ≡ grown (λ k. slice_index ends k) x j
+grown_by ends x j inside at =
+    grown_at (j == x.section) ends x.section (x.offset + x.bytes) x.bytes j inside (ap (λ n. n + x.bytes) at) (eqb-true j x.section) (eqb-false j x.section)
+
+pub low_by : (ends : List ℕ) (k n j : ℕ) → k < length ends → n ≤ 2 ^ 28 → ((i : ℕ) → slice_index ends i ≤ 2 ^ 28) → slice_index (set ends k n) j ≤ 2 ^ 28
+low_by ends k n j inside low all =
+    elim (cases_eq j k) [
+      | inl here ↦ subst (λ m. m ≤ 2 ^ 28) (sym (ap (λ i. get_or (set ends k n) i 0) here ∙ get_or-set_same ends k n 0 inside)) low
+      | inr other ↦ subst (λ m. m ≤ 2 ^ 28) (sym (get_or-set_other ends k j n 0 other)) (all j)
+    ]
+
+-- a section without a byte after others
+pub none_behind : (xs : List ℕ) (j : ℕ) → ((i : ℕ) → slice_index xs i ≡ 0) → slice_index (xs ++ 0 ∷ []) j ≡ 0
+none_behind [] zero h = refl
+none_behind [] (suc j) h = refl
+none_behind (y ∷ ys) zero h = h 0
+none_behind (y ∷ ys) (suc j) h = none_behind ys j (λ i. h (suc i))
+
+-- ---- the section of an item
+
+pub got_map : {A B : Type 0} (f : A → B) (xs : List A) (i : ℕ) (d : A) → i < length xs → slice_get (map f xs) i ≡ Some (f (get_or xs i d))
+got_map f [] i d h = absurd (omega arith)
+got_map f (x ∷ xs) zero d h = refl
+got_map f (x ∷ xs) (suc i) d h = got_map f xs i d (omega arith)
+
+pub read_map : {A B : Type 0} (f : A → B) (xs : List A) (i : ℕ) (d : A) (e : B) → i < length xs → slice_index_or (map f xs) i e ≡ f (get_or xs i d)
+read_map f [] i d e h = absurd (omega arith)
+read_map f (x ∷ xs) zero d e h = refl
+read_map f (x ∷ xs) (suc i) d e h = read_map f xs i d e (omega arith)
+
+some_same : {A : Type 0} (a b : A) → Some a ≡ Some b → a ≡ b
+some_same a b e = cc
+
+pub home_at : (u : SourceUnit) (i : ℕ) (s : Statement) (p : SectionOffset) (e : Extent) → StandsAt u i s p → IsExtentAt u.tables.extents.items p.section e → extent_section e ≡ (located_at (said u) i (statement_of s)).home
+home_at u i s p e at there = some_same (extent_section e) (located_at (said u) i (statement_of s)).home (sym there.section ∙ at.home)
+
+-- ---- the item of a statement
+
+pub item_at : (u : SourceUnit) (i : ℕ) (s : Statement) (p : SectionOffset) (e : Extent) (before : ℕ → ℕ) (x : Item) → StandsAt u i s p → IsExtentAt u.tables.extents.items p.section e
+    → x.section ≡ p.section → x.offset ≡ before p.section → x.line ≡ s.line
+    → x.shown ≡ (is_placed (passed (said u) i) (i + 1) (statement_kind s.kind) && e.section.loaded) → (is_placed (passed (said u) i) (i + 1) (statement_kind s.kind) ≡ false → x.bytes ≡ 0)
+    → IsItem (located_at (said u) i (statement_of s)) before x
+item_at u i s p e before x at there section offset line shown absent =
+    let seat = ap (λ (q : Standing). q.section) at.place in
+    let home = home_at u i s p e at there in
+    record {
+      section = section ∙ seat;
+      offset = offset ∙ ap before seat;
+      line = line;
+      shown = shown ∙ ap (λ (h : Section). is_placed (passed (said u) i) (i + 1) (statement_kind s.kind) && h.loaded) home;
+      absent = absent;
+    }
+
+pub sized_at : (u : SourceUnit) (i : ℕ) (s : Statement) (p : SectionOffset) (e : Extent) (size : CodeSize) (x : Item) → IsFilled u → StandsAt u i s p → IsExtentAt u.tables.extents.items p.section e → x.section ≡ p.section
+    → (is_placed (passed (said u) i) (i + 1) (statement_kind s.kind) ≡ true → IsSized (λ t. value (tables (said u)) true (i + 1) (offset_of p) t) e.section.executable x e.alignment size (statement_kind s.kind))
+    → IsSizedAt (tables (said u)) (said u) i (statement_of s) size x
+sized_at u i s p e size x filled at there section h shown =
+    let all = tables (said u) in
+    let begins : e.alignment ≡ slice_index_or (alignments_of all) x.section 1 =
+    sym there.alignment ∙ ap (λ l. slice_index_or l p.section 1) (alignments_are u.tables.extents.items ∙ ap (λ (t : Tables). alignments_of t) filled.tables) ∙ ap (λ n. slice_index_or (alignments_of all) n 1) (sym section) in
+    let home = home_at u i s p e at there in
+    subst (λ (h : Section). IsSized (λ t. value all true (i + 1) (stood (passed (said u) i) (i + 1) (statement_of s).kind) t) h.executable x (slice_index_or (alignments_of all) x.section 1) size (statement_kind s.kind)) home
+    (subst (λ n. IsSized (λ t. value all true (i + 1) (stood (passed (said u) i) (i + 1) (statement_of s).kind) t) e.section.executable x n size (statement_kind s.kind)) begins
+    (subst (λ (q : Standing). IsSized (λ t. value all true (i + 1) q t) e.section.executable x e.alignment size (statement_kind s.kind)) at.place (h shown)))
+
+-- a statement that has a size, and for which its section has room
+pub room_at : (u : SourceUnit) (i : ℕ) (s : Statement) (p : SectionOffset) (e : Extent) (size : CodeSize) (ends : ℕ → ℕ) (stop : ℕ) → IsFilled u → StandsAt u i s p → IsExtentAt u.tables.extents.items p.section e
+    → (let st = located_at (said u) i (statement_of s) in
+    IsRoomy (λ t. value_at (tables (said u)) st t) st.home.executable (slice_index_or (alignments_of (tables (said u))) st.section 1) (ends st.section) stop size (statement_of s).kind)
+    → HasRoom (λ t. value (tables (said u)) true (i + 1) (offset_of p) t) e.section.executable e.alignment (ends p.section) size (statement_kind s.kind)
+room_at u i s p e size ends stop filled at there roomy =
+    let all = tables (said u) in
+    let st = located_at (said u) i (statement_of s) in
+    let RoomAt : Standing → Section → ℕ → Type 0 = λ q home begins. HasRoom (λ t. value all true (i + 1) q t) home.executable begins (ends q.section) size (statement_kind s.kind) in
+    let begins : slice_index_or (alignments_of all) p.section 1 ≡ e.alignment =
+    ap (λ l. slice_index_or l p.section 1) (sym (alignments_are u.tables.extents.items ∙ ap (λ (t : Tables). alignments_of t) filled.tables)) ∙ there.alignment in
+    let room : RoomAt (stood (passed (said u) i) (i + 1) (statement_of s).kind) st.home (slice_index_or (alignments_of all) st.section 1) = record { size = roomy.size; room = roomy.room } in
+    subst (RoomAt (offset_of p) (extent_section e)) begins
+    (subst (λ h. RoomAt (offset_of p) h (slice_index_or (alignments_of all) p.section 1)) (sym (home_at u i s p e at there))
+    (subst (λ q. RoomAt q st.home (slice_index_or (alignments_of all) q.section 1)) (sym at.place) room))
+
+-- the section of a statement is one of the unit's
+pub stands_inside : (u : SourceUnit) (i : ℕ) (s : Statement) (p : SectionOffset) → StandsAt u i s p → p.section < length u.tables.extents.items
+stands_inside u i s p at =
+    subst (λ n. p.section < n) (length-map u.tables.extents.items extent_section)
+    (got_inside (map extent_section u.tables.extents.items) p.section (located_at (said u) i (statement_of s)).home at.home)
+
+pub place_inside : (u : SourceUnit) (i : ℕ) (d p : SectionOffset) → IsFilled u → i < length u.statements.items → p ≡ get_or u.places.items i d → p.section < length u.tables.extents.items
+place_inside u i d p filled inside is =
+    let none : Statement = record { kind = kinds.Ignored; line = 0 } in
+    let x : Statement = get_or u.statements.items i none in
+    stands_inside u i x p (stands_at u i none x d p filled inside refl is)

@@ -1,0 +1,107 @@
+-- The code of a whole source.
+
+use Rattle.std.proofs.Common.{◌≡◌, ℕ, ◌+◌, Bool, true, Option, List, [], ◌∷◌, drop, inl, inr, Some, Result, Ok, Err, sym, ap, ◌∙◌, subst, append-nil}
+use Rattle.rv_lexer.specs.declared.fault.SourceFault.{SourceFault}
+use Rattle.rv_lexer.specs.declared.fault.SourceFault.TheVariants.{At, OutOfMemory}
+use Rattle.rv_lexer.specs.Fault.{number_of}
+use Rattle.rv_statement.specs.Statement.{Statement as SpecStatement}
+use Rattle.rv_statement.specs.View.{statement_of}
+use Rattle.rv_statement.specs.declared.statement.Statement.{Statement}
+use Rattle.rv_unit_laws.specs.Faults.{Fault, lowest}
+use Rattle.rv_unit_laws.specs.Sections.{Section}
+use Rattle.rv_unit_laws.specs.Tables.{Tables, SectionOffset as Standing, at_start, tables, value, stood}
+use Rattle.rv_unit_tables.specs.declared.section_offset.SectionOffset.{SectionOffset}
+use Rattle.rv_unit.specs.declared.unit.Unit.{Unit as SourceUnit}
+use Rattle.rv_unit_tables.specs.declared.section.Extent.{Extent}
+use Rattle.rv_unit_tables.specs.Sections.{offset_of, extent_section}
+use Rattle.rv_unit.specs.Unit.{said, passed}
+use Rattle.rv_source_laws.specs.Located.{Located, located, located_from}
+use Rattle.rv_assemble_laws.specs.InstructionFaults.{instruction_faults, is_label}
+use Rattle.rv_source_laws.specs.Sizes.{AreLeast}
+use Rattle.rv_assemble_laws.specs.Refusals.{code_faults_at, code_fault_from}
+use Rattle.rv_draft.specs.Added.{IsAdded, IsAllCode, IsCodeFault, IsCodeSoFar, IsSourceCode, Adds}
+use Rattle.rv_draft.specs.declared.code.Coder.{Coder}
+use Rattle.rv_draft.specs.declared.code.SectionCode.{SectionCode}
+use Rattle.rv_draft.proofs.SoFarLemmas.{next_code, wrong_code}
+use Rattle.rv_draft.specs.Measured.{IsExtentAt}
+use Rattle.rv_draft.proofs.ItemizedLemmas.{home_at}
+use Rattle.rv_draft.proofs.StandingLemmas.{StandsAt, located_at}
+
+-- the code of the first `i` statements of a source
+abbrev pub CodeTo : List SpecStatement → ℕ → Coder → Type 0
+CodeTo ss i c = IsCodeSoFar (tables ss) (located_from 1 1 at_start ss) (drop i (located_from 1 1 at_start ss)) c
+
+-- the faults of a statement as code, by where it stands
+abbrev pub faults_in : Tables → ℕ → Standing → SpecStatement → List ℕ
+faults_in t o p s = instruction_faults (λ e. value t true o p e) (is_label t o) s.kind
+
+pub faults_there : (u : SourceUnit) (i : ℕ) (x : Statement) (p : SectionOffset) → StandsAt u i x p
+    → faults_in (tables (said u)) (i + 1) (offset_of p) (statement_of x) ≡ code_faults_at (tables (said u)) (located_at (said u) i (statement_of x))
+faults_there u i x p at = ap (λ (r : Standing). faults_in (tables (said u)) (i + 1) r (statement_of x)) at.place
+
+-- whether its section is one of code
+pub code_there : (u : SourceUnit) (i : ℕ) (x : Statement) (p : SectionOffset) (e : Extent) → StandsAt u i x p → IsExtentAt u.tables.extents.items p.section e
+    → (extent_section e).executable ≡ (located_at (said u) i (statement_of x)).home.executable
+code_there u i x p e at there = ap (λ (h : Section). h.executable) (home_at u i x p e at there)
+
+-- what is added where the statement stands
+added_there : (t : Tables) (o : ℕ) (rvc on a b : Bool) (c d : Coder) (s : SpecStatement) (p q : Standing) (faults others : List ℕ) → p ≡ q → faults ≡ others → rvc ≡ on → a ≡ b
+    → IsAdded c d p.section a faults (λ e. value t true o p e) rvc s → IsAdded c d q.section b others (λ e. value t true o q e) on s
+added_there t o rvc on a b c d s p q faults others e f g k h =
+    subst (λ r. IsAdded c d q.section b others (λ e. value t true o q e) r s) g
+    (subst (λ l. IsAdded c d q.section b l (λ e. value t true o q e) rvc s) f
+    (subst (λ x. IsAdded c d q.section x faults (λ e. value t true o q e) rvc s) k (subst (λ (r : Standing). IsAdded c d r.section a faults (λ e. value t true o r e) rvc s) e h)))
+
+pub code_more : (u : SourceUnit) (i : ℕ) (x : Statement) (p : SectionOffset) (rvc b : Bool) (c d : Coder) (faults : List ℕ) → StandsAt u i x p → CodeTo (said u) i c
+    → faults ≡ code_faults_at (tables (said u)) (located_at (said u) i (statement_of x)) → rvc ≡ (located_at (said u) i (statement_of x)).options.rvc → b ≡ (located_at (said u) i (statement_of x)).home.executable
+    → IsAdded c d p.section b faults (λ e. value (tables (said u)) true (i + 1) (offset_of p) e) rvc (statement_of x) → CodeTo (said u) (i + 1) d
+code_more u i x p rvc b c d faults at h same on home added =
+    let ss = said u in
+    let all = located_from 1 1 at_start ss in
+    let st = located_at ss i (statement_of x) in
+    next_code (tables ss) all st (drop (i + 1) all) c d
+    (subst (λ rest. IsCodeSoFar (tables ss) all rest c) at.next h)
+    (added_there (tables ss) (i + 1) rvc st.options.rvc b st.home.executable c d (statement_of x) (offset_of p) (stood (passed ss i) (i + 1) (statement_of x).kind) faults _ at.place same on home added)
+
+fault_first : (ss : List SpecStatement) (code line at : ℕ) → code_fault_from (tables ss) (located (ss ∷ [])) ≡ Some (record { code = code; line = line }) → at ≡ line → IsCodeFault ss (record { code = code; line = at })
+fault_first ss code line at e f = inl (e ∙ ap (λ n. fault_at code n) (sym f))
+  where
+    fault_at : ℕ → ℕ → Option Fault
+    fault_at code line = Some (record { code = code; line = line })
+
+pub one_file : (ss : List SpecStatement) → located (ss ∷ []) ≡ located_from 1 1 at_start ss
+one_file ss = append-nil (located_from 1 1 at_start ss)
+
+-- a statement with a fault is the first
+pub code_wrong : (u : SourceUnit) (i : ℕ) (x : Statement) (p : SectionOffset) (rvc b : Bool) (c d : Coder) (faults : List ℕ) (fault : SourceFault) → StandsAt u i x p → CodeTo (said u) i c
+    → faults ≡ code_faults_at (tables (said u)) (located_at (said u) i (statement_of x))
+    → Adds c d p.section b faults (λ e. value (tables (said u)) true (i + 1) (offset_of p) e) rvc (statement_of x) (Err fault) → (lengths : List ℕ) → IsSourceCode (said u) lengths (Err fault)
+code_wrong u i x p rvc b c d faults OutOfMemory at h same wrong lengths = tt
+code_wrong u i x p rvc b c d faults (At code line) at h same wrong lengths =
+    let ss = said u in
+    let all = located_from 1 1 at_start ss in
+    fault_first ss (number_of code) x.line line
+    (ap (λ l. code_fault_from (tables ss) l) (one_file ss)
+    ∙ wrong_code (tables ss) all (located_at ss i (statement_of x)) (drop (i + 1) all) c (number_of code)
+    (subst (λ rest. IsCodeSoFar (tables ss) all rest c) at.next h)
+    (ap lowest (sym same) ∙ wrong.0))
+    wrong.1
+
+pub code_whole : (ss : List SpecStatement) (lengths : List ℕ) (i : ℕ) (c : Coder) (r : Result SectionCode SourceFault) → drop i (located_from 1 1 at_start ss) ≡ [] → CodeTo ss i c
+    → AreLeast (tables ss) (located_from 1 1 at_start ss) lengths
+    → ((t : Tables) (all : List Located) → IsCodeSoFar t all [] c → IsAllCode t all lengths r) → IsSourceCode ss lengths r
+code_whole ss lengths i c r none h least finish =
+    go r (subst (λ l. IsAllCode (tables ss) l lengths r) (sym (one_file ss)) (finish (tables ss) (located_from 1 1 at_start ss) (subst (λ l. IsCodeSoFar (tables ss) (located_from 1 1 at_start ss) l c) none h)))
+  where
+    go : (r : Result SectionCode SourceFault) → IsAllCode (tables ss) (located (ss ∷ [])) lengths r → IsSourceCode ss lengths r
+    go (Ok found) h = h
+    go (Err (At code line)) h = inr (
+      h.faults,
+      record {
+        sizes = h.sizes;
+        are_sizes = h.are_sizes;
+        least = subst (λ l. AreLeast (tables ss) l h.sizes) (sym (one_file ss)) (subst (AreLeast (tables ss) (located_from 1 1 at_start ss)) (sym h.told) least);
+        fault = h.fault;
+      },
+    )
+    go (Err OutOfMemory) h = tt

@@ -1,0 +1,48 @@
+-- Values of data have 1, 2, 4 or 8 bytes.
+
+use Rattle.std.proofs.Common.{◌≡◌, ℕ, inl, inr, List, [], ◌∷◌, map, refl, subst}
+use Rattle.std.specs.List.{AllByRecursion}
+use Rattle.rv_statement.specs.Statement.{Expression, Directs, Values}
+use Rattle.rv_statement.specs.View.{bytes_of, plain_of, with_expression, with_function, statement_kind, statement_of}
+use Rattle.rv_statement.specs.declared.directive.Width.{Width}
+use Rattle.rv_statement.specs.declared.directive.Width.TheVariants as widths
+use Rattle.rv_statement.specs.declared.pseudo.Function.{Function}
+use Rattle.rv_statement.specs.declared.statement.Operation.{Operation}
+use Rattle.rv_statement.specs.declared.statement.Operation.TheVariants as operations
+use Rattle.rv_statement.specs.declared.statement.Plain.{Plain}
+use Rattle.rv_statement.specs.declared.statement.Plain.TheVariants as plains
+use Rattle.rv_statement.specs.declared.statement.Statement.{Statement}
+use Rattle.rv_statement.specs.declared.statement.StatementKind.{StatementKind}
+use Rattle.rv_statement.specs.declared.statement.StatementKind.TheVariants as kinds
+use Rattle.rv_assemble_laws.specs.Templates.{IsWidth}
+use Rattle.rv_draft.proofs.FittedLemmas.{IsWideKind}
+
+bytes_wide : (width : Width) → IsWidth (bytes_of width)
+bytes_wide widths.Byte = inl refl
+bytes_wide widths.Half = inr (inl refl)
+bytes_wide widths.Word = inr (inr (inl refl))
+bytes_wide widths.Double = inr (inr (inr refl))
+
+plain_no : (p : Plain) (w : ℕ) (vs : List Expression) → plain_of p ≡ Directs (Values w vs) → ⊥
+plain_no (plains.Registers operation rd rs1 rs2) w vs e = absurd (cc)
+plain_no _ w vs e = absurd (cc)
+
+with_no : (operation : Operation) (x : Expression) (w : ℕ) (vs : List Expression) → with_expression operation x ≡ Directs (Values w vs) → ⊥
+with_no (operations.Li rd) x w vs e = absurd (cc)
+with_no _ x w vs e = absurd (cc)
+
+function_no : (operation : Operation) (function : Function) (x : Expression) (w : ℕ) (vs : List Expression) → with_function operation function x ≡ Directs (Values w vs) → ⊥
+function_no (operations.Li rd) function x w vs e = absurd (cc)
+function_no _ function x w vs e = absurd (cc)
+
+kind_wide : (kind : StatementKind) → IsWideKind (statement_kind kind)
+kind_wide (kinds.Value width one) w vs e = let same : bytes_of width ≡ w = cc in subst (λ n. IsWidth n) same (bytes_wide width)
+kind_wide (kinds.Values width values) w vs e = let same : bytes_of width ≡ w = cc in subst (λ n. IsWidth n) same (bytes_wide width)
+kind_wide (kinds.Plain p) w vs e = absurd (plain_no p w vs e)
+kind_wide (kinds.With operation x) w vs e = absurd (with_no operation _ w vs e)
+kind_wide (kinds.WithFunction operation function x) w vs e = absurd (function_no operation function _ w vs e)
+kind_wide _ w vs e = absurd (cc)
+
+pub all_wide : (xs : List Statement) → AllByRecursion (λ s. IsWideKind s.kind) (map statement_of xs)
+all_wide [] = tt
+all_wide (x ∷ xs) = (kind_wide x.kind, all_wide xs)

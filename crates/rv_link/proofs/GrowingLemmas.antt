@@ -1,0 +1,197 @@
+-- Regions grow section by section.
+
+use Rattle.std.proofs.Common.{◌≡◌, ℕ, zero, suc, ◌+◌, ◌-◌, ◌*◌, ◌/◌, ◌%◌, ◌<◌, ◌≤◌, max, Bool, true, false, if◌then◌else◌, List, [], ◌∷◌, ◌++◌, length, take, drop, min, refl, sym, ap, ◌∙◌, subst, arith, add-one, add-zero, append_assoc}
+use Rattle.std.proofs.lemmas.List.{append-nil, length-append, length-take, length-drop, length-replicate}
+use Rattle.std.specs.Prelude.{slice_index_or, ℤ, IsTrue, Option, Some, None}
+use Rattle.std.specs.List.{AllByRecursion, list_all, slice_get}
+use Rattle.rv_map.specs.declared.map.Region.{Region}
+use Rattle.rv_object.specs.Object.{Relocation, Section, Object}
+use Rattle.rv_object_laws.specs.Moves.{Move, moves, new_offset, kept, has_room, aligned, alignments_of}
+use Rattle.rv_object_laws.specs.Inputs.{Starts, InputSection, goes_to_text, inputs_from, inputs_of, raised, begins_at, start_of, size, Stand, end_of, Holds, zeros, contents}
+use Rattle.rv_object_laws.specs.Names.{object_at, no_object}
+use Rattle.rv_object_laws.specs.Values.{patched_at, applied, initial_bytes}
+use Rattle.rv_shorten.specs.Sections.{short_section_of}
+use Rattle.rv_relax.specs.Plan.{moves_of}
+use Rattle.rv_placement.specs.declared.placement.Placement.{Placement}
+use Rattle.rv_placement.specs.Placement.{starts_of, section_in, section_at}
+use Rattle.rv_isa.specs.declared.kind.Kind.{Kind}
+use Rattle.rv_isa.specs.Kinds.{width_of}
+use Rattle.rv_isa_laws.specs.Bytes.{little_endian}
+use Rattle.rv_reloc.specs.Fields.{patched}
+use Rattle.rv_link.specs.declared.fixed.Input.{Input}
+use Rattle.rv_link_values.specs.Values.{IsInputAt}
+use Rattle.rv_link.proofs.StepsLemmas.{all_inside, kept_long}
+use Rattle.rv_link.specs.Filled.{IsInput, IsInside, input_at, linked_in, worth}
+use Rattle.rv_link.specs.Regions.{left_from, IsGrown}
+
+-- ---- starts
+
+raised_least : (rs : List Relocation) (n : ℕ) → n ≤ raised rs n
+raised_least [] n = omega arith
+raised_least (r ∷ rs) n = omega (arith, raised_least rs n)
+
+begins_positive : (s : Section) → 0 < begins_at s
+begins_positive s =
+    let low : ℕ = max (if goes_to_text s then 2 else 1) s.alignment in
+    let one : 0 < (if goes_to_text s then 2 else 1) = go (goes_to_text s) in
+    omega (arith, raised_least (alignments_of s) low) where
+      go : (b : Bool) → 0 < (if b then 2 else 1)
+      go true = omega arith
+      go false = omega arith
+
+aligned_over : (a n : ℕ) → 0 < a → n ≤ aligned a n
+aligned_over a n h =
+    let sum : ℕ = n + (a - 1) in
+    let parts : a * (sum / a) + sum % a ≡ sum = div-add-mod' sum a h in
+    omega arith where
+      div-add-mod' : (m a : ℕ) → 0 < a → a * (m / a) + m % a ≡ m
+      div-add-mod' m a h = omega arith
+
+-- a section starts where those before it end, or later
+pub later : (starts : Starts) (stop : ℕ) (i : InputSection) (left : List InputSection) → Stand starts stop (i ∷ left) → stop ≤ start_of starts i
+later starts stop i left (here, rest) = subst (λ n. stop ≤ n) (sym here) (aligned_over (begins_at i.section) stop (begins_positive i.section))
+
+-- ---- regions
+
+pub grown_first : (bytes : InputSection → List ℕ) (starts : Starts) (region : Region) (place : ℕ) (whole : List InputSection) → Holds starts region place whole
+    → IsGrown bytes starts region whole whole []
+grown_first bytes starts region place whole (begins, stand, ends) =
+    let at : region.start + 0 ≡ region.start = add-zero region.start in
+    let place' : region.start + 0 ≡ place = at ∙ begins in
+    record {
+      stand = subst (λ n. Stand starts n whole) (sym place') stand;
+      ends = ap (λ n. end_of starts n whole) place' ∙ sym ends;
+      holds = ap (λ n. contents bytes starts n whole) at;
+    }
+
+pub grown_last : (bytes : InputSection → List ℕ) (starts : Starts) (region : Region) (whole : List InputSection) (out : List ℕ) → IsGrown bytes starts region whole [] out
+    → (out ≡ contents bytes starts region.start whole) × (region.start + length out ≡ region.end)
+grown_last bytes starts region whole out is = (sym (append-nil out) ∙ is.holds, is.ends)
+
+pub grown_next : (bytes : InputSection → List ℕ) (starts : Starts) (region : Region) (whole : List InputSection) (from : List InputSection) (i : InputSection) (left : List InputSection) (out new : List ℕ)
+    → IsGrown bytes starts region whole from out → from ≡ i ∷ left → length (bytes i) ≡ size starts i
+    → new ≡ out ++ (zeros (start_of starts i - (region.start + length out)) ++ bytes i) → IsGrown bytes starts region whole left new
+grown_next bytes starts region whole from i left out new is front long made =
+    let stop : ℕ = region.start + length out in
+    let start : ℕ = start_of starts i in
+    let gap : ℕ = start - stop in
+    let stand : Stand starts stop (i ∷ left) = subst (λ l. Stand starts stop l) front is.stand in
+    let not_before : stop ≤ start = later starts stop i left stand in
+    let added : length new ≡ length out + (gap + length (bytes i)) =
+    ap length made ∙ length-append out (zeros gap ++ bytes i) ∙ ap (λ n. length out + n) (length-append (zeros gap) (bytes i) ∙ ap (λ n. n + length (bytes i)) (length-replicate {A = ℕ} gap 0)) in
+    let ends : region.start + length new ≡ start + size starts i = omega (arith, added, long) in
+    record {
+      stand = subst (λ n. Stand starts n left) (sym ends) stand.1;
+      ends = ap (λ n. end_of starts n left) ends ∙ ap (λ l. end_of starts stop l) (sym front) ∙ is.ends;
+      holds =
+          ap (λ n. new ++ contents bytes starts n left) ends ∙ ap (λ l. l ++ contents bytes starts (start + size starts i) left) made
+          ∙ append_assoc out (zeros gap ++ bytes i) (contents bytes starts (start + size starts i) left)
+          ∙ ap (λ l. out ++ l) (append_assoc (zeros gap) (bytes i) (contents bytes starts (start + size starts i) left))
+          ∙ ap (λ l. out ++ contents bytes starts stop l) (sym front) ∙ is.holds;
+    }
+
+pub grown_same : (bytes : InputSection → List ℕ) (starts : Starts) (region : Region) (whole from left : List InputSection) (out : List ℕ) → from ≡ left
+    → IsGrown bytes starts region whole from out → IsGrown bytes starts region whole left out
+grown_same bytes starts region whole from left out same is = subst (λ l. IsGrown bytes starts region whole l out) same is
+
+-- ---- what is left
+
+taken : (goes : Section → Bool) (i : InputSection) (s : Section) (rest more : List InputSection) → goes s ≡ true → (if goes s then i ∷ rest else rest) ++ more ≡ i ∷ (rest ++ more)
+taken goes i s rest more e = ap (λ b. (if b then i ∷ rest else rest) ++ more) e
+
+passed : (goes : Section → Bool) (i : InputSection) (s : Section) (rest more : List InputSection) → goes s ≡ false → (if goes s then i ∷ rest else rest) ++ more ≡ rest ++ more
+passed goes i s rest more e = ap (λ b. (if b then i ∷ rest else rest) ++ more) e
+
+get_front : {A : Type 0} (xs : List A) (i : ℕ) (x : A) → slice_get xs i ≡ Some x → drop i xs ≡ x ∷ drop (suc i) xs
+get_front [] i x e = absurd (cc)
+get_front (y ∷ ys) zero x e = let same : y ≡ x = cc in ap (λ z. z ∷ ys) same
+get_front (y ∷ ys) (suc i) x e = get_front ys i x e
+
+pub found_at : (os : List Object) (file : ℕ) (o : Object) → slice_get os file ≡ Some o → object_at os (file + 1) ≡ o
+found_at os file o e =
+    let same : file + 1 - 1 ≡ file = omega arith in
+    ap (λ n. slice_index_or os n no_object) same ∙ go os file e where
+      go : (os : List Object) (file : ℕ) → slice_get os file ≡ Some o → slice_index_or os file no_object ≡ o
+      go [] file e = absurd (cc)
+      go (x ∷ xs) zero e = cc
+      go (x ∷ xs) (suc file) e = go xs file e
+
+pub found_object : (os : List Object) (file index : ℕ) (s : Section) → section_at os file index ≡ Some s → slice_get os file ≡ Some (object_at os (file + 1))
+found_object os file index s e = go (slice_get os file) refl e where
+  go : (x : Option Object) → slice_get os file ≡ x → section_in x index ≡ Some s → slice_get os file ≡ Some (object_at os (file + 1))
+  go None f e = absurd (cc)
+  go (Some o) f e = f ∙ ap Some (sym (found_at os file o f))
+
+-- as `rv_link_values` asks for it
+pub found_section : (os : List Object) (file index : ℕ) (s : Section) → section_at os file index ≡ Some s → IsInputAt os file index (input_at os file index s)
+found_section os file index s e = record {
+  numbered = refl;
+  at = found_object os file index s e;
+  indexed = refl;
+  there = ap (λ x. section_in x index) (sym (found_object os file index s e)) ∙ e;
+}
+
+pub front_of : (os : List Object) (file index : ℕ) (s : Section) → section_at os file index ≡ Some s
+    → drop index (object_at os (file + 1)).sections ≡ s ∷ drop (index + 1) (object_at os (file + 1)).sections
+front_of os file index s e =
+    get_front (object_at os (file + 1)).sections index s (ap (λ x. section_in x index) (sym (found_object os file index s e)) ∙ e)
+    ∙ ap (λ n. s ∷ drop n (object_at os (file + 1)).sections) (sym (add-one index))
+
+module _ (os : List Object) (file index : ℕ) (s : Section) (goes : Section → Bool) (stands : section_at os file index ≡ Some s) where
+  rest : ℕ → List Section → List InputSection
+  rest n ss = inputs_from goes (file + 1) (object_at os (file + 1)) n ss
+
+  more : List InputSection
+  more = inputs_of goes (suc (file + 1)) (drop (file + 1) os)
+
+  opened : left_from os file index goes ≡ (if goes s then input_at os file index s ∷ rest (index + 1) (drop (index + 1) (object_at os (file + 1)).sections) else rest (index + 1) (drop (index + 1) (object_at os (file + 1)).sections)) ++ more
+  unfolding rest more
+  opened = ap (λ ss. inputs_from goes (file + 1) (object_at os (file + 1)) index ss ++ inputs_of goes (suc (file + 1)) (drop (file + 1) os)) (front_of os file index s stands)
+      ∙ ap (λ n. (if goes s then input_at os file index s ∷ inputs_from goes (file + 1) (object_at os (file + 1)) n (drop (index + 1) (object_at os (file + 1)).sections) else inputs_from goes (file + 1) (object_at os (file + 1)) n (drop (index + 1) (object_at os (file + 1)).sections)) ++ inputs_of goes (suc (file + 1)) (drop (file + 1) os)) (sym (add-one index))
+
+  pub left_takes : goes s ≡ true → left_from os file index goes ≡ input_at os file index s ∷ left_from os file (index + 1) goes
+  unfolding rest more
+  left_takes e = opened ∙ taken goes (input_at os file index s) s _ _ e
+
+  pub left_skips : goes s ≡ false → left_from os file index goes ≡ left_from os file (index + 1) goes
+  unfolding rest more
+  left_skips e = opened ∙ passed goes (input_at os file index s) s _ _ e
+
+-- ---- the bytes of a section
+
+endian_length : (width n : ℕ) → length (little_endian width n) ≡ width
+endian_length zero n = refl
+endian_length (suc width) n = ap suc (endian_length width (n / 256))
+
+whole_length : (offset total width front field rest : ℕ) → front ≡ min offset total → field ≡ width → rest ≡ total - offset - width
+    → (0 < width → offset + width ≤ total) → front + (field + rest) ≡ total
+whole_length offset total zero front field rest e f g inside = omega arith
+whole_length offset total (suc width) front field rest e f g inside = let h : offset + suc width ≤ total = inside (omega arith) in omega arith
+
+patched_length : (offset : ℕ) (k : Kind) (v : ℤ) (bytes : List ℕ) → (0 < width_of k → offset + width_of k ≤ length bytes) → length (patched_at offset k v bytes) ≡ length bytes
+patched_length offset k v bytes inside =
+    let field : List ℕ = patched k v (take (width_of k) (drop offset bytes)) in
+    let rest : List ℕ = drop (width_of k) (drop offset bytes) in
+    length-append (take offset bytes) (field ++ rest) ∙ ap (λ n. length (take offset bytes) + n) (length-append field rest)
+    ∙ whole_length offset (length bytes) (width_of k) (length (take offset bytes)) (length field) (length rest) (length-take offset bytes) (endian_length (width_of k) _)
+    (length-drop (width_of k) (drop offset bytes) ∙ ap (λ n. n - width_of k) (length-drop offset bytes)) inside
+
+applied_length : (ms : List Move) (w : Relocation → ℤ) (rs : List Relocation) (bytes : List ℕ) → AllByRecursion (IsInside ms (length bytes)) rs
+    → length (applied (new_offset ms) w rs bytes) ≡ length bytes
+applied_length ms w [] bytes h = refl
+applied_length ms w (r ∷ rs) bytes (one, h) =
+    let same : length (patched_at (new_offset ms r.place) r.kind (w r) bytes) ≡ length bytes = patched_length (new_offset ms r.place) r.kind (w r) bytes one in
+    applied_length ms w rs (patched_at (new_offset ms r.place) r.kind (w r) bytes) (subst (λ n. AllByRecursion (IsInside ms n) rs) (sym same) h) ∙ same
+
+-- a section has as many bytes in the program as are left of it
+pub linked_long : (os : List Object) (p : Placement) (x : Input) → IsInput os p x
+    → length (linked_in os p (input_at os x.file x.index (short_section_of x.section.now))) ≡ size (starts_of p) (input_at os x.file x.index (short_section_of x.section.now))
+linked_long os p x is =
+    let s : Section = short_section_of x.section.now in
+    let i : InputSection = input_at os x.file x.index s in
+    let base : ℕ = starts_of p (x.file + 1) x.index in
+    let ms : List Move = moves base s in
+    let same : moves_of x.placed.now.plan ≡ ms = is.planned ∙ ap (λ n. moves n s) (sym is.start) in
+    let room : IsTrue (list_all has_room ms) = subst (λ m. IsTrue (list_all has_room m)) same is.room in
+    let inside : AllByRecursion (IsInside ms (length (kept 0 ms (initial_bytes s.contents)))) s.relocations = all_inside s base ms (kept 0 ms (initial_bytes s.contents)) refl room x.section.now.paddings x.section.now.inside refl in
+    applied_length ms (worth os p i) s.relocations (kept 0 ms (initial_bytes s.contents)) inside ∙ kept_long s base ms refl room x.section.now.paddings

@@ -1,0 +1,125 @@
+-- What relaxation leaves of objects: as many, with the same names.
+
+use Rattle.std.proofs.Common.{◌≡◌, ℕ, suc, Bool, true, false, ◌&&◌, cond, List, [], ◌∷◌, ◌++◌, length, map, filter, refl, ap, sym, ◌∙◌, subst, arith}
+use Rattle.std.proofs.lemmas.List.{length-map}
+use Rattle.rv_layout_laws.proofs.ShorteningLemmas.{greatest_closed_exists}
+use Rattle.rv_object.specs.declared.object.Object.{Object as DeclaredObject}
+use Rattle.rv_object.specs.declared.symbol.Definition.{Definition}
+use Rattle.rv_object.specs.declared.symbol.Definition.TheVariants as definitions
+use Rattle.rv_object.specs.Object.{Symbol, Object}
+use Rattle.rv_object.specs.View.{object_of}
+use Rattle.rv_object_laws.specs.Names.{is_defined, is_exported, is_global, exported, global_names}
+use Rattle.rv_object_laws.specs.Calls.{is_short_text, sites_of}
+use Rattle.rv_object_laws.specs.Shortened.{Sizes, shortened_definition, shortened_symbol, shortened_from, shortened, IsRelaxed, Relaxes}
+use Rattle.rv_object_laws.proofs.TextLineLemmas.{sites_text}
+use Rattle.rv_resolve.specs.Exports.{first_again}
+use Rattle.rv_link.specs.declared.fault.LinkFault.{LinkFault}
+use Rattle.rv_link.specs.declared.fault.LinkFault.TheVariants.{Overflow, OddTarget, DanglingPcrel, AlignmentShort, Undefined, Duplicate, EntryMissing, ImageTooLarge, BadTextStart, TooManyFiles, OutOfMemory}
+use Rattle.rv_link.specs.Refusals.{ArePast, AreWithin, AreDoubled, IsUnlinked, HasNoProgram}
+
+-- ---- names
+
+same_defined : (sizes : ℕ → Sizes) (o : Object) (d : Definition) → is_defined (shortened_definition sizes o d) ≡ is_defined d
+same_defined sizes o definitions.Undefined = refl
+same_defined sizes o (definitions.Absolute n) = refl
+same_defined sizes o (definitions.InSection section offset) = refl
+same_defined sizes o (definitions.Skipped n) = refl
+
+same_exported : (sizes : ℕ → Sizes) (o : Object) (s : Symbol) → is_exported (shortened_symbol sizes o s) ≡ is_exported s
+same_exported sizes o s = ap (λ b. is_global s.binding && b) (same_defined sizes o s.definition)
+
+one_more : (b c : Bool) (x y : Symbol) (xs ys : List Symbol) → b ≡ c → x.name ≡ y.name → map (λ s. s.name) xs ≡ map (λ s. s.name) ys
+    → map (λ s. s.name) (cond b (x ∷ xs) xs) ≡ map (λ s. s.name) (cond c (y ∷ ys) ys)
+one_more true true x y xs ys e name rest = ap (λ n. n ∷ map (λ s. s.name) xs) name ∙ ap (λ ns. y.name ∷ ns) rest
+one_more false false x y xs ys e name rest = rest
+one_more true false x y xs ys e name rest = absurd (cc)
+one_more false true x y xs ys e name rest = absurd (cc)
+
+names_in : (sizes : ℕ → Sizes) (o : Object) (ss : List Symbol) → map (λ s. s.name) (filter is_exported (map (shortened_symbol sizes o) ss)) ≡ map (λ s. s.name) (filter is_exported ss)
+names_in sizes o [] = refl
+names_in sizes o (s ∷ ss) =
+    one_more (is_exported (shortened_symbol sizes o s)) (is_exported s) (shortened_symbol sizes o s) s (filter is_exported (map (shortened_symbol sizes o) ss)) (filter is_exported ss)
+    (same_exported sizes o s) refl (names_in sizes o ss)
+
+names_from : (sizes : ℕ → ℕ → Sizes) (file : ℕ) (os : List Object) → global_names (shortened_from sizes file os) ≡ global_names os
+names_from sizes file [] = refl
+names_from sizes file (o ∷ os) =
+    ap (λ names. names ++ global_names (shortened_from sizes (suc file) os)) (names_in (sizes file) o o.symbols)
+    ∙ ap (λ names. map (λ s. s.name) (exported o) ++ names) (names_from sizes (suc file) os)
+
+many_from : (sizes : ℕ → ℕ → Sizes) (file : ℕ) (os : List Object) → length (shortened_from sizes file os) ≡ length os
+many_from sizes file [] = refl
+many_from sizes file (o ∷ os) = let rest : length (shortened_from sizes (suc file) os) ≡ length os = many_from sizes (suc file) os in omega arith
+
+pub record AreAlike (os left : List Object) : Type 0 where
+  pub many : length left ≡ length os
+  pub names : global_names left ≡ global_names os
+
+same_objects : (os left : List Object) → left ≡ os → AreAlike os left
+same_objects os left e = record { many = ap length e; names = ap global_names e }
+
+alike_by : (short : Bool) (os left : List Object) → IsRelaxed short os left → AreAlike os left
+alike_by false os left h = same_objects os left h
+alike_by true os left h = record {
+  many = ap length h.2 ∙ many_from _ 1 os;
+  names = ap global_names h.2 ∙ names_from _ 1 os;
+}
+
+pub alike : (relax : Bool) (os left : List Object) → Relaxes relax os left → AreAlike os left
+alike false os left h = same_objects os left h
+alike true os left h = alike_by (is_short_text os) os left h
+
+-- ---- there is such
+
+left_by : (short : Bool) (ds : List DeclaredObject) → (left : List Object) × IsRelaxed short (map object_of ds) left
+left_by false ds = (map object_of ds, refl)
+left_by true ds =
+    let found = greatest_closed_exists (sites_of (map object_of ds)) (sites_text ds) in
+    (shortened found.0 (map object_of ds), (found.0, found.1, refl))
+
+pub some_left : (relax : Bool) (ds : List DeclaredObject) → (left : List Object) × Relaxes relax (map object_of ds) left
+some_left false ds = (map object_of ds, refl)
+some_left true ds = left_by (is_short_text (map object_of ds)) ds
+
+-- ---- what is seen of the objects is so of what is left
+
+pub past_unlinked : (left : List Object) (start : ℕ) (fault : LinkFault) → ArePast (length left) start fault → IsUnlinked left start fault
+past_unlinked left start TooManyFiles h = h
+past_unlinked left start BadTextStart h = h
+past_unlinked left start (Duplicate name) h = absurd h
+past_unlinked left start (Undefined name) h = absurd h
+past_unlinked left start EntryMissing h = absurd h
+past_unlinked left start AlignmentShort h = absurd h
+past_unlinked left start ImageTooLarge h = absurd h
+past_unlinked left start Overflow h = absurd h
+past_unlinked left start OddTarget h = absurd h
+past_unlinked left start DanglingPcrel h = absurd h
+past_unlinked left start OutOfMemory h = tt
+
+pub past : (ds : List DeclaredObject) (start : ℕ) (relax : Bool) (fault : LinkFault) → ArePast (length ds) start fault → HasNoProgram (map object_of ds) start relax fault
+past ds start relax fault h =
+    let some = some_left relax ds in
+    let same : length some.0 ≡ length ds = (alike relax (map object_of ds) some.0 some.1).many ∙ length-map ds object_of in
+    record { left = some.0; relaxed = some.1; unlinked = past_unlinked some.0 start fault (subst (λ n. ArePast n start fault) (sym same) h) }
+
+doubled_unlinked : (os left : List Object) (start : ℕ) (fault : LinkFault) → AreAlike os left → AreWithin (length os) start → AreDoubled os fault → IsUnlinked left start fault
+doubled_unlinked os left start (Duplicate name) same w h = (subst (λ n. AreWithin n start) (sym same.many) w, ap (first_again []) same.names ∙ h)
+doubled_unlinked os left start OutOfMemory same w h = tt
+doubled_unlinked os left start TooManyFiles same w h = absurd h
+doubled_unlinked os left start BadTextStart same w h = absurd h
+doubled_unlinked os left start (Undefined name) same w h = absurd h
+doubled_unlinked os left start EntryMissing same w h = absurd h
+doubled_unlinked os left start AlignmentShort same w h = absurd h
+doubled_unlinked os left start ImageTooLarge same w h = absurd h
+doubled_unlinked os left start Overflow same w h = absurd h
+doubled_unlinked os left start OddTarget same w h = absurd h
+doubled_unlinked os left start DanglingPcrel same w h = absurd h
+
+pub doubled : (ds : List DeclaredObject) (start : ℕ) (relax : Bool) (fault : LinkFault) → AreWithin (length ds) start → AreDoubled (map object_of ds) fault → HasNoProgram (map object_of ds) start relax fault
+doubled ds start relax fault w h =
+    let some = some_left relax ds in
+    record {
+      left = some.0;
+      relaxed = some.1;
+      unlinked = doubled_unlinked (map object_of ds) some.0 start fault (alike relax (map object_of ds) some.0 some.1) (subst (λ n. AreWithin n start) (sym (length-map ds object_of)) w) h;
+    }

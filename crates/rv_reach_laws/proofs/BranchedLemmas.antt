@@ -1,0 +1,357 @@
+-- The fields of the branches and jumps of sources whose form is below its largest take their values where their text is placed.
+
+use Rattle.std.proofs.Common.{◌≡◌, ℕ, suc, ◌+◌, ◌%◌, ◌^◌, ◌≤◌, ◌<◌, ◌⊎◌, inl, inr, Bool, true, false, ◌&&◌, List, [], ◌∷◌, map, pos, ◌-ℤ◌, Option, Some, None, option_map, refl, sym, ap, ◌∙◌, subst, arith}
+use Rattle.std.specs.Prelude.{◌==◌, nat_lt, if◌then◌else◌, option_and_then}
+use Rattle.std.specs.List.{AllByRecursion, slice_get}
+use Rattle.std.proofs.lemmas.Bool.{and_parts, eq-eqb}
+use Rattle.std.proofs.lemmas.Option.{slice_get-map}
+use Rattle.rv_isa.specs.declared.kind.Kind.{Kind}
+use Rattle.rv_isa.specs.declared.kind.Kind.TheVariants as kinds
+use Rattle.rv_statement.specs.Statement.{Statement}
+use Rattle.rv_layout_laws.specs.Offsets.{Reaches}
+use Rattle.rv_layout_laws.specs.Calls.{IsGreatestClosed}
+use Rattle.rv_layout_laws.proofs.ReachingLemmas.{Nearer, reaches_nearer}
+use Rattle.rv_unit_laws.specs.Sections.{Section as SourceSection}
+use Rattle.rv_unit_laws.specs.Tables.{Tables, tables, opened_of, longest_section}
+use Rattle.rv_object.specs.declared.object.Object.{Object as DeclaredObject}
+use Rattle.rv_object.specs.declared.symbol.Definition.TheVariants as definitions
+use Rattle.rv_object.specs.Object.{Relocation, Section, Symbol, Object, size_of}
+use Rattle.rv_object.specs.View.{object_of}
+use Rattle.rv_object_laws.specs.Moves.{Move, moves, new_offset}
+use Rattle.rv_object_laws.specs.Inputs.{InputSection, goes_to_text, inputs}
+use Rattle.rv_object_laws.specs.Names.{offset_address, symbol_address}
+use Rattle.rv_object_laws.specs.Values.{target}
+use Rattle.rv_object_laws.specs.Calls.{is_call, sites_of, is_short_text}
+use Rattle.rv_object_laws.specs.Shortened.{sizes_by, cuts, shortened_kind, shortened_symbol, shortened_relocation, shortened_object, shortened, IsRelaxed}
+use Rattle.rv_object_laws.proofs.TextInputsLemmas.{IsTextInput, text_inputs}
+use Rattle.rv_placement.specs.declared.placement.Placement.{Placement}
+use Rattle.rv_placement.specs.Placement.{starts_of, IsPlacement}
+use Rattle.rv_resolve.specs.Shown.{shown_globals}
+use Rattle.rv_link.specs.Refusals.{IsTextStart}
+use Rattle.rv_link.specs.Filled.{IsTaken}
+use Rattle.rv_assemble_laws.specs.Sites.{Site, form, parts, sites_in, end_of, HasSize}
+use Rattle.rv_assemble_laws.specs.IsObjectOf.{Numbering, relocations_from, IsSectionOf, IsObjectOf}
+use Rattle.rv_source_laws.proofs.HomesLemmas.{all_filter}
+use Rattle.rv_sources_link_laws.specs.Joins.{AreObjectsOf}
+use Rattle.rv_sources_link_laws.proofs.sections.AssembledLemmas as assembled
+use Rattle.rv_sources_link_laws.proofs.sections.FiledLemmas.{offsets_low}
+use Rattle.rv_sources_link_laws.proofs.statements.OrderedLemmas.{its_source, in_order}
+use Rattle.rv_sources_link_laws.proofs.moves.PiecesOfLemmas.{size_is}
+use Rattle.rv_sources_link_laws.proofs.fields.RangesLemmas.{even_bytes}
+use Rattle.rv_sources_link_laws.proofs.statements.SettledLemmas.{IsSettled, IsSiteIn, sites_are_in}
+use Rattle.rv_sources_link_laws.proofs.fields.TargetsLemmas.{section_of, all_settled}
+use Rattle.rv_sources_link_laws.proofs.calls.UncutLemmas.{IsUncut, uncut}
+use Rattle.rv_shorten.specs.Cutting.{In}
+use Rattle.rv_unique_link_laws.proofs.FoundLemmas.{EachOf, all_of}
+use Rattle.rv_reach_laws.specs.Reach.{is_short_branch, ForEachLeft, ShortBranchesReach}
+use Rattle.rv_reach_laws.proofs.MovingLemmas.{IsPaddedText}
+use Rattle.rv_reach_laws.proofs.SpansLemmas.{left_input, lefts, IsPlain, address}
+use Rattle.rv_reach_laws.proofs.TargetsLemmas.{defined_at}
+use Rattle.rv_reach_laws.proofs.ShorterLemmas.{all_at, lows}
+use Rattle.rv_reach_laws.proofs.ReachedLemmas.{HasFrame, frame_at, all_frames, plains, address_low}
+use Rattle.rv_reach_laws.proofs.FieldingLemmas.{IsFine, IsBranchOf, branches}
+use Rattle.rv_reach_laws.proofs.NearsLemmas.{half_of, IsNear, near}
+use Rattle.rv_reach_laws.proofs.NearbyLemmas.{closer, taken_by}
+
+kinds_of : (k : Kind) → is_short_branch k ≡ true → (k ≡ kinds.Branch) ⊎ ((k ≡ kinds.RvcBranch) ⊎ (k ≡ kinds.RvcJump))
+kinds_of kinds.Branch e = inl refl
+kinds_of kinds.RvcBranch e = inr (inl refl)
+kinds_of kinds.RvcJump e = inr (inr refl)
+kinds_of _ e = absurd (cc)
+
+no_call : (k : Kind) → is_short_branch k ≡ true → is_call k ≡ false
+no_call k e = grind arith
+
+-- ---- lists
+
+all_in : (P : Site → Type 0) (xs : List Site) (x : Site) → AllByRecursion P xs → In x xs → P x
+all_in P [] x h i = elim i [ ]
+all_in P (y ∷ ys) x (one, h) (inl same) = subst P same one
+all_in P (y ∷ ys) x (one, h) (inr i) = all_in P ys x h i
+
+in_section : (j : ℕ) (x : Site) (xs : List Site) → In x xs → x.located.section ≡ j → In x (sites_in j xs)
+in_section j x [] i e = elim i [ ]
+in_section j x (y ∷ ys) (inl same) e = by (y.located.section == j) (eq-eqb y.located.section j (ap (λ (s : Site). s.located.section) same ∙ e))
+  where
+    by : (b : Bool) → b ≡ true → In x (if b then y ∷ sites_in j ys else sites_in j ys)
+    by true f = inl same
+    by false f = absurd (cc)
+in_section j x (y ∷ ys) (inr i) e = by (y.located.section == j) (in_section j x ys i e)
+  where
+    by : (b : Bool) → In x (sites_in j ys) → In x (if b then y ∷ sites_in j ys else sites_in j ys)
+    by true h = inr h
+    by false h = h
+
+evens_in : (t : Tables) (number : Numbering) (j : ℕ) (s : SourceSection) (code : s.executable ≡ true) (multiple q : ℕ) (zs : List Site) → q % 2 ≡ 0 → AllByRecursion (IsSiteIn j s) zs → assembled.Tile t q zs
+    → AllByRecursion (λ z. z.located.placed ≡ true → HasSize (form t z.located) z multiple z.located.kind) zs → AllByRecursion (λ (z : Site). z.offset % 2 ≡ 0) zs
+evens_in t number j s code multiple q [] even inside tile sizes = tt
+evens_in t number j s code multiple q (z ∷ zs) even (i, inside) (off, bytes, tile) (size, sizes) =
+    let own = even_bytes t number j s code multiple z i bytes size in
+    (ap (λ n. n % 2) off ∙ even, evens_in t number j s code multiple (q + z.bytes) zs (omega (arith, even, own)) inside tile sizes)
+
+-- ---- the branches of sources
+
+pub record IsNearIn (i : InputSection) (r : Relocation) : Type 0 where
+  pub symbol : ℕ
+  pub symbol_is : r.symbol ≡ Some symbol
+  pub x : Symbol
+  pub there : slice_get i.object.symbols symbol ≡ Some x
+  pub to : ℕ
+  pub from : ℕ
+  pub at : x.definition ≡ definitions.InSection i.index to
+  pub place_is : r.place ≡ from
+  pub even_to : to % 2 ≡ 0
+  pub even_from : from % 2 ≡ 0
+  pub low_to : to ≤ size_of i.section.contents
+  pub low_from : from ≤ size_of i.section.contents
+  pub reaches : Reaches (half_of r.kind) r.addend (pos to -ℤ pos from)
+
+abbrev pub HasNear : InputSection → Type 0
+HasNear i = (n : ℕ) (r : Relocation) → slice_get i.section.relocations n ≡ Some r → is_short_branch r.kind ≡ true → IsNearIn i r
+
+module _ (ss : List Statement) (o : Object) (is : IsObjectOf ss o) (index : ℕ) (x : Section) (there : slice_get o.sections index ≡ Some x) (text : goes_to_text x ≡ true) where
+  abbrev t : Tables
+  t = tables ss
+
+  found : (s : SourceSection) × (slice_get (opened_of (tables ss)).sections index ≡ Some s) × IsSectionOf t is.sites is.number o.symbols index s (sites_in index is.sites) x
+  found =
+      its_source (IsSectionOf t is.sites is.number o.symbols) is.sites index (opened_of (tables ss)).sections o.sections x
+      (in_order t is.sites is.number o.symbols 0 (opened_of (tables ss)).sections o.sections is.sections) there
+
+  in_source : (s : SourceSection) → slice_get (opened_of (tables ss)).sections index ≡ Some s → IsSectionOf t is.sites is.number o.symbols index s (sites_in index is.sites) x
+      → (n : ℕ) (r : Relocation) → slice_get x.relocations n ≡ Some r → is_short_branch r.kind ≡ true → (file : ℕ) → IsNearIn (record { file = file; object = o; index = index; section = x }) r
+  in_source s at h n r at_r short file = record {
+    symbol = it.symbol;
+    symbol_is = it.symbol_is;
+    x = it.x;
+    there = it.there;
+    to = it.to.offset;
+    from = it.from.offset;
+    at = it.at;
+    place_is = it.place_is;
+    even_to = all_in (λ (z : Site). z.offset % 2 ≡ 0) zs it.to evens in_to;
+    even_from = all_in (λ (z : Site). z.offset % 2 ≡ 0) zs it.from evens it.in_from;
+    low_to = subst (λ m. it.to.offset ≤ m) (sym size) (all_in (λ (z : Site). z.offset ≤ end_of 0 zs) zs it.to low in_to);
+    low_from = subst (λ m. it.from.offset ≤ m) (sym size) (all_in (λ (z : Site). z.offset ≤ end_of 0 zs) zs it.from low it.in_from);
+    reaches = it.reaches;
+  }
+    where
+      zs : List Site
+      zs = sites_in index is.sites
+
+      loaded : s.loaded ≡ true
+      loaded = sym h.loaded ∙ (and_parts x.loaded x.executable text).0
+
+      code : s.executable ≡ true
+      code = sym h.executable ∙ (and_parts x.loaded x.executable text).1
+
+      settled : AllByRecursion (IsSettled (opened_of (tables ss)).sections) is.sites
+      settled = all_settled ss o is
+
+      inside : AllByRecursion (IsSiteIn index s) (sites_in index is.sites)
+      inside = sites_are_in (opened_of (tables ss)).sections index s is.sites at settled
+
+      whole : (y : Section) × (slice_get o.sections index ≡ Some y) × assembled.IsSectionOf (tables ss) is.sites is.number o.symbols index s (sites_in index is.sites) y
+      whole = section_of ss o is index s at
+
+      same_section : whole.0 ≡ x
+      same_section = let both : ◌≡◌ {A = Option Section} (Some whole.0) (Some x) = sym whole.1 ∙ there in let e : whole.0 ≡ x = cc in e
+
+      size : size_of x.contents ≡ end_of 0 (sites_in index is.sites)
+      size = ap (λ (y : Section). size_of y.contents) (sym same_section) ∙ size_is (tables ss) is.sites is.number o index s (sites_in index is.sites) whole.0 whole.2
+
+      evens : AllByRecursion (λ (z : Site). z.offset % 2 ≡ 0) (sites_in index is.sites)
+      evens = evens_in (tables ss) is.number index s code whole.0.alignment 0 (sites_in index is.sites) refl inside whole.2.tile whole.2.sizes
+
+      low : AllByRecursion (λ (z : Site). z.offset ≤ end_of 0 (sites_in index is.sites)) (sites_in index is.sites)
+      low = (offsets_low (tables ss) 0 (sites_in index is.sites) whole.2.tile).1
+
+      fine_from : (ys : List Site) → AllByRecursion IsUncut ys → AllByRecursion (IsSiteIn index s) ys → AllByRecursion (λ z. z.located.placed ≡ true → HasSize (form (tables ss) z.located) z x.alignment z.located.kind) ys
+          → AllByRecursion (IsFine (tables ss) is.sites is.number o.symbols (sites_in index is.sites)) ys
+      fine_from [] u i k = tt
+      fine_from (y ∷ ys) (u, us) (i, is') (k, ks) = (
+        record { uncut = u; sized = λ m os e. subst (HasSize (form (tables ss) y.located) y x.alignment) e (k (i.instructed m os e)) },
+        fine_from ys us is' ks,
+      )
+
+      fine : AllByRecursion (IsFine (tables ss) is.sites is.number o.symbols (sites_in index is.sites)) (sites_in index is.sites)
+      fine = fine_from (sites_in index is.sites) (all_filter IsUncut (λ z. z.located.section == index) is.sites (uncut ss o is)) inside h.sizes
+
+      rels : x.relocations ≡ relocations_from is.number 0 (parts (tables ss) (sites_in index is.sites))
+      rels = h.relocations ∙ ap (λ b. if b then relocations_from is.number 0 (parts (tables ss) (sites_in index is.sites)) else []) loaded
+
+      all_branches : AllByRecursion (λ r. is_short_branch r.kind ≡ true → IsBranchOf (tables ss) is.sites is.number o.symbols (sites_in index is.sites) r) x.relocations
+      all_branches = subst (AllByRecursion (λ r. is_short_branch r.kind ≡ true → IsBranchOf (tables ss) is.sites is.number o.symbols (sites_in index is.sites) r)) (sym rels)
+          (branches (tables ss) is.sites is.number o.symbols (sites_in index is.sites) 0 (sites_in index is.sites) (λ z i. i) h.tile fine (h.numbered loaded))
+
+      bound : (z : Site) → In z is.sites → z.located.section ≡ index → z.offset ≤ longest_section
+      bound z i e =
+          let a = all_in (λ (z : Site). z.offset ≤ end_of 0 (sites_in index is.sites)) (sites_in index is.sites) z low (in_section index z is.sites i e) in
+          let b = h.short code in omega (arith, a, b)
+
+      it : IsNear ss o is index r
+      it = near ss o is index s at code settled h.tile bound r (kinds_of r.kind short)
+          (all_at_r (λ r. is_short_branch r.kind ≡ true → IsBranchOf (tables ss) is.sites is.number o.symbols (sites_in index is.sites) r) x.relocations n r all_branches at_r short)
+        where
+          all_at_r : (P : Relocation → Type 0) (xs : List Relocation) (k : ℕ) (y : Relocation) → AllByRecursion P xs → slice_get xs k ≡ Some y → P y
+          all_at_r P xs k y h e = all_at P xs k y h e
+
+      in_to : In it.to (sites_in index is.sites)
+      in_to = in_section index it.to is.sites it.in_to.0 it.in_to.1
+
+  pub branch_in : (file : ℕ) → HasNear (record { file = file; object = o; index = index; section = x })
+  branch_in file n r at_r short =
+      in_source found.0 found.1 found.2 n r at_r short file
+
+each_near : (file : ℕ) (sources : List (List Statement)) (us : List Object) → AreObjectsOf sources us → EachOf goes_to_text HasNear file us
+each_near file [] [] h = tt
+each_near file [] (o ∷ us) h = absurd h
+each_near file (ss ∷ sources) [] h = absurd h
+each_near file (ss ∷ sources) (o ∷ us) (is, h) = ((λ index x at text. branch_in ss o is index x at text file), each_near (suc file) sources us h)
+
+all_near : (sources : List (List Statement)) (us : List Object) → AreObjectsOf sources us → AllByRecursion HasNear (inputs goes_to_text us)
+all_near sources us h = all_of goes_to_text HasNear 1 us (each_near 1 sources us h)
+
+-- ---- where calls are shortened
+
+relaxed_one : (ds : List DeclaredObject) (kept : List ℕ) (greatest : IsGreatestClosed (sites_of (map object_of ds)) kept) (start : ℕ) (p : Placement) (begins : IsTextStart start)
+    (placed : IsPlacement (shortened kept (map object_of ds)) start p) (k : ℕ) (i : InputSection) → slice_get (inputs goes_to_text (map object_of ds)) k ≡ Some i → (q : Relocation) → IsNearIn i q → is_short_branch q.kind ≡ true
+    → IsTaken (shortened kept (map object_of ds)) p (left_input (map object_of ds) kept i)
+    (shortened_relocation (sizes_by (map object_of ds) kept i.file i.index) (cuts (sizes_by (map object_of ds) kept i.file i.index) i.section) q)
+relaxed_one ds kept greatest start p begins placed k i there q it short =
+    subst (λ kind. IsTaken left p (left_input os kept i) (record { place = new_offset ms q.place; kind = kind; symbol = q.symbol; addend = q.addend })) (sym kind_is)
+    (taken_by left p (left_input os kept i) (new_offset ms q.place) q.symbol q.addend (address os kept start starts i it.to) (address os kept start starts i it.from)
+    (address_low ds kept greatest start p begins placed k i there it.to it.low_to) target_is (ap (λ n. starts i.file i.index + new_offset (moves (starts i.file i.index) (left_input os kept i).section) (new_offset ms n)) it.place_is)
+    q.kind short
+    (reaches_nearer (half_of q.kind) q.addend (pos (address os kept start starts i it.to) -ℤ pos (address os kept start starts i it.from)) (pos it.to -ℤ pos it.from)
+    (closer (size_of i.section.contents) ms frame.frame.allowed.order (left_input os kept i).section plain.padded (starts i.file i.index) it.from it.to it.even_from it.even_to) it.reaches))
+  where
+    os : List Object
+    os = map object_of ds
+
+    left : List Object
+    left = shortened kept (map object_of ds)
+
+    starts : ℕ → ℕ → ℕ
+    starts = starts_of p
+
+    ms : List Move
+    ms = cuts (sizes_by (map object_of ds) kept i.file i.index) i.section
+
+    input : IsTextInput (map object_of ds) i
+    input = all_at (IsTextInput (map object_of ds)) (inputs goes_to_text (map object_of ds)) k i (text_inputs ds) there
+
+    frame : HasFrame (map object_of ds) kept i
+    frame = frame_at (map object_of ds) kept 0 0 (inputs goes_to_text (map object_of ds)) (all_frames ds kept greatest start p begins placed) k i there
+
+    plain : IsPlain (map object_of ds) kept i
+    plain = all_at (IsPlain (map object_of ds) kept) (inputs goes_to_text (map object_of ds)) k i (plains ds kept greatest start p begins placed) there
+
+    kind_is : shortened_kind (sizes_by (map object_of ds) kept i.file i.index) q ≡ q.kind
+    kind_is = ap (λ b. if b && nat_lt (sizes_by (map object_of ds) kept i.file i.index q.place) 8 then (if sizes_by (map object_of ds) kept i.file i.index q.place == 2 then kinds.RvcJump else kinds.Jal) else q.kind) (no_call q.kind short)
+
+    target_is : target (shown_globals left p) (starts_of p i.file) (left_input os kept i).object q.symbol ≡ Some (address os kept start starts i it.to % 2 ^ 64)
+    target_is =
+        ap (target (shown_globals left p) (starts_of p i.file) (left_input os kept i).object) it.symbol_is
+        ∙ ap (option_and_then (symbol_address (shown_globals left p) (starts_of p i.file) (left_input os kept i).object))
+        (slice_get-map (shortened_symbol (sizes_by os kept i.file) i.object) i.object.symbols it.symbol ∙ ap (option_map (shortened_symbol (sizes_by os kept i.file) i.object)) it.there)
+        ∙ ap (λ d. symbol_address (shown_globals left p) (starts_of p i.file) (left_input os kept i).object (shortened_symbol (sizes_by os kept i.file) i.object (record { name = it.x.name; binding = it.x.binding; definition = d }))) it.at
+        ∙ here
+      where
+        here : symbol_address (shown_globals left p) (starts_of p i.file) (left_input os kept i).object
+            (shortened_symbol (sizes_by os kept i.file) i.object (record { name = it.x.name; binding = it.x.binding; definition = definitions.InSection i.index it.to })) ≡ Some (address os kept start starts i it.to % 2 ^ 64)
+        here =
+            subst (λ (u : Object). symbol_address (shown_globals left p) (starts_of p i.file) (shortened_object (sizes_by os kept i.file) u)
+            (shortened_symbol (sizes_by os kept i.file) u (record { name = it.x.name; binding = it.x.binding; definition = definitions.InSection i.index it.to })) ≡ Some (address os kept start starts i it.to % 2 ^ 64)) input.at
+            (defined_at os kept starts i.file i.index it.to i.section (subst (λ (u : Object). slice_get u.sections i.index ≡ Some i.section) (sym input.at) input.there) input.text)
+
+abbrev Reaching : List Object → Placement → (before now : Relocation) → InputSection → Type 0
+Reaching left p before now i = is_short_branch before.kind ≡ true → IsTaken left p i now
+
+short_reach : (sources : List (List Statement)) (ds : List DeclaredObject) → AreObjectsOf sources (map object_of ds) → (kept : List ℕ) → IsGreatestClosed (sites_of (map object_of ds)) kept → (start : ℕ) (p : Placement) → IsTextStart start
+    → IsPlacement (shortened kept (map object_of ds)) start p → ForEachLeft (map object_of ds) (shortened kept (map object_of ds)) (Reaching (shortened kept (map object_of ds)) p)
+short_reach sources ds h kept greatest start p begins placed section place i j before now at_i at_j at_before at_now short =
+    let os = map object_of ds in
+    let sizes = sizes_by os kept i.file i.index in
+    let ms = cuts sizes i.section in
+    let left_j : ◌≡◌ {A = Option InputSection} (Some (left_input os kept i)) (Some j) =
+    sym (ap (λ l. slice_get l section) (lefts os kept 1 os) ∙ slice_get-map (left_input os kept) (inputs goes_to_text os) section ∙ ap (option_map (left_input os kept)) at_i) ∙ at_j in
+    let here : left_input os kept i ≡ j = cc in
+    let left_now : ◌≡◌ {A = Option Relocation} (Some (shortened_relocation sizes ms before)) (Some now) =
+    sym (slice_get-map (shortened_relocation sizes ms) i.section.relocations place ∙ ap (option_map (shortened_relocation sizes ms)) at_before)
+    ∙ ap (λ (x : InputSection). slice_get x.section.relocations place) here ∙ at_now in
+    let one : shortened_relocation sizes ms before ≡ now = cc in
+    subst (λ x. IsTaken (shortened kept os) p x now) here
+    (subst (λ x. IsTaken (shortened kept os) p (left_input os kept i) x) one
+    (relaxed_one ds kept greatest start p begins placed section i at_i before
+    (all_at HasNear (inputs goes_to_text os) section i (all_near sources os h) at_i place before at_before short) short))
+
+-- ---- where they are not
+
+whole_one : (ds : List DeclaredObject) (start : ℕ) (p : Placement) → IsPlacement (map object_of ds) start p → (k : ℕ) (i : InputSection) → slice_get (inputs goes_to_text (map object_of ds)) k ≡ Some i → (q : Relocation) → IsNearIn i q
+    → is_short_branch q.kind ≡ true → IsTaken (map object_of ds) p i q
+whole_one ds start p placed k i there q it short =
+    taken_by os p i q.place q.symbol q.addend (stands it.to) (stands it.from) low_to target_is (ap stands it.place_is) q.kind short
+    (reaches_nearer (half_of q.kind) q.addend (pos (stands it.to) -ℤ pos (stands it.from)) (pos it.to -ℤ pos it.from)
+    (subst (λ n. Nearer (pos n -ℤ pos (stands it.from)) (pos it.to -ℤ pos it.from)) (plain it.to)
+    (subst (λ n. Nearer (pos (s0 + new_offset (moves s0 i.section) (new_offset [] it.to)) -ℤ pos n) (pos it.to -ℤ pos it.from)) (plain it.from)
+    (closer (size_of i.section.contents) [] refl i.section padded s0 it.from it.to it.even_from it.even_to))) it.reaches)
+  where
+    os : List Object
+    os = map object_of ds
+
+    s0 : ℕ
+    s0 = starts_of p i.file i.index
+
+    stands : ℕ → ℕ
+    stands n = starts_of p i.file i.index + new_offset (moves (starts_of p i.file i.index) i.section) n
+
+    input : IsTextInput (map object_of ds) i
+    input = all_at (IsTextInput (map object_of ds)) (inputs goes_to_text (map object_of ds)) k i (text_inputs ds) there
+
+    room : starts_of p i.file i.index + size_of i.section.contents < 2 ^ 64
+    room = all_at (λ i. starts_of p i.file i.index + size_of i.section.contents < 2 ^ 64) (inputs goes_to_text (map object_of ds)) k i (lows (map object_of ds) start p placed) there
+
+    padded : IsPaddedText i.section
+    padded = record { text = input.text; low = omega (arith, room); paddings = input.paddings }
+
+    plain : (n : ℕ) → s0 + new_offset (moves s0 i.section) (new_offset [] n) ≡ stands n
+    plain n = ap (λ m. s0 + new_offset (moves s0 i.section) m) (let e : new_offset [] n ≡ n = omega arith in e)
+
+    low_to : stands it.to < 2 ^ 64
+    low_to = let a = it.low_to in omega (arith, room, a)
+
+    target_is : target (shown_globals os p) (starts_of p i.file) i.object q.symbol ≡ Some (stands it.to % 2 ^ 64)
+    target_is =
+        ap (target (shown_globals os p) (starts_of p i.file) i.object) it.symbol_is
+        ∙ ap (option_and_then (symbol_address (shown_globals os p) (starts_of p i.file) i.object)) it.there
+        ∙ ap (λ d. symbol_address (shown_globals os p) (starts_of p i.file) i.object (record { name = it.x.name; binding = it.x.binding; definition = d })) it.at
+        ∙ ap (offset_address (starts_of p i.file i.index) it.to) input.there
+        ∙ ap (λ b. if b then Some (stands it.to % 2 ^ 64) else None) (and_parts i.section.loaded i.section.executable input.text).0
+
+same_reach : (sources : List (List Statement)) (ds : List DeclaredObject) (us : List Object) (start : ℕ) (p : Placement) → AreObjectsOf sources (map object_of ds) → us ≡ map object_of ds → IsPlacement us start p
+    → ForEachLeft (map object_of ds) us (Reaching us p)
+same_reach sources ds us start p h same placed = subst (λ u. IsPlacement u start p → ForEachLeft (map object_of ds) u (Reaching u p)) (sym same) go placed
+  where
+    os : List Object
+    os = map object_of ds
+
+    go : IsPlacement (map object_of ds) start p → ForEachLeft (map object_of ds) (map object_of ds) (Reaching (map object_of ds) p)
+    go placed section place i j before now at_i at_j at_before at_now short =
+        let both : ◌≡◌ {A = Option InputSection} (Some i) (Some j) = sym at_i ∙ at_j in
+        let here : i ≡ j = cc in
+        let two : ◌≡◌ {A = Option Relocation} (Some before) (Some now) = sym at_before ∙ ap (λ (x : InputSection). slice_get x.section.relocations place) here ∙ at_now in
+        let one : before ≡ now = cc in
+        subst (λ x. IsTaken os p x now) here
+        (subst (λ x. IsTaken os p i x) one
+        (whole_one ds start p placed section i at_i before (all_at HasNear (inputs goes_to_text os) section i (all_near sources os h) at_i place before at_before short) short))
+
+relaxed_reach : (short : Bool) (sources : List (List Statement)) (ds : List DeclaredObject) (us : List Object) (start : ℕ) (p : Placement) → AreObjectsOf sources (map object_of ds) → IsRelaxed short (map object_of ds) us → IsTextStart start
+    → IsPlacement us start p → ForEachLeft (map object_of ds) us (Reaching us p)
+relaxed_reach false sources ds us start p h same begins placed = same_reach sources ds us start p h same placed
+relaxed_reach true sources ds us start p h (kept, greatest, same) begins placed =
+    subst (λ u. IsPlacement u start p → ForEachLeft (map object_of ds) u (Reaching u p)) (sym same) (short_reach sources ds h kept greatest start p begins) placed
+
+pub short_branches_reach : ShortBranchesReach
+short_branches_reach sources ds us start false p h same begins placed = same_reach sources ds us start p h same placed
+short_branches_reach sources ds us start true p h relaxed begins placed = relaxed_reach (is_short_text (map object_of ds)) sources ds us start p h relaxed begins placed

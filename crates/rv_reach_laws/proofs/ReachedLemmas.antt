@@ -1,0 +1,458 @@
+-- The field of each call that relaxation shortens takes its value where the text is placed.
+
+use Rattle.std.proofs.Common.{rules, ◌≡◌, ℕ, zero, suc, ◌+◌, ◌%◌, ◌^◌, ◌<◌, ◌≤◌, ◌⊎◌, inl, inr, Bool, true, false, not, ◌&&◌, List, [], ◌∷◌, length, map, Option, Some, None, option_map, slice_index, ℤ, pos, negsuc, ◌+ℤ◌, ◌-ℤ◌, ◌≤ℤ◌, ◌<ℤ◌, neg_ℤ, FitsSigned, refl, sym, ap, subst, ◌∙◌, arith}
+use Rattle.std.specs.Prelude.{◌==◌, filter, unwrap_or, if◌then◌else◌}
+use Rattle.std.specs.List.{AllByRecursion, slice_get}
+use Rattle.std.specs.Int.{w64, int_wrap}
+use Rattle.std.proofs.lemmas.Int.{ints, int_wrap_fits}
+use Rattle.std.proofs.lemmas.Bool.{or_right, cases_lt}
+use Rattle.std.proofs.lemmas.Option.{slice_get-map}
+use Rattle.rv_isa.specs.declared.kind.Kind.{Kind}
+use Rattle.rv_isa.specs.declared.kind.Kind.TheVariants as kinds
+use Rattle.rv_reloc.specs.Ranges.{IsInRange, IsOdd, Takes}
+use Rattle.rv_layout_laws.specs.declared.site.Site.{Site}
+use Rattle.rv_layout_laws.specs.Offsets.{IsEven, IsImmediate, Reaches}
+use Rattle.rv_layout_laws.specs.Calls as layout
+use Rattle.rv_layout_laws.specs.Calls.{Offers, half, site_at, bytes_of, InOrder, IsText, IsFamily, IsGreatestClosed, ReachesFrom, ReachesBy, is_call as is_call_site}
+use Rattle.rv_layout_laws.proofs.ReachingLemmas.{Nearer, reaches_nearer}
+use Rattle.rv_layout_laws.proofs.ShorteningLemmas.{greatest_reaching}
+use Rattle.rv_object.specs.declared.object.Object.{Object as DeclaredObject}
+use Rattle.rv_object.specs.Object.{Relocation, Section, Object, size_of}
+use Rattle.rv_object.specs.Valid.{are_paddings}
+use Rattle.rv_object.specs.View.{object_of}
+use Rattle.rv_object_laws.specs.Moves.{dropped, moves, new_offset, has_padding}
+use Rattle.rv_object_laws.specs.Inputs.{Starts, InputSection, goes_to_text, inputs, Stand}
+use Rattle.rv_object_laws.specs.Names.{Place, shown_linker_symbols}
+use Rattle.rv_object_laws.specs.Values.{target}
+use Rattle.rv_object_laws.specs.Calls.{is_call, start_padding, base, text_offset, target_place, is_text_place, is_permitted, may_change, changes, call_site, site_of, sites_of, is_short_text}
+use Rattle.rv_object_laws.specs.Shortened.{Sizes, size_at, sizes_by, is_shortened, cuts, shortened_kind, shortened_relocation, shortened_text, shortened, IsRelaxed}
+use Rattle.rv_object_laws.proofs.ChangesLemmas as permitted
+use Rattle.rv_object_laws.proofs.TextInputsLemmas.{IsTextInput, text_inputs}
+use Rattle.rv_object_laws.proofs.TextLineLemmas.{site_call, sites_text}
+use Rattle.rv_object_laws.proofs.TextPlacesLemmas.{target_named}
+use Rattle.rv_placement.specs.declared.placement.Placement.{Placement}
+use Rattle.rv_placement.specs.Placement.{starts_of, IsPlacement}
+use Rattle.rv_resolve.specs.Shown.{regions_of, shown_globals}
+use Rattle.rv_link.specs.Refusals.{IsTextStart}
+use Rattle.rv_link.specs.Filled.{IsTaken}
+use Rattle.rv_shorten.specs.Cutting.{In}
+use Rattle.rv_shorten.proofs.ChangesLemmas as changed
+use Rattle.rv_shorten.proofs.ListsLemmas.{filter_in, ordered_in}
+use Rattle.rv_shorten.proofs.SectionsLemmas.{short_parts, same_text}
+use Rattle.rv_shorten.proofs.ShortLemmas.{size_left, paddings_stay}
+use Rattle.rv_shorten.proofs.ShiftsLemmas as cut
+use Rattle.rv_unique_link_laws.proofs.MultiplesLemmas.{BeginsSo, all_begin}
+use Rattle.rv_reach_laws.specs.Reach.{is_short_call, ForEachLeft, ShortCallsReach}
+use Rattle.rv_reach_laws.proofs.LinesLemmas.{IsFramed, Frames, frames}
+use Rattle.rv_reach_laws.proofs.SpansLemmas.{left_section, left_input, lefts, IsPlain, address, in_order, stays_even, nearer_ahead, nearer_behind}
+use Rattle.rv_reach_laws.proofs.TargetsLemmas.{IsAt, IsInText, in_text, place_at, stands, target_stands}
+use Rattle.rv_reach_laws.proofs.ShorterLemmas.{sounds, IsEvenCode, evens, ordered_all, index_of, in_at, all_at, kept_here, lows}
+
+-- ---- values that reach are in range
+
+jal_range : (z : ℤ) → IsImmediate (2 ^ 20) z → IsInRange kinds.Jal z
+jal_range (pos n) h = let even : n % 2 ≡ 0 = h.even in let high = h.high in (omega (arith, ints), omega (arith, ints, even, high))
+jal_range (negsuc n) h = let low = h.low in (omega (arith, ints, low), omega (arith, ints))
+
+jump_range : (z : ℤ) → IsImmediate (2 ^ 11) z → IsInRange kinds.RvcJump z
+jump_range (pos n) h = let even : n % 2 ≡ 0 = h.even in let high = h.high in (omega (arith, ints), omega (arith, ints, even, high))
+jump_range (negsuc n) h = let low = h.low in (omega (arith, ints, low), omega (arith, ints))
+
+not_odd : (z : ℤ) → IsEven z → IsOdd z → ⊥
+not_odd z even odd = absurd (omega (arith, even, odd))
+
+takes_jal : (z : ℤ) → IsImmediate (2 ^ 20) z → Takes kinds.Jal z
+takes_jal z h = record { range = jal_range z h; even = λ target odd. not_odd z h.even odd }
+
+takes_jump : (z : ℤ) → IsImmediate (2 ^ 11) z → Takes kinds.RvcJump z
+takes_jump z h = record { range = jump_range z h; even = λ target odd. not_odd z h.even odd }
+
+even_from : (a b : ℕ) (z : ℤ) → IsEven z → IsEven ((pos a -ℤ pos b) +ℤ z) → b % 2 ≡ 0 → a % 2 ≡ 0
+even_from a b (pos n) one two even = let p : n % 2 ≡ 0 = one in omega (arith, ints, p, two, even)
+even_from a b (negsuc n) one two even = let p : suc n % 2 ≡ 0 = one in omega (arith, ints, p, two, even)
+
+half_most : (k : ℕ) → half k ≤ 2 ^ 20
+half_most k = by (k == 2)
+  where
+    by : (b : Bool) → (if b then 2 ^ 11 else 2 ^ 20) ≤ 2 ^ 20
+    by true = omega arith
+    by false = omega arith
+
+-- the value as the field has it
+pub value_is : (a s p : ℕ) (z : ℤ) (h : ℕ) → h ≤ 2 ^ 20 → IsImmediate h ((pos a -ℤ pos p) +ℤ z) → a < 2 ^ 64 → s ≡ a % 2 ^ 64 → int_wrap w64 ((pos s +ℤ z) -ℤ pos p) ≡ (pos a -ℤ pos p) +ℤ z
+value_is a s p z h most it low e =
+    let same : s ≡ a = omega (arith, e, low) in
+    let v = (pos a -ℤ pos p) +ℤ z in
+    let down = it.low in
+    let up = it.high in
+    let low_v : neg_ℤ (pos (2 ^ 20)) ≤ℤ v = omega (arith, ints, down, most) in
+    let high_v : v <ℤ pos (2 ^ 20) = omega (arith, ints, up, most) in
+    let fits : FitsSigned w64 v = fits_small v low_v high_v in
+    ap (λ n. int_wrap w64 ((pos n +ℤ z) -ℤ pos p)) same
+    ∙ ap (int_wrap w64) (let k : (pos a +ℤ z) -ℤ pos p ≡ (pos a -ℤ pos p) +ℤ z = omega (arith, ints) in k)
+    ∙ int_wrap_fits w64 v fits
+  where
+    fits_small : (v : ℤ) → neg_ℤ (pos (2 ^ 20)) ≤ℤ v → v <ℤ pos (2 ^ 20) → FitsSigned w64 v
+    fits_small v low high = search rules
+
+-- ---- lists
+
+unmapped : (P : InputSection → Type 0) (f : InputSection → InputSection) (xs : List InputSection) → AllByRecursion P (map f xs) → AllByRecursion (λ x. P (f x)) xs
+unmapped P f [] h = tt
+unmapped P f (x ∷ xs) (one, h) = (one, unmapped P f xs h)
+
+pub record HasFrame (os : List Object) (kept : List ℕ) (i : InputSection) : Type 0 where
+  pub at : ℕ
+  pub gone : ℕ
+  pub frame : IsFramed os kept at gone i
+
+pub frame_at : (os : List Object) (kept : List ℕ) (at gone : ℕ) (is : List InputSection) → Frames os kept at gone is → (k : ℕ) (i : InputSection) → slice_get is k ≡ Some i → HasFrame os kept i
+frame_at os kept at gone [] h k i e = absurd (cc)
+frame_at os kept at gone (x ∷ is) (one, h) zero i e = let same : x ≡ i = cc in subst (HasFrame os kept) same (record { at = at; gone = gone; frame = one })
+frame_at os kept at gone (x ∷ is) (one, h) (suc k) i e =
+    frame_at os kept (at + start_padding x.section + size_of x.section.contents) (gone + dropped (cuts (sizes_by os kept x.file x.index) x.section) (size_of x.section.contents)) is h k i e
+
+-- ---- what is left of objects
+
+module _ (ds : List DeclaredObject) (kept : List ℕ) (greatest : IsGreatestClosed (sites_of (map object_of ds)) kept) (start : ℕ) (p : Placement) (begins : IsTextStart start)
+    (placed : IsPlacement (shortened kept (map object_of ds)) start p) where
+  abbrev os : List Object
+  os = map object_of ds
+
+  abbrev left : List Object
+  left = shortened kept (map object_of ds)
+
+  abbrev starts : Starts
+  starts = starts_of p
+
+  abbrev is : List InputSection
+  is = inputs goes_to_text (map object_of ds)
+
+  abbrev sites : List Site
+  sites = sites_of (map object_of ds)
+
+  abbrev its : InputSection → Sizes
+  its i = sizes_by (map object_of ds) kept i.file i.index
+
+  abbrev N : ℕ → ℕ
+  N x = layout.new_offset (sites_of (map object_of ds)) kept x
+
+  text : IsText sites
+  text = sites_text ds
+
+  order : InOrder 0 sites
+  order = text.in_order
+
+  family : IsFamily sites kept
+  family = greatest.closed.family
+
+  inputs_are : AllByRecursion (IsTextInput os) is
+  inputs_are = text_inputs ds
+
+  pub all_frames : Frames os kept 0 0 is
+  all_frames = frames os kept 1 0 0 0 is kept inputs_are (ordered_all 1 os) (record {
+    stands = record { base_is = λ g y later. omega arith; size_is = λ o le. refl; many = family.same_length; order = order };
+    drops = λ n le. (let d = layout.dropped sites kept n in let e : d ≡ 0 + d = omega arith in e);
+    offered = family.offered;
+    there = λ s i. i;
+  })
+
+  left_is : inputs goes_to_text left ≡ map (left_input os kept) is
+  left_is = lefts os kept 1 os
+
+  abbrev IsLow : InputSection → Type 0
+  IsLow i = starts_of p i.file i.index + size_of (left_section (map object_of ds) kept i).contents < 2 ^ 64
+
+  all_lows : AllByRecursion IsLow is
+  all_lows =
+      unmapped (λ i. starts_of p i.file i.index + size_of i.section.contents < 2 ^ 64) (left_input os kept) is
+      (subst (AllByRecursion (λ i. starts_of p i.file i.index + size_of i.section.contents < 2 ^ 64)) left_is (lows left start p placed))
+
+  plains_from : (at gone : ℕ) (js : List InputSection) → Frames os kept at gone js → AllByRecursion (IsTextInput os) js → AllByRecursion BeginsSo js → AllByRecursion IsEvenCode js → AllByRecursion IsLow js
+      → AllByRecursion (IsPlain os kept) js
+  plains_from at gone [] f a b c d = tt
+  plains_from at gone (i ∷ js) (f, fs) (a, as') (b, bs) (c, cs) (d, ds') = (
+    record {
+      text = a.text;
+      padded = record {
+        text = a.text;
+        low = omega (arith, d);
+        paddings = subst (λ (x : Section). are_paddings x.executable x.contents x.relocations ≡ true) (same_text (its i) i.section a.text)
+            (paddings_stay i.section (cuts (its i) i.section) i.section.executable a.inside f.allowed a.paddings);
+      };
+      even = b.0;
+      even_size = c;
+      ends = size_left i.section (cuts (its i) i.section) a.inside f.allowed;
+    },
+    plains_from (at + start_padding i.section + size_of i.section.contents) (gone + dropped (cuts (its i) i.section) (size_of i.section.contents)) js fs as' bs cs ds',
+  )
+
+  pub plains : AllByRecursion (IsPlain os kept) is
+  plains = plains_from 0 0 is all_frames inputs_are (all_begin os (sounds ds)) (evens 1 ds) all_lows
+
+  stand : Stand starts start (map (left_input os kept) is)
+  stand = subst (Stand starts start) left_is placed.text.1
+
+  even_start : start % 2 ≡ 0
+  even_start = let page : start % 4096 ≡ 0 = begins.0 in omega (arith, page)
+
+  begun : start + 0 ≡ 0 + start + 0
+  begun = omega arith
+
+  -- ---- two places
+
+  pub near : (k : ℕ) (i : InputSection) → slice_get is k ≡ Some i → (l : ℕ) (j : InputSection) → slice_get is l ≡ Some j → (n m : ℕ) → n ≤ size_of i.section.contents → m ≤ size_of j.section.contents
+      → N (base os i.file i.index + n) % 2 ≡ 0 → N (base os j.file j.index + m) % 2 ≡ 0
+      → Nearer (pos (address os kept start starts j m) -ℤ pos (address os kept start starts i n)) (pos (N (base os j.file j.index + m)) -ℤ pos (N (base os i.file i.index + n)))
+  near k i there l j there' n m low high even_i even_j = by (cases_lt k l)
+    where
+      ahead : (k < l) ⊎ ((k ≡ l) × (n ≤ m)) → Nearer (pos (address os kept start starts j m) -ℤ pos (address os kept start starts i n)) (pos (N (base os j.file j.index + m)) -ℤ pos (N (base os i.file i.index + n)))
+      ahead before =
+          nearer_ahead os kept start starts order i n j m
+          (in_order os kept start starts 0 0 start 0 is all_frames plains stand begun even_start even_start refl order k i there l j there' n m low high before) even_i even_j
+
+      behind : (l < k) ⊎ ((l ≡ k) × (m ≤ n)) → Nearer (pos (address os kept start starts j m) -ℤ pos (address os kept start starts i n)) (pos (N (base os j.file j.index + m)) -ℤ pos (N (base os i.file i.index + n)))
+      behind before =
+          nearer_behind os kept start starts order j m i n
+          (in_order os kept start starts 0 0 start 0 is all_frames plains stand begun even_start even_start refl order l j there' k i there m n high low before) even_j even_i
+
+      by : (k < l) ⊎ (l ≤ k) → Nearer (pos (address os kept start starts j m) -ℤ pos (address os kept start starts i n)) (pos (N (base os j.file j.index + m)) -ℤ pos (N (base os i.file i.index + n)))
+      by (inl less) = ahead (inl less)
+      by (inr le) = more (cases_lt l k)
+        where
+          more : (l < k) ⊎ (k ≤ l) → Nearer (pos (address os kept start starts j m) -ℤ pos (address os kept start starts i n)) (pos (N (base os j.file j.index + m)) -ℤ pos (N (base os i.file i.index + n)))
+          more (inl less) = behind (inl less)
+          more (inr up) = last (cases_lt n m)
+            where
+              last : (n < m) ⊎ (m ≤ n) → Nearer (pos (address os kept start starts j m) -ℤ pos (address os kept start starts i n)) (pos (N (base os j.file j.index + m)) -ℤ pos (N (base os i.file i.index + n)))
+              last (inl less) = ahead (inr (omega (arith, le, up), omega (arith, less)))
+              last (inr down) = behind (inr (omega (arith, le, up), down))
+
+  pub even_at : (k : ℕ) (i : InputSection) → slice_get is k ≡ Some i → (n : ℕ) → n ≤ size_of i.section.contents → n % 2 ≡ 0 → N (base os i.file i.index + n) % 2 ≡ 0
+  even_at k i there n low even = stays_even os kept start starts 0 0 start 0 is all_frames plains stand begun even_start even_start refl order k i there n low even
+
+  -- each place has an address of 64 bits
+  pub address_low : (k : ℕ) (i : InputSection) → slice_get is k ≡ Some i → (n : ℕ) → n ≤ size_of i.section.contents → address os kept start starts i n < 2 ^ 64
+  address_low k i there n low =
+      let room = all_at IsLow is k i all_lows there in
+      let plain = all_at (IsPlain os kept) is k i plains there in
+      let frame = frame_at os kept 0 0 is all_frames k i there in
+      let up = cut.rising 0 (size_of i.section.contents) n (size_of i.section.contents) (cuts (its i) i.section) frame.frame.allowed.order low in
+      let ends = plain.ends in
+      omega (arith, room, up, ends)
+
+  -- ---- a call
+
+  module _ (k : ℕ) (i : InputSection) (there : slice_get is k ≡ Some i) (n : ℕ) (q : Relocation) (at_q : slice_get i.section.relocations n ≡ Some q) (short : is_shortened (its i) q ≡ true) where
+    input : IsTextInput os i
+    input = all_at (IsTextInput os) is k i inputs_are there
+
+    frame : HasFrame os kept i
+    frame = frame_at os kept 0 0 is all_frames k i there
+
+    abbrev first : ℕ
+    first = base (map object_of ds) i.file i.index
+
+    in_q : In q i.section.relocations
+    in_q = in_at i.section.relocations n q at_q
+
+    allowed : is_permitted os i q ≡ true
+    allowed = frame.frame.each q in_q short
+
+    is_call_q : is_call q.kind ≡ true
+    is_call_q = (short_parts (its i) q short).0
+
+    no_padding : has_padding q ≡ false
+    no_padding = by (has_padding q) refl
+      where
+        by : (b : Bool) → has_padding q ≡ b → has_padding q ≡ false
+        by false e = e
+        by true e = absurd (let clash : true ≡ false = sym is_call_q ∙ changed.padding_no_call q e in cc)
+
+    in_changes : In q (changes os i)
+    in_changes = ordered_in q (filter (may_change os i) i.section.relocations) (filter_in (may_change os i) q i.section.relocations in_q (or_right (has_padding q) (is_permitted os i q) allowed))
+
+    in_sites : In (call_site os i (first + q.place) q) sites
+    in_sites =
+        subst (λ s. In s sites) (site_call os i first q no_padding)
+        (subst (λ b. In (site_of os i b q) sites) (sym frame.frame.begins) (frame.frame.there q in_changes))
+
+    abbrev number : ℕ
+    number = (index_of (call_site (map object_of ds) i (base (map object_of ds) i.file i.index + q.place) q) (sites_of (map object_of ds)) in_sites).0
+
+    within : number < length sites
+    within = (index_of (call_site os i (first + q.place) q) sites in_sites).1
+
+    site_is : site_at sites number ≡ call_site os i (first + q.place) q
+    site_is = (index_of (call_site os i (first + q.place) q) sites in_sites).2
+
+    kept_is : slice_index kept number ≡ its i q.place
+    kept_is =
+        sym (kept_here 0 sites kept order family.same_length number within (ap (λ (s : Site). is_call_site s.kind) site_is))
+        ∙ ap (λ (s : Site). size_at sites kept s.offset) site_is
+
+    few : its i q.place < 8
+    few = (short_parts (its i) q short).1
+
+    reaching : ReachesFrom sites kept (first + q.place) (call_site os i (first + q.place) q).kind (its i q.place)
+    reaching =
+        subst (λ m. ReachesFrom sites kept (first + q.place) (call_site os i (first + q.place) q).kind m) kept_is
+        (subst (λ (s : Site). ReachesFrom sites kept s.offset s.kind (slice_index kept number)) site_is
+        (greatest_reaching sites text kept greatest number
+        (let eight = ap (λ (s : Site). bytes_of s.kind) site_is in let same = kept_is in let less = few in omega (arith, eight, same, less))))
+
+    offered : Offers (call_site os i (first + q.place) q).kind (its i q.place)
+    offered =
+        subst (λ m. Offers (call_site os i (first + q.place) q).kind m) kept_is
+        (subst (λ (s : Site). Offers s.kind (slice_index kept number)) site_is (family.offered number))
+
+    low_q : q.place ≤ size_of i.section.contents
+    low_q = let inside = changed.call_inside i.section q (record { fit = input.inside; paddings = input.paddings }) in_q is_call_q in omega (arith, inside)
+
+    even_q : N (first + q.place) % 2 ≡ 0
+    even_q = even_at k i there q.place low_q (changed.permitted os i q allowed).even
+
+    -- ---- where it leads
+
+    pub record LeadsTo : Type 0 where
+      pub to : ℕ
+      pub low : to < 2 ^ 64
+      pub target_is : target (shown_globals left p) (starts i.file) (left_input os kept i).object q.symbol ≡ Some (to % 2 ^ 64)
+      pub reaches : Reaches (half (its i q.place)) q.addend (pos to -ℤ pos (address os kept start starts i q.place))
+
+    leads_to : (t : Option Place) → target_place os i q ≡ t → is_text_place os t ≡ true
+        → Reaches (half (its i q.place)) q.addend (pos (N (text_offset os t)) -ℤ pos (N (first + q.place))) → LeadsTo
+    leads_to None e leads far = absurd (cc)
+    leads_to (Some t) e leads far = record {
+      to = address os kept start starts j t.offset;
+      low = address_low spot.number j spot.there t.offset low_t;
+      target_is = target_stands os kept starts (shown_linker_symbols left (regions_of p)) i q t it input.at e ∙ ap (λ a. Some (a % 2 ^ 64)) (sym address_is);
+      reaches = reaches_nearer (half (its i q.place)) q.addend
+          (pos (address os kept start starts j t.offset) -ℤ pos (address os kept start starts i q.place)) (pos (N (base os j.file j.index + t.offset)) -ℤ pos (N (first + q.place)))
+          (near k i there spot.number j spot.there q.place t.offset low_q low_t even_q even_t) far_j;
+    }
+      where
+        it : IsInText os t
+        it = in_text os t leads
+
+        spot : IsAt is t.file t.section it.section
+        spot = place_at os t it (target_named os i q t input.counted input.at e).counted
+
+        j : InputSection
+        j = spot.input
+
+        line_is : base os j.file j.index + t.offset ≡ text_offset os (Some t)
+        line_is = ap (λ f. base os f j.index + t.offset) spot.in_file ∙ ap (λ x. base os t.file x + t.offset) spot.at_index
+
+        far_j : Reaches (half (its i q.place)) q.addend (pos (N (base os j.file j.index + t.offset)) -ℤ pos (N (first + q.place)))
+        far_j = subst (λ x. Reaches (half (its i q.place)) q.addend (pos (N x) -ℤ pos (N (first + q.place)))) (sym line_is) far
+
+        even_t : N (base os j.file j.index + t.offset) % 2 ≡ 0
+        even_t = even_from (N (base os j.file j.index + t.offset)) (N (first + q.place)) q.addend far_j.alone.even far_j.added.even even_q
+
+        low_t : t.offset ≤ size_of j.section.contents
+        low_t = subst (λ (s : Section). t.offset ≤ size_of s.contents) (sym spot.section) it.low
+
+        stood : ℕ → ℕ → Section → ℕ
+        stood f x s = starts f x + new_offset (moves (starts f x) (shortened_text (sizes_by os kept f x) s)) (new_offset (cuts (sizes_by os kept f x) s) t.offset)
+
+        address_is : address os kept start starts j t.offset ≡ stands os kept starts t it.section
+        address_is = ap (λ f. stood f j.index j.section) spot.in_file ∙ ap (λ x. stood t.file x j.section) spot.at_index ∙ ap (stood t.file t.section) spot.section
+
+    leads : LeadsTo
+    leads = leads_to (target_place os i q) refl (permitted.permitted os i q allowed).leads reaching
+
+    -- ---- its field
+
+    abbrev now : Kind → Relocation
+    now kind = record { place = new_offset (cuts (its i) i.section) q.place; kind = kind; symbol = q.symbol; addend = q.addend }
+
+    abbrev away : ℤ
+    away = (pos leads.to -ℤ pos (address (map object_of ds) kept start (starts_of p) i q.place)) +ℤ q.addend
+
+    worth_is : int_wrap w64 ((pos (unwrap_or (target (shown_globals left p) (starts i.file) (left_input os kept i).object q.symbol) 0) +ℤ q.addend) -ℤ pos (address os kept start starts i q.place)) ≡ away
+    worth_is =
+        value_is leads.to (unwrap_or (target (shown_globals left p) (starts i.file) (left_input os kept i).object q.symbol) 0) (address os kept start starts i q.place) q.addend (half (its i q.place)) (half_most (its i q.place))
+        leads.reaches.added leads.low (ap (λ o. unwrap_or o 0) leads.target_is)
+
+    takes_four : its i q.place ≡ 4 → IsTaken left p (left_input os kept i) (now kinds.Jal)
+    takes_four four = record {
+      found = refl;
+      alone = λ e. absurd (cc);
+      takes = subst (Takes kinds.Jal) (sym worth_is) (takes_jal away (subst (λ m. IsImmediate (half m) away) four leads.reaches.added));
+    }
+
+    takes_two : its i q.place ≡ 2 → IsTaken left p (left_input os kept i) (now kinds.RvcJump)
+    takes_two two = record {
+      found = refl;
+      alone = λ e. absurd (cc);
+      takes = subst (Takes kinds.RvcJump) (sym worth_is) (takes_jump away (subst (λ m. IsImmediate (half m) away) two leads.reaches.added));
+    }
+
+    kind_is : (m : ℕ) → its i q.place ≡ m → shortened_kind (its i) q ≡ (if m == 2 then kinds.RvcJump else kinds.Jal)
+    kind_is m e = ap (λ b. if b then (if its i q.place == 2 then kinds.RvcJump else kinds.Jal) else q.kind) short ∙ ap (λ m. if m == 2 then kinds.RvcJump else kinds.Jal) e
+
+    pub is_taken : IsTaken left p (left_input os kept i) (shortened_relocation (its i) (cuts (its i) i.section) q)
+    is_taken = by offered
+      where
+        by : Offers (call_site os i (first + q.place) q).kind (its i q.place) → IsTaken left p (left_input os kept i) (now (shortened_kind (its i) q))
+        by (inl eight) = absurd (let less = few in omega (arith, eight, less))
+        by (inr (inl four)) = subst (λ kind. IsTaken left p (left_input os kept i) (now kind)) (sym (kind_is 4 four)) (takes_four four)
+        by (inr (inr two)) = subst (λ kind. IsTaken left p (left_input os kept i) (now kind)) (sym (kind_is 2 two.0)) (takes_two two.0)
+
+-- ---- all of them
+
+-- a call is short only where it was shortened
+was_shortened : (sizes : Sizes) (q : Relocation) → is_short_call q.kind (shortened_kind sizes q) ≡ true → is_shortened sizes q ≡ true
+was_shortened sizes q h = by (is_shortened sizes q) refl h
+  where
+    never : (b : Bool) → (b && not b) ≡ true → false ≡ true
+    never true e = e
+    never false e = e
+
+    by : (b : Bool) → is_shortened sizes q ≡ b → is_short_call q.kind (if b then (if sizes q.place == 2 then kinds.RvcJump else kinds.Jal) else q.kind) ≡ true → is_shortened sizes q ≡ true
+    by true e k = e
+    by false e k = e ∙ never (is_call q.kind) k
+
+abbrev Reaches_in : List Object → Placement → (before now : Relocation) → InputSection → Type 0
+Reaches_in left p before now i = is_short_call before.kind now.kind ≡ true → IsTaken left p i now
+
+same_reach : (os left : List Object) (p : Placement) → left ≡ os → ForEachLeft os left (Reaches_in left p)
+same_reach os left p same section place i j before now at_i at_j at_before at_now short =
+    let both : ◌≡◌ {A = Option InputSection} (Some i) (Some j) = sym at_i ∙ ap (λ u. slice_get (inputs goes_to_text u) section) (sym same) ∙ at_j in
+    let here : i ≡ j = cc in
+    let two : ◌≡◌ {A = Option Relocation} (Some before) (Some now) = sym at_before ∙ ap (λ (x : InputSection). slice_get x.section.relocations place) here ∙ at_now in
+    let one : before ≡ now = cc in
+    absurd (never (is_call before.kind) (ap (λ (x : Relocation). is_call before.kind && not (is_call x.kind)) one ∙ short))
+  where
+    never : (b : Bool) → (b && not b) ≡ true → ⊥
+    never true e = absurd (cc)
+    never false e = absurd (cc)
+
+short_reach : (ds : List DeclaredObject) (kept : List ℕ) → IsGreatestClosed (sites_of (map object_of ds)) kept → (start : ℕ) (p : Placement) → IsTextStart start → IsPlacement (shortened kept (map object_of ds)) start p
+    → ForEachLeft (map object_of ds) (shortened kept (map object_of ds)) (Reaches_in (shortened kept (map object_of ds)) p)
+short_reach ds kept greatest start p begins placed section place i j before now at_i at_j at_before at_now short =
+    let os = map object_of ds in
+    let sizes = sizes_by os kept i.file i.index in
+    let ms = cuts sizes i.section in
+    let left_j : ◌≡◌ {A = Option InputSection} (Some (left_input os kept i)) (Some j) =
+    sym (ap (λ l. slice_get l section) (lefts os kept 1 os) ∙ slice_get-map (left_input os kept) (inputs goes_to_text os) section ∙ ap (option_map (left_input os kept)) at_i) ∙ at_j in
+    let here : left_input os kept i ≡ j = cc in
+    let left_now : ◌≡◌ {A = Option Relocation} (Some (shortened_relocation sizes ms before)) (Some now) =
+    sym (slice_get-map (shortened_relocation sizes ms) i.section.relocations place ∙ ap (option_map (shortened_relocation sizes ms)) at_before)
+    ∙ ap (λ (x : InputSection). slice_get x.section.relocations place) here ∙ at_now in
+    let one : shortened_relocation sizes ms before ≡ now = cc in
+    subst (λ x. IsTaken (shortened kept os) p x now) here
+    (subst (λ x. IsTaken (shortened kept os) p (left_input os kept i) x) one
+    (is_taken ds kept greatest start p begins placed section i at_i place before at_before
+    (was_shortened sizes before (ap (λ (x : Relocation). is_short_call before.kind x.kind) one ∙ short))))
+
+relaxed_reach : (short : Bool) (ds : List DeclaredObject) (left : List Object) (start : ℕ) (p : Placement) → IsRelaxed short (map object_of ds) left → IsTextStart start → IsPlacement left start p
+    → ForEachLeft (map object_of ds) left (Reaches_in left p)
+relaxed_reach false ds us start p same begins placed = same_reach (map object_of ds) us p same
+relaxed_reach true ds us start p (kept, greatest, same) begins placed =
+    subst (λ u. IsPlacement u start p → ForEachLeft (map object_of ds) u (Reaches_in u p)) (sym same) (short_reach ds kept greatest start p begins) placed
+
+pub short_calls_reach : ShortCallsReach
+short_calls_reach ds us start false p same begins placed = same_reach (map object_of ds) us p same
+short_calls_reach ds us start true p relaxed begins placed = relaxed_reach (is_short_text (map object_of ds)) ds us start p relaxed begins placed

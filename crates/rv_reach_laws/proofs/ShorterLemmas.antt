@@ -1,0 +1,197 @@
+-- Each call that relaxation shortens reaches where its text is placed.
+
+use Rattle.std.proofs.Common.{◌≡◌, ℕ, zero, suc, ◌+◌, ◌-◌, ◌%◌, ◌^◌, ◌<◌, ◌≤◌, ◌⊎◌, inl, inr, Bool, true, false, cond, List, [], ◌∷◌, ◌++◌, length, map, Some, slice_index, refl, sym, ap, subst, ◌∙◌, arith}
+use Rattle.std.specs.Prelude.{◌==◌, IsTrue, if◌then◌else◌}
+use Rattle.std.specs.List.{AllByRecursion, slice_get}
+use Rattle.std.specs.Global.{Vec}
+use Rattle.std.proofs.lemmas.Bool.{and_parts, and_from, eq-eqb, eqb-true, ne_eqb}
+use Rattle.rv_layout_laws.specs.declared.site.Site.{Site}
+use Rattle.rv_layout_laws.specs.declared.site.SiteKind.{SiteKind}
+use Rattle.rv_layout_laws.specs.declared.site.SiteKind.TheVariants.{Call, Padding}
+use Rattle.rv_layout_laws.specs.Calls.{site_at, bytes_of, InOrder, is_call as is_call_site}
+use Rattle.rv_layout_laws.proofs.ShorteningLemmas.{before_all}
+use Rattle.rv_object.specs.declared.object.Object.{Object as DeclaredObject}
+use Rattle.rv_object.specs.declared.section.Section.{Section as DeclaredSection}
+use Rattle.rv_object.specs.Object.{Section, Object, size_of}
+use Rattle.rv_object.specs.Sections.{section_of}
+use Rattle.rv_object.specs.Valid.{is_even, is_alignment, are_paddings, fit_inside}
+use Rattle.rv_object.specs.View.{object_of}
+use Rattle.rv_object_laws.specs.Inputs.{InputSection, goes_to_text, inputs_from, inputs_of, inputs}
+use Rattle.rv_object_laws.specs.Shortened.{size_at}
+use Rattle.rv_placement.specs.declared.placement.PlacedSection.{PlacedSection}
+use Rattle.rv_placement.specs.declared.placement.Placement.{Placement}
+use Rattle.rv_placement.specs.Placement.{placed_in, start_in, starts_of, section_in, section_at, IsPlacement}
+use Rattle.rv_shorten.specs.Cutting.{In}
+use Rattle.rv_shorten.proofs.ChangesLemmas as changed
+use Rattle.rv_shorten.proofs.LineLemmas.{Later}
+use Rattle.rv_unique_link_laws.specs.Asked.{IsSound}
+use Rattle.rv_unique_link_laws.proofs.FoundLemmas.{EachOf, all_of}
+use Rattle.rv_reach_laws.proofs.LinesLemmas.{Ordered}
+
+-- ---- what objects of the code keep
+
+sections_all : (P : Section → Type 0) → ((x : DeclaredSection) → P (section_of x)) → (xs : List DeclaredSection) → AllByRecursion P (map section_of xs)
+sections_all P each [] = tt
+sections_all P each (x ∷ xs) = (each x, sections_all P each xs)
+
+pub sounds : (ds : List DeclaredObject) → AllByRecursion IsSound (map object_of ds)
+sounds [] = tt
+sounds (d ∷ ds) = (
+  record {
+    alignments = sections_all (λ s. IsTrue (is_alignment s.alignment)) (λ x. x.aligned) d.sections.items;
+    inside = sections_all (λ s. IsTrue (fit_inside s.contents s.relocations)) (λ x. x.inside) d.sections.items;
+    paddings = sections_all (λ s. IsTrue (are_paddings s.executable s.contents s.relocations)) (λ x. x.paddings) d.sections.items;
+    rows = d.lie;
+  },
+  sounds ds,
+)
+
+abbrev pub IsEvenCode : InputSection → Type 0
+IsEvenCode i = size_of i.section.contents % 2 ≡ 0
+
+even_code : (x : DeclaredSection) → goes_to_text (section_of x) ≡ true → size_of (section_of x).contents % 2 ≡ 0
+even_code x text = by (section_of x).executable (and_parts (section_of x).loaded (section_of x).executable text).1 x.even
+  where
+    by : (b : Bool) → b ≡ true → is_even b (section_of x).contents ≡ true → size_of (section_of x).contents % 2 ≡ 0
+    by true e h = eqb-true (size_of (section_of x).contents % 2) 0 h
+    by false e h = absurd (cc)
+
+evens_from : (file : ℕ) (o : Object) (index : ℕ) (xs : List DeclaredSection) → AllByRecursion IsEvenCode (inputs_from goes_to_text file o index (map section_of xs))
+evens_from file o index [] = tt
+evens_from file o index (x ∷ xs) = go (goes_to_text (section_of x)) refl (evens_from file o (suc index) xs)
+  where
+    rest : List InputSection
+    rest = inputs_from goes_to_text file o (suc index) (map section_of xs)
+
+    go : (b : Bool) → goes_to_text (section_of x) ≡ b → AllByRecursion IsEvenCode rest → AllByRecursion IsEvenCode (if b then record { file = file; object = o; index = index; section = section_of x } ∷ rest else rest)
+    go true e h = (even_code x e, h)
+    go false e h = h
+
+all_join : (P : InputSection → Type 0) (xs ys : List InputSection) → AllByRecursion P xs → AllByRecursion P ys → AllByRecursion P (xs ++ ys)
+all_join P [] ys h k = k
+all_join P (x ∷ xs) ys (one, h) k = (one, all_join P xs ys h k)
+
+pub evens : (file : ℕ) (ds : List DeclaredObject) → AllByRecursion IsEvenCode (inputs_of goes_to_text file (map object_of ds))
+evens file [] = tt
+evens file (d ∷ ds) =
+    all_join IsEvenCode (inputs_from goes_to_text file (object_of d) 0 (map section_of d.sections.items)) (inputs_of goes_to_text (suc file) (map object_of ds))
+    (evens_from file (object_of d) 0 d.sections.items) (evens (suc file) ds)
+
+-- ---- the sections stand in the order of their files
+
+lower : (f x g y : ℕ) (is : List InputSection) → Later f x g y → Ordered g y is → Ordered f x is
+lower f x g y [] later h = tt
+lower f x g y (i ∷ is) later (one, h) = (go later one, h)
+  where
+    go : Later f x g y → Later g y i.file i.index → Later f x i.file i.index
+    go (inl a) (inl b) = inl (omega (arith, a, b))
+    go (inl a) (inr b) = let same = b.0 in inl (omega (arith, a, same))
+    go (inr a) (inl b) = let same = a.0 in inl (omega (arith, b, same))
+    go (inr a) (inr b) = let p = a.1 in let q = b.1 in inr (a.0 ∙ b.0, omega (arith, p, q))
+
+ordered_from : (f x file : ℕ) (o : Object) (index : ℕ) (ss : List Section) (tail : List InputSection) → Later f x file index → Ordered (suc file) 0 tail → Ordered f x (inputs_from goes_to_text file o index ss ++ tail)
+ordered_from f x file o index [] tail later h = lower f x (suc file) 0 tail (inl (go later)) h
+  where
+    go : Later f x file index → f < suc file
+    go (inl a) = omega (arith, a)
+    go (inr a) = let same = a.0 in omega (arith, same)
+ordered_from f x file o index (s ∷ ss) tail later h =
+    by (goes_to_text s) (ordered_from file (suc index) file o (suc index) ss tail (inr (refl, omega arith)) h) (ordered_from f x file o (suc index) ss tail (next later) h)
+  where
+    next : Later f x file index → Later f x file (suc index)
+    next (inl a) = inl a
+    next (inr a) = let le = a.1 in inr (a.0, omega (arith, le))
+
+    own : InputSection
+    own = record { file = file; object = o; index = index; section = s }
+
+    by : (b : Bool) → Ordered file (suc index) (inputs_from goes_to_text file o (suc index) ss ++ tail) → Ordered f x (inputs_from goes_to_text file o (suc index) ss ++ tail)
+        → Ordered f x ((if b then own ∷ inputs_from goes_to_text file o (suc index) ss else inputs_from goes_to_text file o (suc index) ss) ++ tail)
+    by true with_own without = (later, with_own)
+    by false with_own without = without
+
+pub ordered_all : (file : ℕ) (us : List Object) → Ordered file 0 (inputs_of goes_to_text file us)
+ordered_all file [] = tt
+ordered_all file (o ∷ us) = ordered_from file 0 file o 0 o.sections (inputs_of goes_to_text (suc file) us) (inr (refl, omega arith)) (ordered_all (suc file) us)
+
+-- ---- lists
+
+pub index_of : (x : Site) (xs : List Site) → In x xs → (k : ℕ) × (k < length xs) × (site_at xs k ≡ x)
+index_of x [] i = elim i [ ]
+index_of x (y ∷ ys) (inl same) = (0, omega arith, same)
+index_of x (y ∷ ys) (inr i) = let rest = index_of x ys i in let less = rest.1 in (suc rest.0, omega (arith, less), rest.2)
+
+pub in_at : {X : Type 0} (xs : List X) (k : ℕ) (x : X) → slice_get xs k ≡ Some x → In x xs
+in_at [] k x e = absurd (cc)
+in_at (y ∷ ys) zero x e = inl (let same : y ≡ x = cc in same)
+in_at (y ∷ ys) (suc k) x e = inr (in_at ys k x e)
+
+pub all_at : {X : Type 0} (P : X → Type 0) (xs : List X) (k : ℕ) (x : X) → AllByRecursion P xs → slice_get xs k ≡ Some x → P x
+all_at P [] k x h e = absurd (cc)
+all_at P (y ∷ ys) zero x (one, h) e = let same : y ≡ x = cc in subst P same one
+all_at P (y ∷ ys) (suc k) x (one, h) e = all_at P ys k x h e
+
+-- a family keeps of a call what is found at its offset
+pub kept_here : (from : ℕ) (ss : List Site) (ks : List ℕ) → InOrder from ss → length ks ≡ length ss → (k : ℕ) → k < length ss → is_call_site (site_at ss k).kind ≡ true
+    → size_at ss ks (site_at ss k).offset ≡ slice_index ks k
+kept_here from [] ks order many k less call = absurd (omega (arith, less))
+kept_here from (s ∷ ss) [] order many k less call = absurd (omega (arith, many))
+kept_here from (s ∷ ss) (n ∷ ks) order many zero less call =
+    ap (λ b. cond b n (size_at ss ks s.offset)) (and_from (is_call_site s.kind) (s.offset == s.offset) call (eq-eqb s.offset s.offset refl))
+kept_here from (s ∷ ss) (n ∷ ks) order many (suc k) less call =
+    changed.passed_by s n ss ks (site_at ss k).offset (go (is_call_site s.kind) refl)
+    ∙ kept_here (s.offset + bytes_of s.kind) ss ks order.1 (omega (arith, many)) k (omega (arith, less)) call
+  where
+    none : 1 ≤ 0 → ⊥
+    none le = absurd (omega (arith, le))
+
+    eight : (kind : SiteKind) → is_call_site kind ≡ true → bytes_of kind ≡ 8
+    eight (Call call) e = refl
+    eight (Padding padding) e = absurd (cc)
+
+    go : (b : Bool) → is_call_site s.kind ≡ b → (is_call_site s.kind ≡ false) ⊎ ((s.offset == (site_at ss k).offset) ≡ false)
+    go false e = inl e
+    go true e =
+        let far = before_all ss (s.offset + bytes_of s.kind) order.1 k (omega (arith, less)) in
+        let size = eight s.kind e in
+        inr (ne_eqb s.offset (site_at ss k).offset (λ same. none (omega (arith, far, size, same))))
+
+-- ---- bytes have addresses
+
+same_long : {X Y : Type 0} (xs : List X) (ys : List Y) (k : ℕ) (y : Y) → length xs ≡ length ys → slice_get ys k ≡ Some y → (x : X) × (slice_get xs k ≡ Some x)
+same_long [] [] k y same e = absurd (cc)
+same_long [] (z ∷ ys) k y same e = absurd (omega (arith, same))
+same_long (x ∷ xs) [] k y same e = absurd (cc)
+same_long (x ∷ xs) (z ∷ ys) zero y same e = (x, refl)
+same_long (x ∷ xs) (z ∷ ys) (suc k) y same e = same_long xs ys k y (omega (arith, same)) e
+
+place_of : (fs : List (Vec PlacedSection)) (us : List Object) → map (λ (f : Vec PlacedSection). length f.items) fs ≡ map (λ (o : Object). length o.sections) us
+    → (file index : ℕ) (s : Section) → section_in (slice_get us file) index ≡ Some s → (q : PlacedSection) × (placed_in (slice_get fs file) index ≡ Some q)
+place_of [] [] each file index s e = absurd (cc)
+place_of [] (o ∷ us) each file index s e = absurd (cc)
+place_of (f ∷ fs) [] each file index s e = absurd (cc)
+place_of (f ∷ fs) (o ∷ us) each zero index s e = same_long f.items o.sections index s (let same : length f.items ≡ length o.sections = cc in same) e
+place_of (f ∷ fs) (o ∷ us) each (suc file) index s e =
+    place_of fs us (let rest : map (λ (f : Vec PlacedSection). length f.items) fs ≡ map (λ (o : Object). length o.sections) us = cc in rest) file index s e
+
+module _ (left : List Object) (start : ℕ) (p : Placement) (placed : IsPlacement left start p) where
+  abbrev IsLow : InputSection → Type 0
+  IsLow i = starts_of p i.file i.index + size_of i.section.contents < 2 ^ 64
+
+  low_at : (file index : ℕ) (s : Section) → section_at left file index ≡ Some s → starts_of p (suc file) index + size_of s.contents < 2 ^ 64
+  low_at file index s there =
+      let found = place_of p.files.items left placed.each file index s there in
+      let low = placed.low file index s found.0 there found.1 in
+      let same : suc file - 1 ≡ file = omega arith in
+      subst (λ n. n + size_of s.contents < 2 ^ 64)
+      (sym (ap (λ k. start_in (placed_in (slice_get p.files.items k) index)) same ∙ ap start_in found.1)) low
+
+  lows_from : (file : ℕ) (us : List Object) → ((k : ℕ) → slice_get left (file + k) ≡ slice_get us k) → EachOf goes_to_text IsLow (suc file) us
+  lows_from file [] there = tt
+  lows_from file (o ∷ us) there = (
+    λ index s at text. low_at file index s (ap (λ x. section_in x index) (ap (slice_get left) (let e : file ≡ file + 0 = omega arith in e) ∙ there 0) ∙ at),
+    lows_from (suc file) us (λ k. ap (slice_get left) (let e : suc file + k ≡ file + suc k = omega arith in e) ∙ there (suc k)),
+  )
+
+  pub lows : AllByRecursion IsLow (inputs goes_to_text left)
+  lows = all_of goes_to_text IsLow 1 left (lows_from 0 left (λ k. ap (slice_get left) (let e : 0 + k ≡ k = omega arith in e)))

@@ -1,0 +1,85 @@
+-- What an object keeps where calls are cut out of its sections.
+
+use Rattle.std.proofs.Common.{◌≡◌, ℕ, zero, suc, ◌+◌, ◌-◌, Bool, true, nat_le, nat_lt, List, [], ◌∷◌, Some, length, map, refl, sym, ap, ◌∙◌, arith}
+use Rattle.std.specs.List.{list_all, slice_get}
+use Rattle.std.proofs.lemmas.List.{length-map}
+use Rattle.std.proofs.lemmas.Bool.{leb-true, le-leb, and_parts, and_from}
+use Rattle.rv_object.specs.declared.symbol.Definition.{Definition}
+use Rattle.rv_object.specs.declared.symbol.Definition.TheVariants as definitions
+use Rattle.rv_object.specs.declared.row.Row.{Row}
+use Rattle.rv_object.specs.declared.section.Section.{Section as DeclaredSection}
+use Rattle.rv_object.specs.Object.{Section, Symbol, size_of}
+use Rattle.rv_object.specs.Sections.{section_of}
+use Rattle.rv_object.specs.Valid.{fit_inside, is_below, are_indexed, is_defined_in, are_defined, is_row_in, are_rows}
+use Rattle.rv_object_laws.specs.Moves.{Move, new_offset}
+use Rattle.rv_object_laws.specs.Shortened.{shortened_contents}
+use Rattle.rv_shorten.specs.Cutting.{AreCuts, AllCut, cut_relocation, cut_section, cut_sections, moves_at, cut_definition, cut_symbol, cut_row}
+use Rattle.rv_shorten.proofs.ShiftsLemmas.{rising}
+use Rattle.rv_shorten.proofs.FieldsLemmas.{all_mapped}
+use Rattle.rv_shorten.proofs.ShortLemmas.{size_left}
+
+-- ---- what the object keeps
+
+pub as_many : (ss : List Section) (mss : List (List Move)) → AllCut ss mss → length (cut_sections mss ss) ≡ length ss
+as_many [] [] cuts = refl
+as_many [] (ms ∷ mss) cuts = elim cuts [ ]
+as_many (s ∷ ss) [] cuts = elim cuts [ ]
+as_many (s ∷ ss) (ms ∷ mss) cuts = ap suc (as_many ss mss cuts.1)
+
+abbrev index_test : ℕ → Section → Bool
+index_test n s = list_all (λ r. is_below n r.symbol) s.relocations
+
+indexed_by : (n m : ℕ) (ss : List Section) (mss : List (List Move)) → n ≡ m → AllCut ss mss → list_all (index_test n) ss ≡ true → list_all (index_test m) (cut_sections mss ss) ≡ true
+indexed_by n m [] [] is cuts h = refl
+indexed_by n m [] (ms ∷ mss) is cuts h = elim cuts [ ]
+indexed_by n m (s ∷ ss) [] is cuts h = elim cuts [ ]
+indexed_by n m (s ∷ ss) (ms ∷ mss) is cuts h =
+    let both = and_parts (index_test n s) (list_all (index_test n) ss) h in
+    and_from (index_test m (cut_section ms s)) (list_all (index_test m) (cut_sections mss ss))
+    (all_mapped (λ r. is_below n r.symbol) (λ r. is_below m r.symbol) (cut_relocation ms) s.relocations (λ r i one. sym (ap (λ k. is_below k r.symbol) is) ∙ one) both.0)
+    (indexed_by n m ss mss is cuts.1 both.1)
+
+pub indexed_stays : (symbols : List Symbol) (ss : List Section) (mss : List (List Move)) → AllCut ss mss → are_indexed symbols ss ≡ true → are_indexed (map (cut_symbol mss) symbols) (cut_sections mss ss) ≡ true
+indexed_stays symbols ss mss cuts h = indexed_by (length symbols) (length (map (cut_symbol mss) symbols)) ss mss (sym (length-map symbols (cut_symbol mss))) cuts h
+
+defined_one : (n m : ℕ) (mss : List (List Move)) (d : Definition) → n ≡ m → is_defined_in n d ≡ true → is_defined_in m (cut_definition mss d) ≡ true
+defined_one n m mss (definitions.InSection section offset) is h = sym (ap (nat_lt section) is) ∙ h
+defined_one n m mss definitions.Undefined is h = refl
+defined_one n m mss (definitions.Absolute k) is h = refl
+defined_one n m mss (definitions.Skipped k) is h = refl
+
+pub defined_stays : (ss : List Section) (symbols : List Symbol) (mss : List (List Move)) → AllCut ss mss → are_defined ss symbols ≡ true → are_defined (cut_sections mss ss) (map (cut_symbol mss) symbols) ≡ true
+defined_stays ss symbols mss cuts h =
+    all_mapped (λ s. is_defined_in (length ss) s.definition) (λ s. is_defined_in (length (cut_sections mss ss)) s.definition) (cut_symbol mss) symbols
+    (λ s i one. defined_one (length ss) (length (cut_sections mss ss)) mss s.definition (sym (as_many ss mss cuts)) one) h
+
+-- fields fit in each section
+abbrev pub all_fit : List Section → Bool
+all_fit ss = list_all (λ s. fit_inside s.contents s.relocations) ss
+
+pub all_fitting : (xs : List DeclaredSection) → all_fit (map section_of xs) ≡ true
+all_fitting [] = refl
+all_fitting (x ∷ xs) = and_from (fit_inside (section_of x).contents (section_of x).relocations) (all_fit (map section_of xs)) x.inside (all_fitting xs)
+
+row_in_one : (r : Row) (s : Section) (ms : List Move) → AreCuts s ms → fit_inside s.contents s.relocations ≡ true → is_row_in r (Some s) ≡ true → is_row_in (cut_row ms r) (Some (cut_section ms s)) ≡ true
+row_in_one r s ms cuts fit h =
+    let both = and_parts s.loaded (nat_le (r.offset + r.bytes) (size_of s.contents)) h in
+    let inside = leb-true (r.offset + r.bytes) (size_of s.contents) both.1 in
+    let start = rising 0 (size_of s.contents) r.offset (r.offset + r.bytes) ms cuts.order (omega arith) in
+    let end = rising 0 (size_of s.contents) (r.offset + r.bytes) (size_of s.contents) ms cuts.order inside in
+    let size = size_left s ms fit cuts in
+    and_from s.loaded (nat_le (new_offset ms r.offset + (new_offset ms (r.offset + r.bytes) - new_offset ms r.offset)) (size_of (shortened_contents ms s.contents))) both.0
+    (le-leb (new_offset ms r.offset + (new_offset ms (r.offset + r.bytes) - new_offset ms r.offset)) (size_of (shortened_contents ms s.contents)) (omega (arith, start, end, size)))
+
+row_stays : (ss : List Section) (mss : List (List Move)) (index : ℕ) (r : Row) → AllCut ss mss → all_fit ss ≡ true → is_row_in r (slice_get ss index) ≡ true
+    → is_row_in (cut_row (moves_at mss index) r) (slice_get (cut_sections mss ss) index) ≡ true
+row_stays [] mss index r cuts fit h = absurd (cc)
+row_stays (s ∷ ss) [] index r cuts fit h = elim cuts [ ]
+row_stays (s ∷ ss) (ms ∷ mss) zero r cuts fit h = row_in_one r s ms cuts.0 (and_parts (fit_inside s.contents s.relocations) (all_fit ss) fit).0 h
+row_stays (s ∷ ss) (ms ∷ mss) (suc index) r cuts fit h = row_stays ss mss index r cuts.1 (and_parts (fit_inside s.contents s.relocations) (all_fit ss) fit).1 h
+
+pub rows_stay : (ss : List Section) (mss : List (List Move)) (rows : List Row) → AllCut ss mss → all_fit ss ≡ true → are_rows ss rows ≡ true
+    → are_rows (cut_sections mss ss) (map (λ r. cut_row (moves_at mss r.section) r) rows) ≡ true
+rows_stay ss mss rows cuts fit h =
+    all_mapped (λ r. is_row_in r (slice_get ss r.section)) (λ r. is_row_in r (slice_get (cut_sections mss ss) r.section)) (λ r. cut_row (moves_at mss r.section) r) rows
+    (λ r i one. row_stays ss mss r.section r cuts fit one) h

@@ -1,0 +1,11 @@
+pub mod CalledLemmas
+pub mod UncutLemmas
+pub mod LongCallsLemmas
+pub mod CutsLemmas
+pub mod CutStepsLemmas
+pub mod CutSectionsLemmas
+pub mod CutObjectsLemmas
+pub mod FinalsLemmas
+pub mod ChangesLemmas
+pub mod ChangesOfLemmas
+pub mod FormsLemmas

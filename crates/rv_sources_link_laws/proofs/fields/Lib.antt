@@ -1,0 +1,10 @@
+pub mod AimsLemmas
+pub mod TargetsLemmas
+pub mod RangesLemmas
+pub mod NumbersLemmas
+pub mod PatchesLemmas
+pub mod WholesLemmas
+pub mod FieldsLemmas
+pub mod UppersLemmas
+pub mod LowsLemmas
+pub mod FilledCodeLemmas

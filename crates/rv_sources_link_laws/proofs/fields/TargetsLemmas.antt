@@ -1,0 +1,391 @@
+-- Where the symbols of objects stand in the line of text, and where their sources say that they stand.
+
+use Rattle.std.proofs.Common.{◌≡◌, ℕ, zero, suc, ◌+◌, ◌-◌, ◌≤◌, Bool, true, false, List, [], ◌∷◌, ◌++◌, map, refl, sym, ap, ◌∙◌, subst, arith, Option, Some, None, inl, inr}
+use Rattle.std.proofs.lemmas.Bool.{and_parts, le-leb, eq-eqb}
+use Rattle.std.proofs.lemmas.List.Folds.{list_any-append}
+use Rattle.std.specs.Prelude.{⊤, ◌&&◌, ◌||◌, ◌==◌, nat_le, if◌then◌else◌, filter, flat_map, option_and_then, bytes_eq, slice_index_or}
+use Rattle.std.specs.List.{AllByRecursion, find, list_any, slice_get}
+use Rattle.rv_text_laws.specs.Expression.{Primary, Symbol as Named, Literal, Here, Reference}
+use Rattle.rv_text_laws.specs.Values.{Meaning, Known, InSection as InData, Open as OpenAddress, Refused, add}
+use Rattle.rv_statement.specs.Statement.{StatementKind, Label, Numbered, Instruction, Directs, Statement, Enters, Sets}
+use Rattle.rv_unit_laws.specs.Bindings.{is_global}
+use Rattle.rv_unit_laws.specs.Sections.{Section as SourceSection, goes_to_text as source_text}
+use Rattle.rv_unit_laws.specs.Tables.{Tables, Assignment, Definition, tables, at_start, definition, opened_of, assigned_ever, longest_section}
+use Rattle.rv_source_laws.specs.Located.{Located, has_row}
+use Rattle.rv_source_laws.specs.Program.{MaybeMapped, Program, tables_in}
+use Rattle.rv_source_laws.specs.Fits as source
+use Rattle.rv_source_laws.specs.Resolves.{defined_name, global_names_of, is_one_of}
+use Rattle.rv_source_laws.specs.Shortened.{Placed, Aim, aim, assigned_aim, defined_aim, defines, global_aim, aim_by, aim_of, aim_offset}
+use Rattle.rv_object.specs.declared.symbol.Definition.{Definition as Defined}
+use Rattle.rv_object.specs.Object.{Section, Symbol, Object, size_of}
+use Rattle.rv_object_laws.specs.Calls.{base, is_text_place, is_in_section, text_offset}
+use Rattle.rv_object_laws.specs.Inputs.{Starts, InputSection, goes_to_text, inputs_from, inputs_of, inputs}
+use Rattle.rv_object_laws.specs.Names.{Place, is_defined, place_in, global_place, symbol_place, no_object, object_at}
+use Rattle.rv_object_laws.specs.Shortened.{Sizes}
+use Rattle.rv_assemble_laws.specs.Sites.{Site, sites_in, end_of}
+use Rattle.rv_assemble_laws.specs.Symbols.{site_at, after_found, assigned_definition, site_definition, global_symbol, exports_of, IsNamed, IsOwn, IsOuter, IsDefinedBy, StandsFor}
+use Rattle.rv_assemble_laws.specs.IsObjectOf.{IsInData, StandsInData, IsObjectOf}
+use Rattle.rv_sources_link_laws.specs.Joins.{AreObjectsOf}
+use Rattle.rv_sources_link_laws.proofs.fields.AimsLemmas as aims
+use Rattle.rv_sources_link_laws.proofs.fields.AimsLemmas.{IsFirst}
+use Rattle.rv_sources_link_laws.proofs.sections.AssembledLemmas.{IsSectionOf}
+use Rattle.rv_sources_link_laws.proofs.statements.CodeOfLemmas.{found_from}
+use Rattle.rv_sources_link_laws.proofs.names.ExportedLemmas.{exported_are}
+use Rattle.rv_sources_link_laws.proofs.sections.FiledLemmas as filed
+use Rattle.rv_sources_link_laws.proofs.sections.FiledLemmas.{offsets_low}
+use Rattle.rv_sources_link_laws.proofs.calls.FinalsLemmas.{AreFinal}
+use Rattle.rv_sources_link_laws.proofs.names.KnownLemmas.{all_found}
+use Rattle.rv_sources_link_laws.proofs.moves.MovedLemmas.{all_map, IsBound, AddsInData, adds}
+use Rattle.rv_sources_link_laws.proofs.statements.OrderedLemmas.{its_section}
+use Rattle.rv_sources_link_laws.proofs.moves.PiecesLemmas.{ArePieces, lines}
+use Rattle.rv_sources_link_laws.proofs.moves.PiecesOfLemmas.{size_is}
+use Rattle.rv_sources_link_laws.proofs.statements.SettledLemmas.{IsSettled, settled, of_sections, IsSiteIn, sites_are_in}
+use Rattle.rv_sources_link_laws.proofs.moves.ShrunkLemmas as shrunk
+use Rattle.rv_sources_link_laws.proofs.statements.StatementsLemmas.{renumbered, statement_at, all_statements}
+use Rattle.rv_sources_link_laws.proofs.calls.UncutLemmas.{uncut, sections_same, assembled, assembled_sites}
+
+-- ---- the sections of text are there
+
+present_from : (file index j : ℕ) (o : Object) (xs : List Section) (x : Section) → slice_get xs j ≡ Some x → goes_to_text x ≡ true
+    → list_any (λ (i : InputSection). (i.file == file) && (i.index == index + j)) (inputs_from goes_to_text file o index xs) ≡ true
+present_from file index j o [] x e text = absurd (cc)
+present_from file index zero o (y ∷ ys) x e text =
+    let same : y ≡ x = cc in
+    ap (λ b. list_any test (if b then own ∷ inputs_from goes_to_text file o (suc index) ys else inputs_from goes_to_text file o (suc index) ys)) (ap goes_to_text same ∙ text)
+    ∙ ap (λ b. b || list_any test (inputs_from goes_to_text file o (suc index) ys)) (ap (λ b. b && (index == index + 0)) (eq-eqb file file refl) ∙ eq-eqb index (index + 0) (omega arith))
+  where
+    own : InputSection
+    own = record { file = file; object = o; index = index; section = y }
+
+    test : InputSection → Bool
+    test i = (i.file == file) && (i.index == index + 0)
+present_from file index (suc j) o (y ∷ ys) x e text =
+    go (goes_to_text y)
+    (ap (λ n. list_any (λ (i : InputSection). (i.file == file) && (i.index == n)) (inputs_from goes_to_text file o (suc index) ys)) (let f : index + suc j ≡ suc index + j = omega arith in f)
+    ∙ present_from file (suc index) j o ys x e text)
+  where
+    test : InputSection → Bool
+    test i = (i.file == file) && (i.index == index + suc j)
+
+    own : InputSection
+    own = record { file = file; object = o; index = index; section = y }
+
+    or_true : (a b : Bool) → b ≡ true → (a || b) ≡ true
+    or_true true b h = refl
+    or_true false b h = h
+
+    go : (b : Bool) → list_any test (inputs_from goes_to_text file o (suc index) ys) ≡ true
+        → list_any test (if b then own ∷ inputs_from goes_to_text file o (suc index) ys else inputs_from goes_to_text file o (suc index) ys) ≡ true
+    go true h = or_true (test own) (list_any test (inputs_from goes_to_text file o (suc index) ys)) h
+    go false h = h
+
+pub present_of : (k i j : ℕ) (us : List Object) (x : Section) → slice_get (slice_index_or us i no_object).sections j ≡ Some x → goes_to_text x ≡ true
+    → list_any (λ (q : InputSection). (q.file == k + i) && (q.index == j)) (inputs_of goes_to_text k us) ≡ true
+present_of k i j [] x e text = absurd (cc)
+present_of k zero j (u ∷ us) x e text =
+    list_any-append test (inputs_from goes_to_text k u 0 u.sections) (inputs_of goes_to_text (suc k) us)
+    ∙ ap (λ b. b || list_any test (inputs_of goes_to_text (suc k) us))
+    (ap (λ n. list_any (λ (q : InputSection). (q.file == n) && (q.index == j)) (inputs_from goes_to_text k u 0 u.sections)) (let f : k + 0 ≡ k = omega arith in f)
+    ∙ ap (λ n. list_any (λ (q : InputSection). (q.file == k) && (q.index == n)) (inputs_from goes_to_text k u 0 u.sections)) (let f : j ≡ 0 + j = omega arith in f)
+    ∙ present_from k 0 j u u.sections x e text)
+  where
+    test : InputSection → Bool
+    test q = (q.file == k + 0) && (q.index == j)
+present_of k (suc i) j (u ∷ us) x e text =
+    list_any-append test (inputs_from goes_to_text k u 0 u.sections) (inputs_of goes_to_text (suc k) us)
+    ∙ or_true (list_any test (inputs_from goes_to_text k u 0 u.sections)) (list_any test (inputs_of goes_to_text (suc k) us))
+    (ap (λ n. list_any (λ (q : InputSection). (q.file == n) && (q.index == j)) (inputs_of goes_to_text (suc k) us)) (let f : k + suc i ≡ suc k + i = omega arith in f)
+    ∙ present_of (suc k) i j us x e text)
+  where
+    test : InputSection → Bool
+    test q = (q.file == k + suc i) && (q.index == j)
+
+    or_true : (a b : Bool) → b ≡ true → (a || b) ≡ true
+    or_true true b h = refl
+    or_true false b h = h
+
+-- ---- an object of a source
+
+-- the sections of an object by their source's
+pub section_of : (ss : List Statement) (o : Object) (is : IsObjectOf ss o) (j : ℕ) (s : SourceSection) → slice_get (opened_of (tables ss)).sections j ≡ Some s
+    → (x : Section) × (slice_get o.sections j ≡ Some x) × IsSectionOf (tables ss) is.sites is.number o.symbols j s (sites_in j is.sites) x
+section_of ss o is j s at =
+    its_section (IsSectionOf (tables ss) is.sites is.number o.symbols) is.sites j (opened_of (tables ss)).sections o.sections s
+    (sections_same (tables ss) is.sites (uncut ss o is) is.number o.symbols 0 (opened_of (tables ss)).sections o.sections is.sections) at
+
+pub all_settled : (ss : List Statement) (o : Object) (is : IsObjectOf ss o) → AllByRecursion (IsSettled (opened_of (tables ss)).sections) is.sites
+all_settled ss o is = settled ss is.sites is.good is.located
+
+pub firsts : (ss : List Statement) (o : Object) (is : IsObjectOf ss o) → AllByRecursion (IsFirst is.sites) is.sites
+firsts ss o is = all_map (λ z. (1 ≤ z.located.ordinal) × IsFirst is.sites z) (IsFirst is.sites) is.sites (λ z k. k.1) (found_from 1 at_start ss is.sites is.located)
+
+-- no statement stands beyond its section
+abbrev IsLow : Object → Site → Type 0
+IsLow o z = (x : Section) → slice_get o.sections z.located.section ≡ Some x → z.offset ≤ size_of x.contents
+
+lows : (ss : List Statement) (o : Object) (is : IsObjectOf ss o) → AllByRecursion (IsLow o) is.sites
+lows ss o is = of_sections (opened_of (tables ss)).sections (IsLow o) is.sites (all_settled ss o is) by
+  where
+    by : (j : ℕ) (s : SourceSection) → slice_get (opened_of (tables ss)).sections j ≡ Some s → AllByRecursion (IsLow o) (sites_in j is.sites)
+    by j s at = go (sites_in j is.sites) (sites_are_in (opened_of (tables ss)).sections j s is.sites at (all_settled ss o is)) (offsets_low (tables ss) 0 (sites_in j is.sites) h.tile).1
+      where
+        found : (x : Section) × (slice_get o.sections j ≡ Some x) × IsSectionOf (tables ss) is.sites is.number o.symbols j s (sites_in j is.sites) x
+        found = section_of ss o is j s at
+
+        h : IsSectionOf (tables ss) is.sites is.number o.symbols j s (sites_in j is.sites) found.0
+        h = found.2
+
+        go : (zs : List Site) → AllByRecursion (λ z. IsSiteIn j s z) zs → AllByRecursion (λ (z : Site). z.offset ≤ end_of 0 (sites_in j is.sites)) zs → AllByRecursion (IsLow o) zs
+        go [] i k = tt
+        go (z ∷ zs) (i, is') (k, ks) = (
+          (λ x at_x.
+              let both : Some found.0 ≡ Some x = sym found.1 ∙ ap (slice_get o.sections) (sym i.stands) ∙ at_x in
+              let same : found.0 ≡ x = cc in
+              subst (λ n. z.offset ≤ n) (sym (size_is (tables ss) is.sites is.number o j s (sites_in j is.sites) found.0 h) ∙ ap (λ (y : Section). size_of y.contents) same) k),
+          go zs is' ks,
+        )
+
+short_bounds : (ss : List Statement) (o : Object) (is : IsObjectOf ss o) → AllByRecursion IsBound is.sites
+short_bounds ss o is = subst (λ S. AllByRecursion IsBound S) (assembled_sites ss o is) (filed.bounds ss o (assembled ss o is))
+
+module _ (p : Program) (starts : Starts) (at : ℕ → List Site) (sizes : ℕ → ℕ → Sizes) (os : List Object) (bs : List source.InputSection) (h : ArePieces p starts at sizes (inputs goes_to_text os) bs) where
+  abbrev pub line : List Placed
+  line = lines p starts at sizes 0 (inputs goes_to_text os) bs h
+
+  -- the offset of a place, if it lies in text
+  abbrev pub text_to : Option Place → Option ℕ
+  text_to place = if is_text_place os place then Some (text_offset os place) else None
+
+  abbrev put : ℕ → ℕ → ℕ → Place
+  put file section offset = record { file = file; section = section; offset = offset }
+
+  -- what is known of a file
+  pub record IsHere (f : ℕ) (ss : List Statement) (o : Object) (is : IsObjectOf ss o) : Type 0 where
+    pub low : 1 ≤ f
+    pub sites : at f ≡ is.sites
+    pub object : object_at os f ≡ o
+    pub tables : tables_in p f ≡ tables ss
+
+  abbrev pub AreHere : ℕ → (sources : List (List Statement)) (us : List Object) → AreObjectsOf sources us → Type 0
+  AreHere f [] [] k = ⊤
+  AreHere f [] (o ∷ us) k = absurd k
+  AreHere f (ss ∷ sources) [] k = absurd k
+  AreHere f (ss ∷ sources) (o ∷ us) (is, k) = IsHere f ss o is × AreHere (suc f) sources us k
+
+  module _ (f : ℕ) (ss : List Statement) (o : Object) (is : IsObjectOf ss o) (here : IsHere f ss o is) where
+    abbrev t : Tables
+    t = tables ss
+
+    unique : AllByRecursion (IsFirst (at f)) (at f)
+    unique = subst (λ S. AllByRecursion (IsFirst S) S) (sym here.sites) (firsts ss o is)
+
+    -- a place at a statement
+    pub place_at : (n : ℕ) (z : Site) (offset : ℕ) → site_at is.sites n ≡ Some z → z.located.placed ≡ true → (source_text z.located.home ≡ true → offset ≡ z.offset)
+        → text_to (Some (put f z.located.section offset)) ≡ aim_offset line (aim f n)
+    place_at n z offset found placed same = go (source_text z.located.home) refl
+      where
+        k : IsSettled (opened_of (tables ss)).sections z
+        k = all_found (IsSettled (opened_of (tables ss)).sections) (λ z. z.located.ordinal == n) is.sites (all_settled ss o is) z found
+
+        found_x : (x : Section) × (slice_get o.sections z.located.section ≡ Some x) × IsSectionOf (tables ss) is.sites is.number o.symbols z.located.section z.located.home (sites_in z.located.section is.sites) x
+        found_x = section_of ss o is z.located.section z.located.home k.home
+
+        x : Section
+        x = found_x.0
+
+        flags : goes_to_text x ≡ source_text z.located.home
+        flags = ap (λ b. b && x.executable) found_x.2.loaded ∙ ap (λ b. z.located.home.loaded && b) found_x.2.executable
+
+        site_here : site_at (at f) n ≡ Some z
+        site_here = ap (λ S. site_at S n) here.sites ∙ found
+
+        in_object : is_text_place os (Some (put f z.located.section offset)) ≡ (goes_to_text x && nat_le offset (size_of x.contents))
+        in_object = ap (λ (u : Object). is_in_section (slice_get u.sections z.located.section) offset) here.object ∙ ap (λ y. is_in_section y offset) found_x.1
+
+        go : (b : Bool) → source_text z.located.home ≡ b → text_to (Some (put f z.located.section offset)) ≡ aim_offset line (aim f n)
+        go true text =
+            let low : offset ≤ size_of x.contents =
+            subst (λ m. m ≤ size_of x.contents) (sym (same text)) (all_found (IsLow o) (λ z. z.located.ordinal == n) is.sites (lows ss o is) z found x found_x.1) in
+            let inside : is_text_place os (Some (put f z.located.section offset)) ≡ true = in_object ∙ ap (λ b. b && nat_le offset (size_of x.contents)) (flags ∙ text) ∙ le-leb offset (size_of x.contents) low in
+            let row : has_row z.located ≡ true = ap (λ b. b && z.located.home.loaded) placed ∙ (and_parts z.located.home.loaded z.located.home.executable text).0 in
+            let there : list_any (λ (q : InputSection). (q.file == f) && (q.index == z.located.section)) (inputs goes_to_text os) ≡ true =
+            ap (λ m. list_any (λ (q : InputSection). (q.file == m) && (q.index == z.located.section)) (inputs goes_to_text os)) (let low = here.low in let e : f ≡ 1 + (f - 1) = omega (arith, low) in e)
+            ∙ present_of 1 (f - 1) z.located.section os x (ap (λ (u : Object). slice_get u.sections z.located.section) here.object ∙ found_x.1) (flags ∙ text) in
+            ap (λ b. if b then Some (base os f z.located.section + offset) else None) inside
+            ∙ ap (λ m. Some (base os f z.located.section + m)) (same text)
+            ∙ sym (aims.offset_some p starts at sizes f n unique z site_here row (inputs goes_to_text os) bs h there)
+        go false aside =
+            ap (λ b. if b then Some (base os f z.located.section + offset) else None) (in_object ∙ ap (λ b. b && nat_le offset (size_of x.contents)) (flags ∙ aside))
+            ∙ sym (aims.offset_none p starts at sizes f n unique
+            (λ y e. (let both : Some z ≡ Some y = sym site_here ∙ e in let equal : z ≡ y = cc in ap (λ (q : Site). source_text q.located.home) (sym equal) ∙ aside)) (inputs goes_to_text os) bs h)
+
+    -- none stands where there is no statement
+    pub nowhere : (n : ℕ) → site_at is.sites n ≡ None → aim_offset line (aim f n) ≡ None
+    nowhere n none =
+        aims.offset_none p starts at sizes f n unique (λ y e. (let both : Some y ≡ None = sym e ∙ ap (λ S. site_at S n) here.sites ∙ none in absurd (cc))) (inputs goes_to_text os) bs h
+
+    -- ---- what a statement defines for all files
+
+    code_not : (z : Site) → z.located.home.executable ≡ false → source_text z.located.home ≡ true → ⊥
+    code_not z e text = let g : true ≡ false = sym (and_parts z.located.home.loaded z.located.home.executable text).1 ∙ e in absurd (cc)
+
+    found_place : (a : Assignment) (y : Option Site) → site_at is.sites a.ordinal ≡ y → IsInData y
+        → text_to (place_in f (after_found y a.plus)) ≡ aim_offset line (aim f a.ordinal)
+    found_place a None e k = sym (nowhere a.ordinal e)
+    found_place a (Some z) e (aside, placed) = place_at a.ordinal z (add z.offset a.plus) e placed (λ text. absurd (code_not z aside text))
+
+    assigned_place : (a : Option Assignment) → ((b : Assignment) → a ≡ Some b → StandsInData is.sites b)
+        → text_to (place_in f (assigned_definition is.sites a)) ≡ option_and_then (aim_offset line) (assigned_aim f a)
+    assigned_place None k = refl
+    assigned_place (Some a) k = go a.meaning (k a refl)
+      where
+        go : (m : Meaning) → StandsInData is.sites (record a { meaning = m })
+            → text_to (place_in f (assigned_definition is.sites (Some (record a { meaning = m })))) ≡ option_and_then (aim_offset line) (assigned_aim f (Some (record a { meaning = m })))
+        go (Known n) k = refl
+        go (InData section offset) k = found_place (record a { meaning = InData section offset }) (site_at is.sites a.ordinal) refl (k refl)
+        go OpenAddress k = refl
+        go (Refused code) k = refl
+
+    named_kind : (z : Site) (kind : StatementKind) (name : List ℕ) → z.located.kind ≡ kind → site_at is.sites z.located.ordinal ≡ Some z → ((n : List ℕ) → kind ≡ Label n → z.located.placed ≡ true)
+        → is_one_of (filter (λ n. is_global (t.bindings n)) (defined_name t z.located.ordinal kind)) name ≡ true
+        → text_to (place_in f (site_definition t is.sites z kind)) ≡ option_and_then (aim_offset line) (defined_aim t (renumbered f z.located) kind)
+    named_kind z (Label n) name e itself labelled some = place_at z.located.ordinal z z.offset itself (labelled n refl) (λ text. refl)
+    named_kind z (Directs (Sets n x)) name e itself labelled some =
+        assigned_place (assigned_ever t.assignments n) (λ a k. all_found (StandsInData is.sites) (λ s. bytes_eq s.name n) t.assignments is.places a k)
+    named_kind z (Numbered digits) name e itself labelled some = absurd (cc)
+    named_kind z (Instruction m ops) name e itself labelled some = absurd (cc)
+    named_kind z (Directs (Enters section)) name e itself labelled some = absurd (cc)
+    named_kind z (Directs _) name e itself labelled some = absurd (cc)
+
+  -- ---- the one global definition of a name
+
+  found_named : (name : List ℕ) (d : Defined) (names : List (List ℕ)) (more : List Symbol) → is_one_of names name ≡ true
+      → (s : Symbol) × (find (λ s. bytes_eq s.name name) (map (λ n. global_symbol n d) names ++ more) ≡ Some s) × (s.definition ≡ d)
+  found_named name d [] more e = absurd (cc)
+  found_named name d (n ∷ names) more e = go (bytes_eq n name) e (λ k. found_named name d names more k)
+    where
+      rest : Option Symbol
+      rest = find (λ s. bytes_eq s.name name) (map (λ n. global_symbol n d) names ++ more)
+
+      go : (b : Bool) → (b || is_one_of names name) ≡ true → (is_one_of names name ≡ true → (s : Symbol) × (rest ≡ Some s) × (s.definition ≡ d))
+          → (s : Symbol) × ((if b then Some (global_symbol n d) else rest) ≡ Some s) × (s.definition ≡ d)
+      go true k ih = (global_symbol n d, refl, refl)
+      go false k ih = ih k
+
+  not_named : (name : List ℕ) (d : Defined) (names : List (List ℕ)) (more : List Symbol) → is_one_of names name ≡ false
+      → find (λ s. bytes_eq s.name name) (map (λ n. global_symbol n d) names ++ more) ≡ find (λ s. bytes_eq s.name name) more
+  not_named name d [] more e = refl
+  not_named name d (n ∷ names) more e = go (bytes_eq n name) e (λ k. not_named name d names more k)
+    where
+      rest : Option Symbol
+      rest = find (λ s. bytes_eq s.name name) (map (λ n. global_symbol n d) names ++ more)
+
+      go : (b : Bool) → (b || is_one_of names name) ≡ false → (is_one_of names name ≡ false → rest ≡ find (λ s. bytes_eq s.name name) more)
+          → (if b then Some (global_symbol n d) else rest) ≡ find (λ s. bytes_eq s.name name) more
+      go true k ih = absurd (cc)
+      go false k ih = ih k
+
+  -- where an entry of the statements is aimed
+  abbrev aimed : MaybeMapped → Option Aim
+  aimed e = defined_aim (tables_in p e.located.file) e.located e.located.kind
+
+  abbrev aim_found : Option MaybeMapped → Option ℕ
+  aim_found e = option_and_then (aim_offset line) (option_and_then aimed e)
+
+  module _ (name : List ℕ) (f : ℕ) (ss : List Statement) (o : Object) (is : IsObjectOf ss o) (here : IsHere f ss o is) (final : Site → Site) (stays : (z : Site) → (final z).located ≡ z.located)
+      (later : Option Place) (more : List MaybeMapped) (rest : text_to later ≡ aim_found (find (λ e. defines p name e.located) more)) where
+    abbrev by_found : Option Symbol → Option Place
+    by_found x = elim x [ Some s ↦ place_in f s.definition | None ↦ later ]
+
+    own_names : (zs : List Site) → AllByRecursion (IsSettled (opened_of (tables ss)).sections) zs → AllByRecursion (IsFirst is.sites) zs
+        → text_to (by_found (find (λ s. bytes_eq s.name name) (flat_map (exports_of (tables ss) is.sites) zs)))
+        ≡ aim_found (find (λ e. defines p name e.located) (map (statement_at starts f) (map final zs) ++ more))
+    own_names [] k u = rest
+    own_names (z ∷ zs) (k, ks) (u, us) = go (is_one_of names name) refl (own_names zs ks us)
+      where
+        names : List (List ℕ)
+        names = global_names_of (tables ss) z.located
+
+        d : Defined
+        d = site_definition (tables ss) is.sites z z.located.kind
+
+        tail : List Symbol
+        tail = flat_map (exports_of (tables ss) is.sites) zs
+
+        others : List MaybeMapped
+        others = map (statement_at starts f) (map final zs) ++ more
+
+        e : MaybeMapped
+        e = statement_at starts f (final z)
+
+        test : defines p name e.located ≡ is_one_of names name
+        test = ap (λ (l : Located). is_one_of (global_names_of (tables_in p f) (renumbered f l)) name) (stays z) ∙ ap (λ t. is_one_of (global_names_of t (renumbered f z.located)) name) here.tables
+
+        aimed_is : aimed e ≡ defined_aim (tables ss) (renumbered f z.located) z.located.kind
+        aimed_is = ap (λ (l : Located). defined_aim (tables_in p f) (renumbered f l) l.kind) (stays z) ∙ ap (λ t. defined_aim t (renumbered f z.located) z.located.kind) here.tables
+
+        go : (b : Bool) → is_one_of names name ≡ b → text_to (by_found (find (λ s. bytes_eq s.name name) tail)) ≡ aim_found (find (λ e. defines p name e.located) others)
+            → text_to (by_found (find (λ s. bytes_eq s.name name) (map (λ n. global_symbol n d) names ++ tail)))
+            ≡ aim_found (if defines p name e.located then Some e else find (λ e. defines p name e.located) others)
+        go true q ih =
+            let (s, found, same) = found_named name d names tail q in
+            ap (λ x. text_to (by_found x)) found ∙ ap (λ x. text_to (place_in f x)) same
+            ∙ named_kind f ss o is here z z.located.kind name refl u (λ n e. k.labelled n e) q
+            ∙ ap (option_and_then (aim_offset line)) (sym aimed_is)
+            ∙ ap (λ b. aim_found (if b then Some e else find (λ e. defines p name e.located) others)) (sym (test ∙ q))
+        go false q ih =
+            ap (λ x. text_to (by_found x)) (not_named name d names tail q) ∙ ih ∙ ap (λ b. aim_found (if b then Some e else find (λ e. defines p name e.located) others)) (sym (test ∙ q))
+
+  pub globals : (name : List ℕ) (f : ℕ) (sources : List (List Statement)) (us : List Object) (k : AreObjectsOf sources us) (ws : List Object) (q : shrunk.AreObjectsOf sources ws)
+      → AreFinal sizes f sources us k ws q → AreHere f sources us k
+      → text_to (global_place f us name) ≡ aim_found (find (λ e. defines p name e.located) (all_statements starts f sources ws q))
+  globals name f [] [] k [] q c a = refl
+  globals name f [] [] k (w ∷ ws) q c a = absurd q
+  globals name f [] (o ∷ us) k ws q c a = absurd k
+  globals name f (ss ∷ sources) [] k ws q c a = absurd k
+  globals name f (ss ∷ sources) (o ∷ us) (is, k) [] q c a = absurd q
+  globals name f (ss ∷ sources) (o ∷ us) (is, k) (w ∷ ws) (js, q) (c, cs) (a, as') =
+      let rest = globals name (suc f) sources us k ws q cs as' in
+      ap (λ (l : List Symbol). text_to (by_found name f ss o is a c.final c.stays (global_place (suc f) us name) (all_statements starts (suc f) sources ws q) rest (find (λ (s : Symbol). bytes_eq s.name name) l))) (exported_are ss o is)
+      ∙ own_names name f ss o is a c.final c.stays (global_place (suc f) us name) (all_statements starts (suc f) sources ws q) rest is.sites (all_settled ss o is) (firsts ss o is)
+      ∙ ap (λ l. aim_found (find (λ e. defines p name e.located) (map (statement_at starts f) l ++ all_statements starts (suc f) sources ws q))) (sym c.sites)
+
+  -- ---- what a statement means by a name
+
+  module _ (sources : List (List Statement)) (k : AreObjectsOf sources os) (ws : List Object) (q : shrunk.AreObjectsOf sources ws) (c : AreFinal sizes 1 sources os k ws q) (a : AreHere 1 sources os k)
+      (statements : p.statements ≡ all_statements starts 1 sources ws q) where
+    global_is : (name : List ℕ) → text_to (global_place 1 os name) ≡ option_and_then (aim_offset line) (global_aim p (Named name))
+    global_is name = globals name 1 sources os k ws q c a ∙ ap (λ l. aim_found (find (λ e. defines p name e.located) l)) (sym statements)
+
+    module _ (f : ℕ) (ss : List Statement) (o : Object) (is : IsObjectOf ss o) (here : IsHere f ss o is) where
+      outer_is : (name : Primary) (x : Symbol) → IsNamed name x → IsOuter name x → text_to (symbol_place os f x) ≡ option_and_then (aim_offset line) (global_aim p name)
+      outer_is (Named n) x named none =
+          ap (λ d. text_to (if is_defined d then place_in f d else global_place 1 os x.name)) none ∙ ap (λ m. text_to (global_place 1 os m)) named ∙ global_is n
+      outer_is (Literal n) x named none = absurd none
+      outer_is Here x named none = absurd none
+      outer_is (Reference digits forward) x named none = absurd none
+
+      own_is : (ordinal : ℕ) (name : Primary) (d : Definition) (x : Symbol) → definition (tables ss) ordinal name ≡ Some d → IsOwn is.sites d x → text_to (symbol_place os f x) ≡ aim_offset line (aim f d.ordinal)
+      own_is ordinal name d x e (z, found, placed, there) =
+          ap (λ d. text_to (if is_defined d then place_in f d else global_place 1 os x.name)) there
+          ∙ place_at f ss o is here d.ordinal z (add z.offset d.plus) found placed (λ text. stays text (adds (tables ss) is.sites is.places ordinal name d e))
+        where
+          low : source_text z.located.home ≡ true → z.offset ≤ longest_section
+          low text = all_found IsBound (λ z. z.located.ordinal == d.ordinal) is.sites (short_bounds ss o is) z found
+              (and_parts z.located.home.loaded z.located.home.executable text).1
+
+          stays : source_text z.located.home ≡ true → AddsInData (tables ss) is.sites is.places d → add z.offset d.plus ≡ z.offset
+          stays text (inl none) =
+              let bound : z.offset ≤ 268435456 = low text in
+              ap (add z.offset) none ∙ (let g : add z.offset 0 ≡ z.offset = omega (arith, bound) in g)
+          stays text (inr aside) = absurd (code_not f ss o is here z (aside z found) text)
+
+      pub meant : (l : Located) (name : Primary) (y : Option Symbol) → StandsFor (tables ss) is.sites l.ordinal name y
+          → text_to (option_and_then (symbol_place os f) y) ≡ option_and_then (aim_offset line) (aim_of p (renumbered f l) name)
+      meant l name None s = absurd s
+      meant l name (Some x) (named, s) = go (definition (tables ss) l.ordinal name) refl s ∙ ap (λ d. option_and_then (aim_offset line) (aim_by p f name d)) (ap (λ t. definition t l.ordinal name) (sym here.tables))
+        where
+          go : (d : Option Definition) → definition (tables ss) l.ordinal name ≡ d → IsDefinedBy is.sites name d x
+              → text_to (symbol_place os f x) ≡ option_and_then (aim_offset line) (aim_by p f name (definition (tables ss) l.ordinal name))
+          go (Some d) e s = own_is l.ordinal name d x e s ∙ ap (λ d. option_and_then (aim_offset line) (aim_by p f name d)) (sym e)
+          go None e s = outer_is name x named s ∙ ap (λ d. option_and_then (aim_offset line) (aim_by p f name d)) (sym e)

@@ -1,0 +1,10 @@
+pub mod MovedLemmas
+pub mod PiecesLemmas
+pub mod PiecesOfLemmas
+pub mod ShrunkLemmas
+pub mod ShrinkingLemmas
+pub mod ShrunkLinkLemmas
+pub mod WalkLemmas
+pub mod SteppedLemmas
+pub mod ShrunkSectionsLemmas
+pub mod ShrinksLemmas

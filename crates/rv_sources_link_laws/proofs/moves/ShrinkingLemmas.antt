@@ -1,0 +1,452 @@
+-- An object with the linker's moves made: its places have moved, its paddings are the least, and nothing moves any more.
+
+use Rattle.std.proofs.Common.{◌≡◌, ℕ, zero, suc, ◌+◌, ◌-◌, ◌%◌, ◌≤◌, Bool, true, false, List, [], ◌∷◌, ◌++◌, map, take, drop, refl, sym, ap, ◌∙◌, subst, arith, ℤ, pos, Option, Some, None, option_map}
+use Rattle.std.proofs.lemmas.Bool.{and_parts}
+use Rattle.std.specs.Prelude.{⊤, ◌^◌, not, ◌&&◌, ◌==◌, IsTrue, is_some, unwrap_or, option_and_then, filter, if◌then◌else◌, bytes_eq, slice_index_or}
+use Rattle.std.specs.List.{AllByRecursion, find, slice_get}
+use Rattle.rv_isa.specs.declared.kind.Kind.{Kind}
+use Rattle.rv_isa.specs.declared.kind.Kind.TheVariants as kinds
+use Rattle.rv_reloc.specs.Values.{value_of}
+use Rattle.rv_reloc.specs.Ranges.{Takes}
+use Rattle.rv_map.specs.Map.{Global}
+use Rattle.rv_object.specs.declared.symbol.Definition.{Definition}
+use Rattle.rv_object.specs.declared.symbol.Definition.TheVariants.{Undefined, Absolute, InSection, Skipped}
+use Rattle.rv_object.specs.declared.row.Row.{Row}
+use Rattle.rv_object.specs.Object.{Contents, Progbits, Note, Nobits, Relocation, Section, Symbol, Object}
+use Rattle.rv_object.specs.Valid.{is_align}
+use Rattle.rv_object_laws.specs.Moves.{Move, alignments_of, by_place, has_padding, plan, moves, new_offset, kept, lost}
+use Rattle.rv_object_laws.specs.Inputs.{Starts, InputSection, start_of}
+use Rattle.rv_object_laws.specs.Names.{Place, defined_address, offset_address, symbol_address, symbol_address_by, is_defined, is_global, is_exported, exported, place_in, global_place, symbol_place, no_object, object_at}
+use Rattle.rv_object_laws.specs.Values.{target, own_value, is_high, is_low, high_at, value_in, value_at, paired, value, IsRelocated, patched_at, applied, initial_bytes, linked_bytes}
+use Rattle.rv_object_laws.specs.IsLinkOf.{moves_at}
+use Rattle.rv_sources_link_laws.proofs.fields.PatchesLemmas.{take_drop}
+use Rattle.rv_sources_link_laws.proofs.names.KnownLemmas.{still}
+
+-- ---- what it is
+
+abbrev pub shrunk_relocation : List Move → Relocation → Relocation
+shrunk_relocation ms r = record { place = new_offset ms r.place; kind = r.kind; symbol = r.symbol; addend = r.addend }
+
+abbrev pub shrunk_relocations : List Move → List Relocation → List Relocation
+shrunk_relocations ms rs = map (shrunk_relocation ms) (filter (λ r. not (has_padding r)) rs)
+
+abbrev pub shrunk_contents : List Move → Contents → Contents
+shrunk_contents ms (Progbits bytes) = Progbits (kept 0 ms bytes)
+shrunk_contents ms (Note bytes) = Note (kept 0 ms bytes)
+shrunk_contents ms (Nobits size) = Nobits (new_offset ms size)
+
+abbrev pub shrunk_section : ℕ → Section → Section
+shrunk_section start s = record {
+  name = s.name;
+  loaded = s.loaded;
+  executable = s.executable;
+  writable = s.writable;
+  contents = shrunk_contents (moves start s) s.contents;
+  alignment = s.alignment;
+  relocations = shrunk_relocations (moves start s) s.relocations;
+}
+
+abbrev pub sections_from : (ℕ → ℕ) → ℕ → List Section → List Section
+sections_from f index [] = []
+sections_from f index (s ∷ ss) = shrunk_section (f index) s ∷ sections_from f (suc index) ss
+
+abbrev pub moves_in : (ℕ → ℕ) → Object → ℕ → List Move
+moves_in f o section = moves_at (f section) (slice_get o.sections section)
+
+abbrev pub shrunk_definition : (ℕ → ℕ) → Object → Definition → Definition
+shrunk_definition f o Undefined = Undefined
+shrunk_definition f o (Absolute n) = Absolute n
+shrunk_definition f o (InSection section offset) = InSection section (new_offset (moves_in f o section) offset)
+shrunk_definition f o (Skipped n) = Skipped n
+
+abbrev pub shrunk_symbol : (ℕ → ℕ) → Object → Symbol → Symbol
+shrunk_symbol f o x = record { name = x.name; binding = x.binding; definition = shrunk_definition f o x.definition }
+
+abbrev pub shrunk_row : (ℕ → ℕ) → Object → Row → Row
+shrunk_row f o r = record {
+  line = r.line;
+  ordinal = r.ordinal;
+  section = r.section;
+  offset = new_offset (moves_in f o r.section) r.offset;
+  bytes = new_offset (moves_in f o r.section) (r.offset + r.bytes) - new_offset (moves_in f o r.section) r.offset;
+  instructions = r.instructions - lost (moves_in f o r.section) r.offset r.bytes;
+}
+
+abbrev pub shrunk_object : (ℕ → ℕ) → Object → Object
+shrunk_object f o = record {
+  sections = sections_from f 0 o.sections;
+  symbols = map (shrunk_symbol f o) o.symbols;
+  rows = map (shrunk_row f o) o.rows;
+  rvc = o.rvc;
+}
+
+abbrev pub shrunk_objects : Starts → ℕ → List Object → List Object
+shrunk_objects starts file [] = []
+shrunk_objects starts file (o ∷ os) = shrunk_object (starts file) o ∷ shrunk_objects starts (suc file) os
+
+abbrev pub shrunk_input : Starts → InputSection → InputSection
+shrunk_input starts i = record {
+  file = i.file;
+  object = shrunk_object (starts i.file) i.object;
+  index = i.index;
+  section = shrunk_section (starts i.file i.index) i.section;
+}
+
+-- ---- lists
+
+pub slice_map : {X Y : Type 0} (h : X → Y) (xs : List X) (i : ℕ) → slice_get (map h xs) i ≡ option_map h (slice_get xs i)
+slice_map h [] i = refl
+slice_map h (x ∷ xs) zero = refl
+slice_map h (x ∷ xs) (suc i) = slice_map h xs i
+
+-- ---- nothing moves in it
+
+filter_none : (ms : List Move) (rs : List Relocation) → filter has_padding (shrunk_relocations ms rs) ≡ []
+filter_none ms [] = refl
+filter_none ms (r ∷ rs) = go (has_padding r) refl (filter_none ms rs)
+  where
+    go : (b : Bool) → has_padding r ≡ b → filter has_padding (shrunk_relocations ms rs) ≡ []
+        → filter has_padding (map (shrunk_relocation ms) (if not b then r ∷ filter (λ r. not (has_padding r)) rs else filter (λ r. not (has_padding r)) rs)) ≡ []
+    go true e ih = ih
+    go false e ih = ap (λ b. if b then shrunk_relocation ms r ∷ filter has_padding (shrunk_relocations ms rs) else filter has_padding (shrunk_relocations ms rs)) e ∙ ih
+
+pub none_left : (start : ℕ) (s : Section) → alignments_of (shrunk_section start s) ≡ []
+none_left start s = go (s.loaded && s.executable) (ap by_place (filter_none (moves start s) s.relocations))
+  where
+    go : (b : Bool) → by_place (filter has_padding (shrunk_relocations (moves start s) s.relocations)) ≡ []
+        → (if b then by_place (filter has_padding (shrunk_relocations (moves start s) s.relocations)) else []) ≡ []
+    go true e = e
+    go false e = refl
+
+pub stays : (start : ℕ) (s : Section) (n : ℕ) → new_offset (moves start (shrunk_section start s)) n ≡ n
+stays start s n = still (shrunk_section start s) (none_left start s) start n
+
+pub moves_none : (start : ℕ) (x : Option Section) → moves_at start (option_map (shrunk_section start) x) ≡ []
+moves_none start None = refl
+moves_none start (Some s) = ap (plan start 0) (none_left start s)
+
+section_at : (f : ℕ → ℕ) (k : ℕ) (xs : List Section) (j : ℕ) → slice_get (sections_from f k xs) j ≡ option_map (shrunk_section (f (k + j))) (slice_get xs j)
+section_at f k [] j = refl
+section_at f k (x ∷ xs) zero = ap (λ n. Some (shrunk_section (f n) x)) (let e : k ≡ k + 0 = omega arith in e)
+section_at f k (x ∷ xs) (suc j) =
+    section_at f (suc k) xs j ∙ ap (λ n. option_map (shrunk_section (f n)) (slice_get xs j)) (let e : suc k + j ≡ k + suc j = omega arith in e)
+
+-- ---- a file
+
+module _ (f : ℕ → ℕ) (o : Object) where
+  abbrev o' : Object
+  o' = shrunk_object f o
+
+  pub section_is : (j : ℕ) → slice_get o'.sections j ≡ option_map (shrunk_section (f j)) (slice_get o.sections j)
+  section_is j = section_at f 0 o.sections j ∙ ap (λ n. option_map (shrunk_section (f n)) (slice_get o.sections j)) (let e : 0 + j ≡ j = omega arith in e)
+
+  address_by : (start offset : ℕ) (x : Option Section)
+      → offset_address start (new_offset (moves_at start x) offset) (option_map (shrunk_section start) x) ≡ offset_address start offset x
+  address_by start offset None = refl
+  address_by start offset (Some s) = ap (λ n. if s.loaded then Some ((start + n) % 2 ^ 64) else None) (stays start s (new_offset (moves start s) offset))
+
+  pub defined_same : (d : Definition) → defined_address f o' (shrunk_definition f o d) ≡ defined_address f o d
+  defined_same Undefined = refl
+  defined_same (Absolute n) = refl
+  defined_same (InSection section offset) =
+      ap (offset_address (f section) (new_offset (moves_in f o section) offset)) (section_is section) ∙ address_by (f section) offset (slice_get o.sections section)
+  defined_same (Skipped n) = refl
+
+  module _ (g : List Global) where
+    symbol_by : (name : List ℕ) (d : Definition) → symbol_address_by g f o' name (shrunk_definition f o d) ≡ symbol_address_by g f o name d
+    symbol_by name Undefined = refl
+    symbol_by name (Absolute n) = refl
+    symbol_by name (InSection section offset) = defined_same (InSection section offset)
+    symbol_by name (Skipped n) = refl
+
+    pub target_same : (symbol : Option ℕ) → target g f o' symbol ≡ target g f o symbol
+    target_same None = refl
+    target_same (Some index) = ap (option_and_then (symbol_address g f o')) (slice_map (shrunk_symbol f o) o.symbols index) ∙ go (slice_get o.symbols index)
+      where
+        go : (x : Option Symbol) → option_and_then (symbol_address g f o') (option_map (shrunk_symbol f o) x) ≡ option_and_then (symbol_address g f o) x
+        go None = refl
+        go (Some x) = symbol_by x.name x.definition
+
+    pub own_same : (start : ℕ) (s : Section) (r : Relocation)
+        → own_value g f o' start (shrunk_section start s) (shrunk_relocation (moves start s) r) ≡ own_value g f o start s r
+    own_same start s r =
+        ap (λ t. value_of r.kind (unwrap_or t 0) r.addend (start + new_offset (moves start (shrunk_section start s)) (new_offset (moves start s) r.place))) (target_same r.symbol)
+        ∙ ap (λ n. value_of r.kind (unwrap_or (target g f o r.symbol) 0) r.addend (start + n)) (stays start s (new_offset (moves start s) r.place))
+
+  -- ---- its symbols
+
+  defined_still : (d : Definition) → is_defined (shrunk_definition f o d) ≡ is_defined d
+  defined_still Undefined = refl
+  defined_still (Absolute n) = refl
+  defined_still (InSection section offset) = refl
+  defined_still (Skipped n) = refl
+
+  exported_by : (xs : List Symbol) → filter is_exported (map (shrunk_symbol f o) xs) ≡ map (shrunk_symbol f o) (filter is_exported xs)
+  exported_by [] = refl
+  exported_by (x ∷ xs) = go (is_exported x) (is_exported (shrunk_symbol f o x)) same (exported_by xs)
+    where
+      same : is_exported (shrunk_symbol f o x) ≡ is_exported x
+      same = ap (λ b. is_global x.binding && b) (defined_still x.definition)
+
+      go : (b c : Bool) → c ≡ b → filter is_exported (map (shrunk_symbol f o) xs) ≡ map (shrunk_symbol f o) (filter is_exported xs)
+          → (if c then shrunk_symbol f o x ∷ filter is_exported (map (shrunk_symbol f o) xs) else filter is_exported (map (shrunk_symbol f o) xs))
+          ≡ map (shrunk_symbol f o) (if b then x ∷ filter is_exported xs else filter is_exported xs)
+      go true true e ih = ap (λ (l : List Symbol). shrunk_symbol f o x ∷ l) ih
+      go false false e ih = ih
+      go true false e ih = absurd (cc)
+      go false true e ih = absurd (cc)
+
+  pub exported_same : exported o' ≡ map (shrunk_symbol f o) (exported o)
+  exported_same = exported_by o.symbols
+
+-- ---- high parts
+
+not_high : (r : Relocation) → has_padding r ≡ true → is_high r.kind ≡ false
+not_high r e = go r.kind (and_parts (is_align r.kind) _ e).0
+  where
+    go : (k : Kind) → is_align k ≡ true → is_high k ≡ false
+    go kinds.Align e = refl
+    go kinds.None e = absurd (cc)
+    go _ e = absurd (cc)
+
+high_same : (start : ℕ) (s : Section) (offset : ℕ) (rs : List Relocation)
+    → high_at (moves start (shrunk_section start s)) (new_offset (moves start s) offset) (shrunk_relocations (moves start s) rs)
+    ≡ option_map (shrunk_relocation (moves start s)) (high_at (moves start s) offset rs)
+high_same start s offset [] = refl
+high_same start s offset (r ∷ rs) = go (has_padding r) refl (high_same start s offset rs)
+  where
+    ms : List Move
+    ms = moves start s
+
+    ms' : List Move
+    ms' = moves start (shrunk_section start s)
+
+    rest : Option Relocation
+    rest = high_at ms' (new_offset ms offset) (shrunk_relocations ms rs)
+
+    test : (is_high r.kind && (new_offset ms' (new_offset ms r.place) == new_offset ms' (new_offset ms offset))) ≡ (is_high r.kind && (new_offset ms r.place == new_offset ms offset))
+    test =
+        ap (λ n. is_high r.kind && (n == new_offset ms' (new_offset ms offset))) (stays start s (new_offset ms r.place))
+        ∙ ap (λ n. is_high r.kind && (new_offset ms r.place == n)) (stays start s (new_offset ms offset))
+
+    either : (b : Bool) → rest ≡ option_map (shrunk_relocation ms) (high_at ms offset rs)
+        → (if b then Some (shrunk_relocation ms r) else rest) ≡ option_map (shrunk_relocation ms) (if b then Some r else high_at ms offset rs)
+    either true ih = refl
+    either false ih = ih
+
+    go : (b : Bool) → has_padding r ≡ b → rest ≡ option_map (shrunk_relocation ms) (high_at ms offset rs)
+        → high_at ms' (new_offset ms offset) (map (shrunk_relocation ms) (if not b then r ∷ filter (λ r. not (has_padding r)) rs else filter (λ r. not (has_padding r)) rs))
+        ≡ option_map (shrunk_relocation ms) (if is_high r.kind && (new_offset ms r.place == new_offset ms offset) then Some r else high_at ms offset rs)
+    go true e ih = ih ∙ ap (λ b. option_map (shrunk_relocation ms) (if b && (new_offset ms r.place == new_offset ms offset) then Some r else high_at ms offset rs)) (sym (not_high r e))
+    go false e ih =
+        ap (λ b. if b then Some (shrunk_relocation ms r) else rest) test ∙ either (is_high r.kind && (new_offset ms r.place == new_offset ms offset)) ih
+
+-- ---- bytes
+
+unpatched : (k : Kind) (n : ℕ) (v : ℤ) (bytes : List ℕ) → is_align k ≡ true → patched_at n k v bytes ≡ bytes
+unpatched kinds.Align n v bytes e = ap (λ l. take n bytes ++ l) (zero_drop (drop n bytes)) ∙ take_drop n bytes
+  where
+    zero_drop : (xs : List ℕ) → drop 0 xs ≡ xs
+    zero_drop [] = refl
+    zero_drop (x ∷ xs) = refl
+unpatched kinds.None n v bytes e = absurd (cc)
+unpatched _ n v bytes e = absurd (cc)
+
+applied_same : (ms : List Move) (new : ℕ → ℕ) (worth worth' : Relocation → ℤ) → ((n : ℕ) → new n ≡ n) → ((r : Relocation) → worth' (shrunk_relocation ms r) ≡ worth r)
+    → (rs : List Relocation) (bytes : List ℕ) → applied new worth' (shrunk_relocations ms rs) bytes ≡ applied (new_offset ms) worth rs bytes
+applied_same ms new worth worth' same values [] bytes = refl
+applied_same ms new worth worth' same values (r ∷ rs) bytes = go (has_padding r) refl (applied_same ms new worth worth' same values rs)
+  where
+    go : (b : Bool) → has_padding r ≡ b → ((l : List ℕ) → applied new worth' (shrunk_relocations ms rs) l ≡ applied (new_offset ms) worth rs l)
+        → applied new worth' (map (shrunk_relocation ms) (if not b then r ∷ filter (λ r. not (has_padding r)) rs else filter (λ r. not (has_padding r)) rs)) bytes
+        ≡ applied (new_offset ms) worth rs (patched_at (new_offset ms r.place) r.kind (worth r) bytes)
+    go true e ih = ih bytes ∙ ap (applied (new_offset ms) worth rs) (sym (unpatched r.kind (new_offset ms r.place) (worth r) bytes (and_parts (is_align r.kind) _ e).0))
+    go false e ih =
+        ap (λ n. applied new worth' (shrunk_relocations ms rs) (patched_at n r.kind (worth' (shrunk_relocation ms r)) bytes)) (same (new_offset ms r.place))
+        ∙ ap (λ v. applied new worth' (shrunk_relocations ms rs) (patched_at (new_offset ms r.place) r.kind v bytes)) (values r)
+        ∙ ih (patched_at (new_offset ms r.place) r.kind (worth r) bytes)
+
+-- ---- values
+
+object_by : (starts : Starts) (k n : ℕ) (os : List Object) → slice_index_or (shrunk_objects starts k os) n no_object ≡ shrunk_object (starts (k + n)) (slice_index_or os n no_object)
+object_by starts k n [] = refl
+object_by starts k zero (o ∷ os) = ap (λ n. shrunk_object (starts n) o) (let e : k ≡ k + 0 = omega arith in e)
+object_by starts k (suc n) (o ∷ os) =
+    object_by starts (suc k) n os ∙ ap (λ m. shrunk_object (starts m) (slice_index_or os n no_object)) (let e : suc k + n ≡ k + suc n = omega arith in e)
+
+-- the objects of the files from one on
+abbrev pub AreAt : List Object → ℕ → List Object → Type 0
+AreAt os file [] = ⊤
+AreAt os file (u ∷ us) = (object_at os file ≡ u) × AreAt os (suc file) us
+
+at_from : (os : List Object) (file : ℕ) (us : List Object) → ((i : ℕ) → slice_index_or os (file + i - 1) no_object ≡ slice_index_or us i no_object) → AreAt os file us
+at_from os file [] h = tt
+at_from os file (u ∷ us) h = (
+  ap (λ n. slice_index_or os n no_object) (let e : file - 1 ≡ file + 0 - 1 = omega arith in e) ∙ h 0,
+  at_from os (suc file) us (λ i. ap (λ n. slice_index_or os n no_object) (let e : suc file + i - 1 ≡ file + suc i - 1 = omega arith in e) ∙ h (suc i)),
+)
+
+pub all_at : (os : List Object) → AreAt os 1 os
+all_at os = at_from os 1 os (λ i. ap (λ n. slice_index_or os n no_object) (let e : 1 + i - 1 ≡ i = omega arith in e))
+
+-- a place in a file
+abbrev OnFile : Option Place → Type 0
+OnFile None = ⊤
+OnFile (Some p) = 1 ≤ p.file
+
+module _ (starts : Starts) (os : List Object) where
+  abbrev pub os' : List Object
+  os' = shrunk_objects starts 1 os
+
+  object_is : (file : ℕ) → 1 ≤ file → object_at os' file ≡ shrunk_object (starts file) (object_at os file)
+  object_is file h = object_by starts 1 (file - 1) os ∙ ap (λ n. shrunk_object (starts n) (object_at os file)) (let e : 1 + (file - 1) ≡ file = omega (arith, h) in e)
+
+  abbrev shrunk_place : Place → Place
+  shrunk_place p = record { file = p.file; section = p.section; offset = new_offset (moves_in (starts p.file) (object_at os p.file) p.section) p.offset }
+
+  -- where a symbol stands
+  placed_by : (file : ℕ) (o : Object) (d : Definition) → object_at os file ≡ o → place_in file (shrunk_definition (starts file) o d) ≡ option_map shrunk_place (place_in file d)
+  placed_by file o Undefined e = refl
+  placed_by file o (Absolute n) e = refl
+  placed_by file o (InSection section offset) e =
+      ap (λ (x : Object). Some (place_of file section (new_offset (moves_in (starts file) x section) offset))) (sym e)
+    where
+      place_of : ℕ → ℕ → ℕ → Place
+      place_of file section offset = record { file = file; section = section; offset = offset }
+  placed_by file o (Skipped n) e = refl
+
+  on_file : (file : ℕ) (d : Definition) → 1 ≤ file → OnFile (place_in file d)
+  on_file file Undefined h = tt
+  on_file file (Absolute n) h = tt
+  on_file file (InSection section offset) h = h
+  on_file file (Skipped n) h = tt
+
+  find_shrunk : (f : ℕ → ℕ) (o : Object) (name : List ℕ) (xs : List Symbol)
+      → find (λ s. bytes_eq s.name name) (map (shrunk_symbol f o) xs) ≡ option_map (shrunk_symbol f o) (find (λ s. bytes_eq s.name name) xs)
+  find_shrunk f o name [] = refl
+  find_shrunk f o name (x ∷ xs) = go (bytes_eq x.name name) (find_shrunk f o name xs)
+    where
+      go : (b : Bool) → find (λ s. bytes_eq s.name name) (map (shrunk_symbol f o) xs) ≡ option_map (shrunk_symbol f o) (find (λ s. bytes_eq s.name name) xs)
+          → (if b then Some (shrunk_symbol f o x) else find (λ s. bytes_eq s.name name) (map (shrunk_symbol f o) xs))
+          ≡ option_map (shrunk_symbol f o) (if b then Some x else find (λ s. bytes_eq s.name name) xs)
+      go true ih = refl
+      go false ih = ih
+
+  global_by : (file : ℕ) (us : List Object) (name : List ℕ) → AreAt os file us → global_place file (shrunk_objects starts file us) name ≡ option_map shrunk_place (global_place file us name)
+  global_by file [] name h = refl
+  global_by file (u ∷ us) name (e, h) =
+      ap (λ o. by_found o (global_place (suc file) (shrunk_objects starts (suc file) us) name)) (ap (find (λ s. bytes_eq s.name name)) (exported_same (starts file) u) ∙ find_shrunk (starts file) u name (exported u))
+      ∙ go (find (λ s. bytes_eq s.name name) (exported u)) (global_by (suc file) us name h)
+    where
+      by_found : Option Symbol → Option Place → Option Place
+      by_found x rest = elim x [ Some s ↦ place_in file s.definition | None ↦ rest ]
+
+      go : (x : Option Symbol) → global_place (suc file) (shrunk_objects starts (suc file) us) name ≡ option_map shrunk_place (global_place (suc file) us name)
+          → by_found (option_map (shrunk_symbol (starts file) u) x) (global_place (suc file) (shrunk_objects starts (suc file) us) name)
+          ≡ option_map shrunk_place (by_found x (global_place (suc file) us name))
+      go None ih = ih
+      go (Some x) ih = placed_by file u x.definition e
+
+  global_on : (file : ℕ) (us : List Object) (name : List ℕ) → 1 ≤ file → OnFile (global_place file us name)
+  global_on file [] name h = tt
+  global_on file (u ∷ us) name h = go (find (λ s. bytes_eq s.name name) (exported u)) (global_on (suc file) us name (omega arith))
+    where
+      go : (x : Option Symbol) → OnFile (global_place (suc file) us name) → OnFile (elim x [ Some s ↦ place_in file s.definition | None ↦ global_place (suc file) us name ])
+      go None ih = ih
+      go (Some x) ih = on_file file x.definition h
+
+  symbol_by_place : (file : ℕ) (o : Object) (x : Symbol) → object_at os file ≡ o → symbol_place os' file (shrunk_symbol (starts file) o x) ≡ option_map shrunk_place (symbol_place os file x)
+  symbol_by_place file o x e =
+      ap (λ b. if b then place_in file (shrunk_definition (starts file) o x.definition) else global_place 1 os' x.name) (defined_still (starts file) o x.definition) ∙ go (is_defined x.definition)
+    where
+      go : (b : Bool) → (if b then place_in file (shrunk_definition (starts file) o x.definition) else global_place 1 os' x.name)
+          ≡ option_map shrunk_place (if b then place_in file x.definition else global_place 1 os x.name)
+      go true = placed_by file o x.definition e
+      go false = global_by 1 os x.name (all_at os)
+
+  symbol_on : (file : ℕ) (x : Symbol) → 1 ≤ file → OnFile (symbol_place os file x)
+  symbol_on file x h = go (is_defined x.definition)
+    where
+      go : (b : Bool) → OnFile (if b then place_in file x.definition else global_place 1 os x.name)
+      go true = on_file file x.definition h
+      go false = global_on 1 os x.name (omega arith)
+
+  module _ (g : List Global) where
+    value_by : (file : ℕ) (o : Object) (section offset : ℕ) (x : Option Section)
+        → value_in g starts file (shrunk_object (starts file) o) section (new_offset (moves_at (starts file section) x) offset) (option_map (shrunk_section (starts file section)) x)
+        ≡ value_in g starts file o section offset x
+    value_by file o section offset None = refl
+    value_by file o section offset (Some s) =
+        ap (option_map (own_value g (starts file) (shrunk_object (starts file) o) start (shrunk_section start s))) (high_same start s offset s.relocations)
+        ∙ go (high_at (moves start s) offset s.relocations)
+      where
+        start : ℕ
+        start = starts file section
+
+        go : (r : Option Relocation) → option_map (own_value g (starts file) (shrunk_object (starts file) o) start (shrunk_section start s)) (option_map (shrunk_relocation (moves start s)) r)
+            ≡ option_map (own_value g (starts file) o start s) r
+        go None = refl
+        go (Some r) = ap Some (own_same (starts file) o g start s r)
+
+    value_same : (p : Option Place) → OnFile p → value_at g starts os' (option_map shrunk_place p) ≡ value_at g starts os p
+    value_same None h = refl
+    value_same (Some p) h =
+        let o = object_at os p.file in
+        let f = starts p.file in
+        let offset = new_offset (moves_in f o p.section) p.offset in
+        ap (λ (y : Object). value_in g starts p.file y p.section offset (slice_get y.sections p.section)) (object_is p.file h)
+        ∙ ap (value_in g starts p.file (shrunk_object f o) p.section offset) (section_is f o p.section)
+        ∙ value_by p.file o p.section p.offset (slice_get o.sections p.section)
+
+    paired_same : (file : ℕ) (o : Object) → 1 ≤ file → object_at os file ≡ o → (symbol : Option ℕ)
+        → paired g starts os' file (shrunk_object (starts file) o) symbol ≡ paired g starts os file o symbol
+    paired_same file o h e None = refl
+    paired_same file o h e (Some index) =
+        ap (λ y. value_at g starts os' (option_and_then (symbol_place os' file) y)) (slice_map (shrunk_symbol (starts file) o) o.symbols index) ∙ go (slice_get o.symbols index)
+      where
+        go : (x : Option Symbol) → value_at g starts os' (option_and_then (symbol_place os' file) (option_map (shrunk_symbol (starts file) o) x)) ≡ value_at g starts os (option_and_then (symbol_place os file) x)
+        go None = refl
+        go (Some x) = ap (value_at g starts os') (symbol_by_place file o x e) ∙ value_same (symbol_place os file x) (symbol_on file x h)
+
+    module _ (i : InputSection) (least : 1 ≤ i.file) (here : object_at os i.file ≡ i.object) where
+      abbrev ms : List Move
+      ms = moves (start_of starts i) i.section
+
+      abbrev i' : InputSection
+      i' = shrunk_input starts i
+
+      pub input_value : (r : Relocation) → value g starts os' i' (shrunk_relocation ms r) ≡ value g starts os i r
+      input_value r = go (is_low r.kind)
+        where
+          go : (b : Bool) → (if b then paired g starts os' i.file i'.object r.symbol else Some (own_value g (starts i.file) i'.object (start_of starts i) i'.section (shrunk_relocation ms r)))
+              ≡ (if b then paired g starts os i.file i.object r.symbol else Some (own_value g (starts i.file) i.object (start_of starts i) i.section r))
+          go true = paired_same i.file i.object least here r.symbol
+          go false = ap Some (own_same (starts i.file) i.object g (start_of starts i) i.section r)
+
+      relocated_one : (r : Relocation) → IsRelocated g starts os i r → IsRelocated g starts os' i' (shrunk_relocation ms r)
+      relocated_one r h = record {
+        resolved = subst (λ t. IsTrue (is_some t)) (sym (target_same (starts i.file) i.object g r.symbol)) h.resolved;
+        found = subst (λ v. IsTrue (is_some v)) (sym (input_value r)) h.found;
+        alone = h.alone;
+        takes = subst (λ v. Takes r.kind (unwrap_or v (pos 0))) (sym (input_value r)) h.takes;
+      }
+
+      pub relocated_all : (rs : List Relocation) → AllByRecursion (IsRelocated g starts os i) rs → AllByRecursion (IsRelocated g starts os' i') (shrunk_relocations ms rs)
+      relocated_all [] h = tt
+      relocated_all (r ∷ rs) (h, hs) = go (has_padding r) (relocated_all rs hs)
+        where
+          go : (b : Bool) → AllByRecursion (IsRelocated g starts os' i') (shrunk_relocations ms rs)
+              → AllByRecursion (IsRelocated g starts os' i') (map (shrunk_relocation ms) (if not b then r ∷ filter (λ r. not (has_padding r)) rs else filter (λ r. not (has_padding r)) rs))
+          go true ih = ih
+          go false ih = (relocated_one r h, ih)
+
+      pub linked_same : initial_bytes (shrunk_contents ms i.section.contents) ≡ kept 0 ms (initial_bytes i.section.contents) → linked_bytes g starts os' i' ≡ linked_bytes g starts os i
+      linked_same initial =
+          let ms' = moves (start_of starts i) i'.section in
+          let worth' : Relocation → ℤ = λ r. unwrap_or (value g starts os' i' r) (pos 0) in
+          let worth : Relocation → ℤ = λ r. unwrap_or (value g starts os i r) (pos 0) in
+          ap (λ l. applied (new_offset ms') worth' (shrunk_relocations ms i.section.relocations) (kept 0 l (initial_bytes i'.section.contents)))
+          (ap (plan (start_of starts i) 0) (none_left (start_of starts i) i.section))
+          ∙ ap (applied (new_offset ms') worth' (shrunk_relocations ms i.section.relocations)) initial
+          ∙ applied_same ms (new_offset ms') worth worth' (stays (start_of starts i) i.section) (λ r. ap (λ v. unwrap_or v (pos 0)) (input_value r)) i.section.relocations
+          (kept 0 ms (initial_bytes i.section.contents))

@@ -1,0 +1,119 @@
+-- The object of a source whose paddings in code have shrunk to the least: what is left of it where the linker has made its moves.
+-- All else is as in rv_assemble_laws: these are its definitions with such paddings, which no ALIGN marks.
+
+use Rattle.std.specs.Prelude.{◌≡◌, ℕ, zero, suc, ◌*◌, ◌%◌, ◌≤◌, true, Bool, false, ⊤, List, [], ◌∷◌, flat_map, map, length, Option, None, unwrap_or, if◌then◌else◌}
+use Rattle.std.specs.List.{AllByRecursion}
+use Rattle.rv_text_laws.specs.Values.{Value, Constant}
+use Rattle.rv_statement.specs.Statement.{StatementKind, Label, Numbered, Instruction, Directs, Statement, Expression, Directive, Aligns_to_power, Aligns_to_bytes, Values, Strings, Zeros}
+use Rattle.rv_unit_laws.specs.Contributions.{Contribution, Nothing, Bytes, Zero_bytes, Alignment, contribution}
+use Rattle.rv_unit_laws.specs.Sections.{Section as SourceSection, is_nobits, goes_to_text}
+use Rattle.rv_unit_laws.specs.Tables.{Tables, at_start, tables, alignment_of, alignment_at, opened_of, padding, string_bytes}
+use Rattle.rv_pseudo_laws.specs.Code.{code}
+use Rattle.rv_source_laws.specs.Located.{located_from}
+use Rattle.rv_source_laws.specs.Fits.{is_low}
+use Rattle.rv_object.specs.Object.{Section, Symbol, Object}
+use Rattle.rv_object.specs.Padding.{no_operations, operations_in}
+use Rattle.rv_object_laws.specs.Moves.{alignments_of}
+use Rattle.rv_object_laws.specs.Names.{exported}
+use Rattle.rv_assemble_laws.specs.Coded.{is_constant, constants, IsCode}
+use Rattle.rv_assemble_laws.specs.Refusals.{statements_fault}
+use Rattle.rv_assemble_laws.specs.Symbols.{exports}
+use Rattle.rv_assemble_laws.specs.Templates.{Template, Fixed, IsTemplate, zeros, contents_templates}
+use Rattle.rv_sources_link_laws.proofs.statements.MarkedLemmas.{part_fields}
+use Rattle.rv_sources_link_laws.proofs.statements.OrderedLemmas.{Follow, AreInOrder}
+pub use Rattle.rv_assemble_laws.specs.Sites.{Site, Part, form, part_of, part_bytes, coded_templates, sites_in, end_of, IsMultiple}
+pub use Rattle.rv_assemble_laws.specs.IsObjectOf.{Numbering, row_of, rows_at, relocation_at, relocations_from, contents_of, IsNumbered, ArePartsNumbered, IsInData, StandsInData}
+
+-- ---- templates
+
+abbrev pub padding_templates : Bool → ℕ → List Template
+padding_templates true zero = []
+padding_templates true (suc n) = Fixed (no_operations (suc n)) ∷ []
+padding_templates false bytes = Fixed (zeros bytes) ∷ []
+
+abbrev pub contribution_templates : Bool → (Expression → Value) → Contribution → ℕ → List Template
+contribution_templates executable v Nothing bytes = []
+contribution_templates executable v (Bytes contents) bytes = contents_templates v contents
+contribution_templates executable v (Zero_bytes count) bytes = Fixed (zeros bytes) ∷ []
+contribution_templates executable v (Alignment form number) bytes = padding_templates executable bytes
+
+abbrev pub templates : Tables → Site → StatementKind → List Template
+templates t s (Label name) = []
+templates t s (Numbered number) = []
+templates t s (Instruction mnemonic operands) =
+    let v = form t s.located in
+    coded_templates (part_fields t v s.located) (unwrap_or (code (constants v) s.located.options.rvc s.bytes mnemonic operands) []) s.coded
+templates t s (Directs directive) = contribution_templates s.located.home.executable (form t s.located) (contribution directive) s.bytes
+
+abbrev pub parts_of : Tables → Site → List Part
+parts_of t s = map (part_of s.located.ordinal) (templates t s s.located.kind)
+
+abbrev pub parts : Tables → List Site → List Part
+parts t sites = flat_map (parts_of t) sites
+
+abbrev pub Tile : Tables → ℕ → List Site → Type 0
+Tile t offset sites = Follow (parts_of t) offset sites
+
+-- ---- sizes
+
+-- the least padding, in code none up to 2
+abbrev pub IsPaddedIn : Bool → Site → Option ℕ → Type 0
+IsPaddedIn true s alignment =
+    (s.bytes ≡ (if is_low alignment then 0 else padding alignment s.offset)) × (s.bytes % 2 ≡ 0) × (s.instructions ≡ operations_in s.bytes)
+IsPaddedIn false s alignment = (s.bytes ≡ padding alignment s.offset) × (s.instructions ≡ 0)
+
+abbrev pub IsPadded : Site → ℕ → Value → Option ℕ → Type 0
+IsPadded s multiple v alignment = (is_constant v ≡ true) × IsMultiple alignment multiple × IsPaddedIn s.located.home.executable s alignment
+
+abbrev pub DirectiveSize : (Expression → Value) → Site → ℕ → Directive → Type 0
+DirectiveSize v s multiple (Values width values) = (s.instructions ≡ 0) × (s.bytes ≡ width * length values)
+DirectiveSize v s multiple (Strings ended strings) = (s.instructions ≡ 0) × (s.bytes ≡ length (string_bytes ended strings))
+DirectiveSize v s multiple (Zeros count) = (s.instructions ≡ 0) × (v count ≡ Constant s.bytes)
+DirectiveSize v s multiple (Aligns_to_power e) = IsPadded s multiple (v e) (alignment_of v (Aligns_to_power e))
+DirectiveSize v s multiple (Aligns_to_bytes e) = IsPadded s multiple (v e) (alignment_of v (Aligns_to_bytes e))
+DirectiveSize v s multiple _ = (s.bytes ≡ 0) × (s.instructions ≡ 0)
+
+abbrev pub HasSize : (Expression → Value) → Site → ℕ → StatementKind → Type 0
+HasSize v s multiple (Label name) = (s.bytes ≡ 0) × (s.instructions ≡ 0)
+HasSize v s multiple (Numbered number) = (s.bytes ≡ 0) × (s.instructions ≡ 0)
+HasSize v s multiple (Instruction mnemonic operands) = IsCode v s.located.options.rvc mnemonic operands s.bytes s.coded s.instructions
+HasSize v s multiple (Directs directive) = DirectiveSize v s multiple directive
+
+-- ---- sections
+
+pub record IsSectionOf (t : Tables) (all : List Site) (number : Numbering) (symbols : List Symbol) (index : ℕ) (section : SourceSection) (sites : List Site) (x : Section) : Type 0 where
+  pub loaded : x.loaded ≡ section.loaded
+  pub executable : x.executable ≡ section.executable
+  pub writable : x.writable ≡ section.writable
+  pub alignment : x.alignment ≡ alignment_at t index
+  pub some : 1 ≤ x.alignment
+  pub tile : Tile t 0 sites
+  pub contents : x.contents ≡ contents_of section.section_type (end_of 0 sites) (flat_map part_bytes (parts t sites))
+  pub code : goes_to_text section ≡ true → is_nobits section ≡ true → flat_map part_bytes (parts t sites) ≡ []
+  pub relocations : x.relocations ≡ (if section.loaded then relocations_from number 0 (parts t sites) else [])
+  pub numbered : section.loaded ≡ true → ArePartsNumbered t all number symbols (parts t sites)
+  pub sizes : section.loaded ≡ true → AllByRecursion (λ s. s.located.placed ≡ true → HasSize (form t s.located) s x.alignment s.located.kind) sites
+  pub fields : AllByRecursion (λ p. IsTemplate p.template) (parts t sites)
+  -- nothing moves any more
+  pub plain : alignments_of x ≡ []
+
+abbrev pub AreSectionsOf : Tables → List Site → Numbering → List Symbol → ℕ → List SourceSection → List Section → Type 0
+AreSectionsOf t all number symbols index sections xs = AreInOrder (IsSectionOf t all number symbols) all index sections xs
+
+-- ---- the whole
+
+pub record IsObjectOf (ss : List Statement) (o : Object) : Type 0 where
+  pub good : statements_fault ss ≡ None
+  pub sites : List Site
+  pub located : map (λ s. s.located) sites ≡ located_from 1 1 at_start ss
+  pub places : AllByRecursion (StandsInData sites) (tables ss).assignments
+  pub number : Numbering
+  pub sections : AreSectionsOf (tables ss) sites number o.symbols 0 (opened_of (tables ss)).sections o.sections
+  pub exported_are : exported o ≡ exports (tables ss) sites
+  pub rows : o.rows ≡ flat_map rows_at sites
+
+abbrev pub AreObjectsOf : List (List Statement) → List Object → Type 0
+AreObjectsOf [] [] = ⊤
+AreObjectsOf [] (o ∷ os) = ⊥
+AreObjectsOf (ss ∷ sources) [] = ⊥
+AreObjectsOf (ss ∷ sources) (o ∷ os) = IsObjectOf ss o × AreObjectsOf sources os

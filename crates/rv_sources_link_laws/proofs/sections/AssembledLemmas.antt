@@ -1,0 +1,80 @@
+-- The object of a source, whatever the sizes of its branches and calls are: as in rv_assemble_laws, but that a call may be one
+-- instruction, with the mark of relaxation beside its field, and that only the symbols for all files are counted.
+
+use Rattle.std.specs.Prelude.{◌≡◌, ℕ, ◌≤◌, true, ⊤, List, [], ◌∷◌, flat_map, map, None, unwrap_or, if◌then◌else◌}
+use Rattle.std.specs.List.{AllByRecursion, list_any}
+use Rattle.rv_statement.specs.Statement.{StatementKind, Label, Numbered, Instruction, Directs, Statement}
+use Rattle.rv_unit_laws.specs.Contributions.{contribution}
+use Rattle.rv_unit_laws.specs.Sections.{Section as SourceSection, is_nobits, goes_to_text}
+use Rattle.rv_unit_laws.specs.Tables.{Tables, at_start, tables, opened_of, alignment_at, longest_section}
+use Rattle.rv_pseudo_laws.specs.Code.{code}
+use Rattle.rv_source_laws.specs.Located.{located_from}
+use Rattle.rv_source_laws.specs.Compressed.{is_compressed_code}
+use Rattle.rv_object.specs.Object.{Section, Symbol, Object}
+use Rattle.rv_object_laws.specs.Names.{exported}
+use Rattle.rv_assemble_laws.specs.Coded.{constants}
+use Rattle.rv_assemble_laws.specs.Refusals.{statements_fault}
+use Rattle.rv_assemble_laws.specs.Symbols.{exports}
+use Rattle.rv_assemble_laws.specs.Templates.{Template, IsTemplate, contribution_templates}
+use Rattle.rv_assemble_laws.specs.Sites.{Site, Part, form, part_of, part_bytes, coded_templates, end_of, HasSize}
+use Rattle.rv_assemble_laws.specs.IsObjectOf.{Numbering, rows_at, relocations_from, contents_of, ArePartsNumbered, StandsInData}
+use Rattle.rv_sources_link_laws.proofs.statements.MarkedLemmas.{part_fields}
+use Rattle.rv_sources_link_laws.proofs.statements.OrderedLemmas.{Follow, AreInOrder}
+
+-- ---- templates
+
+abbrev pub templates : Tables → Site → StatementKind → List Template
+templates t s (Label name) = []
+templates t s (Numbered number) = []
+templates t s (Instruction mnemonic operands) =
+    let v = form t s.located in
+    coded_templates (part_fields t v s.located) (unwrap_or (code (constants v) s.located.options.rvc s.bytes mnemonic operands) []) s.coded
+templates t s (Directs directive) = contribution_templates s.located.home.executable s.located.ordinal (form t s.located) (contribution directive) s.bytes
+
+abbrev pub parts_of : Tables → Site → List Part
+parts_of t s = map (part_of s.located.ordinal) (templates t s s.located.kind)
+
+abbrev pub parts : Tables → List Site → List Part
+parts t sites = flat_map (parts_of t) sites
+
+abbrev pub Tile : Tables → ℕ → List Site → Type 0
+Tile t offset sites = Follow (parts_of t) offset sites
+
+-- ---- sections
+
+pub record IsSectionOf (t : Tables) (all : List Site) (number : Numbering) (symbols : List Symbol) (index : ℕ) (section : SourceSection) (sites : List Site) (x : Section) : Type 0 where
+  pub loaded : x.loaded ≡ section.loaded
+  pub executable : x.executable ≡ section.executable
+  pub writable : x.writable ≡ section.writable
+  pub alignment : x.alignment ≡ alignment_at t index
+  pub some : 1 ≤ x.alignment
+  pub tile : Tile t 0 sites
+  pub contents : x.contents ≡ contents_of section.section_type (end_of 0 sites) (flat_map part_bytes (parts t sites))
+  pub code : goes_to_text section ≡ true → is_nobits section ≡ true → flat_map part_bytes (parts t sites) ≡ []
+  pub relocations : x.relocations ≡ (if section.loaded then relocations_from number 0 (parts t sites) else [])
+  pub numbered : section.loaded ≡ true → ArePartsNumbered t all number symbols (parts t sites)
+  pub sizes : AllByRecursion (λ s. s.located.placed ≡ true → HasSize (form t s.located) s x.alignment s.located.kind) sites
+  pub fields : AllByRecursion (λ p. IsTemplate p.template) (parts t sites)
+  pub short : section.executable ≡ true → end_of 0 sites ≤ longest_section
+
+abbrev pub AreSectionsOf : Tables → List Site → Numbering → List Symbol → ℕ → List SourceSection → List Section → Type 0
+AreSectionsOf t all number symbols index sections xs = AreInOrder (IsSectionOf t all number symbols) all index sections xs
+
+-- ---- the whole
+
+pub record IsAssembled (ss : List Statement) (o : Object) : Type 0 where
+  pub good : statements_fault ss ≡ None
+  pub sites : List Site
+  pub located : map (λ s. s.located) sites ≡ located_from 1 1 at_start ss
+  pub places : AllByRecursion (StandsInData sites) (tables ss).assignments
+  pub number : Numbering
+  pub sections : AreSectionsOf (tables ss) sites number o.symbols 0 (opened_of (tables ss)).sections o.sections
+  pub exported_are : exported o ≡ exports (tables ss) sites
+  pub rows : o.rows ≡ flat_map rows_at sites
+  pub rvc : o.rvc ≡ list_any (λ s. is_compressed_code s.located) sites
+
+abbrev pub AreAssembled : List (List Statement) → List Object → Type 0
+AreAssembled [] [] = ⊤
+AreAssembled [] (o ∷ os) = ⊥
+AreAssembled (ss ∷ sources) [] = ⊥
+AreAssembled (ss ∷ sources) (o ∷ os) = IsAssembled ss o × AreAssembled sources os

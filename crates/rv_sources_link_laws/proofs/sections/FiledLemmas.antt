@@ -1,0 +1,60 @@
+-- The sections and the statements of an object of a source, one by the other.
+
+use Rattle.std.proofs.Common.{◌≡◌, ℕ, ◌+◌, ◌≤◌, List, [], ◌∷◌, sym, ap, ◌∙◌, arith, Some}
+use Rattle.std.specs.Prelude.{flat_map}
+use Rattle.std.specs.List.{AllByRecursion, slice_get}
+use Rattle.rv_statement.specs.Statement.{Statement}
+use Rattle.rv_unit_laws.specs.Sections.{Section as SourceSection}
+use Rattle.rv_unit_laws.specs.Tables.{Tables, tables, opened_of, longest_section}
+use Rattle.rv_object.specs.Object.{Section, Object}
+use Rattle.rv_assemble_laws.specs.Sites.{Site, sites_in, end_of}
+use Rattle.rv_sources_link_laws.proofs.sections.AssembledLemmas.{Tile, IsSectionOf, IsAssembled}
+use Rattle.rv_sources_link_laws.proofs.moves.MovedLemmas.{IsBound}
+use Rattle.rv_sources_link_laws.proofs.statements.OrderedLemmas.{its_section}
+use Rattle.rv_sources_link_laws.proofs.sections.SectionsLemmas.{join}
+use Rattle.rv_sources_link_laws.proofs.statements.SettledLemmas.{IsSettled, settled, of_sections, IsSiteIn, sites_are_in}
+
+-- a statement lies in its section
+pub offsets_low : (t : Tables) (o : ℕ) (zs : List Site) → Tile t o zs → (o ≤ end_of o zs) × AllByRecursion (λ (z : Site). z.offset ≤ end_of o zs) zs
+offsets_low t o [] tile = (omega arith, tt)
+offsets_low t o (z ∷ zs) (off, bytes, tile) =
+    let (low, rest) = offsets_low t (o + z.bytes) zs tile in
+    (omega (arith, low), (omega (arith, low, off), rest))
+
+pub all_flat : {X Y : Type 0} (P : Y → Type 0) (g : X → List Y) (xs : List X) → AllByRecursion (λ x. AllByRecursion P (g x)) xs → AllByRecursion P (flat_map g xs)
+all_flat P g [] h = tt
+all_flat P g (x ∷ xs) (h, hs) = join P (g x) (flat_map g xs) h (all_flat P g xs hs)
+
+-- ---- a file
+
+module _ (ss : List Statement) (o : Object) (is : IsAssembled ss o) where
+  abbrev t : Tables
+  t = tables ss
+
+  abbrev sections : List SourceSection
+  sections = (opened_of (tables ss)).sections
+
+  pub all_settled : AllByRecursion (IsSettled sections) is.sites
+  all_settled = settled ss is.sites is.good is.located
+
+  pub section_of : (j : ℕ) (s : SourceSection) → slice_get sections j ≡ Some s → (x : Section) × (slice_get o.sections j ≡ Some x) × IsSectionOf t is.sites is.number o.symbols j s (sites_in j is.sites) x
+  section_of j s at = its_section (IsSectionOf t is.sites is.number o.symbols) is.sites j sections o.sections s is.sections at
+
+  -- those of a section, with what is known of where they stand
+  pub with_home : (P Q : Site → Type 0) (j : ℕ) (s : SourceSection) → slice_get sections j ≡ Some s → ((z : Site) → z.located.section ≡ j → z.located.home ≡ s → P z → Q z)
+      → AllByRecursion P (sites_in j is.sites) → AllByRecursion Q (sites_in j is.sites)
+  with_home P Q j s at step h = go (sites_in j is.sites) (sites_are_in sections j s is.sites at all_settled) h
+    where
+      go : (zs : List Site) → AllByRecursion (λ z. IsSiteIn j s z) zs → AllByRecursion P zs → AllByRecursion Q zs
+      go [] i k = tt
+      go (z ∷ zs) (i, is') (k, ks) = (step z i.stands i.home k, go zs is' ks)
+
+  pub bounds : AllByRecursion IsBound is.sites
+  bounds = of_sections sections IsBound is.sites all_settled by
+    where
+      by : (j : ℕ) (s : SourceSection) → slice_get sections j ≡ Some s → AllByRecursion IsBound (sites_in j is.sites)
+      by j s at =
+          let (x, there, h) = section_of j s at in
+          with_home (λ z. z.offset ≤ end_of 0 (sites_in j is.sites)) IsBound j s at
+          (λ z stands home low code. let short = h.short (ap (λ y. y.executable) (sym home) ∙ code) in let n = longest_section in let e : z.offset ≤ n = omega (arith, low, short) in e)
+          (offsets_low t 0 (sites_in j is.sites) h.tile).1

@@ -1,0 +1,108 @@
+-- Statements of text stand at even offsets.
+
+use Rattle.std.proofs.Common.{◌≡◌, ℕ, ◌+◌, ◌%◌, Bool, true, false, List, [], ◌∷◌, length, refl, sym, ap, ◌∙◌, arith, Some}
+use Rattle.std.proofs.lemmas.Bool.{and_parts}
+use Rattle.std.specs.Prelude.{◌&&◌, flat_map, map}
+use Rattle.std.specs.List.{AllByRecursion, slice_get}
+use Rattle.rv_text_laws.specs.Values.{Value}
+use Rattle.rv_statement.specs.Statement.{StatementKind, Label, Numbered, Instruction, Directs, Statement, Expression, Enters, Opens, Globl, Local, Sets, Aligns_to_power, Aligns_to_bytes, Values, Strings, Zeros, Chooses, Ignored}
+use Rattle.rv_pseudo_laws.specs.Filled.{are_closed}
+use Rattle.rv_unit_laws.specs.Sections.{Section as SourceSection, goes_to_text}
+use Rattle.rv_unit_laws.specs.Tables.{Tables, tables, alignment_of, opened_of}
+use Rattle.rv_source_laws.proofs.HeldLemmas.{IsHeld}
+use Rattle.rv_object.specs.Object.{Object}
+use Rattle.rv_assemble_laws.specs.Sites.{Site, form, part_of, part_bytes, sites_in}
+use Rattle.rv_sources_link_laws.proofs.statements.SettledLemmas.{IsSettled, settled, of_sections, IsSiteIn, sites_are_in}
+use Rattle.rv_sources_link_laws.proofs.statements.OrderedLemmas.{its_section}
+use Rattle.rv_sources_link_laws.proofs.statements.CodingLemmas.{all_few}
+use Rattle.rv_sources_link_laws.proofs.moves.ShrunkLemmas.{IsPaddedIn, parts_of, Tile, HasSize, IsSectionOf, IsObjectOf}
+
+abbrev pub IsEven : Site → Type 0
+IsEven s = goes_to_text s.located.home ≡ true → s.offset % 2 ≡ 0
+
+-- ---- a statement
+
+none_even : (n : ℕ) → n ≡ 0 → n % 2 ≡ 0
+none_even n e = ap (λ n. n % 2) e
+
+-- a statement of code with a place has an even count of bytes
+pub even_by : (s : Site) (section : SourceSection) (multiple : ℕ) (v : Expression → Value) (kind : StatementKind) → IsHeld section kind → section.executable ≡ true → s.located.home ≡ section
+    → HasSize v s multiple kind → s.bytes % 2 ≡ 0
+even_by s section multiple v (Label name) held code home size = none_even s.bytes size.0
+even_by s section multiple v (Numbered number) held code home size = none_even s.bytes size.0
+even_by s section multiple v (Instruction mnemonic operands) held code home size =
+    ap (λ n. n % 2) size.size ∙ (all_few (s.located.options.rvc && are_closed size.ps) size.ps s.coded size.coded_as).2
+even_by s section multiple v (Directs (Values width es)) held code home size = let e : true ≡ false = sym code ∙ held.0 in absurd (cc)
+even_by s section multiple v (Directs (Strings ended strings)) held code home size = let e : true ≡ false = sym code ∙ held.0 in absurd (cc)
+even_by s section multiple v (Directs (Zeros count)) held code home size = let e : true ≡ false = sym code ∙ held in absurd (cc)
+even_by s section multiple v (Directs (Aligns_to_power e)) held code home (x, y, z) = go s.located.home.executable (ap (λ x. x.executable) home ∙ code) z
+  where
+    go : (b : Bool) → b ≡ true → IsPaddedIn b s (alignment_of v (Aligns_to_power e)) → s.bytes % 2 ≡ 0
+    go true e (n, even, k) = even
+    go false e h = absurd (cc)
+even_by s section multiple v (Directs (Aligns_to_bytes e)) held code home (x, y, z) = go s.located.home.executable (ap (λ x. x.executable) home ∙ code) z
+  where
+    go : (b : Bool) → b ≡ true → IsPaddedIn b s (alignment_of v (Aligns_to_bytes e)) → s.bytes % 2 ≡ 0
+    go true e (n, even, k) = even
+    go false e h = absurd (cc)
+even_by s section multiple v (Directs (Enters opened)) held code home size = none_even s.bytes size.0
+even_by s section multiple v (Directs (Opens name flags kind)) held code home size = none_even s.bytes size.0
+even_by s section multiple v (Directs (Globl names)) held code home size = none_even s.bytes size.0
+even_by s section multiple v (Directs (Local names)) held code home size = none_even s.bytes size.0
+even_by s section multiple v (Directs (Sets name e)) held code home size = none_even s.bytes size.0
+even_by s section multiple v (Directs (Chooses choice)) held code home size = none_even s.bytes size.0
+even_by s section multiple v (Directs Ignored) held code home size = none_even s.bytes size.0
+
+-- ---- a section
+
+module _ (t : Tables) (index : ℕ) (section : SourceSection) (multiple : ℕ) where
+  abbrev Sized : Site → Type 0
+  Sized s = s.located.placed ≡ true → HasSize (form t s.located) s multiple s.located.kind
+
+  bytes_even : (s : Site) → section.executable ≡ true → IsSiteIn index section s → s.bytes ≡ length (flat_map part_bytes (parts_of t s)) → Sized s → s.bytes % 2 ≡ 0
+  bytes_even s code is bytes size = go s.located.placed refl
+    where
+      go : (b : Bool) → s.located.placed ≡ b → s.bytes % 2 ≡ 0
+      go true e = even_by s section multiple (form t s.located) s.located.kind is.held code is.home (size e)
+      go false e =
+          none_even s.bytes (bytes ∙ ap (λ l. length (flat_map part_bytes (map (part_of s.located.ordinal) l))) (is.bare e t s))
+
+  in_code : (offset : ℕ) (sites : List Site) → section.executable ≡ true → offset % 2 ≡ 0 → AllByRecursion (IsSiteIn index section) sites → Tile t offset sites → AllByRecursion Sized sites
+      → AllByRecursion IsEven sites
+  in_code offset [] code even h tile sizes = tt
+  in_code offset (s ∷ ss) code even (h, hs) (at, bytes, tile) (size, sizes) =
+      let own = bytes_even s code h bytes size in (
+        (λ text. ap (λ n. n % 2) at ∙ even),
+        in_code (offset + s.bytes) ss code (omega (arith, even, own)) hs tile sizes,
+      )
+
+  aside : (sites : List Site) → goes_to_text section ≡ false → AllByRecursion (IsSiteIn index section) sites → AllByRecursion IsEven sites
+  aside [] none h = tt
+  aside (s ∷ ss) none (h, hs) = (
+    (λ text. let e : true ≡ false = sym text ∙ ap goes_to_text h.home ∙ none in absurd (cc)),
+    aside ss none hs,
+  )
+
+-- ---- a file
+
+module _ (ss : List Statement) (o : Object) (is : IsObjectOf ss o) where
+  abbrev sections : List SourceSection
+  sections = (opened_of (tables ss)).sections
+
+  all_settled : AllByRecursion (IsSettled sections) is.sites
+  all_settled = settled ss is.sites is.good is.located
+
+  section_even : (index : ℕ) (section : SourceSection) → slice_get sections index ≡ Some section → AllByRecursion IsEven (sites_in index is.sites)
+  section_even index section at = go (goes_to_text section) refl
+    where
+      here : AllByRecursion (IsSiteIn index section) (sites_in index is.sites)
+      here = sites_are_in sections index section is.sites at all_settled
+
+      go : (b : Bool) → goes_to_text section ≡ b → AllByRecursion IsEven (sites_in index is.sites)
+      go true text =
+          let (x, there, found) = its_section (IsSectionOf (tables ss) is.sites is.number o.symbols) is.sites index sections o.sections section is.sections at in
+          in_code (tables ss) index section x.alignment 0 (sites_in index is.sites) ((and_parts section.loaded section.executable text).1) refl here found.tile (found.sizes ((and_parts section.loaded section.executable text).0))
+      go false none = aside (tables ss) index section 1 (sites_in index is.sites) none here
+
+  pub evens : AllByRecursion IsEven is.sites
+  evens = of_sections sections IsEven is.sites all_settled section_even

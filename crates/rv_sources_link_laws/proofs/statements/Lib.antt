@@ -1,0 +1,16 @@
+pub mod MarkedLemmas
+pub mod QuietLemmas
+pub mod OrderedLemmas
+pub mod PadsLemmas
+pub mod CountedLemmas
+pub mod StatementsLemmas
+pub mod SettledLemmas
+pub mod NopsLemmas
+pub mod SuitsLemmas
+pub mod FieldedLemmas
+pub mod CodingLemmas
+pub mod RowsLemmas
+pub mod CodeOfLemmas
+pub mod FittingLemmas
+pub mod OperandsLemmas
+pub mod EvensLemmas

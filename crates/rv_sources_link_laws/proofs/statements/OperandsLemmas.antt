@@ -1,0 +1,166 @@
+-- What operands stand for, and what the link makes of their fields.
+
+use Rattle.std.proofs.Common.{◌≡◌, ℕ, ◌+◌, ◌%◌, Bool, true, false, List, [], ◌∷◌, refl, sym, ap, ◌∙◌, subst, arith, Option, Some, None}
+use Rattle.std.proofs.lemmas.Int.{int_wrap-add_right, int_wrap-add_same}
+use Rattle.std.specs.Prelude.{◌^◌, ℤ, pos, neg_ℤ, ◌+ℤ◌, ◌-ℤ◌, not, flat_map, is_some, unwrap_or, option_map, if◌then◌else◌}
+use Rattle.std.specs.Int.{w64, int_wrap, cast_signed}
+use Rattle.rv_isa.specs.declared.kind.Kind.{Kind}
+use Rattle.rv_isa.specs.declared.kind.Kind.TheVariants as kind
+use Rattle.rv_isa_laws.specs.Arithmetic.{signed}
+use Rattle.rv_text_laws.specs.Expression.{Primary}
+use Rattle.rv_text_laws.specs.Values.{Meaning, Value, Constant, Symbolic, Difference, Faulty, add}
+use Rattle.rv_statement.specs.declared.mnemonic.Mnemonic.{Mnemonic}
+use Rattle.rv_statement.specs.Statement.{Operand, Register, Value as Of_value, Applied, Target, Accesses, Word, Quoted, Expression}
+use Rattle.rv_reloc.specs.Values.{value_of}
+use Rattle.rv_source_laws.specs.Lines.{constant_of, other_operand, distance, is_low_part}
+use Rattle.rv_source_laws.specs.Program.{resolved}
+use Rattle.rv_source_laws.proofs.HeldLemmas.{none_left, no_test}
+use Rattle.rv_object.specs.Object.{Section, Object}
+use Rattle.rv_object_laws.specs.Moves.{alignments_of, moves, new_offset}
+use Rattle.rv_object_laws.specs.Inputs.{Starts}
+use Rattle.rv_object_laws.specs.Values.{target, value, is_low, is_high, own_value, paired}
+use Rattle.rv_map.specs.Map.{Global}
+use Rattle.rv_assemble_laws.specs.InstructionFaults.{target_faults, upper_faults, low_faults, is_labelled, distance_faults, operand_faults}
+use Rattle.rv_assemble_laws.specs.Templates.{Open, open_at}
+use Rattle.rv_assemble_laws.specs.IsObjectOf.{Numbering, relocation_at}
+use Rattle.rv_sources_link_laws.proofs.names.KnownLemmas.{still}
+use Rattle.rv_sources_link_laws.proofs.statements.RowsLemmas.{is_distance}
+
+-- ---- numbers
+
+mod_twice : (n : ℕ) → n % 2 ^ 64 % 2 ^ 64 ≡ n % 2 ^ 64
+mod_twice n = omega arith
+
+wrapped_once : (n : ℕ) → int_wrap w64 (pos n) ≡ int_wrap w64 (pos (n % 2 ^ 64))
+unfolding int_wrap
+wrapped_once n = ap (cast_signed w64) (sym (mod_twice n))
+
+sum_wraps : (s k : ℕ) → int_wrap w64 (pos s +ℤ int_wrap w64 (pos k)) ≡ int_wrap w64 (pos (add s k))
+sum_wraps s k = int_wrap-add_right w64 (pos s) (pos k) ∙ wrapped_once (s + k)
+
+-- the distance to a symbol and a constant beside it
+pub relative_is : (s k a : ℕ) → int_wrap w64 ((pos s +ℤ int_wrap w64 (pos k)) -ℤ pos a) ≡ distance a (add s k)
+relative_is s k a = int_wrap-add_same w64 (pos s +ℤ int_wrap w64 (pos k)) (pos (add s k)) (neg_ℤ (pos a)) (sum_wraps s k)
+
+signed_wrap : (n : ℕ) → int_wrap w64 (pos (n % 2 ^ 64)) ≡ signed 64 (n % 2 ^ 64)
+unfolding int_wrap
+signed_wrap n = ap (cast_signed w64) (mod_twice n)
+
+-- their address
+pub absolute_is : (s k : ℕ) → int_wrap w64 (pos s +ℤ int_wrap w64 (pos k)) ≡ signed 64 (add s k)
+absolute_is s k = sum_wraps s k ∙ signed_wrap (s + k)
+
+-- ---- kinds
+
+pub distance_value : (k : Kind) → is_distance k ≡ true → (s k' a : ℕ) → value_of k s (int_wrap w64 (pos k')) a ≡ distance a (add s k')
+distance_value kind.Branch e s k' a = relative_is s k' a
+distance_value kind.Jal e s k' a = relative_is s k' a
+distance_value kind.RvcBranch e s k' a = relative_is s k' a
+distance_value kind.RvcJump e s k' a = relative_is s k' a
+distance_value kind.CallPlt e s k' a = relative_is s k' a
+distance_value k e s k' a = absurd (cc)
+
+pub distance_plain : (k : Kind) → is_distance k ≡ true → (is_low k ≡ false) × (is_low_part k ≡ false)
+distance_plain kind.Branch e = (refl, refl)
+distance_plain kind.Jal e = (refl, refl)
+distance_plain kind.RvcBranch e = (refl, refl)
+distance_plain kind.RvcJump e = (refl, refl)
+distance_plain kind.CallPlt e = (refl, refl)
+distance_plain k e = absurd (cc)
+
+pub distance_not_high : (k : Kind) → is_distance k ≡ true → is_high k ≡ false
+distance_not_high kind.Branch e = refl
+distance_not_high kind.Jal e = refl
+distance_not_high kind.RvcBranch e = refl
+distance_not_high kind.RvcJump e = refl
+distance_not_high kind.CallPlt e = refl
+distance_not_high k e = absurd (cc)
+
+pub low_same : (k : Kind) → is_low_part k ≡ true → (is_low k ≡ true) × (is_high k ≡ false)
+low_same kind.PcrelLo12I e = (refl, refl)
+low_same kind.PcrelLo12S e = (refl, refl)
+low_same k e = absurd (cc)
+
+-- ---- the value of a field that counts from its own place
+
+module _ (globals : List Global) (starts : Starts) (os : List Object) (file : ℕ) (o : Object) (index : ℕ) (x : Section) (none : alignments_of x ≡ []) (number : Numbering) where
+  abbrev pub worth_at : ℕ → Open → ℤ
+  worth_at n f = unwrap_or (value globals starts os (record { file = file; object = o; index = index; section = x }) (relocation_at number n f)) (pos 0)
+
+  pub own_is : (k : Kind) (ordinal : ℕ) (q : Primary) (plus n at : ℕ) → unwrap_or (target globals (starts file) o (Some (number ordinal q))) 0 ≡ at
+      → own_value globals (starts file) o (starts file index) x (relocation_at number n (open_at k ordinal (Some q) plus)) ≡ value_of k at (int_wrap w64 (pos plus)) (starts file index + n)
+  own_is k ordinal q plus n at is =
+      ap (λ s. value_of k s (int_wrap w64 (pos plus)) (starts file index + moved_by n)) is
+      ∙ ap (λ m. value_of k at (int_wrap w64 (pos plus)) (starts file index + m)) (still x none (starts file index) n)
+    where
+      moved_by : ℕ → ℕ
+      moved_by m = new_offset (moves (starts file index) x) m
+
+  pub worth_is : (k : Kind) → is_low k ≡ false → (ordinal : ℕ) (q : Primary) (plus n at : ℕ) → unwrap_or (target globals (starts file) o (Some (number ordinal q))) 0 ≡ at
+      → worth_at n (open_at k ordinal (Some q) plus) ≡ value_of k at (int_wrap w64 (pos plus)) (starts file index + n)
+  worth_is k plain ordinal q plus n at is =
+      ap (λ b. unwrap_or (if b then paired globals starts os file o (Some (number ordinal q)) else Some (own_value globals (starts file) o (starts file index) x (relocation_at number n (open_at k ordinal (Some q) plus)))) (pos 0)) plain
+      ∙ own_is k ordinal q plus n at is
+
+-- ---- values without faults
+
+abbrev pub IsSymbolic : Value → Type 0
+IsSymbolic v = (q : Primary) × ((at : Meaning) × ((plus : ℕ) × (v ≡ Symbolic q at plus)))
+
+pub target_symbolic : (v : Value) → target_faults v ≡ [] → IsSymbolic v
+target_symbolic (Constant n) e = absurd (cc)
+target_symbolic (Symbolic q at plus) e = (q, (at, (plus, refl)))
+target_symbolic (Difference q r plus) e = absurd (cc)
+target_symbolic (Faulty c) e = absurd (cc)
+
+pub upper_symbolic : (v : Value) → constant_of v ≡ None → upper_faults v ≡ [] → IsSymbolic v
+upper_symbolic (Constant n) open_one e = absurd (cc)
+upper_symbolic (Symbolic q at plus) open_one e = (q, (at, (plus, refl)))
+upper_symbolic (Difference q r plus) open_one e = absurd (cc)
+upper_symbolic (Faulty c) open_one e = absurd (cc)
+
+pub low_symbolic : (m : Mnemonic) (v : Value) → constant_of v ≡ None → low_faults m v ≡ [] → IsSymbolic v
+low_symbolic m (Constant n) open_one e = absurd (cc)
+low_symbolic m (Symbolic q at plus) open_one e = (q, (at, (plus, refl)))
+low_symbolic m (Difference q r plus) open_one e = absurd (cc)
+low_symbolic m (Faulty c) open_one e = absurd (cc)
+
+abbrev pub IsLabelled : (Primary → Bool) → Value → Type 0
+IsLabelled l v = (q : Primary) × ((at : Meaning) × ((plus : ℕ) × (v ≡ Symbolic q at plus) × (l q ≡ true)))
+
+no_not : (b : Bool) → not b ≡ false → b ≡ true
+no_not true e = refl
+no_not false e = absurd (cc)
+
+labelled_by : (l : Primary → Bool) (v : Value) → is_labelled l v ≡ true → IsLabelled l v
+labelled_by l (Constant n) e = absurd (cc)
+labelled_by l (Symbolic q at plus) e = (q, (at, (plus, refl, e)))
+labelled_by l (Difference q r plus) e = absurd (cc)
+labelled_by l (Faulty c) e = absurd (cc)
+
+pub label_symbolic : (l : Primary → Bool) (m : Mnemonic) (v : Value) → distance_faults l m v ≡ [] → IsLabelled l v
+label_symbolic l m v e = labelled_by l v (no_not (is_labelled l v) (no_test (not (is_labelled l v)) _ (none_left _ _ e).0))
+
+-- the faults of the one operand that is no register
+pub other_fault : (v : Expression → Value) (l : Primary → Bool) (m : Mnemonic) (os : List Operand) (o : Operand) → other_operand os ≡ Some o
+    → flat_map (operand_faults v l m) os ≡ [] → operand_faults v l m o ≡ []
+other_fault v l m [] o e h = absurd (cc)
+other_fault v l m (Register r ∷ os) o e h = other_fault v l m os o e h
+other_fault v l m (Of_value x ∷ os) o e h = let same : Of_value x ≡ o = cc in subst (λ q. operand_faults v l m q ≡ []) same (none_left (operand_faults v l m (Of_value x)) _ h).0
+other_fault v l m (Applied f x ∷ os) o e h = let same : Applied f x ≡ o = cc in subst (λ q. operand_faults v l m q ≡ []) same (none_left (operand_faults v l m (Applied f x)) _ h).0
+other_fault v l m (Target x ∷ os) o e h = let same : Target x ≡ o = cc in subst (λ q. operand_faults v l m q ≡ []) same (none_left (operand_faults v l m (Target x)) _ h).0
+other_fault v l m (Accesses x ∷ os) o e h = let same : Accesses x ≡ o = cc in subst (λ q. operand_faults v l m q ≡ []) same (none_left (operand_faults v l m (Accesses x)) _ h).0
+other_fault v l m (Word x ∷ os) o e h = let same : Word x ≡ o = cc in subst (λ q. operand_faults v l m q ≡ []) same (none_left (operand_faults v l m (Word x)) _ h).0
+other_fault v l m (Quoted x ∷ os) o e h = let same : Quoted x ≡ o = cc in subst (λ q. operand_faults v l m q ≡ []) same (none_left (operand_faults v l m (Quoted x)) _ h).0
+
+-- ---- the numbers of values
+
+pub symbolic_some : (a : Primary → Option ℕ) (v : Value) (q : Primary) (at : Meaning) (plus n : ℕ) → v ≡ Symbolic q at plus → a q ≡ Some n
+    → resolved a v ≡ Some (add n plus)
+symbolic_some a v q at plus n e is = ap (resolved a) e ∙ ap (option_map (λ x. add x plus)) is
+
+pub known_some : (a : Primary → Option ℕ) (v : Value) → is_some (constant_of v) ≡ true → is_some (resolved a v) ≡ true
+known_some a (Constant n) e = refl
+known_some a (Symbolic q at plus) e = absurd (cc)
+known_some a (Difference q r plus) e = absurd (cc)
+known_some a (Faulty c) e = absurd (cc)

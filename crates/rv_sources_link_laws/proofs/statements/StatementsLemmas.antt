@@ -1,0 +1,304 @@
+-- The statements of the sources with the rows that linking their objects gives.
+
+use Rattle.std.proofs.Common.{◌≡◌, ℕ, zero, suc, ◌+◌, ◌<◌, Bool, true, false, List, [], ◌∷◌, ◌++◌, refl, sym, ap, ◌∙◌, subst, arith, map, Option, Some, None, drop, ◌⊎◌, inl, inr}
+use Rattle.std.proofs.lemmas.Bool.{eq-eqb, ne_eqb}
+use Rattle.std.specs.Prelude.{◌&&◌, ◌==◌, if◌then◌else◌, option_map, option_and_then}
+use Rattle.std.specs.List.{find}
+use Rattle.rv_statement.specs.Statement.{Statement}
+use Rattle.rv_map.specs.declared.map.Row.{Row as MapRow}
+use Rattle.rv_unit_laws.specs.Tables.{Tables, at_start, after}
+use Rattle.rv_source_laws.specs.Located.{Located, located_now, located_from, located_of, has_row}
+use Rattle.rv_source_laws.specs.Program.{MaybeMapped, Mapped, first_of, statements_of, mapped_of, address_of, address_at}
+use Rattle.rv_source_laws.specs.Fits.{mapped_in}
+use Rattle.rv_object.specs.Object.{Object}
+use Rattle.rv_object_laws.specs.Inputs.{Starts}
+pub use Rattle.rv_sources_link_laws.proofs.moves.ShrunkLemmas.{AreObjectsOf}
+use Rattle.rv_sources_link_laws.proofs.fields.PatchesLemmas.{append_nil}
+use Rattle.rv_assemble_laws.specs.Sites.{Site, sites_in}
+use Rattle.rv_assemble_laws.specs.Symbols.{site_at}
+
+-- a statement in a file of this number
+abbrev pub renumbered : ℕ → Located → Located
+renumbered file s = record {
+  file = file;
+  ordinal = s.ordinal;
+  section = s.section;
+  offset = s.offset;
+  home = s.home;
+  options = s.options;
+  line = s.line;
+  kind = s.kind;
+  placed = s.placed;
+}
+
+pub renumbers : (file k : ℕ) (t : Tables) (ss : List Statement) → located_from file k t ss ≡ map (renumbered file) (located_from 1 k t ss)
+renumbers file k t [] = refl
+renumbers file k t (s ∷ ss) = ap (λ l. located_now file k t s ∷ l) (renumbers file (suc k) (after t k s.kind) ss)
+
+module _ (starts : Starts) where
+  -- ---- a file's statements
+
+  abbrev pub row_in : ℕ → Site → MapRow
+  row_in file s = record {
+    file = file;
+    line = s.located.line;
+    ordinal = s.located.ordinal;
+    address = starts file s.located.section + s.offset;
+    bytes = s.bytes;
+    instructions = s.instructions;
+  }
+
+  abbrev pub mapped_at : ℕ → Site → Mapped
+  mapped_at file s = record { located = renumbered file s.located; row = row_in file s }
+
+  abbrev pub statement_at : ℕ → Site → MaybeMapped
+  statement_at file s = record { located = renumbered file s.located; row = (if has_row s.located then Some (row_in file s) else None) }
+
+  abbrev pub rows_from : ℕ → List Site → List MapRow
+  rows_from file [] = []
+  rows_from file (s ∷ ss) = if has_row s.located then row_in file s ∷ rows_from file ss else rows_from file ss
+
+  abbrev pub mapped_from : ℕ → List Site → List Mapped
+  mapped_from file [] = []
+  mapped_from file (s ∷ ss) = if has_row s.located then mapped_at file s ∷ mapped_from file ss else mapped_from file ss
+
+  -- rows go to the statements of a file and leave the others
+  pub statements_are : (file : ℕ) (sites : List Site) (more : List Located) (rows : List MapRow)
+      → statements_of (map (renumbered file) (map (λ s. s.located) sites) ++ more) (rows_from file sites ++ rows)
+      ≡ map (statement_at file) sites ++ statements_of more rows
+  statements_are file [] more rows = refl
+  statements_are file (s ∷ ss) more rows = go (has_row s.located) (statements_are file ss more rows)
+    where
+      l : Located
+      l = renumbered file s.located
+
+      others : List Located
+      others = map (renumbered file) (map (λ s. s.located) ss) ++ more
+
+      rest : List MaybeMapped
+      rest = map (statement_at file) ss ++ statements_of more rows
+
+      go : (b : Bool) → statements_of others (rows_from file ss ++ rows) ≡ rest
+          → (if b then record { located = l; row = first_of ((if b then row_in file s ∷ rows_from file ss else rows_from file ss) ++ rows) }
+          ∷ statements_of others (drop 1 ((if b then row_in file s ∷ rows_from file ss else rows_from file ss) ++ rows))
+          else record { located = l; row = None } ∷ statements_of others ((if b then row_in file s ∷ rows_from file ss else rows_from file ss) ++ rows))
+          ≡ record { located = l; row = (if b then Some (row_in file s) else None) } ∷ rest
+      go true ih = ap (λ (e : List MaybeMapped). record { located = l; row = Some (row_in file s) } ∷ e) ih
+      go false ih = ap (λ (e : List MaybeMapped). record { located = l; row = None } ∷ e) ih
+
+  mapped_are : (file : ℕ) (sites : List Site) (more : List MaybeMapped) → mapped_of (map (statement_at file) sites ++ more) ≡ mapped_from file sites ++ mapped_of more
+  mapped_are file [] more = refl
+  mapped_are file (s ∷ ss) more = go (has_row s.located) (mapped_are file ss more)
+    where
+      go : (b : Bool) → mapped_of (map (statement_at file) ss ++ more) ≡ mapped_from file ss ++ mapped_of more
+          → mapped_of (record { located = renumbered file s.located; row = (if b then Some (row_in file s) else None) } ∷ (map (statement_at file) ss ++ more))
+          ≡ (if b then mapped_at file s ∷ mapped_from file ss else mapped_from file ss) ++ mapped_of more
+      go true ih = ap (λ (l : List Mapped). mapped_at file s ∷ l) ih
+      go false ih = ih
+
+  -- ---- all statements
+
+  abbrev pub all_statements : ℕ → (sources : List (List Statement)) (os : List Object) → AreObjectsOf sources os → List MaybeMapped
+  all_statements file [] [] h = []
+  all_statements file [] (o ∷ os) h = absurd h
+  all_statements file (ss ∷ sources) [] h = absurd h
+  all_statements file (ss ∷ sources) (o ∷ os) (is, h) = map (statement_at file) is.sites ++ all_statements (suc file) sources os h
+
+  abbrev pub all_rows : ℕ → (sources : List (List Statement)) (os : List Object) → AreObjectsOf sources os → List MapRow
+  all_rows file [] [] h = []
+  all_rows file [] (o ∷ os) h = absurd h
+  all_rows file (ss ∷ sources) [] h = absurd h
+  all_rows file (ss ∷ sources) (o ∷ os) (is, h) = rows_from file is.sites ++ all_rows (suc file) sources os h
+
+  pub statements_all : (file : ℕ) (sources : List (List Statement)) (os : List Object) (h : AreObjectsOf sources os)
+      → statements_of (located_of file sources) (all_rows file sources os h) ≡ all_statements file sources os h
+  statements_all file [] [] h = refl
+  statements_all file [] (o ∷ os) h = absurd h
+  statements_all file (ss ∷ sources) [] h = absurd h
+  statements_all file (ss ∷ sources) (o ∷ os) (is, h) =
+      let own : located_from file 1 at_start ss ≡ map (renumbered file) (map (λ s. s.located) is.sites) =
+      renumbers file 1 at_start ss ∙ ap (map (renumbered file)) (sym is.located) in
+      ap (λ l. statements_of (l ++ located_of (suc file) sources) (rows_from file is.sites ++ all_rows (suc file) sources os h)) own
+      ∙ statements_are file is.sites (located_of (suc file) sources) (all_rows (suc file) sources os h)
+      ∙ ap (λ l. map (statement_at file) is.sites ++ l) (statements_all (suc file) sources os h)
+
+  -- the statements of the file after so many others
+  abbrev pub sites_by : (sources : List (List Statement)) (os : List Object) → AreObjectsOf sources os → ℕ → List Site
+  sites_by [] [] h i = []
+  sites_by [] (o ∷ os) h i = absurd h
+  sites_by (ss ∷ sources) [] h i = absurd h
+  sites_by (ss ∷ sources) (o ∷ os) (is, h) zero = is.sites
+  sites_by (ss ∷ sources) (o ∷ os) (is, h) (suc i) = sites_by sources os h i
+
+  -- ---- those of one section
+
+  other_file : (a b : ℕ) → (a < b) ⊎ (b < a) → (a == b) ≡ false
+  other_file a b h = ne_eqb a b (λ e. go h e)
+    where
+      go : (a < b) ⊎ (b < a) → a ≡ b → ⊥
+      go (inl l) e = omega (arith, l, e)
+      go (inr l) e = omega (arith, l, e)
+
+  same_section : (b c d : Bool) → b ≡ true → (b && c) ≡ c
+  same_section true c d e = refl
+  same_section false c d e = absurd (cc)
+
+  in_own : (file j : ℕ) (sites : List Site) (more : List Mapped) → mapped_in (mapped_from file sites ++ more) file j ≡ mapped_from file (sites_in j sites) ++ mapped_in more file j
+  in_own file j [] more = refl
+  in_own file j (s ∷ ss) more = go (has_row s.located) refl (s.located.section == j) refl (in_own file j ss more)
+    where
+      test : ((file == file) && (s.located.section == j)) ≡ (s.located.section == j)
+      test = same_section (file == file) (s.located.section == j) true (eq-eqb file file refl)
+
+      go : (b : Bool) → has_row s.located ≡ b → (c : Bool) → (s.located.section == j) ≡ c → mapped_in (mapped_from file ss ++ more) file j ≡ mapped_from file (sites_in j ss) ++ mapped_in more file j
+          → mapped_in ((if b then mapped_at file s ∷ mapped_from file ss else mapped_from file ss) ++ more) file j
+          ≡ mapped_from file (if c then s ∷ sites_in j ss else sites_in j ss) ++ mapped_in more file j
+      go true e true f ih =
+          ap (λ b. if b then mapped_at file s ∷ mapped_in (mapped_from file ss ++ more) file j else mapped_in (mapped_from file ss ++ more) file j) (test ∙ f)
+          ∙ ap (λ (l : List Mapped). mapped_at file s ∷ l) ih
+          ∙ ap (λ b. (if b then mapped_at file s ∷ mapped_from file (sites_in j ss) else mapped_from file (sites_in j ss)) ++ mapped_in more file j) (sym e)
+      go true e false f ih =
+          ap (λ b. if b then mapped_at file s ∷ mapped_in (mapped_from file ss ++ more) file j else mapped_in (mapped_from file ss ++ more) file j) (test ∙ f) ∙ ih
+      go false e true f ih =
+          ih ∙ ap (λ b. (if b then mapped_at file s ∷ mapped_from file (sites_in j ss) else mapped_from file (sites_in j ss)) ++ mapped_in more file j) (sym e)
+      go false e false f ih = ih
+
+  in_other : (file f j : ℕ) → (file == f) ≡ false → (sites : List Site) (more : List Mapped) → mapped_in (mapped_from file sites ++ more) f j ≡ mapped_in more f j
+  in_other file f j e [] more = refl
+  in_other file f j e (s ∷ ss) more = go (has_row s.located) (in_other file f j e ss more)
+    where
+      go : (b : Bool) → mapped_in (mapped_from file ss ++ more) f j ≡ mapped_in more f j
+          → mapped_in ((if b then mapped_at file s ∷ mapped_from file ss else mapped_from file ss) ++ more) f j ≡ mapped_in more f j
+      go true ih = ap (λ b. if b && (s.located.section == j) then mapped_at file s ∷ mapped_in (mapped_from file ss ++ more) f j else mapped_in (mapped_from file ss ++ more) f j) e ∙ ih
+      go false ih = ih
+
+  none_before : (file f j : ℕ) → f < file → (sources : List (List Statement)) (os : List Object) (h : AreObjectsOf sources os)
+      → mapped_in (mapped_of (all_statements file sources os h)) f j ≡ []
+  none_before file f j less [] [] h = refl
+  none_before file f j less [] (o ∷ os) h = absurd h
+  none_before file f j less (ss ∷ sources) [] h = absurd h
+  none_before file f j less (ss ∷ sources) (o ∷ os) (is, h) =
+      ap (λ l. mapped_in l f j) (mapped_are file is.sites (all_statements (suc file) sources os h))
+      ∙ in_other file f j (other_file file f (inr less)) is.sites (mapped_of (all_statements (suc file) sources os h))
+      ∙ none_before (suc file) f j (omega (arith, less)) sources os h
+
+  -- the statements of a section of a file that have rows
+  pub mapped_by : (file i j : ℕ) (sources : List (List Statement)) (os : List Object) (h : AreObjectsOf sources os)
+      → mapped_in (mapped_of (all_statements file sources os h)) (file + i) j ≡ mapped_from (file + i) (sites_in j (sites_by sources os h i))
+  mapped_by file i j [] [] h = refl
+  mapped_by file i j [] (o ∷ os) h = absurd h
+  mapped_by file i j (ss ∷ sources) [] h = absurd h
+  mapped_by file zero j (ss ∷ sources) (o ∷ os) (is, h) =
+      let rest = mapped_of (all_statements (suc file) sources os h) in
+      let here : file + 0 ≡ file = omega arith in
+      let none : mapped_in rest file j ≡ [] = none_before (suc file) file j (omega arith) sources os h in
+      ap (λ l. mapped_in l (file + 0) j) (mapped_are file is.sites (all_statements (suc file) sources os h))
+      ∙ subst (λ f. mapped_in (mapped_from file is.sites ++ rest) f j ≡ mapped_from f (sites_in j is.sites)) (sym here)
+      (in_own file j is.sites rest ∙ ap (λ l. mapped_from file (sites_in j is.sites) ++ l) none ∙ append_nil (mapped_from file (sites_in j is.sites)))
+  mapped_by file (suc i) j (ss ∷ sources) (o ∷ os) (is, h) =
+      let rest = mapped_of (all_statements (suc file) sources os h) in
+      let there : suc file + i ≡ file + suc i = omega arith in
+      ap (λ l. mapped_in l (file + suc i) j) (mapped_are file is.sites (all_statements (suc file) sources os h))
+      ∙ in_other file (file + suc i) j (other_file file (file + suc i) (inl (omega arith))) is.sites rest
+      ∙ subst (λ f. mapped_in rest f j ≡ mapped_from f (sites_in j (sites_by sources os h i))) there (mapped_by (suc file) i j sources os h)
+
+  -- ---- the address of a statement
+
+  abbrev pub Test : ℕ → ℕ → MaybeMapped → Bool
+  Test file n e = (e.located.file == file) && (e.located.ordinal == n)
+
+  abbrev pub row_address : ℕ → Site → Option ℕ
+  row_address file s = if has_row s.located then Some (starts file s.located.section + s.offset) else None
+
+  address_here : (file : ℕ) (s : Site) → address_of (statement_at file s) ≡ row_address file s
+  address_here file s = go (has_row s.located)
+    where
+      go : (b : Bool) → option_map (λ r. r.address) (if b then Some (row_in file s) else None) ≡ (if b then Some (starts file s.located.section + s.offset) else None)
+      go true = refl
+      go false = refl
+
+  found_own : (file n : ℕ) (sites : List Site) (more : List MaybeMapped) → find (Test file n) more ≡ None
+      → option_and_then address_of (find (Test file n) (map (statement_at file) sites ++ more)) ≡ option_and_then (row_address file) (site_at sites n)
+  found_own file n [] more none = ap (option_and_then address_of) none
+  found_own file n (s ∷ ss) more none = go (s.located.ordinal == n) refl (found_own file n ss more none)
+    where
+      test : ((file == file) && (s.located.ordinal == n)) ≡ (s.located.ordinal == n)
+      test = same_section (file == file) (s.located.ordinal == n) true (eq-eqb file file refl)
+
+      rest : Option MaybeMapped
+      rest = find (Test file n) (map (statement_at file) ss ++ more)
+
+      go : (b : Bool) → (s.located.ordinal == n) ≡ b → option_and_then address_of rest ≡ option_and_then (row_address file) (site_at ss n)
+          → option_and_then address_of (if (file == file) && (s.located.ordinal == n) then Some (statement_at file s) else rest)
+          ≡ option_and_then (row_address file) (if b then Some s else site_at ss n)
+      go true e ih = ap (λ b. option_and_then address_of (if b then Some (statement_at file s) else rest)) (test ∙ e) ∙ address_here file s
+      go false e ih = ap (λ b. option_and_then address_of (if b then Some (statement_at file s) else rest)) (test ∙ e) ∙ ih
+
+  found_other : (file f n : ℕ) → (file == f) ≡ false → (sites : List Site) (more : List MaybeMapped) → find (Test f n) (map (statement_at file) sites ++ more) ≡ find (Test f n) more
+  found_other file f n e [] more = refl
+  found_other file f n e (s ∷ ss) more =
+      ap (λ b. if b && (s.located.ordinal == n) then Some (statement_at file s) else find (Test f n) (map (statement_at file) ss ++ more)) e ∙ found_other file f n e ss more
+
+  not_found : (file f n : ℕ) → f < file → (sources : List (List Statement)) (os : List Object) (h : AreObjectsOf sources os) → find (Test f n) (all_statements file sources os h) ≡ None
+  not_found file f n less [] [] h = refl
+  not_found file f n less [] (o ∷ os) h = absurd h
+  not_found file f n less (ss ∷ sources) [] h = absurd h
+  not_found file f n less (ss ∷ sources) (o ∷ os) (is, h) =
+      found_other file f n (other_file file f (inr less)) is.sites (all_statements (suc file) sources os h) ∙ not_found (suc file) f n (omega (arith, less)) sources os h
+
+  pub address_by : (file i n : ℕ) (sources : List (List Statement)) (os : List Object) (h : AreObjectsOf sources os)
+      → address_at (all_statements file sources os h) (file + i) n ≡ option_and_then (row_address (file + i)) (site_at (sites_by sources os h i) n)
+  address_by file i n [] [] h = refl
+  address_by file i n [] (o ∷ os) h = absurd h
+  address_by file i n (ss ∷ sources) [] h = absurd h
+  address_by file zero n (ss ∷ sources) (o ∷ os) (is, h) =
+      let rest = all_statements (suc file) sources os h in
+      let here : file + 0 ≡ file = omega arith in
+      subst (λ f. option_and_then address_of (find (Test f n) (map (statement_at file) is.sites ++ rest)) ≡ option_and_then (row_address f) (site_at is.sites n)) (sym here)
+      (found_own file n is.sites rest (not_found (suc file) file n (omega arith) sources os h))
+  address_by file (suc i) n (ss ∷ sources) (o ∷ os) (is, h) =
+      let rest = all_statements (suc file) sources os h in
+      let there : suc file + i ≡ file + suc i = omega arith in
+      ap (option_and_then address_of) (found_other file (file + suc i) n (other_file file (file + suc i) (inl (omega arith))) is.sites rest)
+      ∙ subst (λ f. address_at rest f n ≡ option_and_then (row_address f) (site_at (sites_by sources os h i) n)) there (address_by (suc file) i n sources os h)
+
+  -- ---- the section of a statement
+
+  abbrev pub section_in : Option MaybeMapped → Option ℕ
+  section_in e = option_map (λ e. e.located.section) e
+
+  abbrev pub site_section : Option Site → Option ℕ
+  site_section s = option_map (λ s. s.located.section) s
+
+  stood_own : (file n : ℕ) (sites : List Site) (more : List MaybeMapped) → find (Test file n) more ≡ None
+      → section_in (find (Test file n) (map (statement_at file) sites ++ more)) ≡ site_section (site_at sites n)
+  stood_own file n [] more none = ap section_in none
+  stood_own file n (s ∷ ss) more none = go (s.located.ordinal == n) refl (stood_own file n ss more none)
+    where
+      test : ((file == file) && (s.located.ordinal == n)) ≡ (s.located.ordinal == n)
+      test = same_section (file == file) (s.located.ordinal == n) true (eq-eqb file file refl)
+
+      rest : Option MaybeMapped
+      rest = find (Test file n) (map (statement_at file) ss ++ more)
+
+      go : (b : Bool) → (s.located.ordinal == n) ≡ b → section_in rest ≡ site_section (site_at ss n)
+          → section_in (if (file == file) && (s.located.ordinal == n) then Some (statement_at file s) else rest)
+          ≡ site_section (if b then Some s else site_at ss n)
+      go true e ih = ap (λ b. section_in (if b then Some (statement_at file s) else rest)) (test ∙ e)
+      go false e ih = ap (λ b. section_in (if b then Some (statement_at file s) else rest)) (test ∙ e) ∙ ih
+
+  pub section_by : (file i n : ℕ) (sources : List (List Statement)) (os : List Object) (h : AreObjectsOf sources os)
+      → section_in (find (Test (file + i) n) (all_statements file sources os h)) ≡ site_section (site_at (sites_by sources os h i) n)
+  section_by file i n [] [] h = refl
+  section_by file i n [] (o ∷ os) h = absurd h
+  section_by file i n (ss ∷ sources) [] h = absurd h
+  section_by file zero n (ss ∷ sources) (o ∷ os) (is, h) =
+      let rest = all_statements (suc file) sources os h in
+      let here : file + 0 ≡ file = omega arith in
+      subst (λ f. section_in (find (Test f n) (map (statement_at file) is.sites ++ rest)) ≡ site_section (site_at is.sites n)) (sym here)
+      (stood_own file n is.sites rest (not_found (suc file) file n (omega arith) sources os h))
+  section_by file (suc i) n (ss ∷ sources) (o ∷ os) (is, h) =
+      let rest = all_statements (suc file) sources os h in
+      let there : suc file + i ≡ file + suc i = omega arith in
+      ap section_in (found_other file (file + suc i) n (other_file file (file + suc i) (inl (omega arith))) is.sites rest)
+      ∙ subst (λ f. section_in (find (Test f n) rest) ≡ site_section (site_at (sites_by sources os h i) n)) there (section_by (suc file) i n sources os h)

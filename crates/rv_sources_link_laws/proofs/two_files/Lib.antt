@@ -1,0 +1,2 @@
+pub mod TwoObjectsLemmas
+pub mod TwoLinkedLemmas

@@ -1,0 +1,112 @@
+-- The symbols that stand for the uses of a source.
+
+use Rattle.std.proofs.Common.{◌≡◌, ℕ, zero, suc, ◌<◌, ◌^◌, Bool, true, false, List, [], ◌∷◌, map, get_or, refl, sym, ap, ◌∙◌, arith, Option, Some, None}
+use Rattle.std.specs.Prelude.{reverse, slice_get, option_map, is_some, nat_lt, ◌&&◌, ◌==◌}
+use Rattle.std.specs.List.{AllByRecursion}
+use Rattle.std.specs.Str.{bytes_eq}
+use Rattle.rv_text_laws.specs.Bytes.{value as digits_value}
+use Rattle.rv_text_laws.specs.Expression.{Primary, Literal, Symbol as Named, Here, Reference}
+use Rattle.rv_statement.specs.Statement.{Statement}
+use Rattle.rv_unit_laws.specs.Tables as laws
+use Rattle.rv_unit_laws.specs.Tables.{Tables, NumericLabel, at_start, tables, definition_at, numeric_label_before, numeric_label_after}
+use Rattle.rv_unit_laws.specs.Faults.{first_fault}
+use Rattle.rv_unit_laws.proofs.FoundLemmas.{and_both}
+use Rattle.rv_map.specs.Name.{is_name}
+use Rattle.rv_source_laws.specs.Located.{located_from}
+use Rattle.rv_assemble_laws.specs.Sites.{Site}
+use Rattle.rv_assemble_laws.specs.Symbols.{SymbolUse, references, is_unnamed, symbols_of, StandsFor}
+use Rattle.rv_assemble_laws.specs.IsObjectOf.{IsNumbered}
+use Rattle.rv_assemble_laws.specs.ShownNames.{is_shown_use, AreShown}
+use Rattle.rv_symbols.specs.SymbolUse.{is_meant_use, AreMeant}
+use Rattle.rv_symbols.specs.Numbers.{number_in}
+use Rattle.rv_symbols.proofs.StandsLemmas.{got_map}
+use Rattle.rv_symbols.proofs.DefiningLemmas.{all_index, by_index, site_of, own_name}
+use Rattle.rv_symbols.proofs.NamingLemmas.{all_got}
+use Rattle.rv_symbols.proofs.NumberedLemmas.{undefined_stands}
+use Rattle.rv_symbols.proofs.UnnamedLemmas.{unnamed_stands}
+use Rattle.rv_symbols.proofs.StandingLemmas.{StandsAt, AreNumeric, uses_stand, found_of, reversed}
+use Rattle.rv_symbols.proofs.MeantLemmas.{numeric_labels, means}
+
+pub offset_low : (offsets : List ℕ) (sites : List Site) → map (λ s. s.offset) sites ≡ offsets → ((i : ℕ) → get_or offsets i 0 < 2 ^ 32) → (i : ℕ) (s : Site) → slice_get sites i ≡ Some s → s.offset < 2 ^ 64
+offset_low offsets sites e low i s at =
+    let here : slice_get offsets i ≡ Some s.offset = ap (λ l. slice_get l i) (sym e) ∙ got_map (λ (z : Site). z.offset) sites i ∙ ap (option_map (λ (z : Site). z.offset)) at in
+    let is : get_or offsets i 0 ≡ s.offset = at_or offsets i s.offset here in
+    let bound = low i in
+    omega (arith, is, bound)
+  where
+    at_or : (xs : List ℕ) (i n : ℕ) → slice_get xs i ≡ Some n → get_or xs i 0 ≡ n
+    at_or [] zero n e = absurd (cc)
+    at_or [] (suc i) n e = absurd (cc)
+    at_or (x ∷ xs) zero n e = cc
+    at_or (x ∷ xs) (suc i) n e = at_or xs i n e
+
+module _ (ss : List Statement) (sites : List Site) (located : map (λ s. s.located) sites ≡ located_from 1 1 at_start ss) (meant : AreMeant (tables ss) (references (tables ss) sites))
+    (free : first_fault ss ≡ None) (shown : AreShown (references (tables ss) sites)) (low : (i : ℕ) (s : Site) → slice_get sites i ≡ Some s → s.offset < 2 ^ 64) where
+  abbrev t : Tables
+  t = tables ss
+
+  abbrev rs : List SymbolUse
+  rs = references t sites
+
+  abbrev Stands : ℕ → Primary → Type 0
+  Stands o q = StandsFor t sites o q (slice_get (symbols_of t sites) (number_in t sites o q))
+
+  numeric : AreNumeric sites t.numeric_labels
+  numeric = numeric_labels ss sites located
+
+  unnamed : (j o n : ℕ) (q : Primary) → slice_get rs j ≡ Some (record { ordinal = o; symbol = q }) → is_unnamed q ≡ true → laws.definition t o q ≡ Some (definition_at n) → StandsAt sites n → Stands o q
+  unnamed j o n q e u f (i, s, at, is, placed) =
+      unnamed_stands t sites j (record { ordinal = o; symbol = q }) (definition_at n) i s e u f at (site_of ss sites located n i s at is) (sym is) placed refl (low i s at)
+
+  later : (j o : ℕ) (digits : List ℕ) → slice_get rs j ≡ Some (record { ordinal = o; symbol = Reference digits true }) → is_some (laws.definition t o (Reference digits true)) ≡ true → Stands o (Reference digits true)
+  later j o digits e m = go (numeric_label_after t.numeric_labels o (digits_value 10 digits)) refl
+    where
+      go : (found : Option NumericLabel) → numeric_label_after t.numeric_labels o (digits_value 10 digits) ≡ found → Stands o (Reference digits true)
+      go None f = absurd (let n : is_some (laws.definition t o (Reference digits true)) ≡ false = ap (λ x. is_some (laws.numeric_definition x)) f in cc)
+      go (Some l) f =
+          unnamed j o l.ordinal (Reference digits true) e refl (ap laws.numeric_definition f)
+          (found_of (λ (z : NumericLabel). StandsAt sites z.ordinal) (λ z. nat_lt o z.ordinal && (z.number == digits_value 10 digits)) (reverse t.numeric_labels) l f (reversed (λ (z : NumericLabel). StandsAt sites z.ordinal) t.numeric_labels numeric))
+
+  earlier : (j o : ℕ) (digits : List ℕ) → slice_get rs j ≡ Some (record { ordinal = o; symbol = Reference digits false }) → is_some (laws.definition t o (Reference digits false)) ≡ true → Stands o (Reference digits false)
+  earlier j o digits e m = go (numeric_label_before t.numeric_labels o (digits_value 10 digits)) refl
+    where
+      go : (found : Option NumericLabel) → numeric_label_before t.numeric_labels o (digits_value 10 digits) ≡ found → Stands o (Reference digits false)
+      go None f = absurd (let n : is_some (laws.definition t o (Reference digits false)) ≡ false = ap (λ x. is_some (laws.numeric_definition x)) f in cc)
+      go (Some l) f =
+          unnamed j o l.ordinal (Reference digits false) e refl (ap laws.numeric_definition f)
+          (found_of (λ (z : NumericLabel). StandsAt sites z.ordinal) (λ z. nat_lt z.ordinal o && (z.number == digits_value 10 digits)) t.numeric_labels l f numeric)
+
+  outer : (j o : ℕ) (name : List ℕ) → slice_get rs j ≡ Some (record { ordinal = o; symbol = Named name }) → is_some (laws.definition t o (Named name)) ≡ false → Stands o (Named name)
+  outer j o name e m = undefined_stands t sites j o name e (none_of (laws.definition t o (Named name)) m)
+    where
+      none_of : (d : Option laws.Definition) → is_some d ≡ false → d ≡ None
+      none_of None f = refl
+      none_of (Some d) f = absurd (cc)
+
+  -- a name that a map can show is not empty
+  some_name : (j o : ℕ) (name : List ℕ) → slice_get rs j ≡ Some (record { ordinal = o; symbol = Named name }) → bytes_eq [] name ≡ false
+  some_name j o name e = go name (and_both (is_name name) true (all_got is_shown_use rs j (record { ordinal = o; symbol = Named name }) e shown)).0
+    where
+      go : (name : List ℕ) → is_name name ≡ true → bytes_eq [] name ≡ false
+      go [] h = absurd (cc)
+      go (b ∷ bs) h = refl
+
+  by_name : (j o : ℕ) (name : List ℕ) → slice_get rs j ≡ Some (record { ordinal = o; symbol = Named name }) → Stands o (Named name)
+  by_name j o name e = go (is_some (laws.definition t o (Named name))) refl
+    where
+      go : (b : Bool) → is_some (laws.definition t o (Named name)) ≡ b → Stands o (Named name)
+      go true f = own_name ss sites located free low name (some_name j o name e) o f
+      go false f = outer j o name e f
+
+  by_symbol : (j o : ℕ) (q : Primary) → slice_get rs j ≡ Some (record { ordinal = o; symbol = q }) → is_meant_use t (record { ordinal = o; symbol = q }) ≡ true → StandsAt sites o → Stands o q
+  by_symbol j o (Literal n) e m at = absurd (cc)
+  by_symbol j o (Named name) e m at = by_name j o name e
+  by_symbol j o Here e m at = unnamed j o o Here e refl refl at
+  by_symbol j o (Reference digits true) e m at = later j o digits e m
+  by_symbol j o (Reference digits false) e m at = earlier j o digits e m
+
+  pub numbered : AllByRecursion (IsNumbered t sites (number_in t sites) (symbols_of t sites)) rs
+  numbered =
+      by_index (IsNumbered t sites (number_in t sites) (symbols_of t sites)) rs
+      (λ j r e. by_symbol j r.ordinal r.symbol e (all_got (is_meant_use t) rs j r e meant)
+      (all_index (λ (z : SymbolUse). StandsAt sites z.ordinal) rs j r e (uses_stand t sites (means ss sites located) 0 1 at_start ss sites refl located)))

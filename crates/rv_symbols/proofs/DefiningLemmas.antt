@@ -1,0 +1,253 @@
+-- The symbols of a name are those of the statement that defines it.
+
+use Rattle.std.proofs.Common.{◌≡◌, ℕ, zero, suc, ◌+◌, ◌<◌, ◌^◌, Bool, true, false, List, [], ◌∷◌, map, refl, sym, ap, ◌∙◌, subst, arith, Option, Some, None}
+use Rattle.std.specs.Prelude.{◌&&◌, ◌||◌, ◌==◌, not, nat_lt, is_some, slice_get, if◌then◌else◌}
+use Rattle.std.specs.List.{AllByRecursion, find, list_any}
+use Rattle.std.specs.Str.{bytes_eq}
+use Rattle.std.proofs.lemmas.Bool.{eq-eqb, ltb-true}
+use Rattle.rv_text_laws.specs.Expression.{Symbol as Named}
+use Rattle.rv_text_laws.specs.Values.{Meaning, Known, InSection as InData, Open as OpenAddress, Refused, add}
+use Rattle.rv_statement.specs.Statement.{StatementKind, Label, Numbered, Instruction, Directs, Statement, Expression, Enters, Opens, Globl, Local, Sets, Aligns_to_power, Aligns_to_bytes, Values, Strings, Zeros, Chooses, Ignored}
+use Rattle.rv_unit_laws.specs.Tables as laws
+use Rattle.rv_unit_laws.specs.Tables.{Tables, Labelled, Assignment, at_start, tables, definition_at, label_of, assigned_ever, assigned_before, is_location}
+use Rattle.rv_unit_laws.specs.Faults.{first_fault}
+use Rattle.rv_unit_laws.proofs.FoundLemmas.{same_bytes, bytes_same, and_both}
+use Rattle.rv_unit_laws.proofs.BeforeLemmas.{before_start}
+use Rattle.rv_source_laws.specs.Located.{located_from}
+use Rattle.rv_source_laws.specs.Resolves.{is_one_of, sets_first, defined_name}
+use Rattle.rv_object.specs.declared.symbol.Definition.{Definition as Defined}
+use Rattle.rv_object.specs.declared.symbol.Definition.TheVariants.{Absolute, InSection, Skipped}
+use Rattle.rv_assemble_laws.specs.Sites.{Site}
+use Rattle.rv_assemble_laws.specs.Symbols.{site_at, after_site, after_found, assigned_definition, site_definition, local_symbol, is_absolute, symbols_of, StandsFor}
+use Rattle.rv_symbols.specs.Numbers.{number_in}
+use Rattle.rv_symbols.proofs.StandsLemmas.{site_by, ordinal_by}
+use Rattle.rv_symbols.proofs.NumberedLemmas.{or_true}
+use Rattle.rv_symbols.proofs.OwnedLemmas.{own_stands, own_named, own_all}
+use Rattle.rv_symbols.proofs.SingleLemmas.{OnlySet, AreNumbers, of_label, of_set, of_numbers}
+use Rattle.rv_symbols.proofs.OneNameLemmas.{Is, IsSet, IsFound, one_name, labels_found, none_all}
+
+-- ---- lists
+
+pub all_index : {X : Type 0} (P : X → Type 0) (xs : List X) (i : ℕ) (x : X) → slice_get xs i ≡ Some x → AllByRecursion P xs → P x
+all_index P [] zero x e h = absurd (cc)
+all_index P [] (suc i) x e h = absurd (cc)
+all_index P (y ∷ ys) zero x e h =
+    let same : y ≡ x = cc in
+    subst P same h.0
+all_index P (y ∷ ys) (suc i) x e h = all_index P ys i x e h.1
+
+pub by_index : {X : Type 0} (P : X → Type 0) (xs : List X) → ((i : ℕ) (x : X) → slice_get xs i ≡ Some x → P x) → AllByRecursion P xs
+by_index P [] h = tt
+by_index P (x ∷ xs) h = (h zero x refl, by_index P xs (λ i y e. h (suc i) y e))
+
+not_both : {A : Type 0} (b : Bool) → b ≡ true → b ≡ false → A
+not_both true e f = absurd (cc)
+not_both false e f = absurd (cc)
+
+both_true : (a b : Bool) → a ≡ true → b ≡ true → (a && b) ≡ true
+both_true true b e f = f
+both_true false b e f = absurd (cc)
+
+-- what is found passes its test
+found_passes : {X : Type 0} (test : X → Bool) (xs : List X) (x : X) → find test xs ≡ Some x → test x ≡ true
+found_passes test [] x e = absurd (cc)
+found_passes test (z ∷ xs) x e = go (test z) refl e (found_passes test xs x)
+  where
+    go : (b : Bool) → test z ≡ b → (if b then Some z else find test xs) ≡ Some x → (find test xs ≡ Some x → test x ≡ true) → test x ≡ true
+    go true f e ih =
+        let same : z ≡ x = cc in
+        subst (λ y. test y ≡ true) same f
+    go false f e ih = ih e
+
+-- what is found is one of the list
+found_any : {X : Type 0} (test more : X → Bool) (xs : List X) (x : X) → find test xs ≡ Some x → more x ≡ true → list_any more xs ≡ true
+found_any test more [] x e m = absurd (cc)
+found_any test more (z ∷ xs) x e m = go (test z) e (λ f. found_any test more xs x f m)
+  where
+    go : (b : Bool) → (if b then Some z else find test xs) ≡ Some x → (find test xs ≡ Some x → list_any more xs ≡ true) → (more z || list_any more xs) ≡ true
+    go true e ih =
+        let same : z ≡ x = cc in
+        or_true (more z) (list_any more xs) (ap more same ∙ m)
+    go false e ih = behind (more z) (ih e)
+      where
+        behind : (b : Bool) → list_any more xs ≡ true → (b || list_any more xs) ≡ true
+        behind true f = refl
+        behind false f = f
+
+found_all : {X : Type 0} (P : X → Type 0) (test : X → Bool) (xs : List X) (x : X) → find test xs ≡ Some x → AllByRecursion P xs → P x
+found_all P test [] x e h = absurd (cc)
+found_all P test (z ∷ xs) x e (h, hs) = go (test z) e (λ f. found_all P test xs x f hs)
+  where
+    go : (b : Bool) → (if b then Some z else find test xs) ≡ Some x → (find test xs ≡ Some x → P x) → P x
+    go true e ih =
+        let same : z ≡ x = cc in
+        subst P same h
+    go false e ih = ih e
+
+-- what none is, none of the list is with more asked
+none_any : (name : List ℕ) (o : ℕ) (xs : List Assignment) → assigned_ever xs name ≡ None → list_any (λ s. (s.ordinal == o) && bytes_eq s.name name) xs ≡ false
+none_any name o [] e = refl
+none_any name o (x ∷ xs) e = go (x.ordinal == o) (bytes_eq x.name name) e (none_any name o xs)
+  where
+    go : (a b : Bool) → (if b then Some x else assigned_ever xs name) ≡ None → (assigned_ever xs name ≡ None → list_any (λ s. (s.ordinal == o) && bytes_eq s.name name) xs ≡ false)
+        → ((a && b) || list_any (λ s. (s.ordinal == o) && bytes_eq s.name name) xs) ≡ false
+    go a true e ih = absurd (cc)
+    go true false e ih = ih e
+    go false false e ih = ih e
+
+below_self : (n : ℕ) {A : Type 0} → nat_lt n n ≡ true → A
+below_self n e = let l : n < n = ltb-true n n e in absurd (omega arith)
+
+-- ---- the statements of a source
+
+module _ (ss : List Statement) (sites : List Site) (located : map (λ s. s.located) sites ≡ located_from 1 1 at_start ss) where
+  pub site_of : (o i : ℕ) (s : Site) → slice_get sites i ≡ Some s → s.located.ordinal ≡ o → site_at sites o ≡ Some s
+  site_of o i s at is =
+      let own : s.located.ordinal ≡ 1 + i = ordinal_by 1 at_start ss sites located i s at in
+      site_by 1 at_start ss sites located o i (omega (arith, own, is)) ∙ at
+
+  module _ (free : first_fault ss ≡ None) (low : (i : ℕ) (s : Site) → slice_get sites i ≡ Some s → s.offset < 2 ^ 64) (name : List ℕ) (shown : bytes_eq [] name ≡ false) (o : ℕ) where
+    abbrev t : Tables
+    t = tables ss
+
+    abbrev Stands : Type 0
+    Stands = StandsFor t sites o (Named name) (slice_get (symbols_of t sites) (number_in t sites o (Named name)))
+
+    abbrev Own : laws.Definition → Defined → Type 0
+    Own d x = (s : Site) × (site_at sites d.ordinal ≡ Some s) × (s.located.placed ≡ true) × (x ≡ after_site s d.plus)
+
+    -- a statement that defines the name gives it this definition
+    abbrev Gives : laws.Definition → Site → StatementKind → Type 0
+    Gives d s kind = AllByRecursion (λ n. bytes_eq n name ≡ true → Own d (site_definition t sites s kind)) (defined_name t s.located.ordinal kind)
+
+    founds : AllByRecursion (IsFound name t) sites
+    founds = labels_found name t 1 at_start ss sites located free (before_start 1) refl
+
+    found_label : (i : ℕ) (s : Site) (n : List ℕ) → slice_get sites i ≡ Some s → s.located.kind ≡ Label n → bytes_eq n name ≡ true → (l : Labelled) × (label_of t.labels true 0 name ≡ Some l) × (l.ordinal ≡ s.located.ordinal)
+    found_label i s n at is f = all_index (IsFound name t) sites i s at founds n is f
+
+    all_give : (d : laws.Definition) → ((i : ℕ) (s : Site) (n : List ℕ) → slice_get sites i ≡ Some s → s.located.kind ≡ Label n → bytes_eq n name ≡ true → Own d (InSection s.located.section s.offset))
+        → ((ordinal : ℕ) → sets_first t.assignments ordinal name ≡ true → Own d (assigned_definition sites (assigned_ever t.assignments name))) → AllByRecursion (λ s. Gives d s s.located.kind) sites
+    all_give d label set = by_index (λ s. Gives d s s.located.kind) sites (λ i s at. go i s at s.located.kind refl)
+      where
+        go : (i : ℕ) (s : Site) → slice_get sites i ≡ Some s → (kind : StatementKind) → s.located.kind ≡ kind → Gives d s kind
+        go i s at (Label n) is = (label i s n at is, tt)
+        go i s at (Numbered number) is = tt
+        go i s at (Instruction mnemonic operands) is = tt
+        go i s at (Directs (Enters section)) is = tt
+        go i s at (Directs (Opens section flags kind)) is = tt
+        go i s at (Directs (Globl names)) is = tt
+        go i s at (Directs (Local names)) is = tt
+        go i s at (Directs (Sets n e)) is = first (sets_first t.assignments s.located.ordinal n) refl
+          where
+            first : (b : Bool) → sets_first t.assignments s.located.ordinal n ≡ b → AllByRecursion (λ m. bytes_eq m name ≡ true → Own d (site_definition t sites s (Directs (Sets n e)))) (if b then n ∷ [] else [])
+            first false g = tt
+            first true g = (
+              λ f. (
+                  let same : n ≡ name = same_bytes n name f in
+                  subst (λ m. Own d (assigned_definition sites (assigned_ever t.assignments m))) (sym same) (set s.located.ordinal (ap (sets_first t.assignments s.located.ordinal) (sym same) ∙ g))
+                  ),
+              tt,
+            )
+        go i s at (Directs (Aligns_to_power x)) is = tt
+        go i s at (Directs (Aligns_to_bytes x)) is = tt
+        go i s at (Directs (Values width xs)) is = tt
+        go i s at (Directs (Strings ended strings)) is = tt
+        go i s at (Directs (Zeros count)) is = tt
+        go i s at (Directs (Chooses choice)) is = tt
+        go i s at (Directs Ignored) is = tt
+
+    -- the name is one label
+    of_one_label : (l : Labelled) → label_of t.labels true 0 name ≡ Some l → assigned_ever t.assignments name ≡ None → Is name sites t.assignments (Some l) None → Stands
+    of_one_label l e f (i, s, at, is, placed, kind) =
+        own_stands t sites name o (definition_at l.ordinal) (of_label name t o l e f)
+        (own_named t sites name i s at (ap (λ k. is_one_of (defined_name t s.located.ordinal k) name) kind ∙ or_true (bytes_eq name name) false (bytes_same name))
+        (ap (λ k. is_absolute (local_symbol name (site_definition t sites s k))) kind)) (own_all t sites name (Own (definition_at l.ordinal)) shown (all_give (definition_at l.ordinal) label set))
+      where
+        site : site_at sites l.ordinal ≡ Some s
+        site = site_of l.ordinal i s at is
+
+        label : (j : ℕ) (q : Site) (n : List ℕ) → slice_get sites j ≡ Some q → q.located.kind ≡ Label n → bytes_eq n name ≡ true → Own (definition_at l.ordinal) (InSection q.located.section q.offset)
+        label j q n at_j is_j g =
+            let found = found_label j q n at_j is_j g in
+            let own : l ≡ found.0 = let both : Some l ≡ Some found.0 = sym e ∙ found.1 in cc in
+            let there : site_at sites l.ordinal ≡ Some q = site_of l.ordinal j q at_j (sym found.2 ∙ sym (ap (λ (x : Labelled). x.ordinal) own)) in
+            let bound = low j q at_j in
+            let end : q.offset ≡ add q.offset 0 = omega (arith, bound) in (
+              q,
+              there,
+              (let same : s ≡ q = let both : Some s ≡ Some q = sym site ∙ there in cc in subst (λ (x : Site). x.located.placed ≡ true) same placed),
+              ap (InSection q.located.section) end,
+            )
+
+        set : (ordinal : ℕ) → sets_first t.assignments ordinal name ≡ true → Own (definition_at l.ordinal) (assigned_definition sites (assigned_ever t.assignments name))
+        set ordinal g =
+            not_both (list_any (λ s. (s.ordinal == ordinal) && bytes_eq s.name name) t.assignments) (and_both _ (not (is_some (assigned_before t.assignments ordinal name))) g).0 (none_any name ordinal t.assignments f)
+
+    -- it is one place that `.set` gives
+    given_place : (a : Assignment) (s : Site) → is_location a ≡ true → site_at sites a.ordinal ≡ Some s → assigned_definition sites (Some a) ≡ after_site s a.plus
+    given_place a s l e = go a.meaning l
+      where
+        go : (m : Meaning) → ◌≡◌ {A = Bool} (elim m [ Known n ↦ false | InData section offset ↦ true | OpenAddress ↦ false | Refused code ↦ false ]) true
+            → ◌≡◌ {A = Defined} (elim m [ Known n ↦ Absolute n | InData section offset ↦ after_found (site_at sites a.ordinal) a.plus | OpenAddress ↦ Skipped 0 | Refused code ↦ Skipped 0 ]) (after_site s a.plus)
+        go (Known n) f = absurd (cc)
+        go (InData section offset) f = ap (λ found. after_found found a.plus) e
+        go OpenAddress f = absurd (cc)
+        go (Refused code) f = absurd (cc)
+
+    of_one_place : (a : Assignment) → label_of t.labels true 0 name ≡ None → assigned_ever t.assignments name ≡ Some a → is_location a ≡ true → Is name sites t.assignments None (Some a) → OnlySet name a t.assignments → (e : Expression)
+        → (i : ℕ) (s : Site) → slice_get sites i ≡ Some s → s.located.ordinal ≡ a.ordinal → s.located.placed ≡ true → s.located.kind ≡ Directs (Sets name e) → Stands
+    of_one_place a none f place h only e i s at is placed kind =
+        own_stands t sites name o d (of_set name t o a none f only place)
+        (own_named t sites name i s at
+        (ap (λ k. is_one_of (defined_name t s.located.ordinal k) name) kind ∙ ap (λ b. is_one_of (if b then name ∷ [] else []) name) first ∙ or_true (bytes_eq name name) false (bytes_same name))
+        (ap (λ k. is_absolute (local_symbol name (site_definition t sites s k))) kind ∙ ap (λ x. is_absolute (local_symbol name x)) given)) (own_all t sites name (Own d) shown (all_give d label set))
+      where
+        d : laws.Definition
+        d = record { ordinal = a.ordinal; plus = a.plus }
+
+        site : site_at sites a.ordinal ≡ Some s
+        site = site_of a.ordinal i s at is
+
+        given : assigned_definition sites (assigned_ever t.assignments name) ≡ after_site s a.plus
+        given = ap (assigned_definition sites) f ∙ given_place a s place site
+
+        before : (found : Option Assignment) → assigned_before t.assignments a.ordinal name ≡ found → not (is_some found) ≡ true
+        before None g = refl
+        before (Some x) g =
+            let test = and_both (nat_lt x.ordinal a.ordinal) (bytes_eq x.name name) (found_passes (λ (s : Assignment). nat_lt s.ordinal a.ordinal && bytes_eq s.name name) t.assignments x g) in
+            let same : x ≡ a = found_all (λ (y : Assignment). bytes_eq y.name name ≡ true → y ≡ a) (λ s. nat_lt s.ordinal a.ordinal && bytes_eq s.name name) t.assignments x g only test.1 in
+            below_self a.ordinal (ap (λ (y : Assignment). nat_lt y.ordinal a.ordinal) (sym same) ∙ test.0)
+
+        first : sets_first t.assignments s.located.ordinal name ≡ true
+        first =
+            ap (λ n. sets_first t.assignments n name) is
+            ∙ both_true (list_any (λ x. (x.ordinal == a.ordinal) && bytes_eq x.name name) t.assignments) _
+            (found_any (λ (x : Assignment). bytes_eq x.name name) (λ x. (x.ordinal == a.ordinal) && bytes_eq x.name name) t.assignments a f
+            (both_true (a.ordinal == a.ordinal) (bytes_eq a.name name) (eq-eqb a.ordinal a.ordinal refl) (found_passes (λ (x : Assignment). bytes_eq x.name name) t.assignments a f)))
+            (before (assigned_before t.assignments a.ordinal name) refl)
+
+        label : (j : ℕ) (q : Site) (n : List ℕ) → slice_get sites j ≡ Some q → q.located.kind ≡ Label n → bytes_eq n name ≡ true → Own d (InSection q.located.section q.offset)
+        label j q n at_j is_j g = absurd (let found = found_label j q n at_j is_j g in let both : Some found.0 ≡ None = sym found.1 ∙ none in cc)
+
+        set : (ordinal : ℕ) → sets_first t.assignments ordinal name ≡ true → Own d (assigned_definition sites (assigned_ever t.assignments name))
+        set ordinal g = (s, site, placed, given)
+
+    pub own_name : is_some (laws.definition t o (Named name)) ≡ true → Stands
+    own_name some = go (label_of t.labels true 0 name) refl (assigned_ever t.assignments name) refl (one_name name sites 0 1 at_start ss sites refl located (before_start 1) tt)
+      where
+        numbers : label_of t.labels true 0 name ≡ None → AreNumbers name t.assignments → Stands
+        numbers e h = not_both (is_some (laws.definition t o (Named name))) some (ap is_some (of_numbers name t o e h))
+
+        go : (l : Option Labelled) → label_of t.labels true 0 name ≡ l → (a : Option Assignment) → assigned_ever t.assignments name ≡ a → Is name sites t.assignments l a → Stands
+        go None e None f h = numbers e (none_all name sites (λ x. is_location x ≡ false) t.assignments f)
+        go (Some l) e None f h = of_one_label l e f h
+        go (Some l) e (Some a) f h = absurd h
+        go None e (Some a) f h = by (is_location a) refl
+          where
+            by : (b : Bool) → is_location a ≡ b → Stands
+            by false g = numbers e (subst (IsSet name sites t.assignments a) g h)
+            by true g =
+                let there = subst (IsSet name sites t.assignments a) g h in
+                let at = there.1.1 in
+                of_one_place a e f g h there.0 there.1.0 at.0 at.1 at.2 at.3 at.4 at.5

@@ -1,0 +1,157 @@
+-- The symbols that stand for uses: names that are left undefined, and places without names.
+
+use Rattle.std.proofs.Common.{◌≡◌, ℕ, zero, suc, ◌+◌, ◌<◌, Bool, true, false, cond, List, [], ◌∷◌, ◌++◌, length, map, drop, refl, sym, ap, ◌∙◌, subst, arith, append_assoc, inl, inr, Option, Some, None}
+use Rattle.std.specs.Prelude.{◌⊎◌, ◌||◌, not, flat_map, position, slice_get, unwrap_or, if◌then◌else◌}
+use Rattle.std.specs.List.{list_any, position_or_len}
+use Rattle.std.specs.Str.{bytes_eq}
+use Rattle.std.proofs.lemmas.Bool.{lt-ltb}
+use Rattle.std.proofs.lemmas.List.Folds.{list_any-append}
+use Rattle.rv_text_laws.specs.Expression.{Symbol as Named}
+use Rattle.rv_unit_laws.specs.Tables as laws
+use Rattle.rv_unit_laws.specs.Tables.{Tables}
+use Rattle.rv_unit_laws.proofs.FoundLemmas.{same_bytes, bytes_swap, bytes_same}
+use Rattle.rv_source_laws.specs.Resolves.{is_one_of}
+use Rattle.rv_object.specs.declared.symbol.Definition.TheVariants.{Undefined}
+use Rattle.rv_object.specs.Object.{Symbol}
+use Rattle.rv_assemble_laws.specs.Sites.{Site}
+use Rattle.rv_assemble_laws.specs.Symbols.{SymbolUse, references, global_symbol, local_symbols, exports, missing_name, distinct_from, symbols_of, IsDefinedBy, StandsFor}
+use Rattle.rv_symbols.specs.Numbers.{last_from, last_index, own_symbols, missing_names, number_by, number_in}
+
+-- ---- look-ups in lists
+
+pub or_true : (a b : Bool) → a ≡ true → (a || b) ≡ true
+or_true a b e = ap (λ x. x || b) e
+
+pub or_behind : (a b : Bool) → b ≡ true → (a || b) ≡ true
+or_behind true b e = refl
+or_behind false b e = e
+
+pub any_front : {X : Type 0} (p : X → Bool) (xs ys : List X) → list_any p xs ≡ true → list_any p (xs ++ ys) ≡ true
+any_front p xs ys e = list_any-append p xs ys ∙ or_true (list_any p xs) (list_any p ys) e
+
+pub any_behind : {X : Type 0} (p : X → Bool) (xs ys : List X) → list_any p ys ≡ true → list_any p (xs ++ ys) ≡ true
+any_behind p xs ys e = list_any-append p xs ys ∙ or_behind (list_any p xs) (list_any p ys) e
+
+-- an element at an index passes
+abbrev pub Has : {X : Type 0} → List X → (X → Bool) → Option ℕ → Type 0
+Has {X} xs p found = (k : ℕ) × (x : X) × (found ≡ Some k) × (slice_get xs k ≡ Some x) × (p x ≡ true)
+
+front_got : {X : Type 0} (xs : List X) (i : ℕ) (x : X) (ys : List X) → drop i xs ≡ x ∷ ys → (slice_get xs i ≡ Some x) × (drop (suc i) xs ≡ ys)
+front_got [] zero x ys e = absurd (cc)
+front_got [] (suc i) x ys e = absurd (cc)
+front_got (z ∷ zs) zero x ys e = (cc, cc)
+front_got (z ∷ zs) (suc i) x ys e = front_got zs i x ys e
+
+last_has : (all : List Symbol) (p : Symbol → Bool) (i : ℕ) (xs : List Symbol) (found : Option ℕ) → drop i all ≡ xs → Has all p found ⊎ (list_any p xs ≡ true) → Has all p (last_from i p xs found)
+last_has all p i [] found e (inl h) = h
+last_has all p i [] found e (inr h) = absurd (cc)
+last_has all p i (x ∷ xs) found e h = go (p x) refl (last_has all p (suc i) xs (Some i) (front_got all i x xs e).1) (last_has all p (suc i) xs found (front_got all i x xs e).1) h
+  where
+    go : (b : Bool) → p x ≡ b → (Has all p (Some i) ⊎ (list_any p xs ≡ true) → Has all p (last_from (suc i) p xs (Some i)))
+        → (Has all p found ⊎ (list_any p xs ≡ true) → Has all p (last_from (suc i) p xs found)) → Has all p found ⊎ ((b || list_any p xs) ≡ true)
+        → Has all p (last_from (suc i) p xs (if b then Some i else found))
+    go true f these other h = these (inl (i, x, refl, (front_got all i x xs e).0, f))
+    go false f these other h = other h
+
+pub got_last : (p : Symbol → Bool) (xs : List Symbol) → list_any p xs ≡ true → (x : Symbol) × (slice_get xs (unwrap_or (last_index p xs) 0) ≡ Some x) × (p x ≡ true)
+got_last p xs e =
+    let h = last_has xs p 0 xs None refl (inr e) in
+    (h.1, ap (λ o. slice_get xs (unwrap_or o 0)) h.2 ∙ h.3, h.4)
+
+pub got_front : {X : Type 0} (xs ys : List X) (k : ℕ) (x : X) → slice_get xs k ≡ Some x → slice_get (xs ++ ys) k ≡ Some x
+got_front [] ys zero x e = absurd (cc)
+got_front [] ys (suc k) x e = absurd (cc)
+got_front (z ∷ zs) ys zero x e = e
+got_front (z ∷ zs) ys (suc k) x e = got_front zs ys k x e
+
+pub got_behind : {X : Type 0} (xs ys : List X) (k n : ℕ) → n ≡ length xs + k → slice_get (xs ++ ys) n ≡ slice_get ys k
+got_behind [] ys k n e = ap (slice_get ys) (let f : n ≡ k = omega arith in f)
+got_behind (z ∷ zs) ys k zero e = absurd (omega arith)
+got_behind (z ∷ zs) ys k (suc n) e = got_behind zs ys k n (omega arith)
+
+-- ---- names that are left undefined
+
+one_more : (p : List ℕ → Bool) (xs : List (List ℕ)) → list_any p xs ≡ true → (n : List ℕ) × (position_or_len p xs < length xs) × (slice_get xs (position_or_len p xs) ≡ Some n) × (p n ≡ true)
+one_more p [] e = absurd (cc)
+one_more p (x ∷ xs) e = go (p x) refl e (one_more p xs)
+  where
+    go : (b : Bool) → p x ≡ b → (b || list_any p xs) ≡ true → (list_any p xs ≡ true → (n : List ℕ) × (position_or_len p xs < length xs) × (slice_get xs (position_or_len p xs) ≡ Some n) × (p n ≡ true))
+        → (n : List ℕ) × (cond (not b) (1 + position_or_len p xs) 0 < length (x ∷ xs)) × (slice_get (x ∷ xs) (cond (not b) (1 + position_or_len p xs) 0) ≡ Some n) × (p n ≡ true)
+    go true f h ih = (x, omega arith, refl, f)
+    go false f h ih =
+        let r = ih h in
+        let less : position_or_len p xs < length xs = r.1 in
+        (r.0, omega arith, ap (slice_get (x ∷ xs)) (let m : 1 + position_or_len p xs ≡ suc (position_or_len p xs) = omega arith in m) ∙ r.2, r.3)
+
+position_has : (p : List ℕ → Bool) (xs : List (List ℕ)) → list_any p xs ≡ true → (n : List ℕ) × (slice_get xs (unwrap_or (position p xs) 0) ≡ Some n) × (p n ≡ true)
+position_has p xs e =
+    let r = one_more p xs e in
+    (r.0, ap (λ b. slice_get xs (unwrap_or (cond b (Some (position_or_len p xs)) None) 0)) (lt-ltb (position_or_len p xs) (length xs) r.1) ∙ r.2, r.3)
+
+distinct_has : (before names : List (List ℕ)) (n : List ℕ) → is_one_of names n ≡ true → is_one_of before n ≡ false → is_one_of (distinct_from before names) n ≡ true
+distinct_has before [] n e f = absurd (cc)
+distinct_has before (x ∷ xs) n e f = go (is_one_of before x) refl (bytes_eq x n) refl e (distinct_has before xs n) (distinct_has (x ∷ before) xs n)
+  where
+    go : (b : Bool) → is_one_of before x ≡ b → (c : Bool) → bytes_eq x n ≡ c → (c || is_one_of xs n) ≡ true → (is_one_of xs n ≡ true → is_one_of before n ≡ false → is_one_of (distinct_from before xs) n ≡ true)
+        → (is_one_of xs n ≡ true → (bytes_eq x n || is_one_of before n) ≡ false → is_one_of (distinct_from (x ∷ before) xs) n ≡ true)
+        → is_one_of (if b then distinct_from before xs else x ∷ distinct_from (x ∷ before) xs) n ≡ true
+    go true g true h e one two = absurd (let s : is_one_of before n ≡ true = ap (is_one_of before) (sym (same_bytes x n h)) ∙ g in cc)
+    go true g false h e one two = one e f
+    go false g true h e one two = or_true (bytes_eq x n) _ h
+    go false g false h e one two = or_behind (bytes_eq x n) _ (two e (ap (λ y. y || is_one_of before n) h ∙ f))
+
+any_flat : (f : SymbolUse → List (List ℕ)) (rs : List SymbolUse) (i : ℕ) (r : SymbolUse) (n : List ℕ) → slice_get rs i ≡ Some r → is_one_of (f r) n ≡ true → is_one_of (flat_map f rs) n ≡ true
+any_flat f [] zero r n e h = absurd (cc)
+any_flat f [] (suc i) r n e h = absurd (cc)
+any_flat f (q ∷ qs) zero r n e h =
+    let same : q ≡ r = cc in
+    any_front (λ m. bytes_eq m n) (f q) (flat_map f qs) (ap (λ y. is_one_of (f y) n) same ∙ h)
+any_flat f (q ∷ qs) (suc i) r n e h = any_behind (λ m. bytes_eq m n) (f q) (flat_map f qs) (any_flat f qs i r n e h)
+
+swap_any : (n : List ℕ) (xs : List (List ℕ)) → is_one_of xs n ≡ true → list_any (bytes_eq n) xs ≡ true
+swap_any n [] e = absurd (cc)
+swap_any n (x ∷ xs) e = go (bytes_eq x n) refl e (swap_any n xs)
+  where
+    go : (b : Bool) → bytes_eq x n ≡ b → (b || is_one_of xs n) ≡ true → (is_one_of xs n ≡ true → list_any (bytes_eq n) xs ≡ true) → (bytes_eq n x || list_any (bytes_eq n) xs) ≡ true
+    go true f e ih = or_true (bytes_eq n x) _ (bytes_swap n x ∙ f)
+    go false f e ih = or_behind (bytes_eq n x) _ (ih e)
+
+map_got : {A B : Type 0} (f : A → B) (xs : List A) (k : ℕ) (x : A) → slice_get xs k ≡ Some x → slice_get (map f xs) k ≡ Some (f x)
+map_got f [] zero x e = absurd (cc)
+map_got f [] (suc k) x e = absurd (cc)
+map_got f (y ∷ ys) zero x e =
+    let same : y ≡ x = cc in
+    ap (λ z. Some (f z)) same
+map_got f (y ∷ ys) (suc k) x e = map_got f ys k x e
+
+module _ (t : Tables) (sites : List Site) where
+  abbrev rs : List SymbolUse
+  rs = references t sites
+
+  abbrev undefined : List Symbol
+  undefined = map (λ name. global_symbol name Undefined) (missing_names t rs)
+
+  pub whole : symbols_of t sites ≡ own_symbols t sites ++ undefined
+  whole = sym (append_assoc (local_symbols t sites [] sites) (exports t sites) undefined)
+
+  pub undefined_stands : (i o : ℕ) (name : List ℕ) → slice_get rs i ≡ Some (record { ordinal = o; symbol = Named name }) → laws.definition t o (Named name) ≡ None
+      → StandsFor t sites o (Named name) (slice_get (symbols_of t sites) (number_in t sites o (Named name)))
+  undefined_stands i o name at none =
+      let names = missing_names t rs in
+      let own = own_symbols t sites in
+      let one : is_one_of (missing_name t o (Named name)) name ≡ true =
+      ap (λ d. is_one_of (elim d [ None ↦ name ∷ [] | Some h ↦ [] ]) name) none ∙ or_true (bytes_eq name name) false (bytes_same name) in
+      let listed : is_one_of names name ≡ true = distinct_has [] (flat_map (λ r. missing_name t r.ordinal r.symbol) rs) name (any_flat (λ r. missing_name t r.ordinal r.symbol) rs i _ name at one) refl in
+      let found = position_has (bytes_eq name) names (swap_any name names listed) in
+      let k = unwrap_or (position (bytes_eq name) names) 0 in
+      let n : List ℕ = found.0 in
+      let got : slice_get (symbols_of t sites) (length own + k) ≡ Some (global_symbol n Undefined) =
+      ap (λ l. slice_get l (length own + k)) whole ∙ got_behind own undefined k (length own + k) refl ∙ map_got (λ name. global_symbol name Undefined) names k n found.1 in
+      subst (λ d. StandsFor t sites o (Named name) (slice_get (symbols_of t sites) (number_of d))) (sym none)
+      (subst (λ x. StandsFor t sites o (Named name) x) (sym got) (named n found.2, subst (λ d. IsDefinedBy sites (Named name) d (global_symbol n Undefined)) (sym none) refl))
+    where
+      number_of : Option laws.Definition → ℕ
+      number_of d = number_by (own_symbols t sites) (missing_names t rs) sites (Named name) d
+
+      named : (n : List ℕ) → bytes_eq name n ≡ true → n ≡ name
+      named n e = sym (same_bytes name n e)

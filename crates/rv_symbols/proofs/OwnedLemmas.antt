@@ -1,0 +1,178 @@
+-- The symbols that stand for names that their file defines.
+
+use Rattle.std.proofs.Common.{◌≡◌, ℕ, zero, suc, Bool, true, false, List, [], ◌∷◌, ◌++◌, map, refl, sym, ap, ◌∙◌, subst, Some}
+use Rattle.std.specs.Prelude.{◌||◌, not, filter, flat_map, slice_get, unwrap_or, if◌then◌else◌}
+use Rattle.std.specs.List.{AllByRecursion, list_any}
+use Rattle.std.specs.Str.{bytes_eq}
+use Rattle.rv_text_laws.specs.Expression.{Symbol as Named}
+use Rattle.rv_unit_laws.specs.Bindings.{is_global}
+use Rattle.rv_unit_laws.specs.Tables as laws
+use Rattle.rv_unit_laws.specs.Tables.{Tables}
+use Rattle.rv_unit_laws.proofs.FoundLemmas.{same_bytes}
+use Rattle.rv_source_laws.specs.Resolves.{is_one_of, defined_name}
+use Rattle.rv_object.specs.declared.symbol.Definition.{Definition as Defined}
+use Rattle.rv_object.specs.declared.symbol.Definition.TheVariants.{InSection}
+use Rattle.rv_object.specs.Object.{Symbol}
+use Rattle.rv_assemble_laws.specs.Sites.{Site}
+use Rattle.rv_assemble_laws.specs.Symbols.{references, site_definition, local_symbol, global_symbol, is_absolute, unnamed_symbols, named_symbols, local_symbols, exports_of, exports, symbols_of, IsOwn, IsDefinedBy, StandsFor}
+use Rattle.rv_symbols.specs.Numbers.{last_index, is_named, own_symbols, missing_names, number_by, number_in}
+use Rattle.rv_symbols.proofs.NumberedLemmas.{or_true, or_behind, any_front, any_behind, got_last, got_front, whole}
+
+join : {X : Type 0} (P : X → Type 0) (xs ys : List X) → AllByRecursion P xs → AllByRecursion P ys → AllByRecursion P (xs ++ ys)
+join P [] ys h k = k
+join P (x ∷ xs) ys (h, hs) k = (h, join P xs ys hs k)
+
+kept : {X : Type 0} (P : X → Type 0) (test : X → Bool) (xs : List X) → AllByRecursion P xs → AllByRecursion P (filter test xs)
+kept P test [] h = tt
+kept P test (x ∷ xs) (p, ps) = go (test x) (kept P test xs ps)
+  where
+    go : (b : Bool) → AllByRecursion P (filter test xs) → AllByRecursion P (if b then x ∷ filter test xs else filter test xs)
+    go true rest = (p, rest)
+    go false rest = rest
+
+mapped : {X Y : Type 0} (P : Y → Type 0) (f : X → Y) (xs : List X) → AllByRecursion (λ x. P (f x)) xs → AllByRecursion P (map f xs)
+mapped P f [] h = tt
+mapped P f (x ∷ xs) (p, ps) = (p, mapped P f xs ps)
+
+module _ (t : Tables) (sites : List Site) (name : List ℕ) where
+  abbrev own : List Symbol
+  own = own_symbols t sites
+
+  abbrev defines : Site → List (List ℕ)
+  defines s = defined_name t s.located.ordinal s.located.kind
+
+  abbrev place : Site → Defined
+  place s = site_definition t sites s s.located.kind
+
+  -- ---- a use, by its own symbols
+
+  pub own_stands : (o : ℕ) (d : laws.Definition) → laws.definition t o (Named name) ≡ Some d → list_any (is_named name) own ≡ true
+      → AllByRecursion (λ x. is_named name x ≡ true → IsOwn sites d x) own → StandsFor t sites o (Named name) (slice_get (symbols_of t sites) (number_in t sites o (Named name)))
+  own_stands o d f some all =
+      let found = got_last (is_named name) own some in
+      let x : Symbol = found.0 in
+      let k = unwrap_or (last_index (is_named name) own) 0 in
+      let n : number_in t sites o (Named name) ≡ k = ap (number_by own (missing_names t (references t sites)) sites (Named name)) f in
+      let got : slice_get (symbols_of t sites) (number_in t sites o (Named name)) ≡ Some x =
+      ap (slice_get (symbols_of t sites)) n ∙ ap (λ l. slice_get l k) (whole t sites) ∙ got_front own _ k x found.1 in
+      subst (λ y. StandsFor t sites o (Named name) y) (sym got) (
+        same_bytes x.name name found.2,
+        subst (λ h. IsDefinedBy sites (Named name) h x) (sym f) (at_index own k x found.1 all found.2),
+      )
+    where
+      at_index : (xs : List Symbol) (i : ℕ) (x : Symbol) → slice_get xs i ≡ Some x → AllByRecursion (λ x. is_named name x ≡ true → IsOwn sites d x) xs → is_named name x ≡ true → IsOwn sites d x
+      at_index [] zero x e h = absurd (cc)
+      at_index [] (suc i) x e h = absurd (cc)
+      at_index (y ∷ ys) zero x e h =
+          let same : y ≡ x = cc in
+          subst (λ z. is_named name z ≡ true → IsOwn sites d z) same h.0
+      at_index (y ∷ ys) (suc i) x e h = at_index ys i x e h.1
+
+  -- ---- a statement that defines the name has its symbol
+
+  abbrev Names : List Symbol → Type 0
+  Names xs = list_any (is_named name) xs ≡ true
+
+  local_one : (s : Site) → is_absolute (local_symbol name (place s)) ≡ false → is_global (t.bindings name) ≡ false → (ns : List (List ℕ)) → is_one_of ns name ≡ true
+      → Names (filter (λ x. not (is_absolute x)) (map (λ n. local_symbol n (place s)) (filter (λ n. not (is_global (t.bindings n))) ns)))
+  local_one s a g [] e = absurd (cc)
+  local_one s a g (n ∷ ns) e = go (bytes_eq n name) refl e (local_one s a g ns)
+    where
+      rest : List Symbol
+      rest = map (λ n. local_symbol n (place s)) (filter (λ n. not (is_global (t.bindings n))) ns)
+
+      behind : (b : Bool) → Names (filter (λ x. not (is_absolute x)) rest) → Names (filter (λ x. not (is_absolute x)) (map (λ n. local_symbol n (place s)) (if b then n ∷ filter (λ n. not (is_global (t.bindings n))) ns else filter (λ n. not (is_global (t.bindings n))) ns)))
+      behind false f = f
+      behind true f = one (is_absolute (local_symbol n (place s)))
+        where
+          one : (c : Bool) → Names (if not c then local_symbol n (place s) ∷ filter (λ x. not (is_absolute x)) rest else filter (λ x. not (is_absolute x)) rest)
+          one true = f
+          one false = or_behind (bytes_eq n name) _ f
+
+      go : (b : Bool) → bytes_eq n name ≡ b → (b || is_one_of ns name) ≡ true → (is_one_of ns name ≡ true → Names (filter (λ x. not (is_absolute x)) rest))
+          → Names (filter (λ x. not (is_absolute x)) (map (λ n. local_symbol n (place s)) (if not (is_global (t.bindings n)) then n ∷ filter (λ n. not (is_global (t.bindings n))) ns else filter (λ n. not (is_global (t.bindings n))) ns)))
+      go false f h ih = behind (not (is_global (t.bindings n))) (ih h)
+      go true f h ih =
+          let same : n ≡ name = same_bytes n name f in
+          let mine : is_global (t.bindings n) ≡ false = ap (λ m. is_global (t.bindings m)) same ∙ g in
+          ap (λ b. list_any (is_named name) (filter (λ x. not (is_absolute x)) (map (λ n. local_symbol n (place s)) (if not b then n ∷ filter (λ n. not (is_global (t.bindings n))) ns else filter (λ n. not (is_global (t.bindings n))) ns)))) mine
+          ∙ ap (λ b. list_any (is_named name) (if not b then local_symbol n (place s) ∷ filter (λ x. not (is_absolute x)) rest else filter (λ x. not (is_absolute x)) rest)) a
+          ∙ or_true (bytes_eq n name) _ f
+
+  global_one : (s : Site) → is_global (t.bindings name) ≡ true → (ns : List (List ℕ)) → is_one_of ns name ≡ true → Names (map (λ n. global_symbol n (place s)) (filter (λ n. is_global (t.bindings n)) ns))
+  global_one s g [] e = absurd (cc)
+  global_one s g (n ∷ ns) e = go (bytes_eq n name) refl e (global_one s g ns)
+    where
+      behind : (b : Bool) → Names (map (λ n. global_symbol n (place s)) (filter (λ n. is_global (t.bindings n)) ns)) → Names (map (λ n. global_symbol n (place s)) (if b then n ∷ filter (λ n. is_global (t.bindings n)) ns else filter (λ n. is_global (t.bindings n)) ns))
+      behind false f = f
+      behind true f = or_behind (bytes_eq n name) _ f
+
+      go : (b : Bool) → bytes_eq n name ≡ b → (b || is_one_of ns name) ≡ true → (is_one_of ns name ≡ true → Names (map (λ n. global_symbol n (place s)) (filter (λ n. is_global (t.bindings n)) ns)))
+          → Names (map (λ n. global_symbol n (place s)) (if is_global (t.bindings n) then n ∷ filter (λ n. is_global (t.bindings n)) ns else filter (λ n. is_global (t.bindings n)) ns))
+      go false f h ih = behind (is_global (t.bindings n)) (ih h)
+      go true f h ih =
+          let mine : is_global (t.bindings n) ≡ true = ap (λ m. is_global (t.bindings m)) (same_bytes n name f) ∙ g in
+          ap (λ b. list_any (is_named name) (map (λ n. global_symbol n (place s)) (if b then n ∷ filter (λ n. is_global (t.bindings n)) ns else filter (λ n. is_global (t.bindings n)) ns))) mine
+          ∙ or_true (bytes_eq n name) _ f
+
+  local_at : (before rest : List Site) (i : ℕ) (s : Site) → slice_get rest i ≡ Some s → Names (named_symbols t sites s) → Names (local_symbols t sites before rest)
+  local_at before [] zero s e h = absurd (cc)
+  local_at before [] (suc i) s e h = absurd (cc)
+  local_at before (q ∷ rest) zero s e h =
+      let same : q ≡ s = cc in
+      any_behind (is_named name) (unnamed_symbols t (references t sites) before q) _
+      (any_front (is_named name) (named_symbols t sites q) (local_symbols t sites (before ++ q ∷ []) rest) (subst (λ y. Names (named_symbols t sites y)) (sym same) h))
+  local_at before (q ∷ rest) (suc i) s e h =
+      any_behind (is_named name) (unnamed_symbols t (references t sites) before q) _ (any_behind (is_named name) (named_symbols t sites q) _ (local_at (before ++ q ∷ []) rest i s e h))
+
+  exports_at : (rest : List Site) (i : ℕ) (s : Site) → slice_get rest i ≡ Some s → Names (exports_of t sites s) → Names (flat_map (exports_of t sites) rest)
+  exports_at [] zero s e h = absurd (cc)
+  exports_at [] (suc i) s e h = absurd (cc)
+  exports_at (q ∷ rest) zero s e h =
+      let same : q ≡ s = cc in
+      any_front (is_named name) (exports_of t sites q) _ (subst (λ y. Names (exports_of t sites y)) (sym same) h)
+  exports_at (q ∷ rest) (suc i) s e h = any_behind (is_named name) (exports_of t sites q) _ (exports_at rest i s e h)
+
+  pub own_named : (i : ℕ) (s : Site) → slice_get sites i ≡ Some s → is_one_of (defines s) name ≡ true → is_absolute (local_symbol name (place s)) ≡ false → Names own
+  own_named i s e h a = go (is_global (t.bindings name)) refl
+    where
+      go : (b : Bool) → is_global (t.bindings name) ≡ b → Names own
+      go true g = any_behind (is_named name) (local_symbols t sites [] sites) (exports t sites) (exports_at sites i s e (global_one s g (defines s) h))
+      go false g = any_front (is_named name) (local_symbols t sites [] sites) (exports t sites) (local_at [] sites i s e (local_one s a g (defines s) h))
+
+  -- ---- symbols by their statements
+
+  module _ (P : Defined → Type 0) (shown : bytes_eq [] name ≡ false) where
+    abbrev Has : Symbol → Type 0
+    Has x = is_named name x ≡ true → P x.definition
+
+    abbrev Defines : Site → Type 0
+    Defines s = AllByRecursion (λ n. bytes_eq n name ≡ true → P (place s)) (defines s)
+
+    unnamed_all : (before : List Site) (s : Site) → AllByRecursion Has (unnamed_symbols t (references t sites) before s)
+    unnamed_all before s = go _
+      where
+        go : (b : Bool) → AllByRecursion Has (if b then local_symbol [] (InSection s.located.section s.offset) ∷ [] else [])
+        go true = (λ e. absurd (cc), tt)
+        go false = tt
+
+    named_all : (s : Site) → Defines s → AllByRecursion Has (named_symbols t sites s)
+    named_all s h =
+        kept Has (λ x. not (is_absolute x)) _ (mapped Has (λ n. local_symbol n (place s)) _ (kept (λ n. bytes_eq n name ≡ true → P (place s)) (λ n. not (is_global (t.bindings n))) (defines s) h))
+
+    exported_all : (s : Site) → Defines s → AllByRecursion Has (exports_of t sites s)
+    exported_all s h =
+        mapped Has (λ n. global_symbol n (place s)) _ (kept (λ n. bytes_eq n name ≡ true → P (place s)) (λ n. is_global (t.bindings n)) (defines s) h)
+
+    local_all : (before rest : List Site) → AllByRecursion Defines rest → AllByRecursion Has (local_symbols t sites before rest)
+    local_all before [] h = tt
+    local_all before (s ∷ rest) (h, hs) =
+        join Has (unnamed_symbols t (references t sites) before s) _ (unnamed_all before s)
+        (join Has (named_symbols t sites s) _ (named_all s h) (local_all (before ++ s ∷ []) rest hs))
+
+    exports_all : (rest : List Site) → AllByRecursion Defines rest → AllByRecursion Has (flat_map (exports_of t sites) rest)
+    exports_all [] h = tt
+    exports_all (s ∷ rest) (h, hs) = join Has (exports_of t sites s) _ (exported_all s h) (exports_all rest hs)
+
+    pub own_all : AllByRecursion Defines sites → AllByRecursion Has own
+    own_all h = join Has (local_symbols t sites [] sites) (exports t sites) (local_all [] sites h) (exports_all sites h)

@@ -1,0 +1,90 @@
+-- What names and rows have by where loaded sections start.
+
+use Rattle.std.proofs.Common.{◌≡◌, ℕ, suc, ◌+◌, ◌%◌, ◌^◌, Bool, true, false, List, [], ◌∷◌, ◌++◌, map, refl, ap, ◌∙◌, Option, Some, None}
+use Rattle.std.specs.Prelude.{option_and_then, flat_map, nat_le, if◌then◌else◌}
+use Rattle.std.specs.List.{AllByRecursion, find, slice_get}
+use Rattle.rv_object.specs.declared.row.Row.{Row}
+use Rattle.rv_object.specs.declared.symbol.Definition.{Definition}
+use Rattle.rv_object.specs.declared.symbol.Definition.TheVariants as definitions
+use Rattle.rv_object.specs.Object.{Section, Symbol, Object}
+use Rattle.rv_object_laws.specs.Moves.{moves, new_offset}
+use Rattle.rv_object_laws.specs.Inputs.{Starts}
+use Rattle.rv_object_laws.specs.Names.{offset_address, defined_address, exported, shown, globals_of, begins_run, entry_by, entry_of}
+use Rattle.rv_object_laws.specs.IsLinkOf.{moves_at, map_row, row_in, inserted_row, by_ordinal, rows_of}
+use Rattle.rv_resolve.specs.Undefined.{is_loaded_at}
+use Rattle.rv_unique_link_laws.specs.Asked.{HavePlacedRows}
+use Rattle.rv_unique_link_laws.proofs.AgreedLemmas.{IsAgreed, AreAgreed}
+
+flat_same : {X Y : Type 0} (f g : X → List Y) → ((x : X) → f x ≡ g x) → (xs : List X) → flat_map f xs ≡ flat_map g xs
+flat_same f g same [] = refl
+flat_same f g same (x ∷ xs) = ap (λ l. l ++ flat_map f xs) (same x) ∙ ap (λ l. g x ++ l) (flat_same f g same xs)
+
+module _ (s t : Starts) (file : ℕ) (o : Object) (agreed : IsAgreed s t file o) where
+  pub defined_same : (d : Definition) → defined_address (s file) o d ≡ defined_address (t file) o d
+  defined_same definitions.Undefined = refl
+  defined_same (definitions.Absolute n) = refl
+  defined_same (definitions.Skipped n) = refl
+  defined_same (definitions.InSection section offset) = go (slice_get o.sections section) refl
+    where
+      by : (x : Section) → slice_get o.sections section ≡ Some x → (b : Bool) → x.loaded ≡ b
+          → (if b then Some ((s file section + new_offset (moves (s file section) x) offset) % 2 ^ 64) else None)
+          ≡ (if b then Some ((t file section + new_offset (moves (t file section) x) offset) % 2 ^ 64) else None)
+      by x at true loaded = ap (λ n. Some ((n + new_offset (moves n x) offset) % 2 ^ 64)) (agreed section x at loaded)
+      by x at false loaded = refl
+
+      go : (f : Option Section) → slice_get o.sections section ≡ f → offset_address (s file section) offset f ≡ offset_address (t file section) offset f
+      go None at = refl
+      go (Some x) at = by x at x.loaded refl
+
+  shown_same : (x : Symbol) → shown x.name (defined_address (s file) o x.definition) ≡ shown x.name (defined_address (t file) o x.definition)
+  shown_same x = ap (shown x.name) (defined_same x.definition)
+
+  begun_same : (f : Option Symbol) → option_and_then (λ (x : Symbol). defined_address (s file) o x.definition) f ≡ option_and_then (λ (x : Symbol). defined_address (t file) o x.definition) f
+  begun_same None = refl
+  begun_same (Some x) = defined_same x.definition
+
+  row_same : (r : Row) → is_loaded_at (slice_get o.sections r.section) ≡ true → row_in s file o r ≡ row_in t file o r
+  row_same r loaded = go (slice_get o.sections r.section) refl loaded
+    where
+      go : (f : Option Section) → slice_get o.sections r.section ≡ f → is_loaded_at f ≡ true → map_row file (s file r.section) (moves_at (s file r.section) f) r ≡ map_row file (t file r.section) (moves_at (t file r.section) f) r
+      go None at e = absurd (cc)
+      go (Some x) at e = ap (λ n. map_row file n (moves n x) r) (agreed r.section x at e)
+
+  rows_same : (rs : List Row) → AllByRecursion (λ r. is_loaded_at (slice_get o.sections r.section) ≡ true) rs → map (row_in s file o) rs ≡ map (row_in t file o) rs
+  rows_same [] h = refl
+  rows_same (r ∷ rs) (loaded, h) = ap (λ q. q ∷ map (row_in s file o) rs) (row_same r loaded) ∙ ap (λ l. row_in t file o r ∷ l) (rows_same rs h)
+
+-- what holds of rows holds of them in their order
+module _ (P : Row → Type 0) where
+  all_inserted : (r : Row) (rs : List Row) → P r → AllByRecursion P rs → AllByRecursion P (inserted_row r rs)
+  all_inserted r [] one h = (one, tt)
+  all_inserted r (q ∷ qs) one (own, h) = go (nat_le r.ordinal q.ordinal) (all_inserted r qs one h)
+    where
+      go : (b : Bool) → AllByRecursion P (inserted_row r qs) → AllByRecursion P (if b then r ∷ q ∷ qs else q ∷ inserted_row r qs)
+      go true more = (one, (own, h))
+      go false more = (own, more)
+
+  all_ordered : (rs : List Row) → AllByRecursion P rs → AllByRecursion P (by_ordinal rs)
+  all_ordered [] h = tt
+  all_ordered (r ∷ rs) (one, h) = all_inserted r (by_ordinal rs) one (all_ordered rs h)
+
+module _ (s t : Starts) where
+  pub all_globals : (file : ℕ) (os : List Object) → AreAgreed s t file os → globals_of s file os ≡ globals_of t file os
+  all_globals file [] h = refl
+  all_globals file (o ∷ os) (own, h) =
+      ap (λ l. l ++ globals_of s (suc file) os)
+      (flat_same (λ (x : Symbol). shown x.name (defined_address (s file) o x.definition)) (λ (x : Symbol). shown x.name (defined_address (t file) o x.definition)) (shown_same s t file o own) (exported o))
+      ∙ ap (λ l. flat_map (λ (x : Symbol). shown x.name (defined_address (t file) o x.definition)) (exported o) ++ l) (all_globals (suc file) os h)
+
+  pub all_entries : (file : ℕ) (os : List Object) → AreAgreed s t file os → entry_of s file os ≡ entry_of t file os
+  all_entries file [] h = refl
+  all_entries file (o ∷ os) (own, h) =
+      ap (λ a. entry_by a (entry_of s (suc file) os)) (begun_same s t file o own (find (begins_run o) (exported o)))
+      ∙ ap (entry_by (option_and_then (λ (x : Symbol). defined_address (t file) o x.definition) (find (begins_run o) (exported o)))) (all_entries (suc file) os h)
+
+  pub all_rows : (file : ℕ) (os : List Object) → AreAgreed s t file os → HavePlacedRows os → rows_of s file os ≡ rows_of t file os
+  all_rows file [] h placed = refl
+  all_rows file (o ∷ os) (own, h) (one, placed) =
+      ap (λ l. l ++ rows_of s (suc file) os)
+      (rows_same s t file o own (by_ordinal o.rows) (all_ordered (λ r. is_loaded_at (slice_get o.sections r.section) ≡ true) o.rows one))
+      ∙ ap (λ l. map (row_in t file o) (by_ordinal o.rows) ++ l) (all_rows (suc file) os h placed)

@@ -1,0 +1,87 @@
+-- Where names have addresses, no reference is undefined.
+
+use Rattle.std.proofs.Common.{◌≡◌, ◌+◌, ℕ, suc, Bool, true, false, Option, Some, None, List, [], ◌∷◌, ◌++◌, is_some, refl, sym, ap, ◌∙◌, ◌%◌, ◌^◌}
+use Rattle.std.specs.Prelude.{IsTrue, option_and_then, if◌then◌else◌}
+use Rattle.std.specs.List.{AllByRecursion, slice_get}
+use Rattle.std.specs.Option.{option_or}
+use Rattle.rv_map.specs.Map.{Map, Global}
+use Rattle.rv_object.specs.declared.symbol.Definition.{Definition}
+use Rattle.rv_object.specs.declared.symbol.Definition.TheVariants as definitions
+use Rattle.rv_object.specs.Object.{Relocation, Section, Symbol, Object}
+use Rattle.rv_object_laws.specs.Moves.{moves, new_offset}
+use Rattle.rv_object_laws.specs.Inputs.{Starts, InputSection, inputs_from, inputs_of, inputs}
+use Rattle.rv_object_laws.specs.IsLinkOf.{is_loaded}
+use Rattle.rv_object_laws.specs.Names.{offset_address, defined_address, global_address, symbol_address, symbol_address_by, globals_of, global_names, is_defined, AreDistinct, linker_symbols, shown_linker_symbols}
+use Rattle.rv_object_laws.specs.Values.{target}
+use Rattle.rv_resolve.specs.Exports.{Export, export_of}
+use Rattle.rv_resolve.specs.Undefined.{has_address, is_loaded_at, is_known, undefined_symbol, undefined_name, undefined_in, first_some, first_undefined}
+use Rattle.rv_resolve.proofs.LinkerNamesLemmas.{some_address}
+use Rattle.rv_resolve.proofs.ShownLemmas.{meaning, means}
+use Rattle.rv_unique_link_laws.proofs.FoundLemmas.{input, all_left, all_right}
+
+some_by : (b : Bool) (n : ℕ) → is_some (if b then Some n else None) ≡ true → b ≡ true
+some_by true n e = refl
+some_by false n e = absurd (cc)
+
+loaded_by : (start offset : ℕ) (f : Option Section) → is_some (offset_address start offset f) ≡ true → is_loaded_at f ≡ true
+loaded_by start offset None e = absurd (cc)
+loaded_by start offset (Some s) e = some_by s.loaded ((start + new_offset (moves start s) offset) % 2 ^ 64) e
+
+addressed : (starts : ℕ → ℕ) (o : Object) (d : Definition) → is_some (defined_address starts o d) ≡ true → has_address o d ≡ true
+addressed starts o definitions.Undefined e = absurd (cc)
+addressed starts o (definitions.Absolute n) e = refl
+addressed starts o (definitions.InSection section offset) e = loaded_by (starts section) offset (slice_get o.sections section) e
+addressed starts o (definitions.Skipped n) e = absurd (cc)
+
+module _ (os : List Object) (starts : Starts) (m : Map) (distinct : AreDistinct (global_names os)) where
+  abbrev every : List Global
+  every = globals_of starts 1 os ++ shown_linker_symbols os m
+
+  name_known : (name : List ℕ) → is_some (global_address every name) ≡ true → is_known name (export_of os name) ≡ true
+  name_known name e = by (export_of os name) (ap is_some (sym (means starts os m name distinct)) ∙ e)
+    where
+      by : (f : Option Export) → is_some (meaning starts m name f) ≡ true → is_known name f ≡ true
+      by (Some x) h = addressed (starts (x.file + 1)) x.object x.symbol.definition h
+      by None h = sym (some_address (linker_symbols m) name) ∙ h
+
+  symbol_known : (own : ℕ → ℕ) (o : Object) (name : List ℕ) (d : Definition) → is_some (symbol_address_by every own o name d) ≡ true
+      → (if is_defined d then has_address o d else is_known name (export_of os name)) ≡ true
+  symbol_known own o name definitions.Undefined e = name_known name e
+  symbol_known own o name (definitions.Absolute n) e = refl
+  symbol_known own o name (definitions.InSection section offset) e = addressed own o (definitions.InSection section offset) e
+  symbol_known own o name (definitions.Skipped n) e = absurd (cc)
+
+  none_by : (own : ℕ → ℕ) (o : Object) (f : Option Symbol) → is_some (option_and_then (symbol_address every own o) f) ≡ true → undefined_symbol os o f ≡ None
+  none_by own o None e = absurd (cc)
+  none_by own o (Some s) e = ap (λ b. if b then None else Some s.name) (symbol_known own o s.name s.definition e)
+
+  none_at : (own : ℕ → ℕ) (o : Object) (index : Option ℕ) → is_some (target every own o index) ≡ true → undefined_name os o index ≡ None
+  none_at own o None e = refl
+  none_at own o (Some index) e = none_by own o (slice_get o.symbols index) e
+
+  abbrev pub HaveTargets : InputSection → Type 0
+  HaveTargets i = AllByRecursion (λ r. IsTrue (is_some (target every (starts i.file) i.object r.symbol))) i.section.relocations
+
+  none_of : (own : ℕ → ℕ) (o : Object) (rs : List Relocation) → AllByRecursion (λ r. IsTrue (is_some (target every own o r.symbol))) rs → first_some (λ r. undefined_name os o r.symbol) rs ≡ None
+  none_of own o [] h = refl
+  none_of own o (r ∷ rs) (e, h) = ap (λ f. option_or f (first_some (λ q. undefined_name os o q.symbol) rs)) (none_at own o r.symbol e) ∙ none_of own o rs h
+
+  none_in : (file : ℕ) (o : Object) (index : ℕ) (ss : List Section) → AllByRecursion HaveTargets (inputs_from is_loaded file o index ss) → first_some (undefined_in os o) ss ≡ None
+  none_in file o index [] h = refl
+  none_in file o index (s ∷ ss) h = by s.loaded h (none_in file o (suc index) ss)
+    where
+      by : (b : Bool) → AllByRecursion HaveTargets (if b then input file o index s ∷ inputs_from is_loaded file o (suc index) ss else inputs_from is_loaded file o (suc index) ss)
+          → (AllByRecursion HaveTargets (inputs_from is_loaded file o (suc index) ss) → first_some (undefined_in os o) ss ≡ None)
+          → option_or (if b then first_some (λ r. undefined_name os o r.symbol) s.relocations else None) (first_some (undefined_in os o) ss) ≡ None
+      by true (own, h) rest = ap (λ f. option_or f (first_some (undefined_in os o) ss)) (none_of (starts file) o s.relocations own) ∙ rest h
+      by false h rest = rest h
+
+  none_from : (file : ℕ) (ps : List Object) → AllByRecursion HaveTargets (inputs_of is_loaded file ps) → first_some (λ o. first_some (undefined_in os o) o.sections) ps ≡ None
+  none_from file [] h = refl
+  none_from file (o ∷ ps) h =
+      ap (λ f. option_or f (first_some (λ q. first_some (undefined_in os q) q.sections) ps))
+      (none_in file o 0 o.sections (all_left HaveTargets (inputs_from is_loaded file o 0 o.sections) (inputs_of is_loaded (suc file) ps) h))
+      ∙ none_from (suc file) ps (all_right HaveTargets (inputs_from is_loaded file o 0 o.sections) (inputs_of is_loaded (suc file) ps) h)
+
+  pub none_undefined : AllByRecursion HaveTargets (inputs is_loaded os) → first_undefined os ≡ None
+  none_undefined h = none_from 1 os h

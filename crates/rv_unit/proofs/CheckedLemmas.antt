@@ -1,0 +1,38 @@
+-- The first fault, statement by statement.
+
+use Rattle.std.proofs.Common.{◌≡◌, ℕ, suc, ◌+◌, ◌<◌, List, ◌∷◌, length, map, drop, get_or, sym, ap, ◌∙◌, arith, Option, Some, None, option_map}
+use Rattle.rv_lexer.specs.declared.fault.SourceCode.{SourceCode}
+use Rattle.rv_lexer.specs.Fault.{number_of}
+use Rattle.rv_statement.specs.declared.statement.Statement.{Statement}
+use Rattle.rv_statement.specs.View.{statement_of}
+use Rattle.rv_unit.specs.Faults.{IsLowest}
+use Rattle.rv_statement.specs.Statement.{Statement as SpecStatement}
+use Rattle.rv_unit_laws.specs.Tables.{after, tables}
+use Rattle.rv_unit_laws.specs.Faults.{faults, lowest, at_line, first_fault_from}
+use Rattle.rv_unit_tables.proofs.FillingLemmas.{drop_next}
+use Rattle.rv_unit.specs.Unit.{passed}
+
+-- a statement without a fault is passed over
+pub check_more : (ss : List SpecStatement) (i : ℕ) (x : SpecStatement) → drop i ss ≡ x ∷ drop (i + 1) ss → lowest (faults (tables ss) (passed ss i) (i + 1) x.kind) ≡ None → passed ss (i + 1) ≡ after (passed ss i) (i + 1) x.kind
+    → first_fault_from (tables ss) (passed ss i) (i + 1) (drop i ss) ≡ first_fault_from (tables ss) (passed ss (i + 1)) (i + 1 + 1) (drop (i + 1) ss)
+check_more ss i x next none more =
+    ap (first_fault_from (tables ss) (passed ss i) (i + 1)) next
+    ∙ ap (λ f. at_line x.line f (first_fault_from (tables ss) (after (passed ss i) (i + 1) x.kind) (suc (i + 1)) (drop (i + 1) ss))) none
+    ∙ ap (λ t. first_fault_from (tables ss) t (suc (i + 1)) (drop (i + 1) ss)) (sym more)
+    ∙ ap (λ n. first_fault_from (tables ss) (passed ss (i + 1)) n (drop (i + 1) ss)) (let e : suc (i + 1) ≡ i + 1 + 1 = omega arith in e)
+
+-- one with a fault is the first
+pub check_found : (ss : List SpecStatement) (i code : ℕ) (x : SpecStatement) → drop i ss ≡ x ∷ drop (i + 1) ss → lowest (faults (tables ss) (passed ss i) (i + 1) x.kind) ≡ Some code
+    → first_fault_from (tables ss) (passed ss i) (i + 1) (drop i ss) ≡ Some (record { code = code; line = x.line })
+check_found ss i code x next found =
+    ap (first_fault_from (tables ss) (passed ss i) (i + 1)) next
+    ∙ ap (λ f. at_line x.line f (first_fault_from (tables ss) (after (passed ss i) (i + 1) x.kind) (suc (i + 1)) (drop (i + 1) ss))) found
+
+-- the lowest code of a statement, by what was found
+pub check_lowest : (ss : List SpecStatement) (i : ℕ) (x : SpecStatement) (found same : Option SourceCode) → IsLowest found (faults (tables ss) (passed ss i) (i + 1) x.kind) → found ≡ same
+    → lowest (faults (tables ss) (passed ss i) (i + 1) x.kind) ≡ option_map number_of same
+check_lowest ss i x found same low at = sym low ∙ ap (option_map number_of) at
+
+-- the next statement
+pub next_said : (xs : List Statement) (i : ℕ) (x : Statement) → i < length xs → x ≡ get_or xs i x → drop i (map statement_of xs) ≡ statement_of x ∷ drop (i + 1) (map statement_of xs)
+next_said xs i x inside is = drop_next statement_of x xs i inside ∙ ap (λ y. statement_of y ∷ drop (i + 1) (map statement_of xs)) (sym is)
