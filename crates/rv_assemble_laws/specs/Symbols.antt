@@ -3,12 +3,13 @@
 
 use Rattle.std.specs.Prelude.{◌≡◌, ℕ, Bool, true, false, not, ◌&&◌, ◌==◌, List, [], ◌∷◌, ◌++◌, filter, flat_map, map, Option, Some, None, if◌then◌else◌}
 use Rattle.std.specs.List.{find, list_any}
+use Rattle.rv_map.specs.Globals.{is_one_of}
 use Rattle.rv_text_laws.specs.Expression.{Primary, Symbol as Named, Literal, Here, Reference}
 use Rattle.rv_text_laws.specs.Values.{Known, InSection as InData, Open as OpenAddress, Refused, add}
 use Rattle.rv_statement.specs.Statement.{StatementKind, Directs, Sets}
 use Rattle.rv_unit_laws.specs.Bindings.{is_global}
 use Rattle.rv_unit_laws.specs.Tables.{Tables, Definition, Assignment, definition, assigned_ever}
-use Rattle.rv_source_laws.specs.Resolves.{defined_name, global_names_of, is_one_of}
+use Rattle.rv_source_laws.specs.Resolves.{defined_name, global_names_of}
 use Rattle.rv_object.specs.declared.symbol.Binding.TheVariants.{Local, Global}
 use Rattle.rv_object.specs.declared.symbol.Definition.{Definition as Defined}
 use Rattle.rv_object.specs.declared.symbol.Definition.TheVariants.{Undefined, Absolute, InSection, Skipped}

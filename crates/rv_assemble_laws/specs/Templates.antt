@@ -5,16 +5,13 @@ use Rattle.std.specs.Prelude.{◌≡◌, ℕ, zero, suc, ℤ, pos, Bool, true, f
 use Rattle.std.specs.Int.{w64, int_wrap}
 use Rattle.rv_isa.specs.declared.kind.Kind.{Kind}
 use Rattle.rv_isa.specs.declared.kind.Kind.TheVariants.{Align, Abs32, Abs64, Add8, Add16, Add32, Add64, Sub8, Sub16, Sub32, Sub64}
-use Rattle.rv_isa_laws.specs.Bytes.{little_endian}
+use Rattle.rv_isa_laws.specs.Bytes.{little_endian, zeros}
 use Rattle.rv_text_laws.specs.Expression.{Primary}
 use Rattle.rv_text_laws.specs.Values.{Value, Constant, Symbolic, Difference, Faulty}
 use Rattle.rv_statement.specs.Statement.{Expression}
 use Rattle.rv_unit_laws.specs.Contributions.{Contents, Numbers, Texts, Contribution, Nothing, Bytes, Zero_bytes, Alignment}
 use Rattle.rv_unit_laws.specs.Tables.{string_bytes}
 use Rattle.rv_object.specs.Padding.{no_operations}
-
-abbrev pub zeros : ℕ → List ℕ
-zeros count = replicate count 0
 
 -- ---- open fields
 

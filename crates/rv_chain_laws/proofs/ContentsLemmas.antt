@@ -7,6 +7,8 @@ use Rattle.std.proofs.lemmas.List.{length-replicate, get_or-replicate}
 use Rattle.std.proofs.Math.ListN.{get_or-eq_default}
 use Rattle.std.specs.Prelude.{◌&&◌, ◌||◌, ◌==◌, not, nat_lt, if◌then◌else◌, slice_index, slice_index_or, option_map, codes, IsTrue, max}
 use Rattle.std.specs.List.{AllByRecursion, find, list_any}
+use Rattle.rv_layout_laws.specs.Alignment.{aligned}
+use Rattle.rv_isa_laws.specs.Bytes.{zeros}
 use Rattle.rv_isa.specs.declared.instruction.Inst.{Inst}
 use Rattle.rv_isa.specs.Ranges.{IsValid}
 use Rattle.rv_isa_laws.specs.Memory.{Mem, Read, Write, Execute}
@@ -19,7 +21,7 @@ use Rattle.rv_pseudo_laws.specs.Code.{Part}
 use Rattle.rv_unit_laws.specs.Contributions.{Contribution, Nothing, Bytes, Zero_bytes, Alignment, contribution}
 use Rattle.rv_unit_laws.specs.Options.{Options}
 use Rattle.rv_unit_laws.specs.Sections.{Section, is_nobits, goes_to_text, goes_to_rodata, goes_to_data, goes_to_bss}
-use Rattle.rv_unit_laws.specs.Tables.{Tables, tables, aligned, alignments_of}
+use Rattle.rv_unit_laws.specs.Tables.{Tables, tables, alignments_of}
 use Rattle.rv_map.specs.Map.{Map}
 use Rattle.rv_map.specs.declared.map.Row.{Row}
 use Rattle.rv_map.specs.declared.map.Region.{Region}
@@ -37,7 +39,7 @@ use Rattle.rv_source_laws.specs.SourceRun.{Starts, Gap, Outside, starts_or_insid
 use Rattle.rv_source_laws.proofs.HeldLemmas.{ContributionHeld, DirectiveHeld, IsHeld, Held}
 use Rattle.rv_source_laws.proofs.HomesLemmas.{all_join, all_map}
 use Rattle.rv_chain_laws.specs.Realizes.{StandsIn, HoldsLines, Realizes}
-use Rattle.rv_chain_laws.specs.Contents.{IsEncoded, AreEncoded, IsWritten, contents, zeros, IsLinked}
+use Rattle.rv_chain_laws.specs.Contents.{IsEncoded, AreEncoded, IsWritten, contents, IsLinked}
 use Rattle.rv_chain_laws.specs.Headline.{RunsAgree}
 use Rattle.rv_chain_laws.proofs.WordsLemmas.{HasBytes, fetch-parcel, fetch-zeros, fetch-word, bytes_behind, may_all, Runs}
 use Rattle.rv_chain_laws.proofs.SimulationLemmas.{agreement_of_image}

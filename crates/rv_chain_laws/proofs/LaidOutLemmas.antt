@@ -6,6 +6,7 @@ use Rattle.std.proofs.lemmas.Bool.{eqb-true}
 use Rattle.std.proofs.lemmas.List.{length-replicate}
 use Rattle.std.proofs.Math.Seq.{get_or-append_seam}
 use Rattle.std.specs.Prelude.{◌&&◌, ◌||◌, ◌==◌, not, nat_le, nat_lt, if◌then◌else◌, filter, slice_index}
+use Rattle.rv_isa_laws.specs.Bytes.{zeros}
 use Rattle.rv_isa_laws.specs.Memory.{Mem, Right, Read, Write, Execute}
 use Rattle.rv_image.specs.Linked.{Linked}
 use Rattle.rv_image.specs.Executable.{Part, memory_size_of, all_parts, has_memory, segment_of_part, linked_image}
@@ -13,7 +14,6 @@ use Rattle.rv_image.specs.Segment.{Segment}
 use Rattle.rv_isa_laws.specs.Platform.{stack_start, stack_end}
 use Rattle.rv_image.specs.Memory.{mem_of, lies_in, segment_at, byte_in, right_in}
 use Rattle.rv_source_laws.specs.Start.{is_within, is_in, right_at}
-use Rattle.rv_chain_laws.specs.Contents.{zeros}
 use Rattle.rv_chain_laws.proofs.WordsLemmas.{HasBytes, bytes_behind}
 use Rattle.rv_chain_laws.proofs.RegionsLemmas.{bytes_front}
 

@@ -9,14 +9,15 @@ use Rattle.std.proofs.lemmas.Nat.{mul-mod_second}
 use Rattle.std.proofs.Math.Nat.{mod-eq-sub-div-mul, div-mul-le_self, mod-lt}
 use Rattle.std.specs.Prelude.{nat_le, nat_lt, if◌then◌else◌, flat_map, slice_index}
 use Rattle.std.specs.List.{AllByRecursion, list_any}
+use Rattle.rv_layout_laws.specs.Alignment.{aligned}
+use Rattle.rv_isa_laws.specs.Bytes.{zeros}
 use Rattle.rv_isa_laws.specs.Memory.{Mem}
 use Rattle.rv_map.specs.declared.map.Row.{Row}
 use Rattle.rv_map.specs.declared.map.Region.{Region}
 use Rattle.rv_source_laws.specs.Program.{Mapped}
-use Rattle.rv_unit_laws.specs.Tables.{aligned}
 use Rattle.rv_source_laws.specs.Fits.{InputSection, rows_of, Follow, size, Stand, end_of, gaps_of}
 use Rattle.rv_source_laws.specs.Start.{is_within, is_in}
-use Rattle.rv_chain_laws.specs.Contents.{contents, zeros}
+use Rattle.rv_chain_laws.specs.Contents.{contents}
 use Rattle.rv_chain_laws.proofs.WordsLemmas.{HasBytes, bytes_behind}
 
 abbrev row_of : Mapped → Row

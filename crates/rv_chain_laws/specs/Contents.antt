@@ -3,6 +3,8 @@
 
 use Rattle.std.specs.Prelude.{◌≡◌, ℕ, ◌+◌, ◌-◌, ◌≤◌, ◌⊎◌, ⊤, Bool, ◌&&◌, IsTrue, List, [], ◌∷◌, ◌++◌, flat_map, replicate, Some}
 use Rattle.std.specs.List.{AllByRecursion}
+use Rattle.rv_layout_laws.specs.Alignment.{aligned}
+use Rattle.rv_isa_laws.specs.Bytes.{zeros}
 use Rattle.rv_isa.specs.Kinds.{width_of}
 use Rattle.rv_isa_laws.specs.Platform.{stack_start}
 use Rattle.rv_compress.specs.Encoded.{IsLeast, IsEncodedIn}
@@ -13,7 +15,6 @@ use Rattle.rv_image.specs.Linked.{Linked}
 use Rattle.rv_unit_laws.specs.Sections.{goes_to_text, goes_to_rodata, goes_to_data}
 use Rattle.rv_source_laws.specs.Program.{Mapped, Program, program}
 use Rattle.rv_source_laws.specs.Lines.{parts, Line, AreLines}
-use Rattle.rv_unit_laws.specs.Tables.{aligned}
 use Rattle.rv_source_laws.specs.Fits.{Fits, InputSection, rows_of, input_sections, size}
 use Rattle.rv_source_laws.specs.Resolves.{Resolves}
 use Rattle.rv_source_laws.specs.Start.{spelled}
@@ -71,9 +72,6 @@ IsCodeWritten p code =
     AllByRecursion (λ s. IsTrue s.located.home.executable → IsWritten p s (code s)) p.mapped
 
 -- ---- regions
-
-abbrev pub zeros : ℕ → List ℕ
-zeros count = replicate count 0
 
 -- the bytes of sections one after another from an end on: zeros up to where each starts, and then
 -- those of its statements

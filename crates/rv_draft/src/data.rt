@@ -3,7 +3,7 @@
 ghost use Rattle.std.specs.Prelude.{◌≡◌, ℕ, ◌<◌, ◌≤◌, ◌+◌, ◌*◌, ◌++◌, ◌^◌, ℤ, pos, List, [], ◌∷◌, true, false, flat_map, map, length, replicate, IfOk, OnOk, if◌then◌else◌};
 ghost use Rattle.std.specs.Global.{Vec};
 ghost use Rattle.std.specs.Int.{w64, int_wrap};
-ghost use Rattle.rv_isa_laws.specs.Bytes.{little_endian};
+ghost use Rattle.rv_isa_laws.specs.Bytes.{little_endian, zeros};
 ghost use Rattle.rv_text.specs.Expr.{tree_of_expr};
 ghost use Rattle.rv_text.specs.Nodes.{symbol_of};
 ghost use Rattle.rv_statement.specs.View.{bytes_of, quoted, statement_kind};
@@ -73,7 +73,7 @@ fn put_number(bytes: &mut Vec<u8>, width: Width, number: u64) -> Result<(), Allo
 
 /// Adds zero bytes.
 fn put_zeros(bytes: &mut Vec<u8>, count: u32) -> Result<(), AllocError>
-    ensures { OnOk result (bytes.new.items ≡ bytes.old.items ++ laws.zeros count) }
+    ensures { OnOk result (bytes.new.items ≡ bytes.old.items ++ zeros count) }
 {
     for _ in 0..count {
         bytes.push(0)?;

@@ -2,3 +2,5 @@ pub mod Offsets
 pub mod Branches
 pub mod Calls
 pub mod Paddings
+pub mod Sites
+pub mod Alignment

@@ -5,13 +5,14 @@ use Rattle.std.proofs.lemmas.Bool.{and_parts, leb-true, ltb-true, le-leb}
 use Rattle.std.proofs.lemmas.Bool.Decides.{nat_tests}
 use Rattle.std.specs.Prelude.{◌&&◌, ◌||◌, not, nat_le, nat_lt, max, filter, unwrap_or, if◌then◌else◌}
 use Rattle.std.specs.List.{AllByRecursion, list_all}
+use Rattle.rv_layout_laws.specs.Alignment.{aligned}
 use Rattle.rv_isa.specs.declared.kind.Kind.{Kind}
 use Rattle.rv_isa.specs.declared.kind.Kind.TheVariants as kinds
 use Rattle.rv_isa.specs.Kinds.{width_of}
 use Rattle.rv_object.specs.Object.{Contents, Progbits, Note, Nobits, Relocation, Section, size_of}
 use Rattle.rv_object.specs.Valid.{is_align, padding_of, is_padding, is_padding_of, held, are_apart, are_all_apart, are_paddings, fits_inside, fit_inside}
 use Rattle.rv_object.specs.Padding.{no_operations}
-use Rattle.rv_object_laws.specs.Moves.{full_padding, has_padding, aligned, alignment_of, inserted, by_place, plan, moves, new_offset, has_room}
+use Rattle.rv_object_laws.specs.Moves.{full_padding, has_padding, alignment_of, inserted, by_place, plan, moves, new_offset, has_room}
 use Rattle.rv_link.proofs.FollowingLemmas.{Follow, Clears, field_inside}
 
 -- ---- tests

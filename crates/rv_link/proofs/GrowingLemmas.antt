@@ -4,10 +4,11 @@ use Rattle.std.proofs.Common.{◌≡◌, ℕ, zero, suc, ◌+◌, ◌-◌, ◌*�
 use Rattle.std.proofs.lemmas.List.{append-nil, length-append, length-take, length-drop, length-replicate}
 use Rattle.std.specs.Prelude.{slice_index_or, ℤ, IsTrue, Option, Some, None}
 use Rattle.std.specs.List.{AllByRecursion, list_all, slice_get}
+use Rattle.rv_layout_laws.specs.Alignment.{aligned}
 use Rattle.rv_map.specs.declared.map.Region.{Region}
 use Rattle.rv_object.specs.Object.{Relocation, Section, Object}
-use Rattle.rv_object_laws.specs.Moves.{Move, moves, new_offset, kept, has_room, aligned, alignments_of}
-use Rattle.rv_object_laws.specs.Inputs.{Starts, InputSection, goes_to_text, inputs_from, inputs_of, raised, begins_at, start_of, size, Stand, end_of, Holds, zeros, contents}
+use Rattle.rv_object_laws.specs.Moves.{Move, moves, new_offset, kept, has_room, alignments_of}
+use Rattle.rv_object_laws.specs.Inputs.{Starts, InputSection, goes_to_text, inputs_from, inputs_of, raised, begins_at, start_of, size, Stand, end_of, Holds, contents}
 use Rattle.rv_object_laws.specs.Names.{object_at, no_object}
 use Rattle.rv_object_laws.specs.Values.{patched_at, applied, initial_bytes}
 use Rattle.rv_shorten.specs.Sections.{short_section_of}
@@ -16,7 +17,7 @@ use Rattle.rv_placement.specs.declared.placement.Placement.{Placement}
 use Rattle.rv_placement.specs.Placement.{starts_of, section_in, section_at}
 use Rattle.rv_isa.specs.declared.kind.Kind.{Kind}
 use Rattle.rv_isa.specs.Kinds.{width_of}
-use Rattle.rv_isa_laws.specs.Bytes.{little_endian}
+use Rattle.rv_isa_laws.specs.Bytes.{little_endian, zeros}
 use Rattle.rv_reloc.specs.Fields.{patched}
 use Rattle.rv_link.specs.declared.fixed.Input.{Input}
 use Rattle.rv_link_values.specs.Values.{IsInputAt}

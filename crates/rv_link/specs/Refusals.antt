@@ -2,10 +2,11 @@
 -- ld's diagnostics are of the same kinds).
 
 use Rattle.std.specs.Prelude.{◌≡◌, ◌⊎◌, ⊤, ℕ, ◌%◌, ◌<◌, ◌≤◌, Bool, true, false, List, length, Some, None}
+use Rattle.rv_map.specs.Globals.{AreDistinct}
 use Rattle.rv_isa_laws.specs.Platform.{stack_start}
 use Rattle.rv_object.specs.Object.{Object}
 use Rattle.rv_object_laws.specs.Inputs.{Starts, goes_to_text, inputs, Stand}
-use Rattle.rv_object_laws.specs.Names.{global_names, AreDistinct, entry_of}
+use Rattle.rv_object_laws.specs.Names.{global_names, entry_of}
 use Rattle.rv_object_laws.specs.IsLinkOf.{most_files, is_loaded}
 use Rattle.rv_object_laws.specs.Shortened.{Relaxes}
 use Rattle.rv_placement.specs.declared.placement.Placement.{Placement}

@@ -2,8 +2,9 @@
 
 ghost use Rattle.std.specs.Prelude.{◌≡◌, ◌+◌, ◌-◌, ◌++◌, ◌<◌, ◌≤◌, IfOk, IfErr, OnOk, Some, pos, true, length};
 ghost use Rattle.std.specs.List.{AllByRecursion};
+ghost use Rattle.rv_isa_laws.specs.Bytes.{zeros};
 ghost use Rattle.rv_object.specs.Parts.{relocation_of};
-ghost use Rattle.rv_object_laws.specs.Inputs.{is_nobits, zeros};
+ghost use Rattle.rv_object_laws.specs.Inputs.{is_nobits};
 ghost use Rattle.rv_object_laws.specs.Moves.{kept, new_offset};
 ghost use Rattle.rv_object_laws.specs.Values.{applied, initial_bytes, is_low, value};
 ghost use Rattle.rv_object_laws.specs.Names.{object_at};

@@ -2,11 +2,12 @@
 
 ghost use Rattle.std.specs.Prelude.{◌≡◌, ◌%◌, ◌<◌, [], List, Some, map, IfOk, IfErr, OnOk};
 ghost use Rattle.std.specs.List.{list_any};
+ghost use Rattle.rv_map.specs.Globals.{AreDistinct};
 ghost use Rattle.rv_isa_laws.specs.Platform.{stack_start};
 ghost use Rattle.rv_image.specs.Linked.{linked_of};
 ghost use Rattle.rv_object.specs.Object.{Object as SaidObject};
 ghost use Rattle.rv_object_laws.specs.IsLinkOf.{IsLinkOf};
-ghost use Rattle.rv_object_laws.specs.Names.{AreDistinct, global_names, entry_of};
+ghost use Rattle.rv_object_laws.specs.Names.{global_names, entry_of};
 ghost use Rattle.rv_shorten.specs.View.{short_object_of};
 ghost use Rattle.rv_placement.specs.Placement.{IsPlacement, starts_of};
 ghost use Rattle.rv_map.specs.Limits.{IsMap};

@@ -5,12 +5,13 @@ use Rattle.std.specs.Prelude.{if◌then◌else◌, unwrap_or}
 use Rattle.std.specs.List.{find, slice_get}
 use Rattle.std.proofs.lemmas.Bool.{ltb-true, lt-ltb}
 use Rattle.std.proofs.lemmas.List.{drop_all, length-map, length-append}
+use Rattle.rv_layout_laws.specs.Sites.{padding_site}
 use Rattle.rv_layout_laws.specs.declared.site.Site.{Site}
 use Rattle.rv_layout_laws.specs.Calls.{site_at}
 use Rattle.rv_object.specs.Object.{Section, Object, Relocation, size_of}
 use Rattle.rv_object_laws.specs.Moves.{alignment_of, full_padding, has_padding}
 use Rattle.rv_object_laws.specs.Inputs.{InputSection, goes_to_text, inputs_from, inputs_of, inputs, begins_at}
-use Rattle.rv_object_laws.specs.Calls.{call_site, changes, padding_site, site_of, sites_from, sites_of, start_padding}
+use Rattle.rv_object_laws.specs.Calls.{call_site, changes, site_of, sites_from, sites_of, start_padding}
 use Rattle.rv_placement.proofs.AlignmentsLemmas.{begins_some}
 use Rattle.rv_relax.specs.Placed.{is_aligning}
 use Rattle.rv_link_sites.specs.Line.{text_starts, starts_from, starts_of, section_starts, input, object_starts, files_starts}

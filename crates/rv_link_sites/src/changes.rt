@@ -3,6 +3,7 @@
 ghost use Rattle.std.specs.Prelude.{◌≡◌, ◌+◌, ◌≤◌, ◌<◌, ◌^◌, ◌++◌, ◌∷◌, [], List, map, length, replicate, Some, None, false, IfOk, OnOk, if◌then◌else◌};
 ghost use Rattle.std.specs.Ordering.{nat_cmp};
 ghost use Rattle.std.specs.List.Sorted.{IsNonDecreasingBy, IsPermutation, IsStableByKey};
+ghost use Rattle.rv_layout_laws.specs.Sites.{padding_site};
 ghost use Rattle.rv_isa.specs.Kinds.{width_of};
 ghost use Rattle.rv_object.specs.Object.{Relocation as SaidRelocation, size_of, stored};
 ghost use Rattle.rv_object.specs.Parts.{relocation_of};
@@ -48,7 +49,7 @@ pub(crate) struct Marked {
 fn padding_site(offset: u64, bytes: u64, alignment: u64) -> Site
     requires bytes { bytes ≤ 4094 }
     requires alignment { alignment ≤ 4096 }
-    ensures { result ≡ laws.padding_site offset bytes alignment }
+    ensures { result ≡ padding_site offset bytes alignment }
 {
     Site {
         offset,

@@ -5,3 +5,5 @@ pub mod Limits
 pub mod Numeral
 pub mod Reading
 pub mod Lookup
+pub mod Globals
+pub mod Regions

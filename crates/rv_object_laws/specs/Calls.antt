@@ -4,6 +4,7 @@
 use Rattle.std.specs.Prelude.{ℕ, ◌+◌, ◌-◌, ◌/◌, ◌%◌, ◌^◌, ◌==◌, Bool, true, false, not, ◌&&◌, ◌||◌, nat_le, nat_lt, List, [], ◌∷◌, ◌++◌, take, drop, filter, map, count_by, Option, Some, None, option_and_then, if◌then◌else◌}
 use Rattle.std.specs.Int.{w32, from_le_bytes}
 use Rattle.std.specs.List.{list_any, slice_get}
+use Rattle.rv_layout_laws.specs.Sites.{padding_site}
 use Rattle.rv_isa.specs.declared.kind.Kind.{Kind}
 use Rattle.rv_isa.specs.declared.kind.Kind.TheVariants as kinds
 use Rattle.rv_isa.specs.Kinds.{width_of}
@@ -155,12 +156,6 @@ changes os i = in_order (filter (may_change os i) i.section.relocations)
 abbrev pub is_compressible : InputSection → Relocation → Bool
 is_compressible i r =
     i.object.rvc && (link_register (stored i.section.contents) r.place == 0)
-
-abbrev pub padding_site : (offset bytes alignment : ℕ) → Site
-padding_site offset bytes alignment = record {
-  offset = offset;
-  kind = sites.Padding (record { bytes = bytes; alignment = alignment });
-}
 
 abbrev pub call_site : List Object → InputSection → ℕ → Relocation → Site
 call_site os i offset r = record {

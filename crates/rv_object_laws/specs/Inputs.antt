@@ -2,9 +2,12 @@
 -- (gABI, "Sections"; GNU ld, "SECTIONS Command"; this project's layout).
 
 use Rattle.std.specs.Prelude.{◌≡◌, ℕ, suc, ◌+◌, ◌-◌, Bool, true, false, not, ◌&&◌, nat_lt, ⊤, max, List, [], ◌∷◌, ◌++◌, replicate, if◌then◌else◌}
+use Rattle.rv_layout_laws.specs.Alignment.{aligned}
+use Rattle.rv_isa_laws.specs.Bytes.{zeros}
 use Rattle.rv_map.specs.declared.map.Region.{Region}
+use Rattle.rv_map.specs.Regions.{is_text, is_bss, is_data, is_rodata}
 use Rattle.rv_object.specs.Object.{Contents, Progbits, Note, Nobits, Relocation, Section, Object, size_of}
-use Rattle.rv_object_laws.specs.Moves.{aligned, alignment_of, alignments_of, moves, new_offset}
+use Rattle.rv_object_laws.specs.Moves.{alignment_of, alignments_of, moves, new_offset}
 
 -- ---- regions
 
@@ -15,16 +18,16 @@ is_nobits (Note bytes) = false
 
 -- the region to which a section goes, if it has a place in memory
 abbrev pub goes_to_text : Section → Bool
-goes_to_text s = s.loaded && s.executable
+goes_to_text s = is_text s.loaded s.executable
 
 abbrev pub goes_to_bss : Section → Bool
-goes_to_bss s = s.loaded && not s.executable && is_nobits s.contents
+goes_to_bss s = is_bss s.loaded s.executable (is_nobits s.contents)
 
 abbrev pub goes_to_data : Section → Bool
-goes_to_data s = s.loaded && not s.executable && not (is_nobits s.contents) && s.writable
+goes_to_data s = is_data s.loaded s.executable (is_nobits s.contents) s.writable
 
 abbrev pub goes_to_rodata : Section → Bool
-goes_to_rodata s = s.loaded && not s.executable && not (is_nobits s.contents) && not s.writable
+goes_to_rodata s = is_rodata s.loaded s.executable (is_nobits s.contents) s.writable
 
 -- ---- input sections
 
@@ -99,9 +102,6 @@ gaps_of starts stop (i ∷ is) =
 abbrev pub greatest : List InputSection → ℕ
 greatest [] = 1
 greatest (i ∷ is) = max (begins_at i.section) (greatest is)
-
-abbrev pub zeros : ℕ → List ℕ
-zeros count = replicate count 0
 
 -- the bytes of sections one after another from an end on, with zeros up to where each starts
 abbrev pub contents : (InputSection → List ℕ) → Starts → ℕ → List InputSection → List ℕ

@@ -3,6 +3,7 @@
 
 use Rattle.std.specs.Prelude.{ℕ, ◌+◌, ◌-◌, ◌*◌, ◌/◌, Bool, ◌&&◌, nat_le, nat_lt, min, List, [], ◌∷◌, ◌++◌, length, take, drop, filter, sum_by, unwrap_or, if◌then◌else◌}
 use Rattle.std.specs.List.{find}
+use Rattle.rv_layout_laws.specs.Alignment.{aligned}
 use Rattle.rv_object.specs.Object.{Relocation, Section}
 use Rattle.rv_object.specs.Padding.{no_operations, operations_in}
 use Rattle.rv_object.specs.Valid.{is_align, padding_of}
@@ -30,10 +31,6 @@ kept at (m ∷ ms) bytes =
     ++ (m.text ++ kept (m.place + m.full) ms (drop (m.place + m.full - at) bytes))
 
 -- ---- alignments
-
--- the least multiple of an alignment that is not below a number
-abbrev pub aligned : ℕ → ℕ → ℕ
-aligned alignment n = (n + (alignment - 1)) / alignment * alignment
 
 -- the bytes of the padding that stands at an ALIGN
 abbrev pub full_padding : Relocation → ℕ

@@ -2,6 +2,7 @@
 
 use Rattle.std.specs.Prelude.{◌≡◌, ℕ, suc, ◌+◌, ◌-◌, ◌%◌, ◌^◌, ◌==◌, Bool, true, false, not, ◌&&◌, ⊤, List, [], ◌∷◌, ◌++◌, filter, flat_map, map, Option, Some, None, option_map, option_and_then, slice_index_or, codes, bytes_eq, if◌then◌else◌}
 use Rattle.std.specs.List.{find, list_any, slice_get}
+use Rattle.rv_map.specs.Globals.{global_address, is_one_of, shown, linker_symbols}
 use Rattle.rv_map.specs.Map.{Map, Global}
 use Rattle.rv_object.specs.declared.symbol.Binding.{Binding}
 use Rattle.rv_object.specs.declared.symbol.Binding.TheVariants as bindings
@@ -27,10 +28,6 @@ defined_address starts o (definitions.Absolute n) = Some n
 defined_address starts o (definitions.InSection section offset) =
     offset_address (starts section) offset (slice_get o.sections section)
 defined_address starts o (definitions.Skipped n) = None
-
--- the address of a name that every file can mean
-abbrev pub global_address : List Global → List ℕ → Option ℕ
-global_address globals name = option_map (λ g. g.address) (find (λ g. bytes_eq g.name name) globals)
 
 -- a symbol means what its own object defines, else the global of its name
 abbrev pub symbol_address_by : List Global → (ℕ → ℕ) → Object → List ℕ → Definition → Option ℕ
@@ -64,11 +61,6 @@ is_exported s = is_global s.binding && is_defined s.definition
 abbrev pub exported : Object → List Symbol
 exported o = filter is_exported o.symbols
 
--- a global of this address; one without an address isn't shown
-abbrev pub shown : List ℕ → Option ℕ → List Global
-shown name None = []
-shown name (Some address) = record { name = name; address = address } ∷ []
-
 -- the global definitions with their addresses, by file and then in the order of the symbols
 abbrev pub globals_of : Starts → ℕ → List Object → List Global
 globals_of starts file [] = []
@@ -79,27 +71,6 @@ globals_of starts file (o ∷ os) =
 -- the names of all global definitions
 abbrev pub global_names : List Object → List (List ℕ)
 global_names os = flat_map (λ o. map (λ s. s.name) (exported o)) os
-
-abbrev pub is_one_of : List (List ℕ) → List ℕ → Bool
-is_one_of names name = list_any (λ n. bytes_eq n name) names
-
--- no name stands twice in a list
-abbrev pub AreDistinct : List (List ℕ) → Type 0
-AreDistinct [] = ⊤
-AreDistinct (name ∷ names) = (is_one_of names name ≡ false) × AreDistinct names
-
-abbrev pub global : List ℕ → ℕ → Global
-global name address = record { name = name; address = address }
-
--- the names that the linker gives
-abbrev pub linker_symbols : Map → List Global
-linker_symbols m =
-    global (codes "_etext") m.text.end
-    ∷ global (codes "__bss_start") m.bss.start
-    ∷ global (codes "_edata") m.data.end
-    ∷ global (codes "_end") m.bss.end
-    ∷ global (codes "__global_pointer$") (m.data.start + 0x800)
-    ∷ []
 
 -- those whose name no global definition has
 abbrev pub shown_linker_symbols : List Object → Map → List Global

@@ -3,6 +3,7 @@
 
 use Rattle.std.specs.Prelude.{◌≡◌, ℕ, suc, ◌+◌, ◌-◌, ◌*◌, ◌^◌, ◌==◌, Bool, true, false, ◌&&◌, nat_lt, List, [], ◌∷◌, filter, map, Option, Some, None, if◌then◌else◌}
 use Rattle.std.specs.List.{slice_get}
+use Rattle.rv_layout_laws.specs.Sites.{size_at}
 use Rattle.rv_isa.specs.declared.kind.Kind.{Kind}
 use Rattle.rv_isa.specs.declared.kind.Kind.TheVariants as kinds
 use Rattle.rv_isa_laws.specs.Bytes.{little_endian}
@@ -21,14 +22,6 @@ use Rattle.rv_object_laws.specs.IsLinkOf.{IsLinkOf}
 -- the bytes of the call at each place of a section
 abbrev pub Sizes : Type 0
 Sizes = ℕ → ℕ
-
--- of the call at an offset of the text, where a family keeps so much of each site; 8 where there is
--- no call that may be shortened
-abbrev pub size_at : List Site → List ℕ → ℕ → ℕ
-size_at [] kept offset = 8
-size_at (s ∷ ss) [] offset = 8
-size_at (s ∷ ss) (k ∷ kept) offset =
-    if is_call_site s.kind && (s.offset == offset) then k else size_at ss kept offset
 
 -- in each section, by its file and its index there
 abbrev pub sizes_by : List Object → List ℕ → (file index : ℕ) → Sizes

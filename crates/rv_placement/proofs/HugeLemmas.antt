@@ -5,10 +5,11 @@ use Rattle.std.specs.Prelude.{unwrap_or, filter, not, ◌&&◌, ◌||◌, ◌==�
 use Rattle.std.specs.List.{list_all}
 use Rattle.std.proofs.lemmas.Bool.{leb-true}
 use Rattle.std.proofs.lemmas.List.{length-map}
+use Rattle.rv_layout_laws.specs.Alignment.{aligned}
 use Rattle.rv_object.specs.Object.{Contents, Relocation, Section, size_of}
 use Rattle.rv_object.specs.Parts.{relocation_of}
 use Rattle.rv_object.specs.Valid.{is_align, is_padding, is_padding_of, are_paddings, are_all_apart, padding_of}
-use Rattle.rv_object_laws.specs.Moves.{has_padding, aligned, alignment_of, dropped, new_offset, plan, moves, inserted, by_place, full_padding}
+use Rattle.rv_object_laws.specs.Moves.{has_padding, alignment_of, dropped, new_offset, plan, moves, inserted, by_place, full_padding}
 use Rattle.rv_shorten.specs.declared.section.ShortSection.{ShortSection}
 use Rattle.rv_shorten.specs.Cutting.{cut_relocation}
 use Rattle.rv_shorten.specs.Sections.{moves_in, short_section_of}

@@ -3,9 +3,10 @@
 use Rattle.std.proofs.Common.{zero, suc, ◌≡◌, ◌+◌, ◌-◌, ℕ, Bool, true, false, Option, Some, None, List, [], ◌∷◌, ◌++◌, refl, sym, ap, subst, ◌∙◌, arith}
 use Rattle.std.specs.Prelude.{if◌then◌else◌, not, ◌&&◌}
 use Rattle.std.specs.List.{slice_get}
+use Rattle.rv_layout_laws.specs.Alignment.{aligned}
 use Rattle.rv_map.specs.declared.map.Region.{Region}
 use Rattle.rv_object.specs.Object.{Section, Object, size_of}
-use Rattle.rv_object_laws.specs.Moves.{aligned, moves, new_offset}
+use Rattle.rv_object_laws.specs.Moves.{moves, new_offset}
 use Rattle.rv_object_laws.specs.Inputs.{Starts, InputSection, is_nobits, goes_to_text, goes_to_bss, inputs, inputs_from, inputs_of, Stand, greatest}
 use Rattle.rv_placement.specs.declared.destination.Destination.TheVariants.{Rodata, Data, Bss}
 use Rattle.rv_placement.specs.Placement.{section_at, HasLayout}

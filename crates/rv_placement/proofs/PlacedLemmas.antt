@@ -6,10 +6,10 @@ use Rattle.std.specs.Global.{Vec}
 use Rattle.std.specs.List.{AllZip, slice_get}
 use Rattle.std.proofs.lemmas.Option.{slice_get-map}
 use Rattle.std.proofs.lemmas.Slice.Zip.{AllZip-long}
+use Rattle.rv_layout_laws.specs.Alignment.{aligned}
 use Rattle.rv_isa_laws.specs.Platform.{stack_start, memory_limit}
 use Rattle.rv_map.specs.declared.map.Region.{Region}
 use Rattle.rv_object.specs.Object.{Section, Object}
-use Rattle.rv_object_laws.specs.Moves.{aligned}
 use Rattle.rv_object_laws.specs.Inputs.{Starts, is_nobits, goes_to_text, goes_to_rodata, goes_to_data, goes_to_bss, inputs, inputs_of, Stand, Holds, end_of, greatest}
 use Rattle.rv_placement.specs.declared.destination.Destination.TheVariants.{Rodata, Data, Bss}
 use Rattle.rv_placement.specs.declared.placement.PlacedSection.{PlacedSection}

@@ -1,6 +1,7 @@
 //! The multiples at which sections begin.
 
 ghost use Rattle.std.specs.Prelude.{◌≡◌, ◌<◌, ◌≤◌, ◌^◌, map, max};
+ghost use Rattle.rv_layout_laws.specs.Alignment.{aligned};
 ghost use Rattle.rv_object.specs.Parts.{relocation_of};
 ghost use Rattle.rv_object.specs.Sections.{section_of};
 ghost use Rattle.rv_object_laws.specs.Moves as moves;
@@ -20,7 +21,7 @@ pub(crate) fn next_multiple(alignment: u64, address: u64) -> u64
     requires some { 0 < alignment }
     requires small { alignment ≤ 4096 }
     requires low { address ≤ 2 ^ 62 }
-    ensures { result ≡ moves.aligned alignment address }
+    ensures { result ≡ aligned alignment address }
 {
     (address + (alignment - 1)) / alignment * alignment
 }

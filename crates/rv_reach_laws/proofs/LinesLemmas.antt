@@ -5,6 +5,7 @@ use Rattle.std.specs.Prelude.{◌==◌, ⊤}
 use Rattle.std.specs.List.{AllByRecursion}
 use Rattle.std.proofs.lemmas.List.{length-append, length-drop}
 use Rattle.std.proofs.lemmas.Bool.{eq-eqb, ne_eqb, and_from, and_left, and_right, ltb-true, ltb-false}
+use Rattle.rv_layout_laws.specs.Sites.{padding_site, size_at}
 use Rattle.rv_layout_laws.specs.declared.site.Site.{Site}
 use Rattle.rv_layout_laws.specs.declared.site.SiteKind.{SiteKind}
 use Rattle.rv_layout_laws.specs.declared.site.SiteKind.TheVariants as kinds
@@ -13,8 +14,8 @@ use Rattle.rv_layout_laws.specs.Calls.{Offers, bytes_of, site_at, dropped_of, In
 use Rattle.rv_object.specs.Object.{Relocation, Section, Object, size_of, stored}
 use Rattle.rv_object_laws.specs.Moves.{Move, dropped}
 use Rattle.rv_object_laws.specs.Inputs.{InputSection, begins_at}
-use Rattle.rv_object_laws.specs.Calls.{changes, site_of, sites_from, sites_of, padding_site, start_padding, base, base_in, link_register}
-use Rattle.rv_object_laws.specs.Shortened.{Sizes, size_at, sizes_by, short_call, cut, cuts}
+use Rattle.rv_object_laws.specs.Calls.{changes, site_of, sites_from, sites_of, start_padding, base, base_in, link_register}
+use Rattle.rv_object_laws.specs.Shortened.{Sizes, sizes_by, short_call, cut, cuts}
 use Rattle.rv_object_laws.proofs.TextInputsLemmas.{IsTextInput}
 use Rattle.rv_shorten.specs.Cutting.{In, are_cuts, AreCuts}
 use Rattle.rv_shorten.specs.Walk.{moves_of}

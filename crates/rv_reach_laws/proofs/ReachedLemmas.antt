@@ -7,6 +7,7 @@ use Rattle.std.specs.Int.{w64, int_wrap}
 use Rattle.std.proofs.lemmas.Int.{ints, int_wrap_fits}
 use Rattle.std.proofs.lemmas.Bool.{or_right, cases_lt}
 use Rattle.std.proofs.lemmas.Option.{slice_get-map}
+use Rattle.rv_layout_laws.specs.Sites.{size_at}
 use Rattle.rv_isa.specs.declared.kind.Kind.{Kind}
 use Rattle.rv_isa.specs.declared.kind.Kind.TheVariants as kinds
 use Rattle.rv_reloc.specs.Ranges.{IsInRange, IsOdd, Takes}
@@ -25,7 +26,7 @@ use Rattle.rv_object_laws.specs.Inputs.{Starts, InputSection, goes_to_text, inpu
 use Rattle.rv_object_laws.specs.Names.{Place, shown_linker_symbols}
 use Rattle.rv_object_laws.specs.Values.{target}
 use Rattle.rv_object_laws.specs.Calls.{is_call, start_padding, base, text_offset, target_place, is_text_place, is_permitted, may_change, changes, call_site, site_of, sites_of, is_short_text}
-use Rattle.rv_object_laws.specs.Shortened.{Sizes, size_at, sizes_by, is_shortened, cuts, shortened_kind, shortened_relocation, shortened_text, shortened, IsRelaxed}
+use Rattle.rv_object_laws.specs.Shortened.{Sizes, sizes_by, is_shortened, cuts, shortened_kind, shortened_relocation, shortened_text, shortened, IsRelaxed}
 use Rattle.rv_object_laws.proofs.ChangesLemmas as permitted
 use Rattle.rv_object_laws.proofs.TextInputsLemmas.{IsTextInput, text_inputs}
 use Rattle.rv_object_laws.proofs.TextLineLemmas.{site_call, sites_text}

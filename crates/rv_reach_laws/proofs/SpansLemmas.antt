@@ -6,6 +6,7 @@ use Rattle.std.specs.Prelude.{◌==◌, filter, if◌then◌else◌}
 use Rattle.std.specs.List.{AllByRecursion, slice_get}
 use Rattle.std.proofs.lemmas.Int.{ints}
 use Rattle.std.proofs.lemmas.Bool.{and_parts}
+use Rattle.rv_layout_laws.specs.Alignment.{aligned}
 use Rattle.rv_isa.specs.declared.kind.Kind.TheVariants as kinds
 use Rattle.rv_layout_laws.specs.Calls as layout
 use Rattle.rv_layout_laws.specs.Calls.{InOrder}
@@ -13,7 +14,7 @@ use Rattle.rv_layout_laws.proofs.ReachingLemmas.{Nearer, Ahead, Behind}
 use Rattle.rv_layout_laws.proofs.DroppingLemmas.{dropped_most}
 use Rattle.rv_object.specs.Object.{Relocation, Section, Object, size_of}
 use Rattle.rv_object.specs.Valid.{is_align}
-use Rattle.rv_object_laws.specs.Moves.{Move, dropped, new_offset, aligned, full_padding, has_padding, alignment_of, inserted, by_place, alignments_of, moves}
+use Rattle.rv_object_laws.specs.Moves.{Move, dropped, new_offset, full_padding, has_padding, alignment_of, inserted, by_place, alignments_of, moves}
 use Rattle.rv_object_laws.specs.Inputs.{Starts, InputSection, goes_to_text, inputs_from, inputs_of, raised, begins_at, start_of, size, Stand}
 use Rattle.rv_object_laws.specs.Calls.{is_call, start_padding, base, sites_of}
 use Rattle.rv_object_laws.specs.Shortened.{Sizes, sizes_by, is_shortened, cuts, shortened_kind, shortened_relocation, shortened_text, shortened_section, shortened_sections, shortened_object, shortened_from}

@@ -6,13 +6,14 @@ use Rattle.std.specs.List.{find, slice_get}
 use Rattle.std.proofs.lemmas.Bool.{and_parts, leb-true}
 use Rattle.std.proofs.lemmas.List.{append_assoc}
 use Rattle.std.proofs.lemmas.Option.{slice_get-map}
+use Rattle.rv_map.specs.Globals.{shown}
 use Rattle.rv_map.specs.Map.{Global}
 use Rattle.rv_object.specs.declared.symbol.Definition.{Definition}
 use Rattle.rv_object.specs.declared.symbol.Definition.TheVariants as definitions
 use Rattle.rv_object.specs.Object.{Relocation, Section, Symbol, Object, size_of}
 use Rattle.rv_object_laws.specs.Moves.{moves, new_offset}
 use Rattle.rv_object_laws.specs.Inputs.{Starts, InputSection, goes_to_text, inputs_from, inputs_of, inputs}
-use Rattle.rv_object_laws.specs.Names.{offset_address, defined_address, symbol_address, is_defined, is_global, is_exported, exported, shown, globals_of, Place, place_in, global_place, symbol_place, no_object, object_at}
+use Rattle.rv_object_laws.specs.Names.{offset_address, defined_address, symbol_address, is_defined, is_global, is_exported, exported, globals_of, Place, place_in, global_place, symbol_place, no_object, object_at}
 use Rattle.rv_object_laws.specs.Values.{target}
 use Rattle.rv_object_laws.specs.Calls.{target_place, is_in_section, is_text_place}
 use Rattle.rv_object_laws.specs.Shortened.{Sizes, sizes_by, cuts, cuts_at, cuts_in, shortened_text, shortened_section, shortened_sections, shortened_definition, shortened_symbol, shortened_object, shortened_from}

@@ -8,13 +8,13 @@ use Rattle.std.proofs.lemmas.Nat.{div-add-mod'}
 use Rattle.std.proofs.lemmas.Bool.{cases_lt, ltb-true, le-leb}
 use Rattle.std.proofs.lemmas.List.{drop_more, get_or_past}
 use Rattle.std.proofs.lemmas.List.Sums.{sum_by-cons}
+use Rattle.rv_layout_laws.specs.Alignment.{aligned}
 use Rattle.rv_layout_laws.specs.declared.site.Site.{Site}
 use Rattle.rv_layout_laws.specs.declared.site.SiteKind.{SiteKind}
 use Rattle.rv_layout_laws.specs.declared.site.SiteKind.TheVariants.{Call, Padding}
 use Rattle.rv_layout_laws.specs.Offsets.{offset}
 use Rattle.rv_layout_laws.specs.Calls.{bytes_of, dropped, is_call, new_offset, site_at, InOrder}
 use Rattle.rv_layout_laws.specs.Paddings.{IsLaid, IsLeastPadding, IsPadded}
-use Rattle.rv_object_laws.specs.Moves.{aligned}
 use Rattle.rv_relax.specs.declared.piece.Piece.{Piece}
 use Rattle.rv_relax.specs.Padded.{are_roomy, inner, joined, kept_at, padded, pads}
 use Rattle.rv_relax.specs.Passes.{drops}

@@ -2,11 +2,11 @@
 -- "Linker Relaxation", function call relaxation and alignment relaxation).
 
 use Rattle.std.specs.Prelude.{ℕ, ◌+◌, ◌-◌, Bool, true, not, ◌&&◌, ◌||◌, nat_le, List, [], ◌∷◌, count_by, if◌then◌else◌}
+use Rattle.rv_layout_laws.specs.Alignment.{aligned}
 use Rattle.rv_layout_laws.specs.declared.site.Site.{Site}
 use Rattle.rv_layout_laws.specs.declared.site.SiteKind.{SiteKind}
 use Rattle.rv_layout_laws.specs.declared.site.SiteKind.TheVariants.{Call, Padding}
 use Rattle.rv_layout_laws.specs.Calls.{bytes_of, is_call}
-use Rattle.rv_object_laws.specs.Moves.{aligned}
 
 -- what is kept of a site that begins at a new offset: of a call its size, of a padding the least that
 -- aligns its end

@@ -1,6 +1,7 @@
 -- Sections and sites for worked numbers.
 
 use Rattle.std.specs.Prelude.{ℕ, pos, Bool, true, false, List, [], ◌∷◌, replicate, None}
+use Rattle.rv_layout_laws.specs.Sites.{padding_site}
 use Rattle.rv_isa.specs.declared.kind.Kind.TheVariants as kinds
 use Rattle.rv_layout_laws.specs.declared.site.Site.{Site}
 use Rattle.rv_layout_laws.specs.declared.site.SiteKind.TheVariants as sites
@@ -8,7 +9,6 @@ use Rattle.rv_layout_laws.specs.Calls.{new_offset}
 use Rattle.rv_object.specs.Object.{Relocation, Section, Progbits}
 use Rattle.rv_object.specs.Padding.{no_operations}
 use Rattle.rv_object_laws.specs.Moves.{Move}
-use Rattle.rv_object_laws.specs.Calls.{padding_site}
 use Rattle.rv_relax.specs.Padded as text
 
 -- an alignment with its bytes of padding at a place

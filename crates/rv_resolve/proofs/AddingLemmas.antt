@@ -10,10 +10,11 @@ use Rattle.std.proofs.lemmas.Grind.{flat_map-append}
 use Rattle.std.specs.BTreeMap.{get_by}
 use Rattle.std.specs.Cmp.Lexicographic.{slice_cmp}
 use Rattle.std.specs.Ordering.{nat_cmp}
+use Rattle.rv_map.specs.Globals.{is_one_of, shown}
 use Rattle.rv_map.specs.Map.{Global}
 use Rattle.rv_object.specs.Object.{Symbol, Object}
 use Rattle.rv_object_laws.specs.Inputs.{Starts}
-use Rattle.rv_object_laws.specs.Names.{shown, defined_address, is_exported, is_one_of, global_names, globals_of}
+use Rattle.rv_object_laws.specs.Names.{defined_address, is_exported, global_names, globals_of}
 use Rattle.rv_resolve.specs.declared.definitions.Exported.{Exported}
 use Rattle.rv_resolve.specs.declared.names.Names.{Names}
 use Rattle.rv_resolve.specs.Exports.{export_of}

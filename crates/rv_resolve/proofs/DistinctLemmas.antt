@@ -4,7 +4,7 @@ use Rattle.std.proofs.Common.{◌≡◌, ℕ, Bool, true, false, Some, None, Lis
 use Rattle.std.specs.Prelude.{◌||◌, if◌then◌else◌, bytes_eq}
 use Rattle.std.proofs.lemmas.List.Folds.{list_any-append}
 use Rattle.std.proofs.lemmas.Slice.Eq.{bytes_eq-Decides}
-use Rattle.rv_object_laws.specs.Names.{AreDistinct, is_one_of}
+use Rattle.rv_map.specs.Globals.{is_one_of, AreDistinct}
 use Rattle.rv_resolve.specs.Exports.{first_again}
 use Rattle.rv_resolve.proofs.TableLemmas.{same_bytes}
 

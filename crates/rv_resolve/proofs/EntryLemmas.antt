@@ -6,12 +6,13 @@ use Rattle.std.specs.List.{find, list_any}
 use Rattle.std.proofs.lemmas.Bool.{and_parts}
 use Rattle.std.specs.Option.{option_or}
 use Rattle.std.proofs.lemmas.List.Folds.{list_any-append}
+use Rattle.rv_map.specs.Globals.{is_one_of, AreDistinct}
 use Rattle.rv_object.specs.declared.symbol.Definition.{Definition}
 use Rattle.rv_object.specs.declared.symbol.Definition.TheVariants as definitions
 use Rattle.rv_object.specs.Object.{Section, Symbol, Object}
 use Rattle.rv_object_laws.specs.Inputs.{Starts}
 use Rattle.rv_object_laws.specs.Moves.{moves, new_offset}
-use Rattle.rv_object_laws.specs.Names.{offset_address, is_in_text, defined_address, exported, is_one_of, AreDistinct, can_begin, begins_run, entry_by, entry_of, global_names}
+use Rattle.rv_object_laws.specs.Names.{offset_address, is_in_text, defined_address, exported, can_begin, begins_run, entry_by, entry_of, global_names}
 use Rattle.rv_resolve.specs.Entry.{has_entry}
 use Rattle.rv_resolve.specs.Exports.{Export, export, exports_from, named}
 use Rattle.rv_resolve.proofs.FoundLemmas.{has_name, named_files}

@@ -2,12 +2,13 @@
 
 use Rattle.std.proofs.Common.{◌≡◌, ◌+◌, ℕ, Bool, true, false, Option, Some, None, option_map, List, ◌++◌, slice_get, refl, sym, ap, ◌∙◌}
 use Rattle.std.specs.Prelude.{option_and_then, if◌then◌else◌}
+use Rattle.rv_map.specs.Globals.{global_address, is_one_of, AreDistinct, linker_symbols}
 use Rattle.rv_map.specs.Map.{Map}
 use Rattle.rv_object.specs.declared.symbol.Definition.{Definition}
 use Rattle.rv_object.specs.declared.symbol.Definition.TheVariants as definitions
 use Rattle.rv_object.specs.Object.{Symbol, Object}
 use Rattle.rv_object_laws.specs.Inputs.{Starts}
-use Rattle.rv_object_laws.specs.Names.{defined_address, global_address, symbol_address_by, is_defined, is_one_of, AreDistinct, global_names, globals_of, linker_symbols, shown_linker_symbols, Place, place_in, global_place, symbol_place}
+use Rattle.rv_object_laws.specs.Names.{defined_address, symbol_address_by, is_defined, global_names, globals_of, shown_linker_symbols, Place, place_in, global_place, symbol_place}
 use Rattle.rv_resolve.specs.declared.definitions.Exported.{Exported}
 use Rattle.rv_resolve.specs.Exports.{Export, export_of}
 use Rattle.rv_resolve.specs.Names.{kept_of, meant_by}

@@ -3,13 +3,14 @@
 use Rattle.std.proofs.Common.{◌≡◌, ◌+◌, ℕ, suc, Bool, true, false, Option, Some, None, List, [], ◌∷◌, ◌++◌, is_some, slice_get, refl, ap, ◌∙◌}
 use Rattle.std.specs.Prelude.{IsTrue, option_and_then, if◌then◌else◌}
 use Rattle.std.specs.List.{AllByRecursion}
+use Rattle.rv_map.specs.Globals.{global_address, AreDistinct, linker_symbols}
 use Rattle.rv_map.specs.Map.{Map, Global}
 use Rattle.rv_object.specs.declared.symbol.Definition.{Definition}
 use Rattle.rv_object.specs.declared.symbol.Definition.TheVariants as definitions
 use Rattle.rv_object.specs.Object.{Relocation, Section, Symbol, Object}
 use Rattle.rv_object_laws.specs.Inputs.{Starts, InputSection, inputs_from, inputs_of}
 use Rattle.rv_object_laws.specs.IsLinkOf.{is_loaded}
-use Rattle.rv_object_laws.specs.Names.{defined_address, offset_address, global_address, symbol_address, symbol_address_by, is_defined, globals_of, global_names, AreDistinct, linker_symbols, shown_linker_symbols}
+use Rattle.rv_object_laws.specs.Names.{defined_address, offset_address, symbol_address, symbol_address_by, is_defined, globals_of, global_names, shown_linker_symbols}
 use Rattle.rv_object_laws.specs.Values.{target}
 use Rattle.rv_object_laws.proofs.TextInputsLemmas.{all_append}
 use Rattle.rv_resolve.specs.Exports.{Export, export_of}

@@ -6,10 +6,11 @@ use Rattle.std.specs.List.{find}
 use Rattle.std.specs.Option.{option_or}
 use Rattle.std.proofs.lemmas.List.Folds.{find-append, flat_map-map}
 use Rattle.std.proofs.lemmas.Grind.{flat_map-append}
+use Rattle.rv_map.specs.Globals.{global_address, is_one_of, AreDistinct, shown, linker_symbols}
 use Rattle.rv_map.specs.Map.{Map, Global}
 use Rattle.rv_object.specs.Object.{Symbol, Object}
 use Rattle.rv_object_laws.specs.Inputs.{Starts}
-use Rattle.rv_object_laws.specs.Names.{defined_address, global_address, exported, shown, globals_of, global_names, is_one_of, AreDistinct, linker_symbols, shown_linker_symbols}
+use Rattle.rv_object_laws.specs.Names.{defined_address, exported, globals_of, global_names, shown_linker_symbols}
 use Rattle.rv_resolve.specs.Exports.{Export, export, exports_in, exports_from, names_of, named, export_of}
 use Rattle.rv_resolve.proofs.TableLemmas.{same_bytes, one_of_named}
 use Rattle.rv_resolve.proofs.StepsLemmas.{names_of_exports}

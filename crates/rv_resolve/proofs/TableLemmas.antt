@@ -6,8 +6,9 @@ use Rattle.std.specs.Option.{option_or}
 use Rattle.std.proofs.lemmas.List.{map-append}
 use Rattle.std.proofs.lemmas.List.Folds.{find-append}
 use Rattle.std.proofs.lemmas.Slice.Eq.{bytes_eq-Decides}
+use Rattle.rv_map.specs.Globals.{is_one_of}
 use Rattle.rv_object.specs.Object.{Symbol, Object}
-use Rattle.rv_object_laws.specs.Names.{is_exported, is_one_of}
+use Rattle.rv_object_laws.specs.Names.{is_exported}
 use Rattle.rv_resolve.specs.declared.definitions.Exported.{Exported}
 use Rattle.rv_resolve.specs.Exports.{Export, export, exports_in, names_of, named, first_again}
 use Rattle.rv_resolve.specs.Names.{kept_of}

@@ -2,8 +2,9 @@
 
 use Rattle.std.specs.Prelude.{ℕ, suc, List, [], ◌∷◌, ◌++◌, map, filter, Option, Some, None, bytes_eq, if◌then◌else◌}
 use Rattle.std.specs.List.{find}
+use Rattle.rv_map.specs.Globals.{is_one_of}
 use Rattle.rv_object.specs.Object.{Symbol, Object}
-use Rattle.rv_object_laws.specs.Names.{is_exported, global_names, is_one_of}
+use Rattle.rv_object_laws.specs.Names.{is_exported, global_names}
 
 -- a definition for all files: its file, from 0, its object, and the symbol
 pub record Export : Type 0 where

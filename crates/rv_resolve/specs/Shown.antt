@@ -1,9 +1,10 @@
 -- The names that a map shows, by where the sections of objects stand (GNU ld, "Symbols").
 
 use Rattle.std.specs.Prelude.{ℕ, List, [], ◌++◌, filter, flat_map}
+use Rattle.rv_map.specs.Globals.{shown}
 use Rattle.rv_map.specs.Map.{Map, Global}
 use Rattle.rv_object.specs.Object.{Symbol, Object}
-use Rattle.rv_object_laws.specs.Names.{globals_of, shown_linker_symbols, shown, defined_address, is_exported}
+use Rattle.rv_object_laws.specs.Names.{globals_of, shown_linker_symbols, defined_address, is_exported}
 use Rattle.rv_placement.specs.declared.placement.Placement.{Placement}
 use Rattle.rv_placement.specs.Placement.{starts_of}
 

@@ -3,10 +3,11 @@
 use Rattle.std.specs.Prelude.{ℕ, Bool, true, false, List, [], ◌∷◌, Option, Some, None, codes, if◌then◌else◌}
 use Rattle.std.specs.List.{slice_get}
 use Rattle.std.specs.Option.{option_or}
+use Rattle.rv_map.specs.Globals.{is_one_of}
 use Rattle.rv_object.specs.declared.symbol.Definition.{Definition}
 use Rattle.rv_object.specs.declared.symbol.Definition.TheVariants as definitions
 use Rattle.rv_object.specs.Object.{Section, Symbol, Object}
-use Rattle.rv_object_laws.specs.Names.{is_defined, is_one_of}
+use Rattle.rv_object_laws.specs.Names.{is_defined}
 use Rattle.rv_resolve.specs.Exports.{Export, export_of}
 
 abbrev pub is_loaded_at : Option Section → Bool

@@ -2,6 +2,7 @@
 
 ghost use Rattle.std.specs.Prelude.{◌≡◌, ◌+◌, ℕ, List, Some, map, option_map, option_and_then};
 ghost use Rattle.std.specs.List.{slice_get};
+ghost use Rattle.rv_map.specs.Globals.{global_address, linker_symbols};
 ghost use Rattle.rv_object.specs.Object.{Object as SaidObject, Symbol as SaidSymbol};
 ghost use Rattle.rv_object_laws.specs.Names as laws;
 ghost use Rattle.rv_placement.specs.Placement.{starts_of, IsPlacement};
@@ -184,7 +185,7 @@ fn goes_to_text(objects: &[ShortObject<'_>], file: usize, section: u32) -> bool
 /// The address of a name that the linker gives.
 fn linker_address(placement: &Placement, name: &[u8]) -> Option<u64>
     ensures { (os : List SaidObject) (start : ℕ) → IsPlacement os start placement.now
-        → result ≡ laws.global_address (laws.linker_symbols (regions_of placement.now)) name.now }
+        → result ≡ global_address (linker_symbols (regions_of placement.now)) name.now }
 {
     if name == b"_etext".as_slice() {
         Some(placement.text.end)

@@ -1,8 +1,9 @@
 //! The global definitions of objects, by name.
 
 ghost use Rattle.std.specs.Prelude.{◌≡◌, List, ◌∷◌, [], map, IfOk, IfErr, OnOk};
+ghost use Rattle.rv_map.specs.Globals.{AreDistinct};
 ghost use Rattle.rv_object.specs.Object.{Object as SaidObject};
-ghost use Rattle.rv_object_laws.specs.Names.{AreDistinct, global_names};
+ghost use Rattle.rv_object_laws.specs.Names.{global_names};
 ghost use Rattle.rv_resolve.specs.Exports.{Export, exports_from, exports_in, first_duplicate};
 ghost use Rattle.rv_resolve.specs.Moved.{moved_in, symbols_of};
 ghost use Rattle.rv_resolve.specs.Names.{Answers, AreAdded, IsRefused, IsDuplicate};

@@ -2,6 +2,7 @@
 
 ghost use Rattle.std.specs.Prelude.{◌≡◌, ◌++◌, ◌+◌, ℕ, IsTrue, List, [], ◌∷◌, Some, map, not, filter, IfOk, OnOk};
 ghost use Rattle.std.specs.List.{slice_get};
+ghost use Rattle.rv_map.specs.Globals.{global, is_one_of};
 ghost use Rattle.rv_map.specs.Map.{global_of};
 ghost use Rattle.rv_map.specs.Name.{is_name};
 ghost use Rattle.rv_object.specs.Object.{Object as SaidObject};
@@ -86,8 +87,8 @@ impl<'o> Names<'o> {
         requires { IsTrue (is_name name.now) }
         ensures { OnOk result ((os : List SaidObject) → IsNames os self.now
             → map global_of globals.new.items ≡ map global_of globals.old.items
-            ++ filter (λ g. not (laws.is_one_of (laws.global_names os) g.name))
-            (laws.global name.now address ∷ [])) }
+            ++ filter (λ g. not (is_one_of (laws.global_names os) g.name))
+            (global name.now address ∷ [])) }
     {
         if self.definitions.by_name.get(name).is_some() {
             return Ok(());

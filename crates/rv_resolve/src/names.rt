@@ -2,8 +2,9 @@
 
 ghost use Rattle.std.specs.Prelude.{◌≡◌, Some, List, map, IfOk, IfErr};
 ghost use Rattle.std.specs.List.{slice_get};
+ghost use Rattle.rv_map.specs.Globals.{AreDistinct};
 ghost use Rattle.rv_object.specs.Object.{Object as SaidObject, Symbol as SaidSymbol};
-ghost use Rattle.rv_object_laws.specs.Names.{AreDistinct, global_names};
+ghost use Rattle.rv_object_laws.specs.Names.{global_names};
 ghost use Rattle.rv_resolve.specs.Exports.{first_duplicate};
 ghost use Rattle.rv_resolve.specs.Names.{IsNames, IsDuplicate, meant_by};
 ghost use Rattle.rv_shorten.specs.View.{short_object_of};

@@ -2,13 +2,14 @@
 
 ghost use Rattle.std.specs.Prelude.{◌≡◌, ◌++◌, Some, List, map, option_map, IfNone};
 ghost use Rattle.std.specs.List.{slice_get};
+ghost use Rattle.rv_map.specs.Globals.{is_one_of};
 ghost use Rattle.rv_map.specs.Map.{Map};
 ghost use Rattle.rv_object.specs.declared.symbol.Definition.TheVariants.{Undefined};
 ghost use Rattle.rv_object.specs.Object.{Object as SaidObject, Symbol as SaidSymbol};
 ghost use Rattle.rv_object.specs.Parts.{relocation_of, symbol_of};
 ghost use Rattle.rv_object_laws.specs.Inputs.{Starts};
 ghost use Rattle.rv_object_laws.specs.Moves.{Move};
-ghost use Rattle.rv_object_laws.specs.Names.{globals_of, is_one_of, shown_linker_symbols};
+ghost use Rattle.rv_object_laws.specs.Names.{globals_of, shown_linker_symbols};
 ghost use Rattle.rv_resolve.specs.Exports.{export_of};
 ghost use Rattle.rv_resolve.specs.Names.{IsNames, bytes_of};
 ghost use Rattle.rv_resolve.specs.Resolved.{AreResolved};

@@ -4,6 +4,7 @@ use Rattle.std.proofs.Common.{◌≡◌, ℕ, ◌+◌, ◌-◌, ◌*◌, ◌%◌
 use Rattle.std.specs.Prelude.{◌==◌, filter, count_by, ⊤, unwrap_or}
 use Rattle.std.specs.List.{list_all}
 use Rattle.std.proofs.lemmas.Bool.{leb-true, ltb-true, eqb-true, eq-eqb, ne_eqb, le-leb, and_parts, and_from, or_cases}
+use Rattle.rv_layout_laws.specs.Sites.{padding_site, size_at}
 use Rattle.rv_isa.specs.Kinds.{width_of}
 use Rattle.rv_isa_laws.specs.Bytes.{little_endian}
 use Rattle.rv_layout_laws.specs.declared.site.Site.{Site}
@@ -12,8 +13,8 @@ use Rattle.rv_object.specs.Object.{Contents, Progbits, Note, Nobits, Relocation,
 use Rattle.rv_object.specs.Valid.{fits_inside, fit_inside, is_align, padding_of, is_padding_of, is_padding, are_all_apart, are_paddings}
 use Rattle.rv_object_laws.specs.Moves.{Move, full_padding, has_padding, alignment_of}
 use Rattle.rv_object_laws.specs.Inputs.{InputSection, goes_to_text}
-use Rattle.rv_object_laws.specs.Calls.{is_call, meets, has_relax, are_call_words, is_auipc, is_jalr, rs1, rd, word_at, is_text_place, target_place, is_entered, is_permitted, may_change, padding_site, call_site, site_of, link_register}
-use Rattle.rv_object_laws.specs.Shortened.{Sizes, size_at, short_call, is_shortened, cut}
+use Rattle.rv_object_laws.specs.Calls.{is_call, meets, has_relax, are_call_words, is_auipc, is_jalr, rs1, rd, word_at, is_text_place, target_place, is_entered, is_permitted, may_change, call_site, site_of, link_register}
+use Rattle.rv_object_laws.specs.Shortened.{Sizes, short_call, is_shortened, cut}
 use Rattle.rv_shorten.specs.Cutting.{In, is_cut, are_cuts}
 use Rattle.rv_shorten.specs.Walk.{moves_of}
 use Rattle.rv_shorten.proofs.CallKindsLemmas.{call_width, call_no_align}

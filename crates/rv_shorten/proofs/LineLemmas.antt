@@ -5,6 +5,7 @@ use Rattle.std.specs.Prelude.{◌==◌, ⊤}
 use Rattle.std.proofs.lemmas.List.{length-append, length-map, length-drop}
 use Rattle.std.proofs.Math.Seq.{take-append_seam, drop-append_seam}
 use Rattle.std.proofs.lemmas.Bool.{eq-eqb, ne_eqb, and_from, and_left, and_right}
+use Rattle.rv_layout_laws.specs.Sites.{padding_site, size_at}
 use Rattle.rv_layout_laws.specs.declared.site.Site.{Site}
 use Rattle.rv_layout_laws.specs.Calls.{InOrder}
 use Rattle.rv_object.specs.declared.object.Object.{Object as DeclaredObject}
@@ -13,8 +14,8 @@ use Rattle.rv_object.specs.Object.{Relocation, Section, Object, size_of, stored}
 use Rattle.rv_object.specs.Sections.{section_of}
 use Rattle.rv_object.specs.View.{object_of}
 use Rattle.rv_object_laws.specs.Inputs.{InputSection, goes_to_text, begins_at}
-use Rattle.rv_object_laws.specs.Calls.{changes, site_of, sites_from, sites_of, padding_site, start_padding, base, base_in}
-use Rattle.rv_object_laws.specs.Shortened.{Sizes, size_at, sizes_by, cut, cuts}
+use Rattle.rv_object_laws.specs.Calls.{changes, site_of, sites_from, sites_of, start_padding, base, base_in}
+use Rattle.rv_object_laws.specs.Shortened.{Sizes, sizes_by, cut, cuts}
 use Rattle.rv_shorten.specs.Cutting.{In, AreCuts}
 use Rattle.rv_shorten.specs.Walk.{count_within, moves_of, own_moves, passed, section_moves}
 use Rattle.rv_shorten.proofs.ChangesLemmas.{IsSound, change_inside, site_offset, passed_by, order_behind, changes_match, moves_match}

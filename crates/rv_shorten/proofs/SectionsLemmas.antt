@@ -3,6 +3,7 @@
 use Rattle.std.proofs.Common.{◌≡◌, ℕ, suc, ◌+◌, ◌-◌, ◌*◌, ◌%◌, ◌^◌, ◌<◌, ◌≤◌, ◌⊎◌, inl, inr, Bool, true, false, cond, ◌&&◌, nat_lt, List, [], ◌∷◌, ◌++◌, Some, length, map, take, refl, sym, ap, subst, ◌∙◌, arith}
 use Rattle.std.specs.Prelude.{◌==◌, filter}
 use Rattle.std.proofs.lemmas.Bool.{ltb-true, lt-ltb, le-ltb, and_parts, and_from, or_right, true≢false}
+use Rattle.rv_layout_laws.specs.Sites.{size_at}
 use Rattle.rv_isa.specs.declared.kind.Kind.{Kind}
 use Rattle.rv_isa.specs.declared.kind.Kind.TheVariants as kinds
 use Rattle.rv_isa.specs.Kinds.{width_of}
@@ -13,7 +14,7 @@ use Rattle.rv_object.specs.Object.{Relocation, Section, Object, size_of, stored}
 use Rattle.rv_object_laws.specs.Moves.{Move, new_offset, has_padding}
 use Rattle.rv_object_laws.specs.Inputs.{InputSection, goes_to_text}
 use Rattle.rv_object_laws.specs.Calls.{is_call, meets, link_register, is_permitted, may_change, in_order, changes, site_of}
-use Rattle.rv_object_laws.specs.Shortened.{Sizes, size_at, short_call, is_shortened, cut, cuts, shortened_kind, shortened_relocation, shortened_contents, shortened_text}
+use Rattle.rv_object_laws.specs.Shortened.{Sizes, short_call, is_shortened, cut, cuts, shortened_kind, shortened_relocation, shortened_contents, shortened_text}
 use Rattle.rv_shorten.specs.Cutting.{In, are_cuts, AreCuts, kind_left, cut_kind, cut_relocation, cut_section}
 use Rattle.rv_shorten.specs.Walk.{count_within, moves_of}
 use Rattle.rv_shorten.proofs.CallKindsLemmas.{call_width}

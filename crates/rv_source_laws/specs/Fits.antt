@@ -2,6 +2,7 @@
 
 use Rattle.std.specs.Prelude.{◌≡◌, ℕ, suc, ◌+◌, ◌*◌, ◌%◌, ◌≤◌, Bool, true, false, ◌&&◌, ◌==◌, IsTrue, ⊤, max, sum_by, map, List, [], ◌∷◌, ◌++◌, filter, length, Option, Some, None, is_some, nat_le, nat_lt, if◌then◌else◌}
 use Rattle.std.specs.List.{AllByRecursion}
+use Rattle.rv_layout_laws.specs.Alignment.{aligned}
 use Rattle.rv_isa.specs.declared.instruction.Inst.{Inst}
 use Rattle.rv_isa.specs.Ranges.{IsValid}
 use Rattle.rv_statement.specs.Statement.{StatementKind, Label, Numbered, Instruction, Directs, Statement, Operand, Applied, Directive, Sets}
@@ -10,7 +11,7 @@ use Rattle.rv_pseudo_laws.specs.Code.{Part}
 use Rattle.rv_pseudo_laws.specs.Filled.{are_closed, code_bytes, AreTaken}
 use Rattle.rv_unit_laws.specs.Contributions.{Contribution, Nothing, Bytes, Zero_bytes, Alignment, contribution}
 use Rattle.rv_unit_laws.specs.Sections.{Section, goes_to_text, goes_to_rodata, goes_to_data, goes_to_bss}
-use Rattle.rv_unit_laws.specs.Tables.{Tables, tables, aligned, alignment_of, padding, opened_of, alignment_at}
+use Rattle.rv_unit_laws.specs.Tables.{Tables, tables, alignment_of, padding, opened_of, alignment_at}
 use Rattle.rv_unit_laws.specs.Faults.{first_fault}
 use Rattle.rv_map.specs.Map.{Map}
 use Rattle.rv_map.specs.declared.map.Row.{Row}

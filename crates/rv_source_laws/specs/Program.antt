@@ -3,6 +3,7 @@
 
 use Rattle.std.specs.Prelude.{ℕ, ◌-◌, Bool, true, ◌&&◌, ◌==◌, if◌then◌else◌, List, [], ◌∷◌, drop, flat_map, map, Option, Some, None, is_some, option_map, option_and_then, unwrap_or, bytes_eq, slice_index_or}
 use Rattle.std.specs.List.{find, list_all}
+use Rattle.rv_map.specs.Globals.{global_address}
 use Rattle.rv_text_laws.specs.Expression.{Primary, Symbol}
 use Rattle.rv_text_laws.specs.Values.{Value, Constant, Symbolic, Difference, Faulty, add, subtract}
 use Rattle.rv_statement.specs.Statement.{StatementKind, Label, Numbered, Instruction, Directs, Statement, Expression, Operand, Value as Of_value, Applied, Target}
@@ -71,10 +72,6 @@ address_at statements file ordinal =
 abbrev pub home_address : List MaybeMapped → ℕ → Definition → Option ℕ
 home_address statements file h =
     option_map (λ a. add a h.plus) (address_at statements file h.ordinal)
-
--- the address of a name that every file can mean
-abbrev pub global_address : List Global → List ℕ → Option ℕ
-global_address globals name = option_map (λ g. g.address) (find (λ g. bytes_eq g.name name) globals)
 
 -- the address of what is no place of its own file
 abbrev pub outer_address : List Global → Primary → Option ℕ

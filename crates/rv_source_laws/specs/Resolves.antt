@@ -3,6 +3,7 @@
 
 use Rattle.std.specs.Prelude.{◌≡◌, ℕ, ◌+◌, ◌-◌, ◌%◌, Bool, false, not, ◌&&◌, ◌==◌, ⊤, List, [], ◌∷◌, ◌++◌, filter, flat_map, Option, Some, None, is_some, option_and_then, slice_index_or, codes, bytes_eq, if◌then◌else◌}
 use Rattle.std.specs.List.{find, list_any}
+use Rattle.rv_map.specs.Globals.{is_one_of, AreDistinct, shown, linker_symbols}
 use Rattle.rv_text_laws.specs.Values.{Known, InSection, Open, Refused}
 use Rattle.rv_statement.specs.Statement.{StatementKind, Label, Directs, Statement, Sets}
 use Rattle.rv_unit_laws.specs.Sections.{goes_to_text}
@@ -12,26 +13,10 @@ use Rattle.rv_map.specs.Map.{Map, Global}
 use Rattle.rv_source_laws.specs.Located.{Located}
 use Rattle.rv_source_laws.specs.Program.{MaybeMapped, Program, program, tables_in, address_of, home_address}
 
-abbrev pub is_one_of : List (List ℕ) → List ℕ → Bool
-is_one_of names name = list_any (λ n. bytes_eq n name) names
-
--- no name stands twice in a list
-abbrev pub AreDistinct : List (List ℕ) → Type 0
-AreDistinct [] = ⊤
-AreDistinct (name ∷ names) = (is_one_of names name ≡ false) × AreDistinct names
-
 -- whether a file, numbered from 1, makes a name global: the last of its statements that say a
 -- binding of it does
 abbrev pub is_global_in : List (List Statement) → ℕ → List ℕ → Bool
 is_global_in sources file name = is_global (binding_of (slice_index_or sources (file - 1) []) name)
-
-abbrev pub symbol : List ℕ → ℕ → Global
-symbol name address = record { name = name; address = address }
-
--- a global of this address; one without an address isn't shown
-abbrev pub shown : List ℕ → Option ℕ → List Global
-shown name None = []
-shown name (Some address) = symbol name address ∷ []
 
 -- ---- definitions
 
@@ -88,16 +73,6 @@ abbrev pub definitions : List (List Statement) → Map → List Global
 definitions sources m =
     let p = program sources m in
     flat_map (defined_by p) p.statements
-
--- the names that the linker gives
-abbrev pub linker_symbols : Map → List Global
-linker_symbols m =
-    symbol (codes "_etext") m.text.end
-    ∷ symbol (codes "__bss_start") m.bss.start
-    ∷ symbol (codes "_edata") m.data.end
-    ∷ symbol (codes "_end") m.bss.end
-    ∷ symbol (codes "__global_pointer$") (m.data.start + 0x800)
-    ∷ []
 
 -- those whose name no global definition has
 abbrev pub shown_symbols : List (List Statement) → Map → List Global

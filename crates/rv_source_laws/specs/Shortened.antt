@@ -4,6 +4,8 @@
 use Rattle.std.specs.Prelude.{◌≡◌, ℕ, ◌+◌, ◌-◌, ◌==◌, pos, Bool, true, false, ◌&&◌, nat_lt, IsTrue, List, [], ◌∷◌, ◌++◌, flat_map, sum_by, Option, Some, None, option_map, option_and_then, if◌then◌else◌}
 use Rattle.std.specs.Int.{w64, int_wrap}
 use Rattle.std.specs.List.{AllByRecursion, find, list_any}
+use Rattle.rv_map.specs.Globals.{is_one_of}
+use Rattle.rv_layout_laws.specs.Sites.{padding_site, size_at}
 use Rattle.rv_text_laws.specs.Expression.{Primary, Symbol}
 use Rattle.rv_text_laws.specs.Values.{Value, Symbolic}
 use Rattle.rv_statement.specs.declared.mnemonic.Mnemonic.{Mnemonic}
@@ -19,7 +21,7 @@ use Rattle.rv_source_laws.specs.Located.{Located}
 use Rattle.rv_source_laws.specs.Compressed.{is_compressed_code}
 use Rattle.rv_source_laws.specs.Program.{Mapped, Program, program, tables_in, form}
 use Rattle.rv_source_laws.specs.Sizes.{target_in}
-use Rattle.rv_source_laws.specs.Resolves.{global_names_of, is_one_of}
+use Rattle.rv_source_laws.specs.Resolves.{global_names_of}
 use Rattle.rv_source_laws.specs.Fits.{InputSection, input_sections}
 use Rattle.rv_source_laws.specs.Sized.{is_call, statement_size}
 
@@ -107,12 +109,6 @@ aim_offset text a =
 
 -- ---- sites
 
-abbrev pub padding_site : (offset bytes alignment : ℕ) → Site
-padding_site offset bytes alignment = record {
-  offset = offset;
-  kind = sites.Padding (record { bytes = bytes; alignment = alignment });
-}
-
 -- an alignment to more than 2
 abbrev pub alignment_sites : ℕ → Option ℕ → List Site
 alignment_sites offset None = []
@@ -183,14 +179,6 @@ sites_of sources m =
     sites_from (program sources m) (text_of sources m) 0 (input_sections goes_to_text sources m)
 
 -- ---- the bytes of calls
-
--- what a family keeps of the call at an offset, where it keeps so much of each site: all 8 bytes
--- where there is no call that may be shortened
-abbrev pub size_at : List Site → List ℕ → ℕ → ℕ
-size_at [] kept offset = 8
-size_at (s ∷ ss) [] offset = 8
-size_at (s ∷ ss) (k ∷ kept) offset =
-    if is_call_site s.kind && (s.offset == offset) then k else size_at ss kept offset
 
 abbrev pub calls : StatementKind → Bool
 calls (Instruction mnemonic operands) = is_call mnemonic

@@ -5,6 +5,7 @@ use Rattle.std.proofs.lemmas.Bool.{and_parts, eq-eqb, ne_eqb}
 use Rattle.std.proofs.lemmas.List.Folds.{list_any-append}
 use Rattle.std.specs.Prelude.{⊤, ◌&&◌, ◌||◌, ◌==◌, if◌then◌else◌, flat_map, option_and_then}
 use Rattle.std.specs.List.{AllByRecursion, slice_get, list_any}
+use Rattle.rv_layout_laws.specs.Sites.{padding_site, size_at}
 use Rattle.rv_text_laws.specs.Expression.{Primary}
 use Rattle.rv_statement.specs.Statement.{Statement}
 use Rattle.rv_unit_laws.specs.Sections.{Section as SourceSection, goes_to_text as source_text}
@@ -25,7 +26,7 @@ use Rattle.rv_object_laws.specs.Calls.{base_in, start_padding, changes, site_of,
 use Rattle.rv_object_laws.specs.Inputs.{Starts, InputSection, goes_to_text, inputs_from, inputs_of, inputs, begins_at}
 use Rattle.rv_object_laws.specs.IsLinkOf.{IsLinkOf}
 use Rattle.rv_object_laws.specs.Names.{symbol_place}
-use Rattle.rv_object_laws.specs.Shortened.{Sizes, size_at, sizes_by, shortened_object, shortened_from, shortened, IsRelaxed, Relaxes}
+use Rattle.rv_object_laws.specs.Shortened.{Sizes, sizes_by, shortened_object, shortened_from, shortened, IsRelaxed, Relaxes}
 use Rattle.rv_assemble_laws.specs.Sites.{Site, part_bytes, sites_in}
 use Rattle.rv_assemble_laws.specs.Symbols.{site_at, StandsFor}
 use Rattle.rv_assemble_laws.specs.IsObjectOf.{IsObjectOf, relocations_from}
@@ -149,7 +150,7 @@ module _ (starts : Starts) (sizes : ℕ → ℕ → Sizes) where
 
 -- ---- the sites
 
-size_same : (ss : List Spot) (kept : List ℕ) (o : ℕ) → size_at ss kept o ≡ line.size_at ss kept o
+size_same : (ss : List Spot) (kept : List ℕ) (o : ℕ) → size_at ss kept o ≡ size_at ss kept o
 size_same [] kept o = refl
 size_same (s ∷ ss) [] o = refl
 size_same (s ∷ ss) (k ∷ kept) o = ap (λ n. if is_call_spot s.kind && (s.offset == o) then k else n) (size_same ss kept o)
@@ -170,15 +171,15 @@ module _ (p : Program) (starts : Starts) (at : ℕ → List Site) (sizes : ℕ �
   sites_same off (i ∷ is) (b ∷ bs) (h, hs) (m, ms) =
       let a = start_padding i.section in
       let first = off + a in
-      ap (λ n. line.padding_site off n b.alignment ∷ (flat_map (sites_at p text) (placed_from p (off + n) b.mapped) ++ line.sites_from p text (off + n + full_length p b.mapped) bs)) (piece_start p starts at sizes i b h)
-      ∙ ap (λ n. line.padding_site off a n ∷ (flat_map (sites_at p text) (placed_from p first b.mapped) ++ line.sites_from p text (first + full_length p b.mapped) bs)) (sym h.alignment)
+      ap (λ n. padding_site off n b.alignment ∷ (flat_map (sites_at p text) (placed_from p (off + n) b.mapped) ++ line.sites_from p text (off + n + full_length p b.mapped) bs)) (piece_start p starts at sizes i b h)
+      ∙ ap (λ n. padding_site off a n ∷ (flat_map (sites_at p text) (placed_from p first b.mapped) ++ line.sites_from p text (first + full_length p b.mapped) bs)) (sym h.alignment)
       ∙ ap (λ l. spot off a i ∷ (flat_map (sites_at p text) l ++ line.sites_from p text (first + full_length p b.mapped) bs)) (piece_placed p starts at sizes first i b h)
       ∙ ap (λ l. spot off a i ∷ (l ++ line.sites_from p text (first + full_length p b.mapped) bs)) (sym (m b h first))
       ∙ ap (λ n. spot off a i ∷ (map (site_of os i first) (changes os i) ++ line.sites_from p text (first + n) bs)) (piece_length p starts at sizes i b h)
       ∙ ap (λ l. spot off a i ∷ (map (site_of os i first) (changes os i) ++ l)) (sites_same (first + size_of i.section.contents) is bs hs ms)
     where
       spot : ℕ → ℕ → InputSection → Spot
-      spot off a i = line.padding_site off a (begins_at i.section)
+      spot off a i = padding_site off a (begins_at i.section)
 
 -- ---- the sites of sources are those of their objects
 
@@ -358,15 +359,15 @@ module _ (sources : List (List Statement)) (os : List Object) (text_start : ℕ)
   by_line [] = tt
   by_line (i ∷ is) = ((λ n. ap (size_at (sites_of os) kept) (let w = base_in (inputs goes_to_text os) i.file i.index in let e : w + n ≡ 0 + w + n = omega arith in e)), by_line is)
 
-  bytes : HaveBytes (line.size_at (sites_of os) kept) (text_of sources l.map)
+  bytes : HaveBytes (size_at (sites_of os) kept) (text_of sources l.map)
   bytes =
-      bytes_same (size_at (sites_of os) kept) (line.size_at (sites_of os) kept) (size_same (sites_of os) kept) (text_of sources l.map)
+      bytes_same (size_at (sites_of os) kept) (size_at (sites_of os) kept) (size_same (sites_of os) kept) (text_of sources l.map)
       (relaxed.bytes_of_calls sources os text_start l h (shortened kept os) k sizes c link (size_at (sites_of os) kept) (by_line (inputs goes_to_text os)))
 
   pub shortens : IsLinked sources text_start true l
   shortens =
       relaxed.joined sources os text_start l h (shortened kept os) k sizes c link true
-      (kept, subst (λ ss. IsGreatestClosed ss kept) (sym same) greatest, subst (λ ss. HaveBytes (line.size_at ss kept) (text_of sources l.map)) (sym same) bytes)
+      (kept, subst (λ ss. IsGreatestClosed ss kept) (sym same) greatest, subst (λ ss. HaveBytes (size_at ss kept) (text_of sources l.map)) (sym same) bytes)
 
 -- ---- with relaxation, of a text that is short and of one that is not
 

@@ -6,6 +6,7 @@ use Rattle.std.specs.Borrow.{Bor}
 use Rattle.std.specs.List.{list_any}
 use Rattle.std.specs.Str.{bytes_eq}
 use Rattle.std.proofs.lemmas.List.Folds.{list_any-append, list_all-append}
+use Rattle.rv_map.specs.Globals.{is_one_of}
 use Rattle.rv_map.specs.Name.{is_name}
 use Rattle.rv_assemble_laws.specs.ShownNames.{are_shown}
 use Rattle.rv_text_laws.specs.Expression.{Primary, Literal, Symbol as Named, Here, Reference}
@@ -15,7 +16,6 @@ use Rattle.rv_unit_laws.specs.Tables.{Tables}
 use Rattle.rv_unit_laws.proofs.FoundLemmas.{bytes_swap}
 use Rattle.rv_unit.specs.Unit.{definition_of}
 use Rattle.rv_unit_tables.specs.declared.section_offset.Definition.{Definition}
-use Rattle.rv_source_laws.specs.Resolves.{is_one_of}
 use Rattle.rv_assemble_laws.specs.Symbols.{SymbolUse, missing_name, distinct_from}
 use Rattle.rv_symbols.specs.declared.symbol_use.SymbolUse.{SymbolUse as DeclaredUse}
 use Rattle.rv_symbols.specs.SymbolUse.{use_of, uses_of}

@@ -3,13 +3,14 @@
 use Rattle.std.proofs.Common.{◌≡◌, ℕ, suc, ◌+◌, ◌%◌, ◌^◌, Bool, true, false, List, [], ◌∷◌, ◌++◌, map, refl, ap, ◌∙◌, Option, Some, None}
 use Rattle.std.specs.Prelude.{option_and_then, flat_map, nat_le, if◌then◌else◌}
 use Rattle.std.specs.List.{AllByRecursion, find, slice_get}
+use Rattle.rv_map.specs.Globals.{shown}
 use Rattle.rv_object.specs.declared.row.Row.{Row}
 use Rattle.rv_object.specs.declared.symbol.Definition.{Definition}
 use Rattle.rv_object.specs.declared.symbol.Definition.TheVariants as definitions
 use Rattle.rv_object.specs.Object.{Section, Symbol, Object}
 use Rattle.rv_object_laws.specs.Moves.{moves, new_offset}
 use Rattle.rv_object_laws.specs.Inputs.{Starts}
-use Rattle.rv_object_laws.specs.Names.{offset_address, defined_address, exported, shown, globals_of, begins_run, entry_by, entry_of}
+use Rattle.rv_object_laws.specs.Names.{offset_address, defined_address, exported, globals_of, begins_run, entry_by, entry_of}
 use Rattle.rv_object_laws.specs.IsLinkOf.{moves_at, map_row, row_in, inserted_row, by_ordinal, rows_of}
 use Rattle.rv_resolve.specs.Undefined.{is_loaded_at}
 use Rattle.rv_unique_link_laws.specs.Asked.{HavePlacedRows}

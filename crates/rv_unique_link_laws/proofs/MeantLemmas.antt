@@ -4,6 +4,7 @@ use Rattle.std.proofs.Common.{◌≡◌, ◌+◌, ℕ, suc, Bool, true, false, O
 use Rattle.std.specs.Prelude.{IsTrue, option_and_then, if◌then◌else◌}
 use Rattle.std.specs.List.{AllByRecursion, slice_get}
 use Rattle.std.specs.Option.{option_or}
+use Rattle.rv_map.specs.Globals.{global_address, AreDistinct, linker_symbols}
 use Rattle.rv_map.specs.Map.{Map, Global}
 use Rattle.rv_object.specs.declared.symbol.Definition.{Definition}
 use Rattle.rv_object.specs.declared.symbol.Definition.TheVariants as definitions
@@ -11,7 +12,7 @@ use Rattle.rv_object.specs.Object.{Relocation, Section, Symbol, Object}
 use Rattle.rv_object_laws.specs.Moves.{moves, new_offset}
 use Rattle.rv_object_laws.specs.Inputs.{Starts, InputSection, inputs_from, inputs_of, inputs}
 use Rattle.rv_object_laws.specs.IsLinkOf.{is_loaded}
-use Rattle.rv_object_laws.specs.Names.{offset_address, defined_address, global_address, symbol_address, symbol_address_by, globals_of, global_names, is_defined, AreDistinct, linker_symbols, shown_linker_symbols}
+use Rattle.rv_object_laws.specs.Names.{offset_address, defined_address, symbol_address, symbol_address_by, globals_of, global_names, is_defined, shown_linker_symbols}
 use Rattle.rv_object_laws.specs.Values.{target}
 use Rattle.rv_resolve.specs.Exports.{Export, export_of}
 use Rattle.rv_resolve.specs.Undefined.{has_address, is_loaded_at, is_known, undefined_symbol, undefined_name, undefined_in, first_some, first_undefined}

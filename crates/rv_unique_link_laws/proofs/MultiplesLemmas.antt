@@ -5,9 +5,10 @@ use Rattle.std.specs.Prelude.{IsTrue, ◌==◌, unwrap_or, if◌then◌else◌}
 use Rattle.std.specs.List.{AllByRecursion, find, list_any}
 use Rattle.std.proofs.Math.Nat.{div-mul-le_self}
 use Rattle.std.proofs.lemmas.Bool.{eqb-true}
+use Rattle.rv_layout_laws.specs.Alignment.{aligned}
 use Rattle.rv_object.specs.Object.{Relocation, Section, Object}
 use Rattle.rv_object.specs.Valid.{is_alignment}
-use Rattle.rv_object_laws.specs.Moves.{aligned, full_padding, alignment_of, alignments_of}
+use Rattle.rv_object_laws.specs.Moves.{full_padding, alignment_of, alignments_of}
 use Rattle.rv_object_laws.specs.Inputs.{InputSection, goes_to_text, inputs, raised, begins_at}
 use Rattle.rv_relax.proofs.AlignedLemmas.{alignments}
 use Rattle.rv_unique_link_laws.specs.Asked.{IsSound}

@@ -3,10 +3,11 @@
 use Rattle.std.proofs.Common.{◌≡◌, ℕ, ◌<◌, ◌≤◌, Bool, true, false, refl, sym, ◌∙◌, arith, Option, Some, None, List, [], length, inl, inr}
 use Rattle.std.specs.Prelude.{◌⊎◌, IsTrue}
 use Rattle.std.specs.List.{list_all}
+use Rattle.rv_map.specs.Globals.{AreDistinct}
 use Rattle.rv_object.specs.Object.{Object}
 use Rattle.rv_object_laws.specs.Moves.{moves, has_room}
 use Rattle.rv_object_laws.specs.Inputs.{Starts, goes_to_text, inputs, start_of, Stand}
-use Rattle.rv_object_laws.specs.Names.{global_names, AreDistinct}
+use Rattle.rv_object_laws.specs.Names.{global_names}
 use Rattle.rv_object_laws.specs.IsLinkOf.{most_files, is_loaded}
 use Rattle.rv_placement.specs.declared.placement.Placement.{Placement}
 use Rattle.rv_placement.specs.Placement.{farthest, starts_of, memory_of, IsPlacement, AreRoomy, IsTooLarge, AreRoomyBelow}

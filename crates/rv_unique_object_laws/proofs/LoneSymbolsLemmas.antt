@@ -6,12 +6,13 @@ use Rattle.std.specs.List.{AllByRecursion, list_any}
 use Rattle.std.specs.Str.{bytes_eq}
 use Rattle.std.proofs.lemmas.Bool.{eqb-true, eq-eqb, and_parts}
 use Rattle.std.proofs.lemmas.List.Folds.{list_any-append}
+use Rattle.rv_map.specs.Globals.{is_one_of}
 use Rattle.rv_statement.specs.Statement.{StatementKind, Directs, Sets}
 use Rattle.rv_text_laws.specs.Values.{Meaning, Known, InSection as InData, Open as OpenAddress, Refused}
 use Rattle.rv_unit_laws.specs.Bindings.{is_global}
 use Rattle.rv_unit_laws.specs.Tables.{Tables, Assignment, assigned_ever}
 use Rattle.rv_unit_laws.proofs.FoundLemmas.{same_bytes}
-use Rattle.rv_source_laws.specs.Resolves.{is_one_of, defined_name}
+use Rattle.rv_source_laws.specs.Resolves.{defined_name}
 use Rattle.rv_object.specs.declared.symbol.Definition.{Definition as Defined}
 use Rattle.rv_object.specs.declared.symbol.Definition.TheVariants.{Undefined, Absolute, InSection, Skipped}
 use Rattle.rv_object.specs.Object.{Symbol}

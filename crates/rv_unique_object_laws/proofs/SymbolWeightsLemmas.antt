@@ -2,12 +2,13 @@
 
 use Rattle.std.proofs.Common.{◌≡◌, ℕ, suc, ◌+◌, ◌*◌, ◌≤◌, Bool, true, false, List, [], ◌∷◌, ◌++◌, flat_map, map, length, Option, Some, None, refl, ap, arith}
 use Rattle.std.specs.Prelude.{not, filter, if◌then◌else◌}
+use Rattle.rv_map.specs.Globals.{is_one_of}
 use Rattle.rv_text_laws.specs.Expression.{Primary, Symbol as Named, Literal, Here, Reference}
 use Rattle.rv_statement.specs.Statement.{StatementKind, Label, Directs, Statement, Sets}
 use Rattle.rv_unit_laws.specs.Bindings.{is_global}
 use Rattle.rv_unit_laws.specs.Tables.{Tables, Definition, definition, after}
 use Rattle.rv_source_laws.specs.Located.{Located, located_from}
-use Rattle.rv_source_laws.specs.Resolves.{is_one_of, sets_first, defined_name}
+use Rattle.rv_source_laws.specs.Resolves.{sets_first, defined_name}
 use Rattle.rv_object.specs.declared.symbol.Definition.{Definition as Defined}
 use Rattle.rv_object.specs.declared.symbol.Definition.TheVariants.{Undefined, InSection}
 use Rattle.rv_object.specs.Object.{Symbol}

@@ -5,6 +5,7 @@ use Rattle.std.specs.List.{list_any}
 use Rattle.std.specs.Str.{bytes_eq}
 use Rattle.rv_statement.specs.Statement.{Directive, Enters, Opens}
 use Rattle.rv_statement.specs.Sections.{standard_name}
+use Rattle.rv_map.specs.Regions.{is_text, is_bss, is_data, is_rodata}
 use Rattle.rv_unit_laws.specs.declared.section_type.SectionType.{SectionType}
 use Rattle.rv_unit_laws.specs.declared.section_type.SectionType.TheVariants.{Progbits, Nobits, Note}
 
@@ -27,16 +28,16 @@ is_nobits s = is_nobits_type s.section_type
 
 -- the region of memory to which a section goes
 abbrev pub goes_to_text : Section → Bool
-goes_to_text s = s.loaded && s.executable
+goes_to_text s = is_text s.loaded s.executable
 
 abbrev pub goes_to_bss : Section → Bool
-goes_to_bss s = s.loaded && not s.executable && is_nobits s
+goes_to_bss s = is_bss s.loaded s.executable (is_nobits s)
 
 abbrev pub goes_to_data : Section → Bool
-goes_to_data s = s.loaded && not s.executable && not (is_nobits s) && s.writable
+goes_to_data s = is_data s.loaded s.executable (is_nobits s) s.writable
 
 abbrev pub goes_to_rodata : Section → Bool
-goes_to_rodata s = s.loaded && not s.executable && not (is_nobits s) && not s.writable
+goes_to_rodata s = is_rodata s.loaded s.executable (is_nobits s) s.writable
 
 abbrev pub begins_with : List ℕ → List ℕ → Bool
 begins_with front name = bytes_eq (take (length front) name) front

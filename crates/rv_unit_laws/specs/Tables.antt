@@ -4,6 +4,7 @@
 use Rattle.std.specs.Prelude.{ℕ, zero, suc, ◌+◌, ◌-◌, ◌*◌, ◌/◌, ◌^◌, Bool, true, false, not, ◌&&◌, ◌||◌, ◌==◌, nat_lt, nat_le, max, List, [], ◌∷◌, ◌++◌, length, map, flat_map, reverse, Option, Some, None, is_some, slice_index_or, if◌then◌else◌}
 use Rattle.std.specs.List.{find, list_any}
 use Rattle.std.specs.Str.{bytes_eq}
+use Rattle.rv_layout_laws.specs.Alignment.{aligned}
 use Rattle.rv_text_laws.specs.Bytes.{value as digits_value}
 use Rattle.rv_text_laws.specs.Expression.{Primary, Literal, Symbol, Here, Reference}
 use Rattle.rv_text_laws.specs.Codes.{undefined_local, not_constant}
@@ -251,10 +252,6 @@ is_power_below (suc k) n = (n == 2 ^ k) || is_power_below k n
 
 abbrev pub is_power : ℕ → Bool
 is_power n = is_power_below 63 n
-
--- the least multiple of an alignment that is not below a number
-abbrev pub aligned : ℕ → ℕ → ℕ
-aligned alignment n = (n + (alignment - 1)) / alignment * alignment
 
 -- the alignment of a value: to that power of two, or to that number of bytes; none where it can't
 -- be had

@@ -8,6 +8,7 @@ use Rattle.std.proofs.lemmas.List.Sums.{sum_by-cons, sum_by-append}
 use Rattle.std.specs.Prelude.{not, ◌&&◌, ◌||◌, ◌==◌, nat_lt, if◌then◌else◌, filter, option_and_then, cond, count_by}
 use Rattle.std.specs.Int.{w64, int_wrap}
 use Rattle.std.specs.List.{AllByRecursion, list_any, slice_get}
+use Rattle.rv_layout_laws.specs.Sites.{padding_site}
 use Rattle.rv_isa.specs.declared.kind.Kind.TheVariants as kinds
 use Rattle.rv_text_laws.specs.Expression.{Primary}
 use Rattle.rv_text_laws.specs.Values.{Value}
@@ -204,10 +205,10 @@ module _ (p : Program) (starts : Starts) (os : List Object) (text : List Placed)
           ∙ ap (λ b. if b || is_permitted os i (align_at z.offset z.bytes) then align_at z.offset z.bytes ∷ [] else []) (lt-ltb 0 z.bytes some);
       fits = λ r e. (let same : align_at z.offset z.bytes ≡ r = cc in (ap (λ (q : Relocation). q.place) (sym same), subst (λ q. held q ≤ z.bytes) same (omega arith)));
       made = λ first.
-          ap (λ b. (if b then objects.padding_site (first + z.offset) z.bytes (alignment_of (align_at z.offset z.bytes)) else objects.call_site os i (first + z.offset) (align_at z.offset z.bytes)) ∷ []) (lt-ltb 0 z.bytes some)
-          ∙ ap (λ n. objects.padding_site (first + z.offset) n (alignment_of (align_at z.offset n)) ∷ []) bytes
-          ∙ ap (λ n. objects.padding_site (first + z.offset) (a - 2) n ∷ []) (alignment_is z.offset a power)
-          ∙ ap (λ b. if b then line.padding_site (first + z.offset) (a - 2) a ∷ [] else []) (sym high)
+          ap (λ b. (if b then padding_site (first + z.offset) z.bytes (alignment_of (align_at z.offset z.bytes)) else objects.call_site os i (first + z.offset) (align_at z.offset z.bytes)) ∷ []) (lt-ltb 0 z.bytes some)
+          ∙ ap (λ n. padding_site (first + z.offset) n (alignment_of (align_at z.offset n)) ∷ []) bytes
+          ∙ ap (λ n. padding_site (first + z.offset) (a - 2) n ∷ []) (alignment_is z.offset a power)
+          ∙ ap (λ b. if b then padding_site (first + z.offset) (a - 2) a ∷ [] else []) (sym high)
           ∙ ap (alignment_sites (first + z.offset)) (sym al) ∙ says first;
     }
       where
@@ -231,7 +232,7 @@ module _ (p : Program) (starts : Starts) (os : List Object) (text : List Placed)
         go None e valid (bytes, count) = without bytes (λ first. ap (alignment_sites (first + z.offset)) (sym e))
         go (Some a) e (inl low) (bytes, count) =
             without (bytes ∙ (let g : a - 2 ≡ 0 = omega (arith, low) in g))
-            (λ first. ap (λ b. if b then line.padding_site (first + z.offset) (a - 2) a ∷ [] else []) (sym (le-ltb 2 a low)) ∙ ap (alignment_sites (first + z.offset)) (sym e))
+            (λ first. ap (λ b. if b then padding_site (first + z.offset) (a - 2) a ∷ [] else []) (sym (le-ltb 2 a low)) ∙ ap (alignment_sites (first + z.offset)) (sym e))
         go (Some a) e (inr power) (bytes, count) = with_padding a power e bytes
 
   -- ---- a call

@@ -4,6 +4,7 @@ use Rattle.std.proofs.Common.{◌≡◌, ℕ, suc, ◌+◌, ◌-◌, ◌≤◌, 
 use Rattle.std.proofs.lemmas.Bool.{and_parts, eqb-true}
 use Rattle.std.specs.Prelude.{◌&&◌, ◌||◌, ◌==◌, IsTrue, nat_le, if◌then◌else◌, filter, flat_map, slice_index}
 use Rattle.std.specs.List.{AllByRecursion, slice_get, list_any}
+use Rattle.rv_layout_laws.specs.Sites.{padding_site, size_at}
 use Rattle.rv_statement.specs.Statement.{StatementKind, Label, Numbered, Instruction, Directs, Statement}
 use Rattle.rv_unit_laws.specs.Sections.{Section as SourceSection, goes_to_text as source_text}
 use Rattle.rv_unit_laws.specs.Tables.{Tables, tables, opened_of}
@@ -21,7 +22,7 @@ use Rattle.rv_object_laws.specs.Calls.{link_register as linked_by, is_compressib
 use Rattle.rv_object_laws.specs.Inputs.{InputSection, goes_to_text, inputs_from, inputs_of, inputs, begins_at}
 use Rattle.rv_object_laws.specs.Moves.{full_padding, has_padding, alignment_of}
 use Rattle.rv_object_laws.specs.Names.{object_at}
-use Rattle.rv_object_laws.specs.Shortened.{size_at, sizes_by}
+use Rattle.rv_object_laws.specs.Shortened.{sizes_by}
 use Rattle.rv_assemble_laws.specs.Sites.{Site, form, part_of, part_bytes, sites_in, end_of, HasSize}
 use Rattle.rv_assemble_laws.specs.IsObjectOf.{Numbering, relocations_from, IsObjectOf}
 use Rattle.rv_assemble_laws.proofs.FilledLemmas.{bytes_append}
@@ -96,7 +97,7 @@ module _ (os : List Object) where
   offset_is : (i : InputSection) (first : ℕ) (r : Relocation) → (site_of os i first r).offset ≡ first + r.place
   offset_is i first r = go (has_padding r)
     where
-      go : (b : Bool) → (if b then objects.padding_site (first + r.place) (full_padding r) (alignment_of r) else objects.call_site os i (first + r.place) r).offset ≡ first + r.place
+      go : (b : Bool) → (if b then padding_site (first + r.place) (full_padding r) (alignment_of r) else objects.call_site os i (first + r.place) r).offset ≡ first + r.place
       go true = refl
       go false = refl
 
@@ -121,8 +122,8 @@ module _ (os : List Object) where
             let a : s ≡ first + r.place = here in
             let b : s ≡ o = e in omega (arith, a, b, at)
 
-        by : (b : Bool) → is_call_spot (if b then objects.padding_site (first + r.place) (full_padding r) (alignment_of r) else objects.call_site os i (first + r.place) r).kind ≡ true
-            → r.place ≡ place → IsSmallest (if b then objects.padding_site (first + r.place) (full_padding r) (alignment_of r) else objects.call_site os i (first + r.place) r).kind → link ≡ 0
+        by : (b : Bool) → is_call_spot (if b then padding_site (first + r.place) (full_padding r) (alignment_of r) else objects.call_site os i (first + r.place) r).kind ≡ true
+            → r.place ≡ place → IsSmallest (if b then padding_site (first + r.place) (full_padding r) (alignment_of r) else objects.call_site os i (first + r.place) r).kind → link ≡ 0
         by true e f g = absurd (cc)
         by false e f g =
             sym linked ∙ ap (linked_by (stored i.section.contents)) (sym f) ∙ eqb-true (linked_by (stored i.section.contents) r.place) 0 (and_parts i.object.rvc (linked_by (stored i.section.contents) r.place == 0) (true_is (is_compressible i r) g)).1
@@ -173,7 +174,7 @@ module _ (os : List Object) where
       first : ℕ
       first = off + start_padding i.section
 
-      start_one : (o : ℕ) → Agrees link o (objects.padding_site off (start_padding i.section) (begins_at i.section))
+      start_one : (o : ℕ) → Agrees link o (padding_site off (start_padding i.section) (begins_at i.section))
       start_one o e = absurd (cc)
 
       low_changes : AllByRecursion (λ (r : Relocation). r.place < size_of i.section.contents) (changes os i)

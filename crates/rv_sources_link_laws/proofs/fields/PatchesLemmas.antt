@@ -8,13 +8,13 @@ use Rattle.std.specs.List.{AllByRecursion}
 use Rattle.rv_isa.specs.declared.kind.Kind.{Kind}
 use Rattle.rv_isa.specs.declared.kind.Kind.TheVariants.{Abs32, Abs64, Add8, Add16, Add32, Add64, Sub8, Sub16, Sub32, Sub64}
 use Rattle.rv_isa.specs.Kinds.{width_of}
-use Rattle.rv_isa_laws.specs.Bytes.{little_endian, number_in}
+use Rattle.rv_isa_laws.specs.Bytes.{little_endian, number_in, zeros}
 use Rattle.rv_reloc.specs.Fields.{patched, written as field_written}
 use Rattle.rv_text_laws.specs.Expression.{Primary}
 use Rattle.rv_text_laws.specs.Values.{Meaning, Constant, Symbolic, Difference, Faulty, add, subtract}
 use Rattle.rv_object.specs.Object.{Relocation}
 use Rattle.rv_source_laws.specs.Program.{resolved}
-use Rattle.rv_assemble_laws.specs.Templates.{Template, Fixed, Datum, Coded, Open, opened, zeros, template_fields, IsTemplate, IsWide, IsWidth}
+use Rattle.rv_assemble_laws.specs.Templates.{Template, Fixed, Datum, Coded, Open, opened, template_fields, IsTemplate, IsWide, IsWidth}
 use Rattle.rv_assemble_laws.specs.Sites.{Part, part_of, part_bytes}
 use Rattle.rv_assemble_laws.specs.IsObjectOf.{Numbering, relocation_at, relocations_from}
 use Rattle.rv_object_laws.specs.Values.{patched_at, applied}

@@ -5,6 +5,7 @@ use Rattle.std.proofs.lemmas.Bool.{and_parts, le-leb, eq-eqb}
 use Rattle.std.proofs.lemmas.List.Folds.{list_any-append}
 use Rattle.std.specs.Prelude.{⊤, ◌&&◌, ◌||◌, ◌==◌, nat_le, if◌then◌else◌, filter, flat_map, option_and_then, bytes_eq, slice_index_or}
 use Rattle.std.specs.List.{AllByRecursion, find, list_any, slice_get}
+use Rattle.rv_map.specs.Globals.{is_one_of}
 use Rattle.rv_text_laws.specs.Expression.{Primary, Symbol as Named, Literal, Here, Reference}
 use Rattle.rv_text_laws.specs.Values.{Meaning, Known, InSection as InData, Open as OpenAddress, Refused, add}
 use Rattle.rv_statement.specs.Statement.{StatementKind, Label, Numbered, Instruction, Directs, Statement, Enters, Sets}
@@ -14,7 +15,7 @@ use Rattle.rv_unit_laws.specs.Tables.{Tables, Assignment, Definition, tables, at
 use Rattle.rv_source_laws.specs.Located.{Located, has_row}
 use Rattle.rv_source_laws.specs.Program.{MaybeMapped, Program, tables_in}
 use Rattle.rv_source_laws.specs.Fits as source
-use Rattle.rv_source_laws.specs.Resolves.{defined_name, global_names_of, is_one_of}
+use Rattle.rv_source_laws.specs.Resolves.{defined_name, global_names_of}
 use Rattle.rv_source_laws.specs.Shortened.{Placed, Aim, aim, assigned_aim, defined_aim, defines, global_aim, aim_by, aim_of, aim_offset}
 use Rattle.rv_object.specs.declared.symbol.Definition.{Definition as Defined}
 use Rattle.rv_object.specs.Object.{Section, Symbol, Object, size_of}

@@ -3,6 +3,7 @@
 
 use Rattle.std.specs.Prelude.{◌≡◌, ℕ, zero, suc, ◌*◌, ◌%◌, ◌≤◌, true, Bool, false, ⊤, List, [], ◌∷◌, flat_map, map, length, Option, None, unwrap_or, if◌then◌else◌}
 use Rattle.std.specs.List.{AllByRecursion}
+use Rattle.rv_isa_laws.specs.Bytes.{zeros}
 use Rattle.rv_text_laws.specs.Values.{Value, Constant}
 use Rattle.rv_statement.specs.Statement.{StatementKind, Label, Numbered, Instruction, Directs, Statement, Expression, Directive, Aligns_to_power, Aligns_to_bytes, Values, Strings, Zeros}
 use Rattle.rv_unit_laws.specs.Contributions.{Contribution, Nothing, Bytes, Zero_bytes, Alignment, contribution}
@@ -18,7 +19,7 @@ use Rattle.rv_object_laws.specs.Names.{exported}
 use Rattle.rv_assemble_laws.specs.Coded.{is_constant, constants, IsCode}
 use Rattle.rv_assemble_laws.specs.Refusals.{statements_fault}
 use Rattle.rv_assemble_laws.specs.Symbols.{exports}
-use Rattle.rv_assemble_laws.specs.Templates.{Template, Fixed, IsTemplate, zeros, contents_templates}
+use Rattle.rv_assemble_laws.specs.Templates.{Template, Fixed, IsTemplate, contents_templates}
 use Rattle.rv_sources_link_laws.proofs.statements.MarkedLemmas.{part_fields}
 use Rattle.rv_sources_link_laws.proofs.statements.OrderedLemmas.{Follow, AreInOrder}
 pub use Rattle.rv_assemble_laws.specs.Sites.{Site, Part, form, part_of, part_bytes, coded_templates, sites_in, end_of, IsMultiple}

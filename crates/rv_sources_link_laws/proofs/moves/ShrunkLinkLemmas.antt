@@ -3,15 +3,18 @@
 use Rattle.std.proofs.Common.{◌≡◌, ℕ, suc, ◌+◌, ◌-◌, ◌≤◌, Bool, true, false, List, [], ◌∷◌, ◌++◌, map, length, refl, sym, ap, ◌∙◌, subst, arith, Option, Some, None, option_map}
 use Rattle.std.specs.Prelude.{⊤, not, ◌&&◌, ◌||◌, nat_le, nat_lt, max, IsTrue, option_and_then, filter, flat_map, if◌then◌else◌, bytes_eq, codes}
 use Rattle.std.specs.List.{AllByRecursion, find, list_all, list_any, slice_get}
+use Rattle.rv_map.specs.Globals.{is_one_of, AreDistinct, shown, linker_symbols}
+use Rattle.rv_layout_laws.specs.Alignment.{aligned}
+use Rattle.rv_isa_laws.specs.Bytes.{zeros}
 use Rattle.rv_map.specs.Map.{Global}
 use Rattle.rv_map.specs.declared.map.Region.{Region}
 use Rattle.rv_map.specs.declared.map.Row.{Row as MapRow}
 use Rattle.rv_image.specs.Linked.{Linked}
 use Rattle.rv_object.specs.declared.row.Row.{Row}
 use Rattle.rv_object.specs.Object.{Contents, Progbits, Note, Nobits, Section, Symbol, Object, size_of}
-use Rattle.rv_object_laws.specs.Moves.{Move, aligned, alignments_of, plan, moves, new_offset, kept, has_room, lost}
-use Rattle.rv_object_laws.specs.Inputs.{Starts, InputSection, is_nobits, goes_to_text, goes_to_rodata, goes_to_data, goes_to_bss, inputs_from, inputs_of, inputs, raised, begins_at, start_of, size, Stand, end_of, Holds, gaps_of, greatest, zeros, contents}
-use Rattle.rv_object_laws.specs.Names.{defined_address, exported, shown, globals_of, global_names, is_one_of, AreDistinct, linker_symbols, shown_linker_symbols, can_begin, begins_run, entry_by, entry_of, object_at}
+use Rattle.rv_object_laws.specs.Moves.{Move, alignments_of, plan, moves, new_offset, kept, has_room, lost}
+use Rattle.rv_object_laws.specs.Inputs.{Starts, InputSection, is_nobits, goes_to_text, goes_to_rodata, goes_to_data, goes_to_bss, inputs_from, inputs_of, inputs, raised, begins_at, start_of, size, Stand, end_of, Holds, gaps_of, greatest, contents}
+use Rattle.rv_object_laws.specs.Names.{defined_address, exported, globals_of, global_names, shown_linker_symbols, can_begin, begins_run, entry_by, entry_of, object_at}
 use Rattle.rv_object_laws.specs.Values.{initial_bytes, linked_bytes, IsRelocated}
 use Rattle.rv_object_laws.specs.IsLinkOf.{moves_at, map_row, row_in, inserted_row, by_ordinal, rows_of, is_loaded, IsLinkOf}
 use Rattle.rv_sources_link_laws.proofs.sections.SectionsLemmas.{join}

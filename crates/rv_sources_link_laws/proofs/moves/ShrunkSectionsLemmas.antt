@@ -4,6 +4,8 @@ use Rattle.std.proofs.Common.{◌≡◌, ℕ, zero, suc, ◌+◌, ◌-◌, ◌%�
 use Rattle.std.proofs.lemmas.Bool.{and_parts}
 use Rattle.std.specs.Prelude.{◌&&◌, max, if◌then◌else◌, filter, flat_map}
 use Rattle.std.specs.List.{AllByRecursion}
+use Rattle.rv_layout_laws.specs.Alignment.{aligned}
+use Rattle.rv_isa_laws.specs.Bytes.{zeros}
 use Rattle.rv_statement.specs.Statement.{StatementKind, Label, Numbered, Instruction, Directs, Enters, Opens, Globl, Local, Sets, Aligns_to_power, Aligns_to_bytes, Values, Strings, Zeros, Chooses, Ignored}
 use Rattle.rv_unit_laws.specs.declared.section_type.SectionType.{SectionType}
 use Rattle.rv_unit_laws.specs.declared.section_type.SectionType.TheVariants as types
@@ -11,8 +13,8 @@ use Rattle.rv_unit_laws.specs.Sections.{Section as SourceSection, is_nobits_type
 use Rattle.rv_unit_laws.specs.Tables.{Tables}
 use Rattle.rv_object.specs.Object.{Contents, Progbits, Note, Nobits, Section, Symbol, size_of}
 use Rattle.rv_object.specs.Padding.{no_operations}
-use Rattle.rv_object_laws.specs.Moves.{Move, alignments_of, by_place, dropped, new_offset, kept, has_padding, plan, moves, lost, aligned}
-use Rattle.rv_object_laws.specs.Inputs.{goes_to_text, raised, begins_at, zeros}
+use Rattle.rv_object_laws.specs.Moves.{Move, alignments_of, by_place, dropped, new_offset, kept, has_padding, plan, moves, lost}
+use Rattle.rv_object_laws.specs.Inputs.{goes_to_text, raised, begins_at}
 use Rattle.rv_object_laws.specs.Values.{initial_bytes}
 use Rattle.rv_assemble_laws.specs.Templates.{Template, Fixed, Coded, Open, IsTemplate, padding_templates}
 use Rattle.rv_assemble_laws.specs.Sites.{Site, Part, form, part_of, part_bytes, sites_in, end_of, HasSize}

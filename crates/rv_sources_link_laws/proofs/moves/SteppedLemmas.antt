@@ -4,11 +4,12 @@ use Rattle.std.proofs.Common.{◌≡◌, ℕ, zero, suc, ◌+◌, ◌-◌, ◌%�
 use Rattle.std.proofs.lemmas.Bool.{ltb-true, ltb-false}
 use Rattle.std.specs.Prelude.{not, nat_lt, max, if◌then◌else◌, filter, flat_map}
 use Rattle.std.specs.List.{AllByRecursion}
+use Rattle.rv_layout_laws.specs.Alignment.{aligned}
 use Rattle.rv_unit_laws.specs.Sections.{Section as SourceSection}
 use Rattle.rv_unit_laws.specs.Tables.{Tables}
 use Rattle.rv_object.specs.Object.{Relocation}
 use Rattle.rv_object.specs.Padding.{no_operations}
-use Rattle.rv_object_laws.specs.Moves.{Move, new_offset, kept, aligned, has_padding, alignment_of, plan}
+use Rattle.rv_object_laws.specs.Moves.{Move, new_offset, kept, has_padding, alignment_of, plan}
 use Rattle.rv_object_laws.specs.Inputs.{raised}
 use Rattle.rv_assemble_laws.specs.Templates.{Fixed, Open, template_fields}
 use Rattle.rv_assemble_laws.specs.Sites.{Site, Part, form, part_of, part_bytes, end_of}

@@ -3,6 +3,7 @@
 use Rattle.std.proofs.Common.{◌≡◌, ℕ, suc, ◌+◌, ◌%◌, ◌<◌, Bool, true, false, List, [], ◌∷◌, ◌++◌, refl, sym, ap, ◌∙◌, arith, map, Option, Some, None}
 use Rattle.std.specs.Prelude.{◌^◌, ◌&&◌, if◌then◌else◌, filter, flat_map, option_map, option_and_then, bytes_eq}
 use Rattle.std.specs.List.{AllByRecursion}
+use Rattle.rv_map.specs.Globals.{shown}
 use Rattle.rv_text_laws.specs.Expression.{Here}
 use Rattle.rv_text_laws.specs.Values.{Meaning, Known, InSection as InData, Open as OpenAddress, Refused, add}
 use Rattle.rv_statement.specs.Statement.{StatementKind, Label, Numbered, Instruction, Directs, Statement, Enters, Sets}
@@ -33,7 +34,7 @@ use Rattle.rv_sources_link_laws.proofs.sections.FilesLemmas.{plain_of, IsFile, A
 use Rattle.rv_sources_link_laws.proofs.names.NamesLemmas.{flat_join, exported_are}
 use Rattle.rv_sources_link_laws.proofs.moves.ShrunkLemmas.{IsSectionOf, IsObjectOf, AreObjectsOf}
 
-same_shown : (name : List ℕ) (a : Option ℕ) → objects.shown name a ≡ source.shown name a
+same_shown : (name : List ℕ) (a : Option ℕ) → shown name a ≡ shown name a
 same_shown name None = refl
 same_shown name (Some n) = refl
 
@@ -111,22 +112,22 @@ module _ (p : Program) (starts : Starts) (file : ℕ) (ss : List Statement) (o :
   -- ---- a statement
 
   abbrev Shown : Symbol → List Global
-  Shown x = objects.shown x.name (defined_address (starts file) o x.definition)
+  Shown x = shown x.name (defined_address (starts file) o x.definition)
 
   shown_all : (d : Defined) (a : Option ℕ) → defined_address (starts file) o d ≡ a → (names : List (List ℕ))
-      → flat_map Shown (map (λ name. global_symbol name d) names) ≡ flat_map (λ name. source.shown name a) names
+      → flat_map Shown (map (λ name. global_symbol name d) names) ≡ flat_map (λ name. shown name a) names
   shown_all d a e [] = refl
   shown_all d a e (name ∷ names) =
-      ap (λ o. objects.shown name o ++ flat_map Shown (map (λ name. global_symbol name d) names)) e
+      ap (λ o. shown name o ++ flat_map Shown (map (λ name. global_symbol name d) names)) e
       ∙ ap (λ l. l ++ flat_map Shown (map (λ name. global_symbol name d) names)) (same_shown name a)
-      ∙ ap (λ l. source.shown name a ++ l) (shown_all d a e names)
+      ∙ ap (λ l. shown name a ++ l) (shown_all d a e names)
 
   abbrev G : List ℕ → Bool
   G name = is_global (t.bindings name)
 
   kind_globals : (s : Site) (kind : StatementKind) → IsSettled sections s → IsLow starts file s → ((name : List ℕ) → kind ≡ Label name → s.located.placed ≡ true)
       → flat_map Shown (map (λ name. global_symbol name (site_definition t is.sites s kind)) (filter G (defined_name t s.located.ordinal kind)))
-      ≡ flat_map (λ name. source.shown name (source.defined_address t p.statements (statement_at starts file s) kind)) (filter G (defined_name t s.located.ordinal kind))
+      ≡ flat_map (λ name. shown name (source.defined_address t p.statements (statement_at starts file s) kind)) (filter G (defined_name t s.located.ordinal kind))
   kind_globals s (Label name) here low label =
       shown_all (InSection s.located.section s.offset) (address_of (statement_at starts file s)) (label_address s here (label name refl) low) (filter G (name ∷ []))
   kind_globals s (Directs (Sets name e)) here low label =
@@ -141,7 +142,7 @@ module _ (p : Program) (starts : Starts) (file : ℕ) (ss : List Statement) (o :
   site_globals s here low =
       let e = statement_at starts file s in
       kind_globals s s.located.kind here low here.labelled
-      ∙ ap (λ u. flat_map (λ name. source.shown name (source.defined_address u p.statements e s.located.kind)) (global_names_of u s.located)) (sym f.tables)
+      ∙ ap (λ u. flat_map (λ name. shown name (source.defined_address u p.statements e s.located.kind)) (global_names_of u s.located)) (sym f.tables)
 
   file_globals : (rest : List Site) → AllByRecursion (IsSettled sections) rest → AllByRecursion (IsLow starts file) rest
       → flat_map Shown (flat_map (exports_of t is.sites) rest) ≡ flat_map (source.defined_by p) (map (statement_at starts file) rest)

@@ -3,11 +3,12 @@
 use Rattle.std.proofs.Common.{◌≡◌, ℕ, List, [], ◌∷◌, ◌++◌, sym, ap, ◌∙◌, subst, Some}
 use Rattle.std.specs.Prelude.{not, filter, flat_map}
 use Rattle.std.specs.List.{AllByRecursion, find}
+use Rattle.rv_map.specs.Globals.{is_one_of, AreDistinct, linker_symbols}
 use Rattle.rv_statement.specs.Statement.{Statement}
 use Rattle.rv_map.specs.Limits.{IsRow}
 use Rattle.rv_source_laws.specs.Program.{Program, program, tables_in}
 use Rattle.rv_source_laws.specs.Resolves as source
-use Rattle.rv_source_laws.specs.Resolves.{Resolves, is_one_of}
+use Rattle.rv_source_laws.specs.Resolves.{Resolves}
 use Rattle.rv_image.specs.Linked.{Linked}
 use Rattle.rv_object.specs.Object.{Object}
 use Rattle.rv_object_laws.specs.Names as objects
@@ -18,7 +19,7 @@ use Rattle.rv_sources_link_laws.proofs.names.GlobalsLemmas.{globals_are}
 use Rattle.rv_sources_link_laws.proofs.names.EntryLemmas.{entry_is}
 use Rattle.rv_sources_link_laws.proofs.moves.ShrunkLemmas.{AreObjectsOf}
 
-distinct_same : (names : List (List ℕ)) → objects.AreDistinct names → source.AreDistinct names
+distinct_same : (names : List (List ℕ)) → AreDistinct names → AreDistinct names
 distinct_same [] h = tt
 distinct_same (name ∷ names) (h, hs) = (h, distinct_same names hs)
 
@@ -47,8 +48,8 @@ module _ (sources : List (List Statement)) (os : List Object) (text_start : ℕ)
   pub resolves : Resolves sources l.map
   resolves = record {
     globals = link.globals ∙ ap (λ g. g ++ objects.shown_linker_symbols os l.map) definitions
-        ∙ ap (λ ns. source.definitions sources l.map ++ filter (λ g. not (is_one_of ns g.name)) (source.linker_symbols l.map)) (sym names);
-    once = subst source.AreDistinct (sym names) (distinct_same (objects.global_names os) link.once);
+        ∙ ap (λ ns. source.definitions sources l.map ++ filter (λ g. not (is_one_of ns g.name)) (linker_symbols l.map)) (sym names);
+    once = subst AreDistinct (sym names) (distinct_same (objects.global_names os) link.once);
     entry = entry;
     even = link.even;
   }

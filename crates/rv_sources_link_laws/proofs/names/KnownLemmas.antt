@@ -3,6 +3,7 @@
 use Rattle.std.proofs.Common.{◌≡◌, ℕ, ◌+◌, ◌-◌, ◌%◌, ◌<◌, Bool, true, false, List, [], ◌∷◌, refl, sym, ap, ◌∙◌, subst, arith, Option, Some, None}
 use Rattle.std.specs.Prelude.{◌^◌, ◌&&◌, ◌==◌, if◌then◌else◌, is_some, unwrap_or, option_map, option_and_then, bytes_eq}
 use Rattle.std.specs.List.{AllByRecursion, find, slice_get}
+use Rattle.rv_map.specs.Globals.{global_address}
 use Rattle.rv_text_laws.specs.Expression.{Primary, Symbol as Named, Literal, Here, Reference}
 use Rattle.rv_text_laws.specs.Values.{add}
 use Rattle.rv_unit_laws.specs.Sections.{Section as SourceSection}
@@ -13,7 +14,7 @@ use Rattle.rv_source_laws.specs.Program.{MaybeMapped, address_at, address_by, ho
 use Rattle.rv_object.specs.Object.{Section, Symbol, Object}
 use Rattle.rv_object_laws.specs.Moves.{alignments_of, moves, plan, new_offset}
 use Rattle.rv_object_laws.specs.Inputs.{Starts}
-use Rattle.rv_object_laws.specs.Names.{symbol_address, symbol_address_by, offset_address, global_address}
+use Rattle.rv_object_laws.specs.Names.{symbol_address, symbol_address_by, offset_address}
 use Rattle.rv_object_laws.specs.Values.{target}
 use Rattle.rv_assemble_laws.specs.Sites.{Site}
 use Rattle.rv_assemble_laws.specs.Symbols.{site_at, after_site, IsDefinedBy, IsNamed, StandsFor}

@@ -3,16 +3,18 @@
 use Rattle.std.proofs.Common.{◌≡◌, ℕ, suc, ◌+◌, ◌-◌, ◌%◌, Bool, true, false, List, [], ◌∷◌, ◌++◌, length, refl, sym, ap, ◌∙◌, subst, arith, map, max, Some}
 use Rattle.std.specs.Prelude.{⊤, ℤ, ◌&&◌, nat_lt, if◌then◌else◌, flat_map, option_and_then}
 use Rattle.std.specs.List.{AllByRecursion, slice_get}
+use Rattle.rv_layout_laws.specs.Alignment.{aligned}
+use Rattle.rv_isa_laws.specs.Bytes.{zeros}
 use Rattle.rv_unit_laws.specs.declared.section_type.SectionType.{SectionType}
 use Rattle.rv_unit_laws.specs.declared.section_type.SectionType.TheVariants as types
 use Rattle.rv_unit_laws.specs.Sections.{Section as SourceSection}
-use Rattle.rv_unit_laws.specs.Tables.{Tables, aligned}
+use Rattle.rv_unit_laws.specs.Tables.{Tables}
 use Rattle.rv_map.specs.declared.map.Region.{Region}
 use Rattle.rv_map.specs.Limits.{IsGlobal}
 use Rattle.rv_source_laws.specs.Located.{has_row}
 use Rattle.rv_source_laws.specs.Program.{Mapped, Program, tables_in, address_at}
 use Rattle.rv_source_laws.specs.Fits as source
-use Rattle.rv_chain_laws.specs.Contents.{contents as source_contents, zeros}
+use Rattle.rv_chain_laws.specs.Contents.{contents as source_contents}
 use Rattle.rv_chain_laws.proofs.RegionsLemmas.{AllIn}
 use Rattle.rv_object.specs.Object.{Section, Object, size_of}
 use Rattle.rv_object_laws.specs.Moves.{alignments_of}

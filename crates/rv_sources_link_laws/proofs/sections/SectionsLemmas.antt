@@ -6,12 +6,13 @@ use Rattle.std.proofs.Math.Nat.{add-mul-mod_self_right}
 use Rattle.std.proofs.lemmas.Nat.{div-add-mod'}
 use Rattle.std.specs.Prelude.{⊤, ℤ, ◌&&◌, max, if◌then◌else◌, flat_map, is_some, unwrap_or, option_map, option_and_then}
 use Rattle.std.specs.List.{AllByRecursion, list_all}
-use Rattle.rv_isa_laws.specs.Bytes.{little_endian}
+use Rattle.rv_layout_laws.specs.Alignment.{aligned}
+use Rattle.rv_isa_laws.specs.Bytes.{little_endian, zeros}
 use Rattle.rv_text_laws.specs.Expression.{Primary}
 use Rattle.rv_text_laws.specs.Values.{Value, Constant, Symbolic, Difference, Faulty, add, subtract}
 use Rattle.rv_statement.specs.Statement.{StatementKind, Label, Numbered, Instruction, Directs, Expression, Enters, Opens, Globl, Local, Sets, Aligns_to_power, Aligns_to_bytes, Values, Strings, Zeros, Chooses, Ignored}
 use Rattle.rv_pseudo_laws.specs.Code.{Part as CodePart, code as code_parts}
-use Rattle.rv_unit_laws.specs.Tables.{Tables, aligned, alignment_of, definition, string_bytes}
+use Rattle.rv_unit_laws.specs.Tables.{Tables, alignment_of, definition, string_bytes}
 use Rattle.rv_map.specs.declared.map.Row.{Row as MapRow}
 use Rattle.rv_source_laws.specs.Program.{Mapped, Program, tables_in, address_by, resolved, number as number_of}
 use Rattle.rv_source_laws.specs.Start.{spelled_said}
@@ -19,7 +20,7 @@ use Rattle.rv_source_laws.proofs.HeldLemmas.{IsHeld}
 use Rattle.rv_object.specs.Object.{Relocation}
 use Rattle.rv_object_laws.specs.Inputs.{Starts}
 use Rattle.rv_sources_link_laws.proofs.statements.MarkedLemmas.{part_fields}
-use Rattle.rv_assemble_laws.specs.Templates.{Datum, Open, IsTemplate, HasField, template_fields, value_fields, zeros}
+use Rattle.rv_assemble_laws.specs.Templates.{Datum, Open, IsTemplate, HasField, template_fields, value_fields}
 use Rattle.rv_assemble_laws.specs.Coded.{constants}
 use Rattle.rv_assemble_laws.specs.Sites.{Site, Part, form, part_of, part_bytes, coded_templates, IsMultiple}
 use Rattle.rv_assemble_laws.specs.IsObjectOf.{Numbering, relocation_at, relocations_from}

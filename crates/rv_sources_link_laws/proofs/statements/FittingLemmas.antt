@@ -7,6 +7,7 @@ use Rattle.std.proofs.lemmas.Nat.{div-add-mod'}
 use Rattle.std.proofs.lemmas.List.{length-replicate}
 use Rattle.std.specs.Prelude.{⊤, ℤ, map, ◌&&◌, IsTrue, flat_map, is_some, unwrap_or, option_map, if◌then◌else◌}
 use Rattle.std.specs.List.{list_all}
+use Rattle.rv_layout_laws.specs.Alignment.{aligned}
 use Rattle.rv_isa_laws.specs.Bytes.{little_endian}
 use Rattle.rv_text_laws.specs.Expression.{Primary}
 use Rattle.rv_text_laws.specs.Values.{Value, Constant, Symbolic, Difference, Faulty}
@@ -16,7 +17,7 @@ use Rattle.rv_pseudo_laws.specs.Code.{Part, code}
 use Rattle.rv_pseudo_laws.specs.Filled.{FieldValue, filled, are_closed, AreTaken}
 use Rattle.rv_unit_laws.specs.Options.{Options}
 use Rattle.rv_unit_laws.specs.Sections.{Section}
-use Rattle.rv_unit_laws.specs.Tables.{alignment_of, padding, aligned}
+use Rattle.rv_unit_laws.specs.Tables.{alignment_of, padding}
 use Rattle.rv_map.specs.declared.map.Row.{Row}
 use Rattle.rv_source_laws.specs.Program.{Mapped, Program, form, address, resolved, number, has_values, expressions}
 use Rattle.rv_source_laws.specs.Lines.{Line, parts, padding_parts, field_value, expansion, other_operand}

@@ -5,6 +5,7 @@ use Rattle.std.proofs.lemmas.Bool.{and_parts, eqb-true, ltb-true, ltb-false, leb
 use Rattle.std.proofs.Math.Pow.{pow_mono}
 use Rattle.std.specs.Prelude.{⊤, ◌^◌, ◌&&◌, ◌||◌, ◌==◌, nat_lt, nat_le, if◌then◌else◌, flat_map}
 use Rattle.std.specs.List.{AllByRecursion}
+use Rattle.rv_isa_laws.specs.Bytes.{zeros}
 use Rattle.rv_text_laws.specs.Values.{Value, Constant, Symbolic, Difference, Faulty}
 use Rattle.rv_statement.specs.Statement.{StatementKind, Label, Numbered, Instruction, Directs, Expression, Enters, Opens, Globl, Local, Sets, Aligns_to_power, Aligns_to_bytes, Values, Strings, Zeros, Chooses, Ignored}
 use Rattle.rv_unit_laws.specs.Sections.{Section as SourceSection}
@@ -12,7 +13,7 @@ use Rattle.rv_unit_laws.specs.Tables.{Tables, is_power_below, power_alignment, b
 use Rattle.rv_source_laws.specs.Fits.{is_low}
 use Rattle.rv_source_laws.proofs.HeldLemmas.{IsHeld}
 use Rattle.rv_object.specs.Padding.{no_operations, operations_in}
-use Rattle.rv_assemble_laws.specs.Templates.{Fixed, Coded, zeros, align_field, padding_templates}
+use Rattle.rv_assemble_laws.specs.Templates.{Fixed, Coded, align_field, padding_templates}
 use Rattle.rv_assemble_laws.specs.Sites.{Site, form, part_of, part_bytes, IsMultiple, IsPaddedIn, HasSize}
 use Rattle.rv_sources_link_laws.proofs.sections.AssembledLemmas.{templates, parts_of}
 use Rattle.rv_sources_link_laws.proofs.moves.ShrunkLemmas as shrunk

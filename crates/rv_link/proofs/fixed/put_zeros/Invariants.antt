@@ -1,5 +1,5 @@
 use Rattle.std.proofs.Common.{◌≡◌, ◌++◌}
-use Rattle.rv_object_laws.specs.Inputs.{zeros}
+use Rattle.rv_isa_laws.specs.Bytes.{zeros}
 use Rattle.rv_link.proofs.fixed.put_zeros.Given as goal
 
 abbrev pub invariant-loop : goal.invariant-loop

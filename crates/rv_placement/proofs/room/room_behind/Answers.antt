@@ -1,8 +1,9 @@
 use Rattle.std.proofs.Common.{rules, arith, ◌≡◌, ◌∙◌, ◌≤◌, ◌<◌, ◌^◌, ap, sym, subst, true, length}
 use Rattle.std.specs.List.{list_all}
+use Rattle.rv_layout_laws.specs.Alignment.{aligned}
 use Rattle.rv_object.specs.Object.{size_of}
 use Rattle.rv_object_laws.specs.Inputs.{goes_to_text}
-use Rattle.rv_object_laws.specs.Moves.{aligned, moves, has_room}
+use Rattle.rv_object_laws.specs.Moves.{moves, has_room}
 use Rattle.rv_shorten.specs.Sections.{short_section_of}
 use Rattle.rv_placement.specs.Placement.{farthest}
 use Rattle.rv_placement.specs.Walk.{start_behind, end_from, capped}

@@ -1,7 +1,7 @@
 use Rattle.std.proofs.Common.{◌+◌, false, [], ◌∷◌, List, sym, ◌∙◌}
 use Rattle.std.specs.Prelude.{codes}
 use Rattle.rv_map.specs.Map.{Global}
-use Rattle.rv_object_laws.specs.Names.{global}
+use Rattle.rv_map.specs.Globals.{global}
 use Rattle.rv_resolve.proofs.LinkerNamesLemmas.{tested, passed_over}
 use Rattle.rv_resolve.proofs.addresses.linker_address.Goals as goal
 

@@ -1,6 +1,6 @@
 use Rattle.std.proofs.Common.{◌≡◌, Some, None, map, ap, sym, ◌∙◌}
+use Rattle.rv_map.specs.Globals.{is_one_of}
 use Rattle.rv_object.specs.declared.symbol.Definition.TheVariants as definitions
-use Rattle.rv_object_laws.specs.Names.{is_one_of}
 use Rattle.rv_shorten.specs.View.{short_object_of}
 use Rattle.rv_resolve.specs.Undefined.{linker_names}
 use Rattle.rv_resolve.proofs.MeantLemmas.{is_meant, meant_at, resolved_none}

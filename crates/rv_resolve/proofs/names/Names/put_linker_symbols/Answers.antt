@@ -1,7 +1,9 @@
 use Rattle.std.proofs.Common.{◌∷◌, ◌++◌, ◌∙◌, [], Bool, ap, map, ◌+◌}
 use Rattle.std.specs.Prelude.{not, codes, filter}
+use Rattle.rv_map.specs.Globals.{is_one_of}
 use Rattle.rv_map.specs.Map.{Global, global_of}
-use Rattle.rv_object_laws.specs.Names.{is_one_of, global, global_names}
+use Rattle.rv_map.specs.Globals.{global}
+use Rattle.rv_object_laws.specs.Names.{global_names}
 use Rattle.rv_resolve.proofs.AddingLemmas.{filtered_more}
 use Rattle.rv_resolve.proofs.names.Names.put_linker_symbols.Goals as goal
 
