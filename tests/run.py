@@ -1,0 +1,243 @@
+#!/usr/bin/env python3
+"""Runs the cases of tests/ over ./rv, side by side, and shows the difference where one fails.
+
+usage: run.py [NAME ..]     only cases whose path below tests/ begins so, as `faults` or `run/exit7`
+
+README.md in this folder says how a case is written. Standard library alone; the last line is 'N passed, M failed'.
+"""
+
+import os
+import re
+import shlex
+import struct
+import subprocess
+import sys
+import tempfile
+from concurrent.futures import ThreadPoolExecutor
+from pathlib import Path
+
+TESTS = Path(__file__).resolve().parent
+RV = TESTS.parent / "rv"
+SECONDS = 60
+LINE = re.compile(r"# (?P<key>[a-z]+(?: has| at [0-9a-f]+| [.\w$-]+(?: \w+)?)?|no map): ?(?P<value>.*)")
+KEYS = "rv options input limit exit end console fault status error out text rodata data map listing section size".split()
+SEGMENTS = {"text": 1, "rodata": 4, "data": 6}
+BEGIN_RUN = {"exit", "end", "console"}
+
+
+class Failed(Exception):
+    """A case that fails: what was wanted and what came."""
+
+
+def unescaped(text):
+    """The bytes of a text with the escapes of C."""
+    named = {"n": "\n", "t": "\t", "r": "\r", "0": "\0", "\\": "\\"}
+    one = lambda it: chr(int(it[1], 16)) if it[1] else named.get(it[2], it[0])
+    return re.sub(r"\\(?:x([0-9a-fA-F]{2})|(.))", one, text, flags=re.S).encode("latin-1")
+
+
+def repeated(text):
+    """The bytes of a source, in which {{N * TEXT}} stands for TEXT, N times."""
+    return re.sub(rb"\{\{(\d+) \* (.*?)\}\}", lambda it: int(it[1]) * unescaped(it[2].decode("latin-1")), text, flags=re.S)
+
+
+def expectations(lines):
+    """The keys and values among the comment lines of a head, in their order."""
+    found = (LINE.fullmatch(it) for it in lines)
+    return [(it["key"], it["value"]) for it in found if it and (it["key"].split()[0] in KEYS or it["key"] == "no map")]
+
+
+def read_source(path):
+    """The one case of a file NAME.s: its name, its files and what is expected."""
+    text = path.read_bytes()
+    lines = text.decode("latin-1").split("\n")
+    length = next((at for at, it in enumerate(lines) if not it.startswith("#") or it.startswith("#---")), len(lines))
+    head = expectations(lines[:length])
+    parts = re.split(rb"(?m)^#--- (.*)\n", text)
+    if len(parts) == 1:
+        return [(path.name, {path.name: repeated(text)}, head)]
+    files = {}
+    for name, part in zip(parts[1::2], parts[2::2]):
+        name, _, how = name.decode().strip().partition(" ")
+        if how.startswith("* "):
+            files.update({f"{at}-{name}": repeated(part) for at in range(1, int(how[2:]) + 1)})
+        else:
+            files[name] = bytes.fromhex(part.decode()) if how == "hex" else repeated(part)
+    return [(path.name, files, head)]
+
+
+def filled(text, cells):
+    """A text of a table's head with the columns of a row in place of $1, $2 .."""
+    return re.sub(r"\$(\d)", lambda it: cells[int(it[1]) - 1] if int(it[1]) <= len(cells) else it[0], text)
+
+
+def read_table(path):
+    """The cases of a file NAME.table: one for each row and each `source` of its head."""
+    lines = path.read_text("latin-1").split("\n")
+    length = next(at for at, it in enumerate(lines) if not it.startswith("#"))
+    shapes = []
+    for line in lines[:length]:
+        source = re.fullmatch(r"# source(?: ([\w.]+))?: ?(.*)", line)
+        if source and not source[1]:
+            shapes.append(({}, []))
+        if source:
+            shapes[-1][0][source[1] or "a.s"] = source[2]
+        elif shapes:
+            shapes[-1][1].extend(expectations([line]))
+    for at, line in enumerate(lines[length:], length + 1):
+        if not line or line.startswith("#"):
+            continue
+        cells = line.split(" => ")
+        for number, (files, head) in enumerate(shapes, 1):
+            made = {name: repeated_text(filled(text, cells)) for name, text in files.items()}
+            yield f"{path.name}:{at}, source {number}", made, [(key, filled(value, cells)) for key, value in head]
+
+
+def repeated_text(text):
+    """The bytes of a source of a table: escapes outside of {{N * TEXT}}, which has its own."""
+    pieces = re.split(r"(\{\{\d+ \* .*?\}\})", text)
+    return b"".join(repeated(it.encode("latin-1")) if it.startswith("{{") else unescaped(it) for it in pieces)
+
+
+def calls(files, head):
+    """The calls of a case, each with what is expected of it."""
+    if any(key == "rv" for key, _ in head):
+        found = []
+        for key, value in head:
+            if key == "rv":
+                found.append((shlex.split(value), []))
+            else:
+                found[-1][1].append((key, value))
+        return found
+    keys = {key.split()[0] for key, _ in head}
+    options = [word for key, value in head if key == "options" for word in shlex.split(value)]
+    if "section" in keys or "size" in keys and "obj" in keys:
+        return [(["as", "-o", "obj", *files], head)]
+    build = ["build", "-o", "exe", "--map", "map", *options, *files]
+    if not keys & BEGIN_RUN:
+        return [(build, head)]
+    limit = [word for key, value in head if key == "limit" for word in ("--limit", value)]
+    of_run = [it for it in head if it[0] in {*BEGIN_RUN, "input"}]
+    return [(build, [it for it in head if it not in of_run]), (["run", *limit, "exe"], of_run)]
+
+
+def same(what, wanted, came):
+    if wanted != came:
+        raise Failed(f"{what}\n  wanted {wanted!r}\n  came   {came!r}")
+
+
+def segments(exe):
+    """The flags, the address and the bytes of each segment of an executable (gABI, "Program Header")."""
+    (at,), (count,) = struct.unpack_from("<Q", exe, 32), struct.unpack_from("<H", exe, 56)
+    for index in range(count):
+        _, flags, offset, address, _, size = struct.unpack_from("<IIQQQQ", exe, at + 56 * index)
+        yield flags, address, exe[offset : offset + size]
+
+
+def section(obj, name):
+    """The bytes of the section of this name of an object (gABI, "Sections")."""
+    at, count, strings = struct.unpack_from("<Q", obj, 40)[0], *struct.unpack_from("<HH", obj, 60)
+    headers = [struct.unpack_from("<IIQQQQIIQQ", obj, at + 64 * index) for index in range(count)]
+    names = headers[strings][4]
+    for it in headers:
+        end = obj.index(b"\0", names + it[0])
+        if obj[names + it[0] : end].decode() == name:
+            return b"" if it[1] == 8 else obj[it[4] : it[4] + it[5]]
+    raise Failed(f"no section {name}")
+
+
+def look_at_files(folder, words, key, value):
+    """Compares one expectation of a file that the call wrote."""
+    first, _, rest = key.partition(" ")
+    written = lambda flag: folder / words[words.index(flag) + 1]
+    if first in SEGMENTS:
+        held = [(address, it) for flags, address, it in segments(written("-o").read_bytes()) if flags == SEGMENTS[first]]
+        address, held = held[0] if held else (0, b"")
+        wanted = bytes.fromhex(value)
+        if rest.startswith("at "):
+            from_there = int(rest[3:], 16) - address
+            held = held[from_there : from_there + len(wanted)]
+        same(key, wanted.hex(), held.hex())
+    elif key in ("map", "no map"):
+        lines = written("--map").read_text().splitlines()
+        if key == "map" and value not in lines or key == "no map" and any(it.startswith(value) for it in lines):
+            raise Failed(f"{key}: {value}\n  came   {lines}")
+    elif first == "section":
+        same(key, bytes.fromhex(value).hex(), section(written("-o").read_bytes(), rest).hex())
+    elif key == "size":
+        same(key, int(value), written("-o").stat().st_size)
+
+
+def look_at(folder, words, head):
+    """Makes one call, and compares each expectation with what came."""
+    given = b"".join(unescaped(value) for key, value in head if key == "input")
+    ran = subprocess.run([RV, *words], cwd=folder, input=given, capture_output=True, timeout=SECONDS)
+    said = ran.stderr.decode("utf8", "replace").splitlines()
+    last, one = said[-1] if said else "", dict(head)
+    status = int(one["status"]) if "status" in one else 1 if "fault" in one else 125 if "end" in one else int(one.get("exit", 0))
+    same(f"rv {' '.join(words)}: its status, with {last!r}", status, ran.returncode)
+    wanted = one.get("error") or ("rv: " + one["fault"] if "fault" in one else "rv: " + one["end"] if "end" in one else None)
+    if wanted is not None:
+        same("standard error", wanted, last)
+    for key in ("console", "out"):
+        if key in one:
+            same(key, unescaped(one[key]), ran.stdout)
+    for key, value in head:
+        if key == "out has" and value not in ran.stdout.decode("utf8", "replace").splitlines():
+            raise Failed(f"out has: {value}\n  came   {ran.stdout!r}")
+        look_at_files(folder, words, key, value)
+    listing = [value for key, value in head if key == "listing"]
+    if listing:
+        look_at_listing(folder, words, listing)
+
+
+def look_at_listing(folder, words, wanted):
+    """Looks for lines that follow each other in the listing of what the call built."""
+    exe, text = words[words.index("-o") + 1], words[words.index("--map") + 1]
+    ran = subprocess.run([RV, "objdump", "--map", text, exe], cwd=folder, capture_output=True, timeout=SECONDS)
+    lines = ran.stdout.decode().splitlines()
+    if not any(lines[at : at + len(wanted)] == wanted for at in range(len(lines))):
+        raise Failed(f"the listing\n  wanted {wanted}\n  came   {lines[:40]}")
+
+
+def run(case):
+    """What is wrong with a case, or nothing."""
+    name, files, head = case
+    if not head:
+        return f"{name}: expects nothing"
+    with tempfile.TemporaryDirectory() as folder:
+        for file, held in files.items():
+            Path(folder, file).write_bytes(held)
+        try:
+            for words, wanted in calls(files, head):
+                look_at(Path(folder), words, wanted)
+        except (Failed, OSError, ValueError, struct.error, subprocess.TimeoutExpired) as why:
+            return f"{name}: {why}"
+    return None
+
+
+def cases(names):
+    """All cases, with their path below tests/, or those whose path begins with one of the names."""
+    for path in sorted(TESTS.glob("*/*")):
+        below = str(path.relative_to(TESTS))
+        if names and not any(below.startswith(it) for it in names):
+            continue
+        reader = {".s": read_source, ".table": read_table}.get(path.suffix)
+        for name, files, head in reader(path) if reader else []:
+            yield f"{path.parent.name}/{name}", files, head
+
+
+def main(names):
+    if not RV.exists():
+        sys.exit("no ./rv: run make first")
+    with ThreadPoolExecutor(len(os.sched_getaffinity(0))) as pool:
+        wrong = list(pool.map(run, cases(names)))
+    for it in filter(None, wrong):
+        print(it)
+    failed = sum(it is not None for it in wrong)
+    print(f"{len(wrong) - failed} passed, {failed} failed")
+    return 1 if failed or not wrong else 0
+
+
+if __name__ == "__main__":
+    sys.exit(main(sys.argv[1:]))
