@@ -1,6 +1,7 @@
 # make             proves and builds the program as ./rv, and runs an example with it
-# make test        the whole gate: every proof from nothing, the must-fail edits, the tests and the program, and what each
-#                  crate cost
+# make check       runs the cases of tests/ over ./rv, in seconds
+# make test        the whole gate: every proof from nothing, the must-fail edits, the tests, the program and its cases, and
+#                  what each crate cost
 # make bench       measures rv beside GNU's tools, qemu-riscv64 and an interpreter in C, where they are installed
 # make install     PREFIX=/usr/local by default
 
@@ -10,7 +11,7 @@ PROGRAM := crates/rv_cli/out/rv_cli
 # What the program is made of: no test crate, and no edit that must fail.
 SOURCES := crates.txt $(shell find crates \( -name out -o -name must-fail -o -name '*_tests' \) -prune -o -type f -print)
 
-.PHONY: all test bench install clean
+.PHONY: all check test bench install clean
 
 all: rv
 	@echo "rv run $(EXAMPLE)"
@@ -21,8 +22,12 @@ rv: $(SOURCES)
 	scripts/build.py rv_cli
 	cp $(PROGRAM) rv
 
+check: rv
+	tests/run.py
+	scripts/links.py
+
 test:
-	scripts/gate_times.py
+	scripts/test.py
 
 bench: rv
 	python3 bench/run.py

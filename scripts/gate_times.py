@@ -1,13 +1,13 @@
 #!/usr/bin/env python3
-"""Runs the gate, and writes what each crate cost: make test.
+"""Runs the gate, and writes what each crate cost.
 
 usage: gate_times.py [COMMAND ..]
 
 The command is `rt ci` unless words are given. It runs as it is: this script hands its output on and looks, beside
 it, at the processes that it starts, four times a second. A process belongs to the crate that its words name
 (`--crate-name`), or to its parent's; below a folder rt-edit-* it tries an edit. The table goes to standard output,
-below what the command writes, and to out/gate_times.md; the command's last line stands once more below it. What ended
-between two looks, and rt itself, stand in the last row.
+below what the command writes, and to out/gate_times.md. What ended between two looks, and rt itself, is in the last
+row.
 """
 
 import os
@@ -133,20 +133,18 @@ def table(lines, seen, spent, clock):
     yield f"| the rest | | {round(spent) - proof - edits:,} | | |"
     yield ""
     cores = len(os.sched_getaffinity(0))
-    last = lines[-1].strip() if lines else ""
     yield f"{clock / 60:.0f} minutes on {cores} cores, {spent / 60:.0f} processor minutes ({round(spent):,} seconds)"
-    yield ""
-    yield last
 
 
-def main(words):
-    status, lines, seen, spent, clock = run(words or ["rt", "ci"])
+def measured(words):
+    """Runs the command and writes the table; the command's status and its output."""
+    status, lines, seen, spent, clock = run(words)
     text = "\n".join(table(lines, seen, spent, clock))
     REPORT.parent.mkdir(exist_ok=True)
     REPORT.write_text(text + "\n")
     print(f"\n{text}", flush=True)
-    return status
+    return status, lines
 
 
 if __name__ == "__main__":
-    sys.exit(main(sys.argv[1:]))
+    sys.exit(measured(sys.argv[1:] or ["rt", "ci"])[0])

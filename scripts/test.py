@@ -1,0 +1,49 @@
+#!/usr/bin/env python3
+"""The whole gate: make test.
+
+First `rt ci`, with what each crate cost (gate_times.py): every proof from nothing, the wrong bodies that must be
+refused, the tests of the library. Then, over the program that it built, the cases of tests/ and the links of the
+documents. The last line sums both up as 'N passed, M failed'; the exit status is 0 if nothing failed.
+"""
+
+import re
+import shutil
+import subprocess
+import sys
+from pathlib import Path
+
+import gate_times
+
+ROOT = Path(__file__).resolve().parent.parent
+BUILT = ROOT / "crates" / "rv_cli" / "out" / "rv_cli"
+AFTER = [["tests/run.py"], ["scripts/links.py"]]
+
+
+def counts(line):
+    """The numbers of a line 'N passed, M failed'; one failure where it is none."""
+    found = re.match(r"(\d+) passed, (\d+) failed", line)
+    return (int(found[1]), int(found[2])) if found else (0, 1)
+
+
+def said(words):
+    """Runs a script of the repository, shows what it writes, and gives the numbers of its last line."""
+    ran = subprocess.run([sys.executable, *words], cwd=ROOT, stdout=subprocess.PIPE, text=True)
+    print(f"== {words[0]}\n{ran.stdout}", end="", flush=True)
+    passed, failed = counts((ran.stdout.splitlines() or [""])[-1])
+    return passed, failed or int(ran.returncode != 0)
+
+
+def main():
+    status, lines = gate_times.measured(["rt", "ci"])
+    passed, failed = counts(lines[-1].strip() if lines else "")
+    sums = [(passed, failed or int(status != 0))]
+    if BUILT.exists():
+        shutil.copy(BUILT, ROOT / "rv")
+        sums += [said(words) for words in AFTER]
+    passed, failed = map(sum, zip(*sums))
+    print(f"\n{passed} passed, {failed} failed", flush=True)
+    return 1 if failed else 0
+
+
+if __name__ == "__main__":
+    sys.exit(main())
