@@ -153,7 +153,7 @@ def look_at_files(folder, words, key, value):
     if first in SEGMENTS:
         held = [(address, it) for flags, address, it in segments(written("-o").read_bytes()) if flags == SEGMENTS[first]]
         address, held = held[0] if held else (0, b"")
-        wanted = bytes.fromhex(value)
+        wanted = bytes.fromhex(repeated(value.encode()).decode())
         if rest.startswith("at "):
             from_there = int(rest[3:], 16) - address
             held = held[from_there : from_there + len(wanted)]
@@ -186,7 +186,9 @@ def look_at(folder, words, head):
         if key == "out has" and value not in ran.stdout.decode("utf8", "replace").splitlines():
             raise Failed(f"out has: {value}\n  came   {ran.stdout!r}")
         look_at_files(folder, words, key, value)
-    listing = [value for key, value in head if key == "listing"]
+    mapped, listing = ([value for key, value in head if key == it] for it in ("map", "listing"))
+    if "rvmap 1" in mapped:
+        same("the map", mapped, (folder / words[words.index("--map") + 1]).read_text().splitlines())
     if listing:
         look_at_listing(folder, words, listing)
 
