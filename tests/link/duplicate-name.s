@@ -1,0 +1,10 @@
+# Both sources define a global `f`.
+# fault: L6 Duplicate f
+#--- a.s
+.globl _start
+_start: li a0, 0
+loop: addi a0, a0, 1; li t0, 3; blt a0, t0, loop; tail f
+.globl f; f: nop
+#--- b.s
+.globl f, loop
+f: loop: addi a0, a0, 4; li t0, 10; blt a0, t0, loop; li a7, 93; ecall
