@@ -16,6 +16,8 @@ import tempfile
 from concurrent.futures import ThreadPoolExecutor
 from pathlib import Path
 
+from objects import object_of
+
 TESTS = Path(__file__).resolve().parent
 RV = TESTS.parent / "rv"
 SECONDS = 60
@@ -59,10 +61,10 @@ def read_source(path):
     files = {}
     for name, part in zip(parts[1::2], parts[2::2]):
         name, _, how = name.decode().strip().partition(" ")
-        if how.startswith("* "):
-            files.update({f"{at}-{name}": repeated(part) for at in range(1, int(how[2:]) + 1)})
-        else:
-            files[name] = bytes.fromhex(part.decode()) if how == "hex" else repeated(part)
+        how, _, times = how.partition("* ")
+        held = bytes.fromhex(part.decode()) if how == "hex" else repeated(part)
+        held = object_of(held.decode()) if how.strip() == "object" else held
+        files.update({f"{at}-{name}": held for at in range(1, int(times) + 1)} if times else {name: held})
     return [(path.name, files, head)]
 
 
@@ -77,11 +79,11 @@ def read_table(path):
     length = next(at for at, it in enumerate(lines) if not it.startswith("#"))
     shapes = []
     for line in lines[:length]:
-        source = re.fullmatch(r"# source(?: ([\w.]+))?: ?(.*)", line)
-        if source and not source[1]:
+        source = re.fullmatch(r"# (source|object)(?: ([\w.]+))?: ?(.*)", line)
+        if source and not source[2]:
             shapes.append(({}, []))
         if source:
-            shapes[-1][0][source[1] or "a.s"] = source[2]
+            shapes[-1][0][source[2] or {"source": "a.s", "object": "a.o"}[source[1]]] = source[3]
         elif shapes:
             shapes[-1][1].extend(expectations([line]))
     for at, line in enumerate(lines[length:], length + 1):
@@ -90,6 +92,7 @@ def read_table(path):
         cells = line.split(" => ")
         for number, (files, head) in enumerate(shapes, 1):
             made = {name: repeated_text(filled(text, cells)) for name, text in files.items()}
+            made = {name: object_of(it.decode()) if name.endswith(".o") else it for name, it in made.items()}
             yield f"{path.name}:{at}, source {number}", made, [(key, filled(value, cells)) for key, value in head]
 
 
@@ -113,7 +116,8 @@ def calls(files, head):
     options = [word for key, value in head if key == "options" for word in shlex.split(value)]
     if "section" in keys or "size" in keys and "obj" in keys:
         return [(["as", "-o", "obj", *files], head)]
-    build = ["build", "-o", "exe", "--map", "map", *options, *files]
+    word = "ld" if all(name.endswith(".o") for name in files) else "build"
+    build = [word, "-o", "exe", "--map", "map", *options, *files]
     if not keys & BEGIN_RUN:
         return [(build, head)]
     limit = [word for key, value in head if key == "limit" for word in ("--limit", value)]
