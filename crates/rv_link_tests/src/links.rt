@@ -1,59 +1,57 @@
-//! What links come to.
+//! What a link answers, and links of no object.
 
-use crate::objects::{ObjectRow, objects};
-use rv_image::Linked;
-use rv_link::{LinkFault, LinkOptions, link};
+use crate::files::{CALL_OF_FIRST, RELAX, START, object, place};
+use rv_image::Region;
+use rv_link::{LinkOptions, link};
 use rv_object::Object;
-use std::alloc::{AllocError, Global};
+use std::alloc::Global;
+use std::test::Fail;
 
-/// What a link comes to: a program, the number of a fault, or neither, where a row stands for no object.
-#[derive(Debug, PartialEq, Eq, Drop)]
-pub(crate) enum Answer {
-    Linked(Linked),
-    Fault(u8),
-    Neither,
-}
+const OPTIONS: LinkOptions = LinkOptions {
+    text_start: 0x1_0000,
+    relax: true,
+};
 
-/// What the link of the objects of these rows comes to, with this start of the text.
-pub(crate) fn linked(
-    alloc: Global,
-    rows: &[ObjectRow],
-    text_start: u64,
-) -> Result<Answer, AllocError> {
-    let Some(objects) = objects(alloc, rows)? else {
-        return Ok(Answer::Neither);
+/// `call f`, `li a7, 93`, `ecall` and `f: ret`.
+const CODE: &[u8] = b"\x97\0\0\0\xe7\x80\0\0\x93\x08\xd0\x05\x73\0\0\0\x82\x80";
+
+const CALL: [[u64; 3]; 2] = [[0, CALL_OF_FIRST, 0], [0, RELAX, 0]];
+
+/// The call has four bytes in the program.
+#[test]
+fn a_program(rt: HostRuntime) -> Result<(), Fail> {
+    let alloc = rt.alloc();
+    let object = object(alloc, &[(CODE, 2, CALL.as_slice())], &[place(16), START])?;
+    let objects = vec![in alloc; object]?;
+    let linked = link(alloc, &objects, OPTIONS)?;
+    assert!(rt; linked.text.as_slice() == b"\xef\0\xc0\0\x93\x08\xd0\x05\x73\0\0\0\x82\x80");
+    assert!(rt; linked.rodata.is_empty() && linked.data.is_empty() && linked.rvc);
+    let map = &linked.map;
+    let text = Region {
+        start: 0x1_0000,
+        end: 0x1_000e,
     };
-    Ok(link_objects(alloc, &objects, text_start))
+    assert!(rt; map.text == text && map.entry == 0x1_0000);
+    assert!(rt; map.rows.is_empty() && map.gaps.is_empty() && map.globals.len() == 6);
+    Ok(())
 }
 
-/// What the link of objects comes to.
-pub(crate) fn link_objects(alloc: Global, objects: &[Object], text_start: u64) -> Answer {
+/// The number of the fault of a link of no object.
+fn fault_of_nothing(alloc: Global, text_start: u64) -> Option<u8> {
+    let objects: Vec<Object> = Vec::new(alloc);
     let options = LinkOptions {
         text_start,
         relax: false,
     };
-    of_link(link(alloc, objects, options))
-}
-
-/// What the link of objects comes to at the usual start of the text, with their calls shortened or not.
-pub(crate) fn link_relaxed(alloc: Global, objects: &[Object], relax: bool) -> Answer {
-    let options = LinkOptions {
-        text_start: 0x1_0000,
-        relax,
-    };
-    of_link(link(alloc, objects, options))
-}
-
-fn of_link(found: Result<Linked, LinkFault>) -> Answer {
-    match found {
-        Ok(linked) => Answer::Linked(linked),
-        Err(fault) => of_fault(&fault),
+    match link(alloc, &objects, options) {
+        Ok(_) => None,
+        Err(fault) => fault.number(),
     }
 }
 
-fn of_fault(fault: &LinkFault) -> Answer {
-    match fault.number() {
-        Some(number) => Answer::Fault(number),
-        None => Answer::Neither,
-    }
+/// No object defines `_start`; the start of the text is looked at before.
+#[test]
+fn no_object(rt: HostRuntime) {
+    assert_eq!(rt; fault_of_nothing(rt.alloc(), 0x1_0000), Some(7));
+    assert_eq!(rt; fault_of_nothing(rt.alloc(), 4097), Some(9));
 }

@@ -1,69 +1,47 @@
 //! What a plan tells of the text of objects. The numbers stand by hand: a text begins at a multiple of all alignments, and
 //! `jal` reaches each target.
 
-use crate::objects::{A, ObjectRow, X, objects};
-use crate::relaxed::{START, THREE};
-use rv_isa::Kind;
+use crate::files::{ALIGN, CALL_OF_FIRST, RELAX, object, place};
 use rv_link_sites::placed;
-use rv_object::{Binding, Definition, Object};
+use rv_object::Object;
 use rv_relax::{Placed, Plan};
 use rv_resolve::Names;
 use rv_shorten::whole;
 use std::alloc::{AllocError, Global};
 use std::test::Fail;
 
+/// `call f`, twice more, `li a7, 93`, `ecall`, and `f: ret`.
+const THREE: &[u8] =
+    b"\x97\0\0\0\xe7\x80\0\0\x97\0\0\0\xe7\x80\0\0\x97\0\0\0\xe7\x80\0\0\x93\x08\xd0\x05\x73\0\0\0\x82\x80";
+
+const THREE_CALLS: [[u64; 3]; 6] = [
+    [0, CALL_OF_FIRST, 0],
+    [0, RELAX, 0],
+    [8, CALL_OF_FIRST, 0],
+    [8, RELAX, 0],
+    [16, CALL_OF_FIRST, 0],
+    [16, RELAX, 0],
+];
+
 /// `call f`, six bytes of padding up to a multiple of 8, and `f: ret`.
-const ALIGNED: ObjectRow = (
-    &[(
-        b".text",
-        A | X,
-        b"\x97\0\0\0\xe7\x80\0\0\x13\0\0\0\x01\0\x82\x80",
-        None,
-        2,
-        &[
-            (0, Kind::CallPlt, Some(1), 0),
-            (0, Kind::Relax, None, 0),
-            (8, Kind::Align, None, 6),
-        ],
-    )],
-    &[START, (b"f", Binding::Global, Definition::InSection(0, 14))],
-);
+const ALIGNED: &[u8] = b"\x97\0\0\0\xe7\x80\0\0\x13\0\0\0\x01\0\x82\x80";
+
+const CALL_AND_PADDING: [[u64; 3]; 3] = [[0, CALL_OF_FIRST, 0], [0, RELAX, 0], [8, ALIGN, 6]];
 
 /// `call f`, and in another section, at a multiple of 8, `call f` and `f: ret`.
-const TWO: ObjectRow = (
-    &[
-        (
-            b".text",
-            A | X,
-            b"\x97\0\0\0\xe7\x80\0\0",
-            None,
-            2,
-            &[(0, Kind::CallPlt, Some(1), 0), (0, Kind::Relax, None, 0)],
-        ),
-        (
-            b".text.f",
-            A | X,
-            b"\x97\0\0\0\xe7\x80\0\0\x82\x80",
-            None,
-            8,
-            &[(0, Kind::CallPlt, Some(1), 0), (0, Kind::Relax, None, 0)],
-        ),
-    ],
-    &[START, (b"f", Binding::Global, Definition::InSection(1, 8))],
-);
+const FIRST: &[u8] = b"\x97\0\0\0\xe7\x80\0\0";
+
+const SECOND: &[u8] = b"\x97\0\0\0\xe7\x80\0\0\x82\x80";
+
+const CALL: [[u64; 3]; 2] = [[0, CALL_OF_FIRST, 0], [0, RELAX, 0]];
+
+/// `f` in the second section, which has the number 3 in the file.
+const IN_SECOND: [u64; 3] = [3 << 48, 8, 0];
 
 /// `ret`, and behind it four bytes of padding where a multiple of 8 wants six.
-const SHORT: ObjectRow = (
-    &[(
-        b".text",
-        A | X,
-        b"\x82\x80\x13\0\0\0",
-        None,
-        2,
-        &[(2, Kind::Align, None, 4)],
-    )],
-    &[START],
-);
+const SHORT: &[u8] = b"\x82\x80\x13\0\0\0";
+
+const SHORT_PADDING: [[u64; 3]; 1] = [[2, ALIGN, 4]];
 
 /// The text of objects; none where a name has two definitions, or where it is too long.
 pub(crate) fn text(alloc: Global, objects: &[Object]) -> Result<Option<Placed>, AllocError> {
@@ -96,15 +74,13 @@ fn pads(alloc: Global, plan: &Plan<'_>) -> Result<Vec<u32>, AllocError> {
 /// one afterwards.
 fn tells(
     alloc: Global,
-    row: ObjectRow,
+    object: Object,
     calls: &[u32],
     alignments: &[u32],
     is_roomy: bool,
     offsets: &[(u64, u64)],
 ) -> Result<bool, AllocError> {
-    let Some(objects) = objects(alloc, &[row])? else {
-        return Ok(false);
-    };
+    let objects = vec![in alloc; object]?;
     let Some(text) = text(alloc, &objects)? else {
         return Ok(false);
     };
@@ -124,12 +100,20 @@ fn tells(
 #[test]
 fn plans_tell_of_texts(rt: HostRuntime) -> Result<(), Fail> {
     let alloc = rt.alloc();
-    let three = [(0, 0), (8, 4), (16, 8), (24, 12), (32, 20)];
-    assert!(rt; tells(alloc, THREE, &[4, 4, 4], &[], true, &three)?);
-    let aligned = [(8, 4), (12, 8), (14, 8), (16, 10)];
-    assert!(rt; tells(alloc, ALIGNED, &[4], &[4], true, &aligned)?);
-    let two = [(8, 4), (16, 8), (18, 10)];
-    assert!(rt; tells(alloc, TWO, &[4, 4], &[], true, &two)?);
-    assert!(rt; tells(alloc, SHORT, &[], &[6], false, &[(2, 2)])?);
+    let three = object(alloc, &[(THREE, 2, THREE_CALLS.as_slice())], &[place(32)])?;
+    let moved = [(0, 0), (8, 4), (16, 8), (24, 12), (32, 20)];
+    assert!(rt; tells(alloc, three, &[4, 4, 4], &[], true, &moved)?);
+    let aligned = object(
+        alloc,
+        &[(ALIGNED, 2, CALL_AND_PADDING.as_slice())],
+        &[place(14)],
+    )?;
+    let moved = [(8, 4), (12, 8), (14, 8), (16, 10)];
+    assert!(rt; tells(alloc, aligned, &[4], &[4], true, &moved)?);
+    let sections = [(FIRST, 2, CALL.as_slice()), (SECOND, 8, CALL.as_slice())];
+    let two = object(alloc, sections.as_slice(), &[IN_SECOND])?;
+    assert!(rt; tells(alloc, two, &[4, 4], &[], true, &[(8, 4), (16, 8), (18, 10)])?);
+    let short = object(alloc, &[(SHORT, 2, SHORT_PADDING.as_slice())], &[])?;
+    assert!(rt; tells(alloc, short, &[], &[6], false, &[(2, 2)])?);
     Ok(())
 }

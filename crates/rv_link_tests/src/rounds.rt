@@ -1,10 +1,9 @@
 //! How many passes relaxation takes over calls of which each reaches only once its neighbour is shortened. The counts stand by
 //! hand: passes go forwards and backwards in turn, and the last shortens nothing.
 
+use crate::files::{CALL_PLT, RELAX, object, place};
 use crate::plans::text;
-use crate::relaxed::{CALL, START, code};
-use rv_isa::Kind;
-use rv_object::{Binding, Definition, Object};
+use rv_object::Object;
 use rv_relax::Plan;
 use std::alloc::{AllocError, Global};
 use std::test::Fail;
@@ -17,13 +16,12 @@ const BACKWARDS: u64 = 1 << 20;
 /// How many calls there are.
 const COUNT: u64 = 100;
 
+/// A call, as an assembler leaves it.
+const CALL: [u8; 8] = [0x97, 0, 0, 0, 0xe7, 0x80, 0, 0];
+
 /// How many passes there are over the sites of an object, and whether all of its calls are short then.
-fn passes(alloc: Global, object: Option<Object>) -> Result<Option<(usize, bool)>, AllocError> {
-    let Some(object) = object else {
-        return Ok(None);
-    };
-    let mut objects = Vec::new(alloc);
-    objects.push(object)?;
+fn passes(alloc: Global, object: Object) -> Result<Option<(usize, bool)>, AllocError> {
+    let objects = vec![in alloc; object]?;
     let Some(text) = text(alloc, &objects)? else {
         return Ok(None);
     };
@@ -33,25 +31,24 @@ fn passes(alloc: Global, object: Option<Object>) -> Result<Option<(usize, bool)>
 }
 
 /// An object of zeros in which calls stand from an offset on, eight bytes each, and their targets four bytes apart.
-fn chain(alloc: Global, calls: u64, targets: u64, size: u64) -> Result<Option<Object>, AllocError> {
+fn chain(alloc: Global, calls: u64, targets: u64, size: u64) -> Result<Object, Fail> {
     let mut bytes = vec![in alloc; 0; calls as usize]?;
-    let mut rows = Vec::new(alloc);
-    let mut names = Vec::from_slice(alloc, &[START])?;
+    let mut relocations = Vec::new(alloc);
+    let mut symbols = Vec::new(alloc);
     for i in 0..COUNT {
         bytes.extend_from_slice(&CALL)?;
-        let place = calls.wrapping_add(8 * i);
-        let target = targets.wrapping_add(4 * i);
-        rows.push((place, Kind::CallPlt, Some(1 + i as u32), 0))?;
-        rows.push((place, Kind::Relax, None, 0))?;
-        names.push((
-            b"".as_slice(),
-            Binding::Local,
-            Definition::InSection(0, target),
-        ))?;
+        let at = calls.wrapping_add(8 * i);
+        relocations.push([at, (1 + i) << 32 | CALL_PLT, 0])?;
+        relocations.push([at, RELAX, 0])?;
+        symbols.push(place(targets.wrapping_add(4 * i)))?;
     }
     let behind = (size as usize).saturating_sub(bytes.len());
     bytes.extend_from_slice(&vec![in alloc; 0; behind]?)?;
-    code(alloc, bytes, &rows, &names)
+    object(
+        alloc,
+        &[(bytes.as_slice(), 2, relocations.as_slice())],
+        &symbols,
+    )
 }
 
 /// The last call reaches, and each before it once all behind it are short: one pass backwards shortens them all.
