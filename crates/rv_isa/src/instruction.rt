@@ -227,8 +227,8 @@ impl Default for Inst {
     fn default() -> Self {
         Inst::Addi(IType {
             immediate: 0,
-            rd: Reg::from_low_bits(0),
-            rs1: Reg::from_low_bits(0),
+            rd: Reg::ZERO,
+            rs1: Reg::ZERO,
         })
     }
 }

@@ -524,7 +524,7 @@ pub fn fence(fm: u8, pred: u8, succ: u8) -> Inst
         fm,
         pred,
         succ,
-        rs1: Reg::from_low_bits(0),
-        rd: Reg::from_low_bits(0),
+        rs1: Reg::ZERO,
+        rd: Reg::ZERO,
     })
 }

@@ -20,6 +20,17 @@ impl Model for Reg {
 }
 
 impl Reg {
+    /// x0, which is always 0.
+    pub const ZERO: Self = Reg(0);
+    /// x1, where calls leave their return address.
+    pub const RA: Self = Reg(1);
+    /// x2, the stack pointer.
+    pub const SP: Self = Reg(2);
+    /// x6, a temporary.
+    pub const T1: Self = Reg(6);
+    /// x8, a saved register, or the frame pointer.
+    pub const S0: Self = Reg(8);
+
     /// The register of this number, 0 to 31; `None` from 32 on.
     pub fn new(number: u8) -> Option<Self>
         ensures { MatchOption result (32 ≤ number) (λ r. (number < 32) × (r ≡ number)) }

@@ -66,7 +66,7 @@ pub fn reg_named(name: &[u8]) -> Option<Reg>
     ensures { (r : ℕ) → result ≡ Some r ↔ IsNameOf name.now r }
 {
     if name == b"fp".as_slice() {
-        return Some(Reg::from_low_bits(8));
+        return Some(Reg::S0);
     }
     match reg_numbered(name) {
         Some(reg) => Some(reg),
