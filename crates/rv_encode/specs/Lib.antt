@@ -1,2 +1,3 @@
 pub use Rattle.rv_isa.specs.Ranges
 pub mod Word
+pub mod Selectors

@@ -14,13 +14,13 @@ fn load(bits: u32) -> Option<Inst>
     ensures { IsSpelled result bits }
 {
     match funct3(bits) {
-        0 => Some(Inst::Lb(operands::immediate(bits))),
-        1 => Some(Inst::Lh(operands::immediate(bits))),
-        2 => Some(Inst::Lw(operands::immediate(bits))),
-        3 => Some(Inst::Ld(operands::immediate(bits))),
-        4 => Some(Inst::Lbu(operands::immediate(bits))),
-        5 => Some(Inst::Lhu(operands::immediate(bits))),
-        6 => Some(Inst::Lwu(operands::immediate(bits))),
+        0 => Some(Inst::Lb(operands::i_type(bits))),
+        1 => Some(Inst::Lh(operands::i_type(bits))),
+        2 => Some(Inst::Lw(operands::i_type(bits))),
+        3 => Some(Inst::Ld(operands::i_type(bits))),
+        4 => Some(Inst::Lbu(operands::i_type(bits))),
+        5 => Some(Inst::Lhu(operands::i_type(bits))),
+        6 => Some(Inst::Lwu(operands::i_type(bits))),
         _ => None,
     }
 }
@@ -32,10 +32,10 @@ fn store(bits: u32) -> Option<Inst>
     ensures { IsSpelled result bits }
 {
     match funct3(bits) {
-        0 => Some(Inst::Sb(operands::store(bits))),
-        1 => Some(Inst::Sh(operands::store(bits))),
-        2 => Some(Inst::Sw(operands::store(bits))),
-        3 => Some(Inst::Sd(operands::store(bits))),
+        0 => Some(Inst::Sb(operands::s_type(bits))),
+        1 => Some(Inst::Sh(operands::s_type(bits))),
+        2 => Some(Inst::Sw(operands::s_type(bits))),
+        3 => Some(Inst::Sd(operands::s_type(bits))),
         _ => None,
     }
 }
@@ -47,12 +47,12 @@ fn branch(bits: u32) -> Option<Inst>
     ensures { IsSpelled result bits }
 {
     match funct3(bits) {
-        0 => Some(Inst::Beq(operands::branch(bits))),
-        1 => Some(Inst::Bne(operands::branch(bits))),
-        4 => Some(Inst::Blt(operands::branch(bits))),
-        5 => Some(Inst::Bge(operands::branch(bits))),
-        6 => Some(Inst::Bltu(operands::branch(bits))),
-        7 => Some(Inst::Bgeu(operands::branch(bits))),
+        0 => Some(Inst::Beq(operands::b_type(bits))),
+        1 => Some(Inst::Bne(operands::b_type(bits))),
+        4 => Some(Inst::Blt(operands::b_type(bits))),
+        5 => Some(Inst::Bge(operands::b_type(bits))),
+        6 => Some(Inst::Bltu(operands::b_type(bits))),
+        7 => Some(Inst::Bgeu(operands::b_type(bits))),
         _ => None,
     }
 }
@@ -64,21 +64,21 @@ fn op_imm(bits: u32) -> Option<Inst>
     ensures { IsSpelled result bits }
 {
     match funct3(bits) {
-        0 => Some(Inst::Addi(operands::immediate(bits))),
+        0 => Some(Inst::Addi(operands::i_type(bits))),
         1 => match funct6(bits) {
             0x00 => Some(Inst::Slli(operands::shift_by(bits))),
             _ => None,
         },
-        2 => Some(Inst::Slti(operands::immediate(bits))),
-        3 => Some(Inst::Sltiu(operands::immediate(bits))),
-        4 => Some(Inst::Xori(operands::immediate(bits))),
+        2 => Some(Inst::Slti(operands::i_type(bits))),
+        3 => Some(Inst::Sltiu(operands::i_type(bits))),
+        4 => Some(Inst::Xori(operands::i_type(bits))),
         5 => match funct6(bits) {
             0x00 => Some(Inst::Srli(operands::shift_by(bits))),
             0x10 => Some(Inst::Srai(operands::shift_by(bits))),
             _ => None,
         },
-        6 => Some(Inst::Ori(operands::immediate(bits))),
-        7 => Some(Inst::Andi(operands::immediate(bits))),
+        6 => Some(Inst::Ori(operands::i_type(bits))),
+        7 => Some(Inst::Andi(operands::i_type(bits))),
         _ => None,
     }
 }
@@ -90,7 +90,7 @@ fn op_imm_32(bits: u32) -> Option<Inst>
     ensures { IsSpelled result bits }
 {
     match funct3(bits) {
-        0 => Some(Inst::Addiw(operands::immediate(bits))),
+        0 => Some(Inst::Addiw(operands::i_type(bits))),
         1 => match funct7(bits) {
             0x00 => Some(Inst::Slliw(operands::word_shift(bits))),
             _ => None,
@@ -112,30 +112,30 @@ fn op(bits: u32) -> Option<Inst>
 {
     match funct7(bits) {
         0x00 => match funct3(bits) {
-            0 => Some(Inst::Add(operands::register(bits))),
-            1 => Some(Inst::Sll(operands::register(bits))),
-            2 => Some(Inst::Slt(operands::register(bits))),
-            3 => Some(Inst::Sltu(operands::register(bits))),
-            4 => Some(Inst::Xor(operands::register(bits))),
-            5 => Some(Inst::Srl(operands::register(bits))),
-            6 => Some(Inst::Or(operands::register(bits))),
-            7 => Some(Inst::And(operands::register(bits))),
+            0 => Some(Inst::Add(operands::r_type(bits))),
+            1 => Some(Inst::Sll(operands::r_type(bits))),
+            2 => Some(Inst::Slt(operands::r_type(bits))),
+            3 => Some(Inst::Sltu(operands::r_type(bits))),
+            4 => Some(Inst::Xor(operands::r_type(bits))),
+            5 => Some(Inst::Srl(operands::r_type(bits))),
+            6 => Some(Inst::Or(operands::r_type(bits))),
+            7 => Some(Inst::And(operands::r_type(bits))),
             _ => None,
         },
         0x01 => match funct3(bits) {
-            0 => Some(Inst::Mul(operands::register(bits))),
-            1 => Some(Inst::Mulh(operands::register(bits))),
-            2 => Some(Inst::Mulhsu(operands::register(bits))),
-            3 => Some(Inst::Mulhu(operands::register(bits))),
-            4 => Some(Inst::Div(operands::register(bits))),
-            5 => Some(Inst::Divu(operands::register(bits))),
-            6 => Some(Inst::Rem(operands::register(bits))),
-            7 => Some(Inst::Remu(operands::register(bits))),
+            0 => Some(Inst::Mul(operands::r_type(bits))),
+            1 => Some(Inst::Mulh(operands::r_type(bits))),
+            2 => Some(Inst::Mulhsu(operands::r_type(bits))),
+            3 => Some(Inst::Mulhu(operands::r_type(bits))),
+            4 => Some(Inst::Div(operands::r_type(bits))),
+            5 => Some(Inst::Divu(operands::r_type(bits))),
+            6 => Some(Inst::Rem(operands::r_type(bits))),
+            7 => Some(Inst::Remu(operands::r_type(bits))),
             _ => None,
         },
         0x20 => match funct3(bits) {
-            0 => Some(Inst::Sub(operands::register(bits))),
-            5 => Some(Inst::Sra(operands::register(bits))),
+            0 => Some(Inst::Sub(operands::r_type(bits))),
+            5 => Some(Inst::Sra(operands::r_type(bits))),
             _ => None,
         },
         _ => None,
@@ -150,22 +150,22 @@ fn op_32(bits: u32) -> Option<Inst>
 {
     match funct7(bits) {
         0x00 => match funct3(bits) {
-            0 => Some(Inst::Addw(operands::register(bits))),
-            1 => Some(Inst::Sllw(operands::register(bits))),
-            5 => Some(Inst::Srlw(operands::register(bits))),
+            0 => Some(Inst::Addw(operands::r_type(bits))),
+            1 => Some(Inst::Sllw(operands::r_type(bits))),
+            5 => Some(Inst::Srlw(operands::r_type(bits))),
             _ => None,
         },
         0x01 => match funct3(bits) {
-            0 => Some(Inst::Mulw(operands::register(bits))),
-            4 => Some(Inst::Divw(operands::register(bits))),
-            5 => Some(Inst::Divuw(operands::register(bits))),
-            6 => Some(Inst::Remw(operands::register(bits))),
-            7 => Some(Inst::Remuw(operands::register(bits))),
+            0 => Some(Inst::Mulw(operands::r_type(bits))),
+            4 => Some(Inst::Divw(operands::r_type(bits))),
+            5 => Some(Inst::Divuw(operands::r_type(bits))),
+            6 => Some(Inst::Remw(operands::r_type(bits))),
+            7 => Some(Inst::Remuw(operands::r_type(bits))),
             _ => None,
         },
         0x20 => match funct3(bits) {
-            0 => Some(Inst::Subw(operands::register(bits))),
-            5 => Some(Inst::Sraw(operands::register(bits))),
+            0 => Some(Inst::Subw(operands::r_type(bits))),
+            5 => Some(Inst::Sraw(operands::r_type(bits))),
             _ => None,
         },
         _ => None,
@@ -262,7 +262,7 @@ fn jalr(bits: u32) -> Option<Inst>
     ensures { IsSpelled result bits }
 {
     match funct3(bits) {
-        0 => Some(Inst::Jalr(operands::immediate(bits))),
+        0 => Some(Inst::Jalr(operands::i_type(bits))),
         _ => None,
     }
 }
@@ -289,16 +289,16 @@ pub fn decode(bits: u32) -> Option<Inst>
         0x03 => load(bits),
         0x0f => misc_mem(bits),
         0x13 => op_imm(bits),
-        0x17 => Some(Inst::Auipc(operands::upper(bits))),
+        0x17 => Some(Inst::Auipc(operands::u_type(bits))),
         0x1b => op_imm_32(bits),
         0x23 => store(bits),
         0x2f => amo(bits),
         0x33 => op(bits),
-        0x37 => Some(Inst::Lui(operands::upper(bits))),
+        0x37 => Some(Inst::Lui(operands::u_type(bits))),
         0x3b => op_32(bits),
         0x63 => branch(bits),
         0x67 => jalr(bits),
-        0x6f => Some(Inst::Jal(operands::jump(bits))),
+        0x6f => Some(Inst::Jal(operands::j_type(bits))),
         0x73 => system(bits),
         _ => None,
     }

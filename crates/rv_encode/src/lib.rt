@@ -20,7 +20,7 @@
 mod decoding;
 mod encoding;
 mod laws;
-mod operands;
+pub mod operands;
 mod signed;
 
 pub use decoding::decode;

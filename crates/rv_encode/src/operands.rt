@@ -1,4 +1,8 @@
-//! Words into operands: the fields of each format, and what they are in the word.
+//! The selectors and the operands of a word: the fields of each format, and what they are in the word.
+//!
+//! All are inlined: whoever runs a program reads them at each step.
+//!
+//! Source: RISC-V Unprivileged ISA 20191213, sections 2.2 and 2.3.
 
 ghost use Rattle.std.specs.Prelude.{◌≡◌, ◌/◌, ◌%◌, ◌^◌, ◌<◌, ◌+◌, ◌*◌};
 ghost use Rattle.rv_isa.specs.Ranges.{
@@ -28,68 +32,83 @@ ghost use Rattle.rv_encode.specs.Word.{
   LoadReserved,
   Ordering,
 };
+ghost use Rattle.rv_encode.specs.Selectors.{selector_in};
 
-use crate::signed::{signed_12, signed_13, signed_21};
+use crate::signed::{signed_13, signed_21, upper_12};
 use rv_isa::{Atomic, BType, Fence, IType, JType, RType, Reg, Reserve, SType, Shift, UType};
 
-#[inline]
-pub(crate) fn opcode(bits: u32) -> u32
+/// The low seven bits.
+#[inline(always)]
+pub fn opcode(bits: u32) -> u32
     ensures { result ≡ bits % 128 }
 {
     bits & 0x7f
 }
 
-#[inline]
+/// Bits 14:12.
+#[inline(always)]
 pub(crate) fn funct3(bits: u32) -> u32
     ensures { result ≡ bits / 2 ^ 12 % 8 }
 {
     bits >> 12 & 7
 }
 
-#[inline]
+/// Bits 31:27.
+#[inline(always)]
 pub(crate) fn funct5(bits: u32) -> u32
     ensures { result ≡ bits / 2 ^ 27 }
 {
     bits >> 27
 }
 
-#[inline]
-pub(crate) fn funct6(bits: u32) -> u32
+/// Bits 31:26, above the amount of a shift of 64 bits.
+#[inline(always)]
+pub fn funct6(bits: u32) -> u32
     ensures { result ≡ bits / 2 ^ 26 }
 {
     bits >> 26
 }
 
-#[inline]
-pub(crate) fn funct7(bits: u32) -> u32
+/// Bits 31:25.
+#[inline(always)]
+pub fn funct7(bits: u32) -> u32
     ensures { result ≡ bits / 2 ^ 25 }
 {
     bits >> 25
 }
 
-#[inline]
+/// The opcode's bits 6:2 and then funct3, as octal digits; bits 1:0 are those of any word.
+#[inline(always)]
+pub fn selector(bits: u32) -> u32
+    ensures { result ≡ selector_in bits }
+{
+    bits >> 12 & 7 | (bits >> 2 & 0x1f) << 3
+}
+
+#[inline(always)]
 fn rd(bits: u32) -> Reg
     ensures { result ≡ bits / 2 ^ 7 % 32 }
 {
     Reg::from_low_bits(bits >> 7)
 }
 
-#[inline]
+#[inline(always)]
 fn rs1(bits: u32) -> Reg
     ensures { result ≡ bits / 2 ^ 15 % 32 }
 {
     Reg::from_low_bits(bits >> 15)
 }
 
-#[inline]
+#[inline(always)]
 pub(crate) fn rs2(bits: u32) -> Reg
     ensures { result ≡ bits / 2 ^ 20 % 32 }
 {
     Reg::from_low_bits(bits >> 20)
 }
 
+/// The operands of R-type: two sources and a destination.
 #[inline(always)]
-pub(crate) fn register(bits: u32) -> RType
+pub fn r_type(bits: u32) -> RType
     ensures valid { IsRType result }
     ensures sum { word (Register (bits % 128) (bits / 2 ^ 12 % 8) (bits / 2 ^ 25) result) ≡ bits }
 {
@@ -100,20 +119,22 @@ pub(crate) fn register(bits: u32) -> RType
     }
 }
 
+/// The operands of I-type: a source, a destination and the sign-extended bits 31:20.
 #[inline(always)]
-pub(crate) fn immediate(bits: u32) -> IType
+pub fn i_type(bits: u32) -> IType
     ensures valid { IsIType result }
     ensures sum { word (Immediate (bits % 128) (bits / 2 ^ 12 % 8) result) ≡ bits }
 {
     IType {
-        immediate: signed_12(bits >> 20),
+        immediate: upper_12(bits),
         rd: rd(bits),
         rs1: rs1(bits),
     }
 }
 
+/// The operands of a shift of 64 bits, whose amount is bits 25:20.
 #[inline(always)]
-pub(crate) fn shift_by(bits: u32) -> Shift
+pub fn shift_by(bits: u32) -> Shift
     ensures valid { IsShift result }
     ensures sum { word (ShiftBy (bits % 128) (bits / 2 ^ 12 % 8) (bits / 2 ^ 26) result) ≡ bits }
 {
@@ -124,8 +145,9 @@ pub(crate) fn shift_by(bits: u32) -> Shift
     }
 }
 
+/// The operands of a shift of 32 bits, whose amount is bits 24:20.
 #[inline(always)]
-pub(crate) fn word_shift(bits: u32) -> Shift
+pub fn word_shift(bits: u32) -> Shift
     ensures valid { IsWordShift result }
     ensures sum { word (WordShift (bits % 128) (bits / 2 ^ 12 % 8) (bits / 2 ^ 25) result) ≡ bits }
 {
@@ -136,21 +158,29 @@ pub(crate) fn word_shift(bits: u32) -> Shift
     }
 }
 
+/// A store's immediate: bits 4:0 from 7 and bits 11:5 from 25, moved to the top.
 #[inline(always)]
-pub(crate) fn store(bits: u32) -> SType
+fn store_immediate(bits: u32) -> u32
+    ensures { result ≡ bits / 2 ^ 7 % 32 * 2 ^ 20 + bits / 2 ^ 25 * 2 ^ 25 }
+{
+    (bits >> 7 & 0x1f) << 20 | bits >> 25 << 25
+}
+
+/// The operands of S-type: two sources and the sign-extended immediate in bits 31:25 and 11:7.
+#[inline(always)]
+pub fn s_type(bits: u32) -> SType
     ensures valid { IsSType result }
     ensures sum { word (Store (bits % 128) (bits / 2 ^ 12 % 8) result) ≡ bits }
 {
-    let immediate = bits >> 7 & 0x1f | bits >> 25 << 5;
     SType {
-        immediate: signed_12(immediate),
+        immediate: upper_12(store_immediate(bits)),
         rs1: rs1(bits),
         rs2: rs2(bits),
     }
 }
 
 /// A branch's offset: bit 11 at 7, bits 4:1 from 8, bits 10:5 from 25 and bit 12 at 31.
-#[inline]
+#[inline(always)]
 fn branch_offset(bits: u32) -> u32
     ensures sum { result
         ≡ bits / 2 ^ 8 % 2 ^ 4 * 2 + bits / 2 ^ 25 % 2 ^ 6 * 2 ^ 5 + bits / 2 ^ 7 % 2 * 2 ^ 11
@@ -161,8 +191,9 @@ fn branch_offset(bits: u32) -> u32
     (bits >> 8 & 0xf) << 1 | (bits >> 25 & 0x3f) << 5 | (bits >> 7 & 1) << 11 | bits >> 31 << 12
 }
 
+/// The operands of B-type: two sources and the even offset.
 #[inline(always)]
-pub(crate) fn branch(bits: u32) -> BType
+pub fn b_type(bits: u32) -> BType
     ensures valid { IsBType result }
     ensures sum { word (Branch (bits % 128) (bits / 2 ^ 12 % 8) result) ≡ bits }
 {
@@ -173,8 +204,9 @@ pub(crate) fn branch(bits: u32) -> BType
     }
 }
 
+/// The operands of U-type: a destination and bits 31:12.
 #[inline(always)]
-pub(crate) fn upper(bits: u32) -> UType
+pub fn u_type(bits: u32) -> UType
     ensures valid { IsUType result }
     ensures sum { word (Upper (bits % 128) result) ≡ bits }
 {
@@ -185,7 +217,7 @@ pub(crate) fn upper(bits: u32) -> UType
 }
 
 /// A jump's offset: bits 19:12 from 12, bit 11 at 20, bits 10:1 from 21 and bit 20 at 31.
-#[inline]
+#[inline(always)]
 fn jump_offset(bits: u32) -> u32
     ensures sum { result
         ≡ bits / 2 ^ 21 % 2 ^ 10 * 2 + bits / 2 ^ 20 % 2 * 2 ^ 11 + bits / 2 ^ 12 % 2 ^ 8 * 2 ^ 12
@@ -199,8 +231,9 @@ fn jump_offset(bits: u32) -> u32
         | bits >> 31 << 20
 }
 
+/// The operands of J-type: a destination and the even offset.
 #[inline(always)]
-pub(crate) fn jump(bits: u32) -> JType
+pub fn j_type(bits: u32) -> JType
     ensures valid { IsJType result }
     ensures sum { word (Jump (bits % 128) result) ≡ bits }
 {

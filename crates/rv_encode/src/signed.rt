@@ -1,6 +1,6 @@
 //! Numbers in two's complement at 12, 13 and 21 bits.
 
-ghost use Rattle.std.specs.Prelude.{◌≡◌, ◌^◌, ◌<◌, ◌%◌};
+ghost use Rattle.std.specs.Prelude.{◌≡◌, ◌/◌, ◌^◌, ◌<◌, ◌%◌};
 ghost use Rattle.rv_isa.specs.Ranges.{IsSigned12, IsBranchOffset, IsJumpOffset};
 ghost use Rattle.rv_encode.specs.Word.{field};
 
@@ -33,46 +33,33 @@ pub(crate) fn field_21(value: i32) -> u32
     value.cast_unsigned() & 0x1f_ffff
 }
 
-/// The immediate with these low 12 bits.
-#[inline]
-pub(crate) fn signed_12(bits: u32) -> i32
-    requires { bits < 2 ^ 12 }
+/// The 12 bits from bit 20 on, with their sign.
+#[inline(always)]
+pub(crate) fn upper_12(bits: u32) -> i32
     ensures range { IsSigned12 result }
-    ensures same { field 12 result ≡ bits }
+    ensures same { field 12 result ≡ bits / 2 ^ 20 }
 {
-    if bits < 0x800 {
-        bits as i32
-    } else {
-        bits as i32 - 0x1000
-    }
+    bits.cast_signed() >> 20
 }
 
 /// The branch offset with these low 13 bits.
-#[inline]
+#[inline(always)]
 pub(crate) fn signed_13(bits: u32) -> i32
     requires below { bits < 2 ^ 13 }
     requires even { bits % 2 ≡ 0 }
     ensures range { IsBranchOffset result }
     ensures same { field 13 result ≡ bits }
 {
-    if bits < 0x1000 {
-        bits as i32
-    } else {
-        bits as i32 - 0x2000
-    }
+    (bits << 19).cast_signed() >> 19
 }
 
 /// The jump offset with these low 21 bits.
-#[inline]
+#[inline(always)]
 pub(crate) fn signed_21(bits: u32) -> i32
     requires below { bits < 2 ^ 21 }
     requires even { bits % 2 ≡ 0 }
     ensures range { IsJumpOffset result }
     ensures same { field 21 result ≡ bits }
 {
-    if bits < 0x10_0000 {
-        bits as i32
-    } else {
-        bits as i32 - 0x20_0000
-    }
+    (bits << 11).cast_signed() >> 11
 }
