@@ -9,7 +9,10 @@ ghost use Rattle.rv_elf.specs.Numbers.{shn_loreserve};
 use crate::fault::FileFault;
 use crate::fields::{byte, half, word};
 use crate::file_header::{FILE_HEADER_SIZE, FileHeader};
-use crate::numbers::EM_RISCV;
+use crate::numbers::{
+    ELFCLASS64, ELFDATA2LSB, ELFMAG, EM_RISCV, EV_CURRENT, PN_XNUM, SHN_LORESERVE,
+};
+use crate::offsets::{E_FLAGS, E_MACHINE, E_TYPE, EI_CLASS, EI_DATA, EI_VERSION};
 use crate::program_header::PROGRAM_HEADER_SIZE;
 use crate::section_header::SECTION_HEADER_SIZE;
 
@@ -23,16 +26,19 @@ pub fn file_type(file: &[u8]) -> Result<u16, FileFault>
     if file.len() < FILE_HEADER_SIZE {
         return Err(FileFault::Truncated);
     }
-    if word(file, 0, 0) != 0x464C_457F {
+    if word(file, 0, 0) != ELFMAG {
         return Err(FileFault::BadMagic);
     }
-    if byte(file, 0, 4) != 2 || byte(file, 0, 5) != 1 || byte(file, 0, 6) != 1 {
+    if byte(file, 0, EI_CLASS) != ELFCLASS64
+        || byte(file, 0, EI_DATA) != ELFDATA2LSB
+        || byte(file, 0, EI_VERSION) as u32 != EV_CURRENT
+    {
         return Err(FileFault::WrongClass);
     }
-    if half(file, 0, 18) != EM_RISCV || word(file, 0, 48) / 2 % 8 != 0 {
+    if half(file, 0, E_MACHINE) != EM_RISCV || word(file, 0, E_FLAGS) / 2 % 8 != 0 {
         return Err(FileFault::WrongMachine);
     }
-    Ok(half(file, 0, 16))
+    Ok(half(file, 0, E_TYPE))
 }
 
 /// Looks at the tables of program headers and section headers.
@@ -48,17 +54,24 @@ pub(crate) fn check_tables(file: &[u8]) -> Result<(), FileFault>
     let programs = header.e_phnum;
     let sections = header.e_shnum;
     let names = header.e_shstrndx;
-    if sections >= 0xFF00 || programs == 0xFFFF {
+    if sections >= SHN_LORESERVE || programs == PN_XNUM {
         return Err(FileFault::BadTable);
     }
-    if programs != 0 && header.e_phentsize != 56 || sections != 0 && header.e_shentsize != 64 {
+    let program_size = header.e_phentsize as usize;
+    let section_size = header.e_shentsize as usize;
+    if programs != 0 && program_size != PROGRAM_HEADER_SIZE
+        || sections != 0 && section_size != SECTION_HEADER_SIZE
+    {
         return Err(FileFault::BadTable);
     }
     if names != 0 && names >= sections {
         return Err(FileFault::BadTable);
     }
-    let programs_past = lies_past(file, header.e_phoff, 56 * programs as u64);
-    if programs_past || lies_past(file, header.e_shoff, 64 * sections as u64) {
+    let program_bytes = PROGRAM_HEADER_SIZE as u64 * programs as u64;
+    let section_bytes = SECTION_HEADER_SIZE as u64 * sections as u64;
+    if lies_past(file, header.e_phoff, program_bytes)
+        || lies_past(file, header.e_shoff, section_bytes)
+    {
         return Err(FileFault::Truncated);
     }
     Ok(())

@@ -5,40 +5,56 @@ ghost use Rattle.rv_elf.specs.declared.fault.FileFault.TheVariants.{OutOfMemory}
 ghost use Rattle.rv_elf.specs.Fault.{number_of, name_of};
 
 use std::alloc::{AllocError, AllocFailed};
+use thiserror::Error;
 
 /// Why a file is no object, or no executable, of this machine. The faults are looked for in the order
 /// of the parts of a file, and the first is answered.
-#[derive(Clone, Copy, Debug, PartialEq, Eq, Drop)]
+#[derive(Clone, Copy, Debug, PartialEq, Eq, Drop, Error)]
 pub enum FileFault {
     /// The file ends before its header, a table or contents do.
+    #[error("the file ends before its header, a table or contents do")]
     Truncated,
     /// It does not begin with 7Fh `ELF`.
+    #[error("it does not begin with 7Fh ELF")]
     BadMagic,
     /// It is not of 64-bit class, little-endian, in version 1.
+    #[error("it is not 64-bit, little-endian and of version 1")]
     WrongClass,
     /// It is for another machine, or for a float ABI or the smaller register file.
+    #[error("it is for another machine, or for a float ABI or the smaller register file")]
     WrongMachine,
     /// A table, or a number in one, cannot be used.
+    #[error("a table, or a number in one, cannot be used")]
     BadTable,
     /// A name has no end, or is none that a map can show.
+    #[error("a name has no end, or is none that a map can show")]
     BadString,
     /// A section or symbol is named that there is not.
+    #[error("a section or symbol is named that there is not")]
     BadIndex,
     /// Two segments, or one and the stack, share an address.
+    #[error("two segments, or one and the stack, share an address")]
     Overlap,
     /// A relocation of this number.
+    #[error("a relocation of number {0} is not supported")]
     UnsupportedRelocation(u32),
     /// A loaded section of this type, or a group.
+    #[error("a section of type {0} is not supported")]
     UnsupportedSection(u32),
     /// The file is no executable.
+    #[error("the file is no executable")]
     NotExecutable,
     /// It wants dynamic linking.
+    #[error("it wants dynamic linking")]
     Dynamic,
     /// Its segments have more than 256 MiB.
+    #[error("its segments have more than 256 MiB")]
     MemoryLimit,
     /// The file is no object.
+    #[error("the file is no object")]
     NotObject,
     /// Memory ran out.
+    #[error("out of memory")]
     OutOfMemory,
 }
 

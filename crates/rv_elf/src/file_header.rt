@@ -5,6 +5,10 @@ ghost use Rattle.rv_elf.specs.Fields.{file_header_size};
 ghost use Rattle.rv_elf.specs.Records.{file_header_in, file_header_bytes};
 
 use crate::fields::{double, half, word};
+use crate::offsets::{
+    E_EHSIZE, E_ENTRY, E_FLAGS, E_MACHINE, E_PHENTSIZE, E_PHNUM, E_PHOFF, E_SHENTSIZE, E_SHNUM,
+    E_SHOFF, E_SHSTRNDX, E_TYPE, E_VERSION,
+};
 use byteorder::{ByteOrder, LittleEndian};
 
 /// The bytes of a file's header.
@@ -48,19 +52,19 @@ impl FileHeader {
         ensures { result ≡ file_header_in file.now }
     {
         FileHeader {
-            e_type: half(file, 0, 16),
-            e_machine: half(file, 0, 18),
-            e_version: word(file, 0, 20),
-            e_entry: double(file, 0, 24),
-            e_phoff: double(file, 0, 32),
-            e_shoff: double(file, 0, 40),
-            e_flags: word(file, 0, 48),
-            e_ehsize: half(file, 0, 52),
-            e_phentsize: half(file, 0, 54),
-            e_phnum: half(file, 0, 56),
-            e_shentsize: half(file, 0, 58),
-            e_shnum: half(file, 0, 60),
-            e_shstrndx: half(file, 0, 62),
+            e_type: half(file, 0, E_TYPE),
+            e_machine: half(file, 0, E_MACHINE),
+            e_version: word(file, 0, E_VERSION),
+            e_entry: double(file, 0, E_ENTRY),
+            e_phoff: double(file, 0, E_PHOFF),
+            e_shoff: double(file, 0, E_SHOFF),
+            e_flags: word(file, 0, E_FLAGS),
+            e_ehsize: half(file, 0, E_EHSIZE),
+            e_phentsize: half(file, 0, E_PHENTSIZE),
+            e_phnum: half(file, 0, E_PHNUM),
+            e_shentsize: half(file, 0, E_SHENTSIZE),
+            e_shnum: half(file, 0, E_SHNUM),
+            e_shstrndx: half(file, 0, E_SHSTRNDX),
         }
     }
 
@@ -71,19 +75,19 @@ impl FileHeader {
     {
         let mut bytes = [0; FILE_HEADER_SIZE];
         bytes[..7].copy_from_slice(b"\x7fELF\x02\x01\x01");
-        LittleEndian::write_u16(&mut bytes[16..], self.e_type);
-        LittleEndian::write_u16(&mut bytes[18..], self.e_machine);
-        LittleEndian::write_u32(&mut bytes[20..], self.e_version);
-        LittleEndian::write_u64(&mut bytes[24..], self.e_entry);
-        LittleEndian::write_u64(&mut bytes[32..], self.e_phoff);
-        LittleEndian::write_u64(&mut bytes[40..], self.e_shoff);
-        LittleEndian::write_u32(&mut bytes[48..], self.e_flags);
-        LittleEndian::write_u16(&mut bytes[52..], self.e_ehsize);
-        LittleEndian::write_u16(&mut bytes[54..], self.e_phentsize);
-        LittleEndian::write_u16(&mut bytes[56..], self.e_phnum);
-        LittleEndian::write_u16(&mut bytes[58..], self.e_shentsize);
-        LittleEndian::write_u16(&mut bytes[60..], self.e_shnum);
-        LittleEndian::write_u16(&mut bytes[62..], self.e_shstrndx);
+        LittleEndian::write_u16(&mut bytes[E_TYPE..], self.e_type);
+        LittleEndian::write_u16(&mut bytes[E_MACHINE..], self.e_machine);
+        LittleEndian::write_u32(&mut bytes[E_VERSION..], self.e_version);
+        LittleEndian::write_u64(&mut bytes[E_ENTRY..], self.e_entry);
+        LittleEndian::write_u64(&mut bytes[E_PHOFF..], self.e_phoff);
+        LittleEndian::write_u64(&mut bytes[E_SHOFF..], self.e_shoff);
+        LittleEndian::write_u32(&mut bytes[E_FLAGS..], self.e_flags);
+        LittleEndian::write_u16(&mut bytes[E_EHSIZE..], self.e_ehsize);
+        LittleEndian::write_u16(&mut bytes[E_PHENTSIZE..], self.e_phentsize);
+        LittleEndian::write_u16(&mut bytes[E_PHNUM..], self.e_phnum);
+        LittleEndian::write_u16(&mut bytes[E_SHENTSIZE..], self.e_shentsize);
+        LittleEndian::write_u16(&mut bytes[E_SHNUM..], self.e_shnum);
+        LittleEndian::write_u16(&mut bytes[E_SHSTRNDX..], self.e_shstrndx);
         bytes
     }
 }

@@ -26,6 +26,7 @@ mod fields;
 mod file_header;
 mod index;
 mod numbers;
+mod offsets;
 mod program_header;
 mod rela;
 mod section_header;

@@ -1,5 +1,12 @@
 //! The numbers of the System V gABI and the RISC-V ELF psABI, under their names there.
 
+/// The first four bytes of a file as one number, the lowest byte first: 7Fh `ELF`.
+pub(crate) const ELFMAG: u32 = 0x464C_457F;
+/// `e_ident`: the class of 64 bits.
+pub(crate) const ELFCLASS64: u8 = 2;
+/// `e_ident`: little-endian data.
+pub(crate) const ELFDATA2LSB: u8 = 1;
+
 /// `e_type`: a relocatable object.
 pub const ET_REL: u16 = 1;
 /// `e_type`: an executable.
@@ -11,6 +18,9 @@ pub const EM_RISCV: u16 = 243;
 pub const EV_CURRENT: u32 = 1;
 /// `e_flags`: there are compressed instructions.
 pub const EF_RISCV_RVC: u32 = 1;
+
+/// `e_phnum`: the count stands elsewhere.
+pub(crate) const PN_XNUM: u16 = 0xFFFF;
 
 /// `sh_type`: no section.
 pub const SHT_NULL: u32 = 0;
@@ -38,6 +48,8 @@ pub const SHF_EXECINSTR: u64 = 4;
 
 /// `st_shndx`: the symbol is not defined here.
 pub const SHN_UNDEF: u16 = 0;
+/// Indices of sections from here on have other meanings.
+pub(crate) const SHN_LORESERVE: u16 = 0xFF00;
 /// `st_shndx`: the symbol's value is a number, and no address.
 pub const SHN_ABS: u16 = 0xFFF1;
 

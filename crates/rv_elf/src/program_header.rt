@@ -5,6 +5,7 @@ ghost use Rattle.rv_elf.specs.Fields.{program_header_size};
 ghost use Rattle.rv_elf.specs.Records.{program_header_at, program_header_bytes};
 
 use crate::fields::{double, word};
+use crate::offsets::{P_ALIGN, P_FILESZ, P_FLAGS, P_MEMSZ, P_OFFSET, P_PADDR, P_TYPE, P_VADDR};
 use byteorder::{ByteOrder, LittleEndian};
 
 /// The bytes of a program header.
@@ -38,14 +39,14 @@ impl ProgramHeader {
         ensures { result ≡ program_header_at place file.now }
     {
         ProgramHeader {
-            p_type: word(file, place, 0),
-            p_flags: word(file, place, 4),
-            p_offset: double(file, place, 8),
-            p_vaddr: double(file, place, 16),
-            p_paddr: double(file, place, 24),
-            p_filesz: double(file, place, 32),
-            p_memsz: double(file, place, 40),
-            p_align: double(file, place, 48),
+            p_type: word(file, place, P_TYPE),
+            p_flags: word(file, place, P_FLAGS),
+            p_offset: double(file, place, P_OFFSET),
+            p_vaddr: double(file, place, P_VADDR),
+            p_paddr: double(file, place, P_PADDR),
+            p_filesz: double(file, place, P_FILESZ),
+            p_memsz: double(file, place, P_MEMSZ),
+            p_align: double(file, place, P_ALIGN),
         }
     }
 
@@ -55,14 +56,14 @@ impl ProgramHeader {
         ensures { result ≡ program_header_bytes self.now }
     {
         let mut bytes = [0; PROGRAM_HEADER_SIZE];
-        LittleEndian::write_u32(&mut bytes, self.p_type);
-        LittleEndian::write_u32(&mut bytes[4..], self.p_flags);
-        LittleEndian::write_u64(&mut bytes[8..], self.p_offset);
-        LittleEndian::write_u64(&mut bytes[16..], self.p_vaddr);
-        LittleEndian::write_u64(&mut bytes[24..], self.p_paddr);
-        LittleEndian::write_u64(&mut bytes[32..], self.p_filesz);
-        LittleEndian::write_u64(&mut bytes[40..], self.p_memsz);
-        LittleEndian::write_u64(&mut bytes[48..], self.p_align);
+        LittleEndian::write_u32(&mut bytes[P_TYPE..], self.p_type);
+        LittleEndian::write_u32(&mut bytes[P_FLAGS..], self.p_flags);
+        LittleEndian::write_u64(&mut bytes[P_OFFSET..], self.p_offset);
+        LittleEndian::write_u64(&mut bytes[P_VADDR..], self.p_vaddr);
+        LittleEndian::write_u64(&mut bytes[P_PADDR..], self.p_paddr);
+        LittleEndian::write_u64(&mut bytes[P_FILESZ..], self.p_filesz);
+        LittleEndian::write_u64(&mut bytes[P_MEMSZ..], self.p_memsz);
+        LittleEndian::write_u64(&mut bytes[P_ALIGN..], self.p_align);
         bytes
     }
 }

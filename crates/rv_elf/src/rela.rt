@@ -5,6 +5,7 @@ ghost use Rattle.rv_elf.specs.Fields.{rela_size};
 ghost use Rattle.rv_elf.specs.Records.{rela_at, rela_bytes};
 
 use crate::fields::{double, signed_double, word};
+use crate::offsets::{R_ADDEND, R_OFFSET, R_SYM, R_TYPE};
 use byteorder::{ByteOrder, LittleEndian};
 
 /// The bytes of a relocation.
@@ -30,10 +31,10 @@ impl Rela {
         ensures { result ≡ rela_bytes self.now }
     {
         let mut bytes = [0; RELA_SIZE];
-        LittleEndian::write_u64(&mut bytes, self.r_offset);
-        LittleEndian::write_u32(&mut bytes[8..], self.r_type);
-        LittleEndian::write_u32(&mut bytes[12..], self.r_sym);
-        LittleEndian::write_i64(&mut bytes[16..], self.r_addend);
+        LittleEndian::write_u64(&mut bytes[R_OFFSET..], self.r_offset);
+        LittleEndian::write_u32(&mut bytes[R_TYPE..], self.r_type);
+        LittleEndian::write_u32(&mut bytes[R_SYM..], self.r_sym);
+        LittleEndian::write_i64(&mut bytes[R_ADDEND..], self.r_addend);
         bytes
     }
 }
@@ -45,9 +46,9 @@ pub fn rela_in(bytes: &[u8], index: u32) -> Rela
 {
     let place = RELA_SIZE * index as usize;
     Rela {
-        r_offset: double(bytes, place, 0),
-        r_type: word(bytes, place, 8),
-        r_sym: word(bytes, place, 12),
-        r_addend: signed_double(bytes, place, 16),
+        r_offset: double(bytes, place, R_OFFSET),
+        r_type: word(bytes, place, R_TYPE),
+        r_sym: word(bytes, place, R_SYM),
+        r_addend: signed_double(bytes, place, R_ADDEND),
     }
 }

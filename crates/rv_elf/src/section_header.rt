@@ -5,6 +5,10 @@ ghost use Rattle.rv_elf.specs.Fields.{section_header_size};
 ghost use Rattle.rv_elf.specs.Records.{section_header_at, section_header_bytes};
 
 use crate::fields::{double, word};
+use crate::offsets::{
+    SH_ADDR, SH_ADDRALIGN, SH_ENTSIZE, SH_FLAGS, SH_INFO, SH_LINK, SH_NAME, SH_OFFSET, SH_SIZE,
+    SH_TYPE,
+};
 use byteorder::{ByteOrder, LittleEndian};
 
 /// The bytes of a section header.
@@ -42,16 +46,16 @@ impl SectionHeader {
         ensures { result ≡ section_header_at place file.now }
     {
         SectionHeader {
-            sh_name: word(file, place, 0),
-            sh_type: word(file, place, 4),
-            sh_flags: double(file, place, 8),
-            sh_addr: double(file, place, 16),
-            sh_offset: double(file, place, 24),
-            sh_size: double(file, place, 32),
-            sh_link: word(file, place, 40),
-            sh_info: word(file, place, 44),
-            sh_addralign: double(file, place, 48),
-            sh_entsize: double(file, place, 56),
+            sh_name: word(file, place, SH_NAME),
+            sh_type: word(file, place, SH_TYPE),
+            sh_flags: double(file, place, SH_FLAGS),
+            sh_addr: double(file, place, SH_ADDR),
+            sh_offset: double(file, place, SH_OFFSET),
+            sh_size: double(file, place, SH_SIZE),
+            sh_link: word(file, place, SH_LINK),
+            sh_info: word(file, place, SH_INFO),
+            sh_addralign: double(file, place, SH_ADDRALIGN),
+            sh_entsize: double(file, place, SH_ENTSIZE),
         }
     }
 
@@ -61,16 +65,16 @@ impl SectionHeader {
         ensures { result ≡ section_header_bytes self.now }
     {
         let mut bytes = [0; SECTION_HEADER_SIZE];
-        LittleEndian::write_u32(&mut bytes, self.sh_name);
-        LittleEndian::write_u32(&mut bytes[4..], self.sh_type);
-        LittleEndian::write_u64(&mut bytes[8..], self.sh_flags);
-        LittleEndian::write_u64(&mut bytes[16..], self.sh_addr);
-        LittleEndian::write_u64(&mut bytes[24..], self.sh_offset);
-        LittleEndian::write_u64(&mut bytes[32..], self.sh_size);
-        LittleEndian::write_u32(&mut bytes[40..], self.sh_link);
-        LittleEndian::write_u32(&mut bytes[44..], self.sh_info);
-        LittleEndian::write_u64(&mut bytes[48..], self.sh_addralign);
-        LittleEndian::write_u64(&mut bytes[56..], self.sh_entsize);
+        LittleEndian::write_u32(&mut bytes[SH_NAME..], self.sh_name);
+        LittleEndian::write_u32(&mut bytes[SH_TYPE..], self.sh_type);
+        LittleEndian::write_u64(&mut bytes[SH_FLAGS..], self.sh_flags);
+        LittleEndian::write_u64(&mut bytes[SH_ADDR..], self.sh_addr);
+        LittleEndian::write_u64(&mut bytes[SH_OFFSET..], self.sh_offset);
+        LittleEndian::write_u64(&mut bytes[SH_SIZE..], self.sh_size);
+        LittleEndian::write_u32(&mut bytes[SH_LINK..], self.sh_link);
+        LittleEndian::write_u32(&mut bytes[SH_INFO..], self.sh_info);
+        LittleEndian::write_u64(&mut bytes[SH_ADDRALIGN..], self.sh_addralign);
+        LittleEndian::write_u64(&mut bytes[SH_ENTSIZE..], self.sh_entsize);
         bytes
     }
 }

@@ -6,6 +6,7 @@ ghost use Rattle.rv_elf.specs.Records.{symbol_at, symbol_bytes};
 
 use crate::fields::{byte, double, half, word};
 use crate::index::SymbolIndex;
+use crate::offsets::{ST_INFO, ST_NAME, ST_OTHER, ST_SHNDX, ST_SIZE, ST_VALUE};
 use byteorder::{ByteOrder, LittleEndian};
 
 /// The bytes of a symbol.
@@ -35,12 +36,12 @@ impl Symbol {
         ensures { result ≡ symbol_bytes self.now }
     {
         let mut bytes = [0; SYMBOL_SIZE];
-        LittleEndian::write_u32(&mut bytes, self.st_name);
-        bytes[4..5].copy_from_slice(&self.st_info.to_le_bytes());
-        bytes[5..6].copy_from_slice(&self.st_other.to_le_bytes());
-        LittleEndian::write_u16(&mut bytes[6..], self.st_shndx);
-        LittleEndian::write_u64(&mut bytes[8..], self.st_value);
-        LittleEndian::write_u64(&mut bytes[16..], self.st_size);
+        LittleEndian::write_u32(&mut bytes[ST_NAME..], self.st_name);
+        bytes[ST_INFO..ST_INFO + 1].copy_from_slice(&self.st_info.to_le_bytes());
+        bytes[ST_OTHER..ST_OTHER + 1].copy_from_slice(&self.st_other.to_le_bytes());
+        LittleEndian::write_u16(&mut bytes[ST_SHNDX..], self.st_shndx);
+        LittleEndian::write_u64(&mut bytes[ST_VALUE..], self.st_value);
+        LittleEndian::write_u64(&mut bytes[ST_SIZE..], self.st_size);
         bytes
     }
 }
@@ -52,11 +53,11 @@ pub fn symbol_in(bytes: &[u8], index: SymbolIndex) -> Symbol
 {
     let place = SYMBOL_SIZE * index.0 as usize;
     Symbol {
-        st_name: word(bytes, place, 0),
-        st_info: byte(bytes, place, 4),
-        st_other: byte(bytes, place, 5),
-        st_shndx: half(bytes, place, 6),
-        st_value: double(bytes, place, 8),
-        st_size: double(bytes, place, 16),
+        st_name: word(bytes, place, ST_NAME),
+        st_info: byte(bytes, place, ST_INFO),
+        st_other: byte(bytes, place, ST_OTHER),
+        st_shndx: half(bytes, place, ST_SHNDX),
+        st_value: double(bytes, place, ST_VALUE),
+        st_size: double(bytes, place, ST_SIZE),
     }
 }

@@ -13,6 +13,7 @@ use crate::fields::double;
 use crate::file_header::FileHeader;
 use crate::index::{SectionIndex, SymbolIndex};
 use crate::numbers::SHT_NOBITS;
+use crate::offsets::{E_PHOFF, E_SHOFF};
 use crate::program_header::{PROGRAM_HEADER_SIZE, ProgramHeader};
 use crate::rela::{Rela, rela_in};
 use crate::section_header::{SECTION_HEADER_SIZE, SectionHeader};
@@ -62,7 +63,7 @@ impl<'a> ElfView<'a> {
             (number_in e_phoff 0 self.now.file.now + program_header_size * index)
             self.now.file.now }
     {
-        let table = double(self.file, 0, 32) as usize;
+        let table = double(self.file, 0, E_PHOFF) as usize;
         ProgramHeader::at(self.file, table + PROGRAM_HEADER_SIZE * index as usize)
     }
 
@@ -71,7 +72,7 @@ impl<'a> ElfView<'a> {
         requires { index.0 < section_count self.now.file.now }
         ensures { result ≡ section_header_of self.now.file.now index.0 }
     {
-        let table = double(self.file, 0, 40) as usize;
+        let table = double(self.file, 0, E_SHOFF) as usize;
         SectionHeader::at(self.file, table + SECTION_HEADER_SIZE * index.0 as usize)
     }
 
