@@ -1,7 +1,7 @@
 -- The offset of c.j: what is gathered from its eleven bits scatters back to them, and the other way round.
 -- Each is a table of 2,048 lines that the check computes.
 use Rattle.std.proofs.Common.{◌≡◌, ℕ, zero, suc, Bool, true, ◌&&◌, nat_eq, ◌+◌, ◌*◌, ◌/◌, ◌%◌, ◌^◌, ◌<◌, ◌≤◌, ℤ, pos, negsuc, ◌≤ℤ◌, eqb-true, sym, refl, ap, subst, ◌∙◌, arith, inl, inr}
-use Rattle.std.proofs.lemmas.Bool.{cases_lt}
+use Rattle.std.proofs.lemmas.Bool.{and_parts, cases_lt}
 use Rattle.std.proofs.Math.Nat.{pow-suc}
 use Rattle.rv_compress.specs.declared.form.Compressed.{Compressed}
 use Rattle.rv_compress.specs.declared.form.Compressed.TheVariants.{J}
@@ -13,14 +13,11 @@ unfoldable all_from : (ℕ → Bool) → (k first : ℕ) → Bool
 all_from f zero first = f first
 all_from f (suc k) first = all_from f k first && all_from f k (first + 2 ^ k)
 
-both : (p q : Bool) → (p && q) ≡ true → (p ≡ true) × (q ≡ true)
-both p q h = grind arith
-
 within : (f : ℕ → Bool) (k first x : ℕ) → all_from f k first ≡ true → first ≤ x → x < first + 2 ^ k → f x ≡ true
 unfolding all_from
 within f zero first x h low high = grind arith
 within f (suc k) first x h low high =
-    elim (cases_lt x (first + 2 ^ k)) [ inl below ↦ within f k first x (both _ _ h).0 low below | inr above ↦ within f k (first + 2 ^ k) x (both _ _ h).1 above (omega (arith, pow-suc)) ]
+    elim (cases_lt x (first + 2 ^ k)) [ inl below ↦ within f k first x (and_parts _ _ h).0 low below | inr above ↦ within f k (first + 2 ^ k) x (and_parts _ _ h).1 above (omega (arith, pow-suc)) ]
 
 -- the offset whose eleven bits are `f`
 abbrev pub gathered : ℕ → ℕ

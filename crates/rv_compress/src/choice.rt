@@ -70,7 +70,7 @@ fn constant(rd: Reg, immediate: i32) -> Option<Compressed>
 fn stack_step(immediate: i32) -> Option<Compressed>
     ensures { IsFormOf result (Inst.Addi record { rd = 2; rs1 = 2; immediate = immediate }) }
 {
-    let rd = Reg::from_low_bits(2);
+    let rd = Reg::SP;
     let is_step = -512 <= immediate && immediate < 512 && immediate.unsigned_abs() % 16 == 0;
     match is_six_bits(immediate) {
         true if immediate == 0 => None,

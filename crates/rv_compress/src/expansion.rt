@@ -47,8 +47,11 @@ fn shift_operands(rd: Reg, amount: u8) -> Shift
 fn branch_operands(rs1: Reg, offset: i32) -> BType
     ensures { result ≡ record { offset = offset; rs1 = rs1; rs2 = 0 } }
 {
-    let rs2 = Reg::from_low_bits(0);
-    BType { offset, rs1, rs2 }
+    BType {
+        offset,
+        rs1,
+        rs2: Reg::ZERO,
+    }
 }
 
 /// The instruction that a form stands for.
@@ -60,24 +63,33 @@ pub fn expanded(form: Compressed) -> Inst
     ensures same { result ≡ expansion form }
     ensures valid { IsValid result }
 {
-    let zero = Reg::from_low_bits(0);
-    let ra = Reg::from_low_bits(1);
-    let sp = Reg::from_low_bits(2);
     match form {
         Compressed::Addi4spn { rd, immediate } => Inst::Addi(immediate_operands(
             rd,
-            sp,
+            Reg::SP,
             immediate as i32,
         )),
         Compressed::Lw { rd, rs1, offset } => Inst::Lw(immediate_operands(rd, rs1, offset as i32)),
         Compressed::Ld { rd, rs1, offset } => Inst::Ld(immediate_operands(rd, rs1, offset as i32)),
         Compressed::Sw { rs1, rs2, offset } => Inst::Sw(store_operands(rs1, rs2, offset as i32)),
         Compressed::Sd { rs1, rs2, offset } => Inst::Sd(store_operands(rs1, rs2, offset as i32)),
-        Compressed::Nop { immediate } => Inst::Addi(immediate_operands(zero, zero, immediate)),
+        Compressed::Nop { immediate } => Inst::Addi(immediate_operands(
+            Reg::ZERO,
+            Reg::ZERO,
+            immediate,
+        )),
         Compressed::Addi { rd, immediate } => Inst::Addi(immediate_operands(rd, rd, immediate)),
         Compressed::Addiw { rd, immediate } => Inst::Addiw(immediate_operands(rd, rd, immediate)),
-        Compressed::Li { rd, immediate } => Inst::Addi(immediate_operands(rd, zero, immediate)),
-        Compressed::Addi16sp { immediate } => Inst::Addi(immediate_operands(sp, sp, immediate)),
+        Compressed::Li { rd, immediate } => Inst::Addi(immediate_operands(
+            rd,
+            Reg::ZERO,
+            immediate,
+        )),
+        Compressed::Addi16sp { immediate } => Inst::Addi(immediate_operands(
+            Reg::SP,
+            Reg::SP,
+            immediate,
+        )),
         Compressed::Lui { rd, immediate } => Inst::Lui(UType { rd, immediate }),
         Compressed::Srli { rd, amount } => Inst::Srli(shift_operands(rd, amount)),
         Compressed::Srai { rd, amount } => Inst::Srai(shift_operands(rd, amount)),
@@ -88,19 +100,22 @@ pub fn expanded(form: Compressed) -> Inst
         Compressed::And { rd, rs2 } => Inst::And(register_operands(rd, rd, rs2)),
         Compressed::Subw { rd, rs2 } => Inst::Subw(register_operands(rd, rd, rs2)),
         Compressed::Addw { rd, rs2 } => Inst::Addw(register_operands(rd, rd, rs2)),
-        Compressed::J { offset } => Inst::Jal(JType { rd: zero, offset }),
+        Compressed::J { offset } => Inst::Jal(JType {
+            rd: Reg::ZERO,
+            offset,
+        }),
         Compressed::Beqz { rs1, offset } => Inst::Beq(branch_operands(rs1, offset)),
         Compressed::Bnez { rs1, offset } => Inst::Bne(branch_operands(rs1, offset)),
         Compressed::Slli { rd, amount } => Inst::Slli(shift_operands(rd, amount)),
-        Compressed::Lwsp { rd, offset } => Inst::Lw(immediate_operands(rd, sp, offset as i32)),
-        Compressed::Ldsp { rd, offset } => Inst::Ld(immediate_operands(rd, sp, offset as i32)),
-        Compressed::Jr { rs1 } => Inst::Jalr(immediate_operands(zero, rs1, 0)),
-        Compressed::Mv { rd, rs2 } => Inst::Add(register_operands(rd, zero, rs2)),
+        Compressed::Lwsp { rd, offset } => Inst::Lw(immediate_operands(rd, Reg::SP, offset as i32)),
+        Compressed::Ldsp { rd, offset } => Inst::Ld(immediate_operands(rd, Reg::SP, offset as i32)),
+        Compressed::Jr { rs1 } => Inst::Jalr(immediate_operands(Reg::ZERO, rs1, 0)),
+        Compressed::Mv { rd, rs2 } => Inst::Add(register_operands(rd, Reg::ZERO, rs2)),
         Compressed::Ebreak => Inst::Ebreak,
-        Compressed::Jalr { rs1 } => Inst::Jalr(immediate_operands(ra, rs1, 0)),
+        Compressed::Jalr { rs1 } => Inst::Jalr(immediate_operands(Reg::RA, rs1, 0)),
         Compressed::Add { rd, rs2 } => Inst::Add(register_operands(rd, rd, rs2)),
-        Compressed::Swsp { rs2, offset } => Inst::Sw(store_operands(sp, rs2, offset as i32)),
-        Compressed::Sdsp { rs2, offset } => Inst::Sd(store_operands(sp, rs2, offset as i32)),
+        Compressed::Swsp { rs2, offset } => Inst::Sw(store_operands(Reg::SP, rs2, offset as i32)),
+        Compressed::Sdsp { rs2, offset } => Inst::Sd(store_operands(Reg::SP, rs2, offset as i32)),
     }
 }
 
