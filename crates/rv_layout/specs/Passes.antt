@@ -7,7 +7,7 @@ use Rattle.rv_layout_laws.specs.Offsets.{offset, Reaches}
 use Rattle.rv_layout_laws.specs.Branches.{half, is_branch, item_at, largest, of_section, IsFamily, MayWiden, ReachesBy}
 
 -- a statement stands in one of so many sections, and its target is a statement of that section
-pub record IsWithin (items : List Item) (sections : ℕ) (item : Item) : Type 0 where
+pub record TargetsItsSection (items : List Item) (sections : ℕ) (item : Item) : Type 0 where
   pub in_section : item.section < sections
   pub has_target : item.target < length items
   pub same_section : is_branch item.forms ≡ true →
@@ -16,7 +16,7 @@ pub record IsWithin (items : List Item) (sections : ℕ) (item : Item) : Type 0 
 -- and so do all of them
 pub record IsInput (items : List Item) (sections : ℕ) : Type 0 where
   pub few : length items < 2 ^ 30
-  pub within : (i : ℕ) → i < length items → IsWithin items sections (item_at items i)
+  pub within : (i : ℕ) → i < length items → TargetsItsSection items sections (item_at items i)
 
 -- the bytes from a part on
 abbrev pub rest : List ℕ → ℕ → ℕ

@@ -1,7 +1,7 @@
 //! Which statements the sizes are found for.
 
 ghost use Rattle.std.specs.Prelude.{◌≡◌, ◌↔◌, IsTrue};
-ghost use Rattle.rv_layout.specs.Passes.{IsInput, IsWithin};
+ghost use Rattle.rv_layout.specs.Passes.{IsInput, TargetsItsSection};
 
 use rv_layout_laws::{Forms, Item};
 
@@ -10,7 +10,7 @@ const MOST_STATEMENTS: usize = (1 << 30) - 1;
 
 /// Whether a statement stands in one of so many sections, and its target is a statement of that section.
 fn is_within(items: &[Item], sections: usize, item: Item) -> bool
-    ensures { IsTrue result ↔ IsWithin items.now sections item }
+    ensures { IsTrue result ↔ TargetsItsSection items.now sections item }
 {
     if item.section as usize >= sections || item.target as usize >= items.len() {
         return false;
@@ -26,13 +26,5 @@ fn is_within(items: &[Item], sections: usize, item: Item) -> bool
 pub fn is_input(items: &[Item], sections: usize) -> bool
     ensures { IsTrue result ↔ IsInput items.now sections }
 {
-    if items.len() > MOST_STATEMENTS {
-        return false;
-    }
-    for item in items {
-        if !is_within(items, sections, *item) {
-            return false;
-        }
-    }
-    true
+    items.len() <= MOST_STATEMENTS && items.iter().all(|item| is_within(items, sections, *item))
 }
