@@ -1,6 +1,7 @@
 -- The names that a source has opened, and an opening at the front.
 
 use Rattle.std.proofs.Common.{◌≡◌, ℕ, Bool, true, false, ◌||◌, List, [], ◌∷◌, ◌++◌, map, None, Ok, Err, refl, sym, ◌∙◌, ap}
+use Rattle.std.proofs.lemmas.List.{map-append}
 use Rattle.rv_text_laws.specs.Grammar.{Kind, Name as NameToken}
 use Rattle.rv_text_laws.specs.Lexing.{Token, is_last}
 use Rattle.rv_text_laws.specs.SyntaxError.{SyntaxError, Read}
@@ -57,12 +58,8 @@ had_append (x ∷ xs) s name = go (opens name x.kind) (had_append xs s name)
     go true e = refl
     go false e = e
 
-map_said : (items : List Statement) (s : Statement) → map statement_of (items ++ s ∷ []) ≡ map statement_of items ++ statement_of s ∷ []
-map_said [] s = refl
-map_said (x ∷ xs) s = ap (λ ss. statement_of x ∷ ss) (map_said xs s)
-
 pub knows_push : (set : NameSet) (items new : List Statement) (s : Statement) → Has set (λ n. opens n (statement_kind s.kind) || is_had (map statement_of items) n) → new ≡ items ++ s ∷ []
     → Knows set (map statement_of new)
 knows_push set items new s has pushed q =
     has q ∙ either (opens q.now (statement_kind s.kind)) (is_had (map statement_of items) q.now)
-    ∙ sym (ap (λ (xs : List Statement). is_had (map statement_of xs) q.now) pushed ∙ ap (λ ss. is_had ss q.now) (map_said items s) ∙ had_append (map statement_of items) (statement_of s) q.now)
+    ∙ sym (ap (λ (xs : List Statement). is_had (map statement_of xs) q.now) pushed ∙ ap (λ ss. is_had ss q.now) (map-append statement_of items (s ∷ [])) ∙ had_append (map statement_of items) (statement_of s) q.now)

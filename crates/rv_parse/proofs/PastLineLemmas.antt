@@ -1,10 +1,9 @@
 -- The first byte past its line's limit, as the function finds it, is the first that is past it.
 
-use Rattle.std.proofs.Common.{◌≡◌, ℕ, suc, ◌+◌, ◌≤◌, Bool, true, false, cond, ◌==◌, ◌&&◌, List, [], ◌∷◌, ◌++◌, append_assoc, length, length-append, Option, Some, None, refl, sym, ◌∙◌, ap, subst, arith}
+use Rattle.std.proofs.Common.{◌≡◌, ℕ, suc, ◌+◌, ◌≤◌, Bool, true, false, cond, ◌==◌, ◌&&◌, List, [], ◌∷◌, ◌++◌, append_assoc, length, length-append, Option, Some, None, refl, sym, ◌∙◌, ap, arith}
 use Rattle.std.specs.List.{list_all}
-use Rattle.std.proofs.lemmas.Bool.{eqb-true}
+use Rattle.std.proofs.lemmas.Bool.{eqb-true, and_parts}
 use Rattle.std.proofs.lemmas.Bool.Decides.{nat_tests}
-use Rattle.std.proofs.lemmas.List.{append-nil}
 use Rattle.std.proofs.lemmas.Option.{same_Some}
 use Rattle.rv_text_laws.specs.Bytes.{in_line}
 use Rattle.rv_parse_laws.specs.Reading.{longest_line, IsPastLine}
@@ -28,10 +27,6 @@ all_more (c ∷ line) b all is = go (in_line c) all (all_more line b)
         → (t && list_all in_line (line ++ b ∷ [])) ≡ true
     go true all more = more all is
     go false all more = absurd (cc)
-
-and_parts : (a b : Bool) → (a && b) ≡ true → (a ≡ true) × (b ≡ true)
-and_parts true b h = (refl, h)
-and_parts false b h = absurd (cc)
 
 -- what is found, behind lines and the bytes of this line
 abbrev Found_from : List ℕ → ℕ → List ℕ → Type 0

@@ -1,4 +1,8 @@
 //! The operands of directives, up to the statement's end.
+//!
+//! The end is read with the operands, so that a token after the last of them is a fault of this directive, by the slot
+//! before it. Lists take their first item before the loop: an empty list is no case, and its fault is that of a single
+//! operand. The loops stand in functions of their own, so that a directive only hands on what they read.
 
 ghost use Rattle.std.specs.Prelude.{◌≡◌, ◌∷◌, [], map, Some};
 ghost use Rattle.rv_lexer.specs.Cursor.{left, Answers};

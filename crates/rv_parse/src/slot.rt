@@ -1,4 +1,8 @@
 //! What stands in one slot of a statement, at the front of a cursor's tokens.
+//!
+//! One function a slot, which takes its tokens or names the first that is wrong there, with the code of that slot.
+//! Statements are put together of these, so a code is chosen once for each slot and not once for each mnemonic. A
+//! function that only looks (`begins_..`) leaves the cursor alone, and decides where a statement has two forms.
 
 ghost use Rattle.std.specs.Prelude.{◌≡◌, ◌∷◌, []};
 ghost use Rattle.rv_lexer.specs.Cursor.{left, syntax_error_of};

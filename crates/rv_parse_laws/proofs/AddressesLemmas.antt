@@ -1,7 +1,8 @@
 -- Addresses: a register in parentheses, with or without an expression before it.
 
 use Rattle.std.proofs.Common.{◌≡◌, ℕ, ◌<◌, Bool, true, false, cond, ◌&&◌, not, List, [], ◌∷◌, ◌++◌, append_assoc, length, length-append, Option, Some, None, option_map, is_some, Ok, Err, refl, sym, ◌∙◌, ap, subst, arith, inl, inr}
-use Rattle.rv_text_laws.specs.declared.punct.Punct.TheVariants.{Open, Close, Percent}
+use Rattle.std.proofs.lemmas.Bool.{and_parts}
+use Rattle.rv_text_laws.specs.declared.punct.Punct.TheVariants.{Open, Percent}
 use Rattle.rv_text_laws.specs.Grammar.{Kind, Punctuation, Name as NameToken}
 use Rattle.rv_text_laws.specs.Lexing.{Token, ended}
 use Rattle.rv_text_laws.specs.SyntaxError.{SyntaxError, wrong, Read}
@@ -11,14 +12,15 @@ use Rattle.rv_text_laws.specs.declared.operator.Frame.TheVariants.{Parenthesis}
 use Rattle.rv_text_laws.proofs.ExpressionsLemmas.{fails, goes}
 use Rattle.rv_text_laws.proofs.ExpressionWrongLemmas.{ended_more}
 use Rattle.rv_statement.specs.Statement.{Expression, Operand, Register, Value, Applied}
-use Rattle.rv_parse_laws.specs.Syntax.{is_register, register_of, valued, is_refused, is_refused_by, function_in, is_percent, is_opening, is_closing, is_colon, Slot, A_register, An_address, A_closing, An_opening, single, front_begins, IsValueIn, IsBase, IsOperand}
+use Rattle.rv_parse_laws.specs.Syntax.{is_register, register_of, valued, is_refused, is_refused_by, function_in, is_percent, is_opening, is_colon, Slot, A_register, An_address, A_closing, An_opening, single, front_begins, IsValueIn, IsBase, IsOperand}
 use Rattle.rv_parse_laws.specs.Faults.{wrong_first}
 use Rattle.rv_parse_laws.specs.Parsing.{◌>>=◌, seen_as, allowed, value_at, enclosed_at, named_at, applied_at, value_in, single_at, base_at, base_next, offset_at, is_target, target_behind, target_next, operand_at}
 use Rattle.rv_parse_laws.proofs.StepsLemmas.{bind_ok, seen_ok, pair_parts, bind_err, seen_err}
 use Rattle.rv_parse_laws.proofs.FailingLemmas.{Failing, at_once, behind, first_of, first_same, same_first, never}
-use Rattle.rv_parse_laws.proofs.SinglesLemmas.{single_found, single_fault, single_passed, register_no_last, opening_no_last, closing_no_last, some_token, a_register, a_register_is}
+use Rattle.rv_parse_laws.proofs.LastTokensLemmas.{register_no_last, opening_no_last, closing_no_last}
+use Rattle.rv_parse_laws.proofs.SinglesLemmas.{single_found, single_fault, single_passed, a_register, a_register_is, an_opening, a_closing}
 use Rattle.rv_parse_laws.proofs.ValuesLemmas.{Closes, closes, value_is, no_percent}
-use Rattle.rv_parse_laws.proofs.ArgumentsLemmas.{value_in_is, value_in_some, ValueFound, value_found, ValueWrong, value_wrong}
+use Rattle.rv_parse_laws.proofs.ArgumentsLemmas.{value_in_is, value_in_some, ValueFound, value_found, ValueWrong, value_wrong, closing_single}
 use Rattle.rv_statement.specs.declared.pseudo.Function.{Function}
 use Rattle.rv_parse_laws.specs.declared.role.Role.{Role}
 use Rattle.rv_parse_laws.specs.declared.role.Role.TheVariants as roles
@@ -27,11 +29,6 @@ pub opening_is : (s : Slot) (k : Kind) (os : List Operand) → single (An_openin
 opening_is s (Punctuation Open) os h = (refl, cc)
 opening_is s (Punctuation _) os h = absurd (cc)
 opening_is s _ os h = absurd (cc)
-
-closing_is : (k : Kind) (os : List Operand) → single A_closing k ≡ Some os → (is_closing k ≡ true) × (os ≡ [])
-closing_is (Punctuation Close) os h = (refl, cc)
-closing_is (Punctuation _) os h = absurd (cc)
-closing_is _ os h = absurd (cc)
 
 pub register_is : (k : Kind) (os : List Operand) → single A_register k ≡ Some os → (number : ℕ) × (register_of k ≡ Some number) × (os ≡ Register number ∷ [])
 register_is k os h = go (register_of k) refl h
@@ -58,14 +55,8 @@ base_found ts os rest e =
     let named = register_is r.0.kind b.0.0 r.2 in (
       o.0 ∷ r.0 ∷ d.0 ∷ [],
       o.1 ∙ ap (λ us. o.0 ∷ us) r.1 ∙ ap (λ us. o.0 ∷ r.0 ∷ us) d.1,
-      (o.0, r.0, d.0, named.0, refl, (opening_is A_register o.0.kind a.0.0 o.2).0, named.1, (closing_is d.0.kind c.0 d.2).0, c.2 ∙ named.2),
+      (o.0, r.0, d.0, named.0, refl, (opening_is A_register o.0.kind a.0.0 o.2).0, named.1, (closing_single d.0.kind c.0 d.2).0, c.2 ∙ named.2),
     )
-
-abbrev a_closing : Token
-a_closing = some_token (Punctuation Close)
-
-abbrev an_opening : Token
-an_opening = some_token (Punctuation Open)
 
 abbrev pub base_goes : (text : List Token) × (os : List Operand) × IsBase text os
 base_goes = (an_opening ∷ a_register ∷ a_closing ∷ [], Register 10 ∷ [], (an_opening, a_register, a_closing, 10, refl, refl, a_register_is, refl, refl))
@@ -138,10 +129,6 @@ open_is : (k : Kind) → is_opening k ≡ true → begins is_register k ≡ Open
 open_is (Punctuation Open) h = refl
 open_is (Punctuation _) h = absurd (cc)
 open_is _ h = absurd (cc)
-
-and_parts : (a b : Bool) → (a && b) ≡ true → (a ≡ true) × (b ≡ true)
-and_parts true b h = (refl, h)
-and_parts false b h = absurd (cc)
 
 named_by : (o : Option ℕ) → is_some (option_map (λ r. Register r ∷ []) o) ≡ true → (n : ℕ) × (o ≡ Some n)
 named_by None h = absurd (cc)

@@ -2,9 +2,10 @@
 
 use Rattle.std.proofs.Common.{◌≡◌, ℕ, ◌<◌, Bool, true, false, cond, ◌&&◌, List, [], ◌∷◌, ◌++◌, append_assoc, length, Option, Some, None, Ok, Err, refl, sym, ◌∙◌, ap, subst, codes, arith, ◌⊎◌, inl, inr}
 use Rattle.std.proofs.lemmas.List.{append-nil}
-use Rattle.rv_text_laws.specs.declared.punct.Punct.TheVariants.{Open, Close, Percent}
-use Rattle.rv_text_laws.specs.Grammar.{Kind, Punctuation, Name as NameToken, Reference as ReferenceToken}
-use Rattle.rv_text_laws.specs.Lexing.{Token, is_last, ended}
+use Rattle.std.proofs.lemmas.Bool.{and_parts, and_right}
+use Rattle.rv_text_laws.specs.declared.punct.Punct.TheVariants.{Open, Close}
+use Rattle.rv_text_laws.specs.Grammar.{Kind, Punctuation, Name as NameToken}
+use Rattle.rv_text_laws.specs.Lexing.{Token, ended}
 use Rattle.rv_text_laws.specs.SyntaxError.{SyntaxError, wrong, Read}
 use Rattle.rv_text_laws.specs.Expression.{follows, A_closing as Closing, EndsBefore}
 use Rattle.rv_text_laws.proofs.ExpressionWrongLemmas.{ended_more, ended_behind}
@@ -20,8 +21,9 @@ use Rattle.rv_parse_laws.specs.Faults.{may_call, is_name, wrong_or, wrong_symbol
 use Rattle.rv_parse_laws.specs.Parsing.{◌>>=◌, seen_as, value_at, allowed, single_at, label_at, argument_at, enclosed_at, called_at, named_at, applied_at, value_in}
 use Rattle.rv_parse_laws.proofs.StepsLemmas.{bind_ok, seen_ok, taken_ok, bind_err, seen_err, taken_err}
 use Rattle.rv_parse_laws.proofs.FailingLemmas.{Failing, Shown, at_once, heads, first_of, same_first, first_is, wrongs}
-use Rattle.rv_parse_laws.proofs.SinglesLemmas.{some_token, a_symbol, a_symbol_is, single_found, single_fault, single_passed, opening_no_last}
-use Rattle.rv_parse_laws.proofs.ValuesLemmas.{Closes, value_is, value_before, value_some, is_allowed, allowed_ok, allowed_err, Ended, value_ended, a_name, name_goes, and_false, sum_goes, Unread, value_unread, no_percent}
+use Rattle.rv_parse_laws.proofs.LastTokensLemmas.{opening_no_last, label_no_last, function_no_last, percent_no_last, closing_no_last}
+use Rattle.rv_parse_laws.proofs.SinglesLemmas.{some_token, a_symbol, a_symbol_is, single_found, single_fault, single_passed, an_opening, a_closing}
+use Rattle.rv_parse_laws.proofs.ValuesLemmas.{Closes, value_is, value_before, value_some, is_allowed, allowed_ok, allowed_err, Ended, value_ended, a_name, name_goes, sum_goes, Unread, value_unread, no_percent}
 
 pub opening_single : (k : Kind) (os : List Operand) → single (An_opening A_register) k ≡ Some os → (is_opening k ≡ true) × (os ≡ [])
 opening_single (Punctuation Open) os h = (refl, cc)
@@ -60,11 +62,6 @@ pub record ArgumentFound (f : Function) (ts : List Token) (e : Expression) (rest
 ended_after : (ts text rest : List Token) (at : Token) (more : List Token) → ts ≡ text ++ rest → rest ≡ at ∷ more → ended ts ≡ true → ended rest ≡ true
 ended_after ts text rest at more whole is end =
     ap ended is ∙ sym (ended_behind text at more) ∙ ap (λ us. ended (text ++ us)) (sym is) ∙ ap ended (sym whole) ∙ end
-
-label_no_last : (k : Kind) (e : Expression) → label_named k ≡ Some e → is_last k ≡ false
-label_no_last (NameToken name) e h = refl
-label_no_last (ReferenceToken digits forward) e h = refl
-label_no_last _ e h = absurd (cc)
 
 label_found : (ts : List Token) (e : Expression) (rest : List Token) → label_at ts ≡ Ok (e, rest) → ArgumentFound PcrelLo ts e rest
 label_found [] e rest h = absurd (cc)
@@ -244,19 +241,6 @@ pub function_may : (role : Role) (k : Kind) (f : Function) → function_in role 
 function_may role (NameToken name) f h = standing_may role (named_in function_words name) f h
 function_may role _ f h = absurd (cc)
 
-pub function_no_last : (role : Role) (k : Kind) (f : Function) → function_in role k ≡ Some f → is_last k ≡ false
-function_no_last role (NameToken name) f h = refl
-function_no_last role _ f h = absurd (cc)
-
-pub percent_no_last : (k : Kind) → is_percent k ≡ true → is_last k ≡ false
-percent_no_last (Punctuation Percent) h = refl
-percent_no_last (Punctuation _) h = absurd (cc)
-percent_no_last _ h = absurd (cc)
-
-closing_no_last : (k : Kind) → is_closing k ≡ true → is_last k ≡ false
-closing_no_last (Punctuation sign) h = refl
-closing_no_last _ h = absurd (cc)
-
 applied_text : (p n q c : Token) (argument rest : List Token) → (p ∷ n ∷ q ∷ (argument ++ c ∷ [])) ++ rest ≡ p ∷ n ∷ q ∷ (argument ++ c ∷ rest)
 applied_text p n q c argument rest = ap (λ us. p ∷ n ∷ q ∷ us) (append_assoc argument (c ∷ []) rest)
 
@@ -273,7 +257,7 @@ value_in_is role text rest o (inr applied) closes = applied_is role text rest o 
 value_in_is role [] rest o (inl (e, v, good, is)) closes = absurd (omega (arith, value_some [] e v))
 value_in_is role (t ∷ ts) rest o (inl (e, v, good, is)) closes =
     let read = value_is (t ∷ ts) rest e v closes in
-    rw is (plain role t ts (t ∷ (ts ++ rest)) (and_false (may_call role) (is_percent t.kind) (no_percent t (ts ++ rest) e rest read)) refl
+    rw is (plain role t ts (t ∷ (ts ++ rest)) (and_right (may_call role) (is_percent t.kind) (no_percent t (ts ++ rest) e rest read)) refl
     ∙ ap (seen_as (valued role)) (ap (allowed (λ x. is_refused role x) t) read ∙ is_allowed (λ x. is_refused role x) t e rest good))
   where
     plain : (role : Role) (t : Token) (ts us : List Token) → (may_call role && is_percent t.kind) ≡ false → first_of us ≡ first_of (t ∷ ts)
@@ -295,10 +279,6 @@ pub record ValueFound (role : Role) (ts : List Token) (o : Operand) (rest : List
 plain_in : (role : Role) (t : Token) (ts us : List Token) → (may_call role && is_percent t.kind) ≡ false → first_of us ≡ first_of (t ∷ ts)
     → value_in role us ≡ seen_as (valued role) (allowed (λ x. is_refused role x) t (value_at us))
 plain_in role t ts us h first = let f = first_is t ts us first in rw f.1 (rw h refl)
-
-and_parts : (a b : Bool) → (a && b) ≡ true → (a ≡ true) × (b ≡ true)
-and_parts true b h = (refl, h)
-and_parts false b h = absurd (cc)
 
 plain_found : (role : Role) (t : Token) (ts : List Token) (o : Operand) (rest : List Token) → (may_call role && is_percent t.kind) ≡ false
     → seen_as (valued role) (allowed (λ x. is_refused role x) t (value_at (t ∷ ts))) ≡ Ok (o, rest) → ValueFound role (t ∷ ts) o rest
@@ -361,10 +341,10 @@ value_found role (t ∷ ts) o rest e = go (may_call role && is_percent t.kind) r
     go false h e = plain_found role t ts o rest h e
 
 pub value_goes : (role : Role) → (o : Operand) × IsValueIn role (a_symbol ∷ []) o
-value_goes role = (valued role a_name, inl (a_name, name_goes, and_false (targets role) false refl, refl))
+value_goes role = (valued role a_name, inl (a_name, name_goes, and_right (targets role) false refl, refl))
 
 number_allowed : (role : Role) (e : Expression) → is_number e ≡ false → is_refused role e ≡ false
-number_allowed role e h = and_false (targets role) (is_number e) h
+number_allowed role e h = and_right (targets role) (is_number e) h
 
 -- where a value is wrong; an opening parenthesis can begin one
 abbrev pub ValueWrong : Role → List Token → SyntaxError → Type 0
@@ -400,12 +380,6 @@ plain_wrong role t ts w end h e =
       },
       x.closed,
     )
-
-abbrev an_opening : Token
-an_opening = some_token (Punctuation Open)
-
-abbrev a_closing : Token
-a_closing = some_token (Punctuation Close)
 
 abbrev word_of : List ℕ → Token
 word_of name = some_token (NameToken name)
@@ -450,13 +424,13 @@ argument_on role p n q f before us e percent is opens arg good = (
 called_err : (f : Function) (p : Token) (ts : List Token) (w : SyntaxError) → enclosed_at f ts ≡ Err w → called_at f p ts ≡ Err w
 called_err f p ts w h = ap (looked_at f p) h
 
-unopened_err : (f : Function) (ts : List Token) (w : SyntaxError) → single_at (An_opening A_register) ts ≡ Err w → enclosed_at f ts ≡ Err w
+pub unopened_err : (f : Function) (ts : List Token) (w : SyntaxError) → single_at (An_opening A_register) ts ≡ Err w → enclosed_at f ts ≡ Err w
 unopened_err f ts w h = rw h refl
 
-argued_err : (f : Function) (q : Token) (ts : List Token) (w : SyntaxError) → is_opening q.kind ≡ true → argument_at f ts ≡ Err w → enclosed_at f (q ∷ ts) ≡ Err w
+pub argued_err : (f : Function) (q : Token) (ts : List Token) (w : SyntaxError) → is_opening q.kind ≡ true → argument_at f ts ≡ Err w → enclosed_at f (q ∷ ts) ≡ Err w
 argued_err f q ts w opens h = rw (opens, h) refl
 
-unclosed_err : (f : Function) (q : Token) (ts us : List Token) (e : Expression) (w : SyntaxError) → is_opening q.kind ≡ true → argument_at f ts ≡ Ok (e, us) → single_at A_closing us ≡ Err w
+pub unclosed_err : (f : Function) (q : Token) (ts us : List Token) (e : Expression) (w : SyntaxError) → is_opening q.kind ≡ true → argument_at f ts ≡ Ok (e, us) → single_at A_closing us ≡ Err w
     → enclosed_at f (q ∷ ts) ≡ Err w
 unclosed_err f q ts us e w opens h g = rw (opens, h, g) refl
 

@@ -2,9 +2,10 @@
 
 use Rattle.std.proofs.Common.{◌≡◌, ℕ, ◌<◌, Bool, true, false, cond, ◌&&◌, not, nat_le, List, [], ◌∷◌, ◌++◌, length, Option, Some, None, is_some, Ok, Err, refl, sym, ◌∙◌, ap, subst, codes, arith, inl, inr}
 use Rattle.std.specs.Str.{bytes_eq}
+use Rattle.std.proofs.lemmas.Bool.{and_parts}
 use Rattle.rv_text_laws.specs.declared.punct.Punct.TheVariants.{At}
-use Rattle.rv_text_laws.specs.Grammar.{Kind, Newline, Punctuation, Name as NameToken}
-use Rattle.rv_text_laws.specs.Lexing.{Token, is_last, ended}
+use Rattle.rv_text_laws.specs.Grammar.{Kind, Punctuation, Name as NameToken}
+use Rattle.rv_text_laws.specs.Lexing.{Token, ended}
 use Rattle.rv_text_laws.specs.Codes.{limit}
 use Rattle.rv_text_laws.specs.SyntaxError.{SyntaxError, wrong, longest_name}
 use Rattle.rv_text_laws.specs.Expression.{Leaf, Symbol, Here, A_primary, No_operand, Begin, begins, follows, Nothing_more}
@@ -17,7 +18,8 @@ use Rattle.rv_parse_laws.specs.Faults.{wrong_first}
 use Rattle.rv_parse_laws.specs.Parsing.{seen_as, value_in, single_at, plt_next, plt_at, operand_at}
 use Rattle.rv_parse_laws.proofs.StepsLemmas.{seen_ok, seen_err, pair_parts}
 use Rattle.rv_parse_laws.proofs.FailingLemmas.{Failing, at_once, first_of, same_first, never}
-use Rattle.rv_parse_laws.proofs.SinglesLemmas.{some_token, a_symbol, single_found, single_fault, symbol_no_last, at_no_last}
+use Rattle.rv_parse_laws.proofs.LastTokensLemmas.{symbol_no_last, at_no_last, plt_no_last}
+use Rattle.rv_parse_laws.proofs.SinglesLemmas.{some_token, a_symbol, single_found, single_fault, a_newline}
 use Rattle.rv_parse_laws.proofs.ValuesLemmas.{closes, Closes, value_before}
 use Rattle.rv_parse_laws.proofs.ArgumentsLemmas.{value_in_is, value_in_some, value_found, value_wrong, value_goes}
 
@@ -68,10 +70,6 @@ pub plt_step : (f a : Token) (us : List Token) (name : List ℕ) → symbol_of f
     → plt_at (f ∷ a ∷ us) ≡ seen_as (λ none. Target (named name) ∷ []) (single_at A_plt us)
 plt_step f a us name symbol at = rw (symbol_is f.kind name symbol, at) refl
 
-and_parts : (a b : Bool) → (a && b) ≡ true → (a ≡ true) × (b ≡ true)
-and_parts true b h = (refl, h)
-and_parts false b h = absurd (cc)
-
 some_is : (o : Option (List ℕ)) → is_some o ≡ true → (name : List ℕ) × (o ≡ Some name)
 some_is None h = absurd (cc)
 some_is (Some name) h = (name, refl)
@@ -89,10 +87,6 @@ plt_is k os h = go (is_plt k) h
     go : (b : Bool) → cond {A = Option (List Operand)} b (Some []) None ≡ Some os → b ≡ true
     go true h = refl
     go false h = absurd (cc)
-
-plt_no_last : (k : Kind) → is_plt k ≡ true → is_last k ≡ false
-plt_no_last (NameToken name) h = refl
-plt_no_last _ h = absurd (cc)
 
 -- a symbol and `@` come next
 pub plt_parts : (ts : List Token) → plt_next ts ≡ true → (f a : Token) × (us : List Token) × (name : List ℕ) × (ts ≡ f ∷ a ∷ us) × (symbol_of f.kind ≡ Some name) × (is_at a.kind ≡ true)
@@ -207,9 +201,6 @@ callee_live = (a_symbol, [], (value_goes roles.Target).0 ∷ [], inl ((value_goe
 
 abbrev a_plt : Token
 a_plt = some_token (NameToken (codes "plt"))
-
-abbrev a_newline : Token
-a_newline = some_token Newline
 
 -- where a callee is wrong
 plt_err : (f a p : Token) (text : List Token) (name : List ℕ) (w : SyntaxError) → symbol_of f.kind ≡ Some name → is_at a.kind ≡ true → single A_plt p.kind ≡ None

@@ -1,19 +1,19 @@
 -- A section is opened well by a statement exactly where no token of it is wrong as an opening.
 
-use Rattle.std.proofs.Common.{◌≡◌, ℕ, Bool, true, false, cond, ◌&&◌, ◌||◌, not, List, [], ◌∷◌, ◌++◌, append_assoc, Option, Some, None, is_some, Ok, Err, refl, sym, ◌∙◌, ap, subst, codes, ◌⊎◌, inl, inr}
+use Rattle.std.proofs.Common.{◌≡◌, ℕ, Bool, true, false, cond, ◌||◌, not, List, [], ◌∷◌, Option, Some, None, refl, ◌∙◌, ap, subst, codes}
 use Rattle.std.specs.List.{list_all}
 use Rattle.std.specs.Str.{bytes_eq}
 use Rattle.std.proofs.lemmas.Slice.Eq.{bytes_eq-Decides}
-use Rattle.rv_text_laws.specs.Grammar.{Kind, Name as NameToken, Text}
-use Rattle.rv_text_laws.specs.Lexing.{Token}
-use Rattle.rv_text_laws.specs.Joined.{IsJoined, first_name}
-use Rattle.rv_text_laws.specs.SyntaxError.{SyntaxError, wrong, Read}
+use Rattle.std.proofs.lemmas.Bool.{and_parts}
+use Rattle.std.specs.Option.{option_or}
+use Rattle.rv_text_laws.specs.Grammar.{Kind, Name as NameToken}
+use Rattle.rv_text_laws.specs.SyntaxError.{wrong}
 use Rattle.rv_statement.specs.declared.directive.DirectiveWord.{DirectiveWord}
 use Rattle.rv_statement.specs.declared.directive.DirectiveWord.TheVariants as words
 use Rattle.rv_statement.specs.declared.directive.Choice.{Choice}
 use Rattle.rv_statement.specs.declared.mnemonic.Mnemonic.{Mnemonic}
-use Rattle.rv_statement.specs.Statement.{Operand, Word, Quoted, Value, Directive, Opens, Directs, Statement}
-use Rattle.rv_parse_laws.specs.Words.{named_in, choices, either, is_frame, frame_directive, directive_words, directive_named, mnemonic_named, begun_by, beginning}
+use Rattle.rv_statement.specs.Statement.{Operand, Word, Value, Directive, Directs}
+use Rattle.rv_parse_laws.specs.Words.{named_in, choices, frame_directive, directive_words, directive_named, mnemonic_named, begun_by, beginning}
 use Rattle.rv_parse_laws.specs.declared.beginning.Beginning.{Beginning}
 use Rattle.rv_parse_laws.specs.declared.beginning.Beginning.TheVariants as beginnings
 use Rattle.rv_parse_laws.specs.Syntax.{begins, chosen, directed}
@@ -31,10 +31,6 @@ row_good row = bytes_eq row.0 (codes ".section") || not (is_section_word row.1)
 rows_good : list_all row_good directive_words ≡ true
 unfolding directive_words row_good is_section_word
 rows_good = refl
-
-and_parts : (a b : Bool) → (a && b) ≡ true → (a ≡ true) × (b ≡ true)
-and_parts true b h = (refl, h)
-and_parts false b h = absurd (cc)
 
 same_row : (name : List ℕ) (value : DirectiveWord) → value ≡ words.Section → (bytes_eq name (codes ".section") || not (is_section_word value)) ≡ true → bytes_eq name (codes ".section") ≡ true
 unfolding is_section_word
@@ -67,7 +63,7 @@ section_named word e = go (named_in directive_words word) refl e
     frame true h = cc
     frame false h = cc
 
-    go : (o : Option DirectiveWord) → named_in directive_words word ≡ o → either o (frame_directive word) ≡ Some words.Section → bytes_eq word (codes ".section") ≡ true
+    go : (o : Option DirectiveWord) → named_in directive_words word ≡ o → option_or o (frame_directive word) ≡ Some words.Section → bytes_eq word (codes ".section") ≡ true
     go (Some x) is e = in_table directive_words word rows_good (is ∙ e)
     go None is e = absurd (frame _ e)
 

@@ -1,21 +1,22 @@
 -- Items of one kind with commas between, and tokens that are not looked at.
 
-use Rattle.std.proofs.Common.{◌≡◌, ℕ, zero, suc, ◌<◌, ◌≤◌, Bool, true, false, cond, ◌||◌, ◌&&◌, not, List, [], ◌∷◌, ◌++◌, length, Ok, Err, refl, sym, ◌∙◌, ap, subst, arith, ◌⊎◌, inl, inr}
+use Rattle.std.proofs.Common.{◌≡◌, ℕ, zero, suc, ◌<◌, ◌≤◌, Bool, true, false, cond, ◌||◌, not, List, [], ◌∷◌, ◌++◌, length, Ok, Err, refl, sym, ◌∙◌, ap, subst, arith, ◌⊎◌, inl, inr}
 use Rattle.std.specs.List.{list_all}
 use Rattle.std.proofs.lemmas.List.{append-nil}
+use Rattle.std.proofs.lemmas.Bool.{and_parts, and_from}
 use Rattle.rv_text_laws.specs.declared.punct.Punct.TheVariants.{Comma, Semicolon}
-use Rattle.rv_text_laws.specs.Grammar.{Kind, Newline, Punctuation, Bad_byte, Bad_token, End}
-use Rattle.rv_text_laws.specs.Lexing.{Token, is_last, ended}
+use Rattle.rv_text_laws.specs.Grammar.{Kind, Newline, Punctuation, End}
+use Rattle.rv_text_laws.specs.Lexing.{Token, ended}
 use Rattle.rv_text_laws.specs.SyntaxError.{SyntaxError, wrong, Read, nowhere, is_long}
 use Rattle.rv_text_laws.specs.Joined.{joined_at}
 use Rattle.rv_text_laws.proofs.ExpressionWrongLemmas.{ended_more}
 use Rattle.rv_statement.specs.Statement.{Operand}
-use Rattle.rv_parse_laws.specs.Syntax.{is_comma, is_end, is_wrong, is_any, Slot, A_value, An_address, A_callee, A_section, IsOperand, IsTaken, IsFurther, AreItems, EndsHere}
+use Rattle.rv_parse_laws.specs.Syntax.{is_comma, is_end, is_wrong, is_any, Slot, A_value, An_address, A_callee, A_section, IsOperand, StandsThen, IsFurther, AreItems, EndsHere}
 use Rattle.rv_parse_laws.specs.Faults.{wrong_after, wrong_any}
 use Rattle.rv_parse_laws.specs.Parsing.{◌>>=◌, seen_as, operand_at, end_at, ended_at, taking, further, items_in, items_at, any_at}
 use Rattle.rv_parse_laws.proofs.StepsLemmas.{bind_ok, tested_ok, pair_parts, bind_err, tested_err}
 use Rattle.rv_parse_laws.proofs.FailingLemmas.{Failing, at_once, behind, alike, heads, never, wrongs}
-use Rattle.rv_parse_laws.proofs.SinglesLemmas.{comma_no_last}
+use Rattle.rv_parse_laws.proofs.LastTokensLemmas.{comma_no_last, any_no_last}
 use Rattle.rv_parse_laws.proofs.ValuesLemmas.{closes, Closes}
 use Rattle.rv_parse_laws.proofs.OperandsLemmas.{Ready, operand_is, operand_shorter, taken_is, FoundTo, taken_found, taken_wrong}
 
@@ -124,7 +125,7 @@ Items s us os = (n : ℕ) × AreItems n s us os
 abbrev pub Behind : Slot → List Token → List Operand → Type 0
 Behind s us os = ((us ≡ []) × (os ≡ [])) ⊎ IsFurther (λ vs ps. Items s vs ps) us os
 
-to_items : (s : Slot) (ts : List Token) (os : List Operand) → IsTaken s (λ us ps. Behind s us ps) ts os → Items s ts os
+to_items : (s : Slot) (ts : List Token) (os : List Operand) → StandsThen s (λ us ps. Behind s us ps) ts os → Items s ts os
 to_items s ts os (one, rest, now, later, w, is, inl (none, nil), v) =
     let text : one ≡ ts = sym (w ∙ ap (λ us. one ++ us) none ∙ append-nil one) in
     let same : now ≡ os = sym (v ∙ ap (λ ps. now ++ ps) nil ∙ append-nil now) in
@@ -132,7 +133,7 @@ to_items s ts os (one, rest, now, later, w, is, inl (none, nil), v) =
 to_items s ts os (one, rest, now, later, w, is, inr (c, after, x, comma, (zero, none)), v) = absurd none
 to_items s ts os (one, rest, now, later, w, is, inr (c, after, x, comma, (suc n, items)), v) = (suc (suc n), (one, rest, now, later, w, is, (c, after, x, comma, items), v))
 
-comma_next : (s : Slot) (R : List Token → Read (List Operand)) (c : Token) (us : List Token) → is_comma c.kind ≡ true → further s R (c ∷ us) ≡ R us
+pub comma_next : (s : Slot) (R : List Token → Read (List Operand)) (c : Token) (us : List Token) → is_comma c.kind ≡ true → further s R (c ∷ us) ≡ R us
 comma_next s R c us comma = rw comma refl
 
 end_next : (s : Slot) (R : List Token → Read (List Operand)) (rest : List Token) → EndsHere rest → further s R rest ≡ Ok ([], rest)
@@ -162,7 +163,7 @@ items_found_in zero s ts os rest le e = absurd (none ts le (sym (items_step s ts
 items_found_in (suc room) s ts os rest le e = finish
     (taken_found s (further s (λ us. items_at s us)) (λ us ps. Behind s us ps) ts os rest (λ now us h ps f. next us ps (operand_shorter s ts now us h) f (λ vs ps less g. items_found_in room s vs ps rest less g)) (sym (items_step s ts) ∙ e))
   where
-    finish : FoundTo (IsTaken s (λ us ps. Behind s us ps)) ts os rest → FoundTo (λ us ps. Items s us ps) ts os rest
+    finish : FoundTo (StandsThen s (λ us ps. Behind s us ps)) ts os rest → FoundTo (λ us ps. Items s us ps) ts os rest
     finish (text, whole, is, ends) = (text, whole, to_items s text os is, ends)
 
     next : (us : List Token) (ps : List Operand) → length us < length ts → further s (λ us. items_at s us) us ≡ Ok (ps, rest)
@@ -182,7 +183,7 @@ items_wrong_in : (room : ℕ) (s : Slot) (ts : List Token) (w : SyntaxError) →
 items_wrong_in zero s [] w le end e = absurd (cc)
 items_wrong_in zero s (t ∷ ts) w le end e = absurd (omega (arith, le))
 items_wrong_in (suc room) s ts w le end e =
-    alike (List Operand) (List Operand) (λ us ps. Items s us ps) (IsTaken s (λ us ps. Behind s us ps)) (λ us. items_at s us) (taking s (further s (λ us. items_at s us))) ts w
+    alike (List Operand) (List Operand) (λ us ps. Items s us ps) (StandsThen s (λ us ps. Behind s us ps)) (λ us. items_at s us) (taking s (further s (λ us. items_at s us))) ts w
     (λ us ps is. (ps, to_items s us ps is)) (λ us first h. items_step s us ∙ h)
     (taken_wrong s (further s (λ us. items_at s us)) (λ us ps. Behind s us ps) ts w ([], [], inl (refl, refl)) end (sym (items_step s ts) ∙ e)
     (λ os rest h last f. next rest (operand_shorter s ts os rest h) last f (λ us less last g. items_wrong_in room s us w less last g)))
@@ -221,26 +222,12 @@ items_wrong s ts w end e = items_wrong_in (length ts) s ts w (omega arith) end e
 abbrev pub AreAny : List Token → List Operand → Type 0
 AreAny ts os = (list_all (λ (t : Token). is_any t.kind) ts ≡ true) × (os ≡ [])
 
-and_parts : (a b : Bool) → (a && b) ≡ true → (a ≡ true) × (b ≡ true)
-and_parts true b h = (refl, h)
-and_parts false b h = absurd (cc)
-
-and_both : (a b : Bool) → a ≡ true → b ≡ true → (a && b) ≡ true
-and_both true b h i = i
-and_both false b h i = absurd (cc)
-
 pub any_no_end : (k : Kind) → is_any k ≡ true → is_end k ≡ false
 any_no_end k h = go (is_end k) h
   where
     go : (b : Bool) → not (b || is_wrong k || is_long k) ≡ true → b ≡ false
     go true h = absurd (cc)
     go false h = refl
-
-pub any_no_last : (k : Kind) → is_any k ≡ true → is_last k ≡ false
-any_no_last Bad_byte h = absurd (cc)
-any_no_last Bad_token h = absurd (cc)
-any_no_last End h = absurd (cc)
-any_no_last _ h = refl
 
 pub any_is : (text : List Token) (os : List Operand) → AreAny text os → (rest : List Token) → EndsHere rest → any_at (text ++ rest) ≡ Ok (os, rest)
 any_is [] os (all, is) rest (t, us, e, h) = rw (e, is) (rw h refl)
@@ -258,7 +245,7 @@ any_found (t ∷ ts) os rest e = go (is_end t.kind) refl e (any_found ts os rest
     go false h e ih = more (is_any t.kind) refl e
       where
         more : (b : Bool) → is_any t.kind ≡ b → cond b (any_at ts) (Err (wrong t (wrong_any t.kind))) ≡ Ok (os, rest) → FoundTo AreAny (t ∷ ts) os rest
-        more true any e = let f = ih e in (t ∷ f.0, ap (λ xs. t ∷ xs) f.1, (and_both (is_any t.kind) (list_all (λ (t : Token). is_any t.kind) f.0) any f.2.0, f.2.1), f.3)
+        more true any e = let f = ih e in (t ∷ f.0, ap (λ xs. t ∷ xs) f.1, (and_from (is_any t.kind) (list_all (λ (t : Token). is_any t.kind) f.0) any f.2.0, f.2.1), f.3)
         more false any e = absurd (cc)
 
 pub any_wrong : (ts : List Token) (w : SyntaxError) → ended ts ≡ true → any_at ts ≡ Err w → Failing (List Operand) AreAny any_at ts w
@@ -273,7 +260,7 @@ any_wrong (t ∷ ts) w end e = go (is_end t.kind) refl e (any_wrong ts w)
         more : (b : Bool) → is_any t.kind ≡ b → cond b (any_at ts) (Err (wrong t (wrong_any t.kind))) ≡ Err w → Failing (List Operand) AreAny any_at (t ∷ ts) w
         more true any e =
             behind (List Operand) (List Operand) AreAny AreAny any_at any_at (t ∷ []) ts w
-            (λ us ps is. (ps, (and_both (is_any t.kind) (list_all (λ (t : Token). is_any t.kind) us) any is.0, is.1))) (λ us first f. rw (any, h) f)
+            (λ us ps is. (ps, (and_from (is_any t.kind) (list_all (λ (t : Token). is_any t.kind) us) any is.0, is.1))) (λ us first f. rw (any, h) f)
             (ih (ended_more t ts (any_no_last t.kind any) end) e)
         more false any e = record {
           before = [];

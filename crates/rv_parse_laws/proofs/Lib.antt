@@ -1,5 +1,6 @@
 pub mod StepsLemmas
 pub mod FailingLemmas
+pub mod LastTokensLemmas
 pub mod SinglesLemmas
 pub mod ValuesLemmas
 pub mod ArgumentsLemmas

@@ -3,30 +3,31 @@
 use Rattle.std.proofs.Common.{◌≡◌, ℕ, Bool, true, false, cond, ◌&&◌, not, List, [], ◌∷◌, ◌++◌, append_assoc, Option, Some, None, Ok, Err, refl, sym, ◌∙◌, ap, subst, ◌⊎◌, inl, inr}
 use Rattle.std.specs.Prelude.{is_some, option_map}
 use Rattle.std.proofs.lemmas.List.{append-nil}
+use Rattle.std.specs.Option.{option_or}
 use Rattle.rv_text_laws.specs.Cut.{Piece, texts, Each}
 use Rattle.rv_text_laws.specs.declared.punct.Punct.TheVariants as commas
 use Rattle.rv_text_laws.specs.Grammar.{Kind, Name as NameToken, Text, Punctuation, Newline, End}
 use Rattle.rv_text_laws.specs.Lexing.{Token}
 use Rattle.rv_text_laws.specs.Joined.{first_name}
-use Rattle.rv_text_laws.specs.SyntaxError.{SyntaxError, wrong, Read}
+use Rattle.rv_text_laws.specs.SyntaxError.{SyntaxError, wrong}
 use Rattle.rv_statement.specs.declared.directive.DirectiveWord.{DirectiveWord}
 use Rattle.rv_statement.specs.declared.directive.DirectiveWord.TheVariants as words
 use Rattle.rv_statement.specs.Statement.{Operand, Word, Quoted, StatementKind, Label, Numbered, Instruction, Directs, Statement}
 use Rattle.rv_parse_laws.specs.declared.role.Role.TheVariants as roles
 use Rattle.rv_parse_laws.specs.declared.beginning.Beginning.{Beginning}
 use Rattle.rv_parse_laws.specs.declared.beginning.Beginning.TheVariants as beginnings
-use Rattle.rv_parse_laws.specs.Content.{content_fault}
 use Rattle.rv_parse_laws.specs.Faults.{wrong_first}
 use Rattle.rv_parse_laws.specs.Syntax.{Slots, last as last_slot, A_value, Stops, Takes, Chooses, A_section, Some_flags, At_sign, A_type, A_comma, and_maybe, section_slots, is_comma, is_at, is_colon, is_end, single, begins, places, directed, AreOperands, Part, Ends, Says, IsPart, StopsPart, IsStatement, EndsHere}
-use Rattle.rv_parse_laws.specs.Opening.{is_opened, is_good, flags_good, type_good, opens_well, OpenWell}
+use Rattle.rv_parse_laws.specs.Opening.{is_opened, is_good, opens_well, OpenWell}
 use Rattle.rv_parse_laws.specs.WrongOpening.{flags_fault, type_fault, is_section}
-use Rattle.rv_parse_laws.specs.Parsing.{named_or, section_at, single_at, front_fault, behind_read, or_else, type_wrong, flags_wrong, named_wrong, opening_at}
-use Rattle.rv_parse_laws.specs.Reading.{AreParts, told, said}
+use Rattle.rv_parse_laws.specs.Parsing.{named_or, section_at, single_at, front_fault, behind_read, type_wrong, flags_wrong, named_wrong, opening_at}
+use Rattle.rv_parse_laws.specs.Reading.{told, said}
 use Rattle.rv_parse_laws.specs.Refusals.{OpensWell, AllOpenWell}
 use Rattle.rv_parse_laws.proofs.ValuesLemmas.{closes}
 use Rattle.rv_parse_laws.proofs.SectionsLemmas.{section_is, none_at}
+use Rattle.rv_parse_laws.proofs.ItemsLemmas.{end_no_comma}
 use Rattle.rv_parse_laws.proofs.GoodOpeningsLemmas.{is_section_word, section_of, others_open}
-use Rattle.rv_parse_laws.proofs.OpeningsLemmas.{section_word, opening_there, none_opens}
+use Rattle.rv_parse_laws.proofs.OpeningsLemmas.{section_word, opening_there, none_opens, end_no_section}
 
 nothing : Option SyntaxError → Bool
 nothing None = true
@@ -37,7 +38,7 @@ unfolding nothing
 nothing_none None h = refl
 nothing_none (Some w) h = absurd (cc)
 
-nothing_either : (a b : Option SyntaxError) → nothing (or_else a b) ≡ (nothing a && nothing b)
+nothing_either : (a b : Option SyntaxError) → nothing (option_or a b) ≡ (nothing a && nothing b)
 unfolding nothing
 nothing_either None b = refl
 nothing_either (Some w) b = refl
@@ -48,20 +49,6 @@ nothing_at t None = refl
 nothing_at t (Some code) = refl
 
 -- ---- the end of a statement
-
-end_no_comma : (k : Kind) → is_end k ≡ true → is_comma k ≡ false
-end_no_comma Newline h = refl
-end_no_comma End h = refl
-end_no_comma (Punctuation punct) h = go (is_comma (Punctuation punct)) refl
-  where
-    both : (k : Kind) → is_comma k ≡ true → is_end k ≡ false
-    both (Punctuation commas.Comma) h = refl
-    both _ h = absurd (cc)
-
-    go : (b : Bool) → is_comma (Punctuation punct) ≡ b → is_comma (Punctuation punct) ≡ false
-    go false e = e
-    go true e = absurd (let no = both (Punctuation punct) e in cc)
-end_no_comma _ h = absurd (cc)
 
 comma_less : (known : Bool) (f : List Token → Option SyntaxError) (after : List Token) → EndsHere after → nothing (behind_read f (single_at (A_comma Some_flags) after)) ≡ true
 unfolding nothing
@@ -225,10 +212,6 @@ label_here known t c us h = go (is_section t.kind) (colon_reads c us h).1
 well : (List ℕ → Bool) → Part → Bool
 well known Ends = true
 well known (Says kind) = opens_well known kind
-
-end_no_section : (k : Kind) → is_end k ≡ true → is_section k ≡ false
-end_no_section (NameToken name) h = absurd (cc)
-end_no_section _ h = refl
 
 opens_section : (known : List ℕ → Bool) (t : Token) (ts : List Token) → is_section t.kind ≡ true → opening_at known (t ∷ ts) ≡ named_wrong known (section_at ts)
 unfolding opening_at

@@ -3,6 +3,7 @@
 use Rattle.std.proofs.Common.{◌≡◌, ℕ, ◌<◌, Bool, true, false, cond, List, [], ◌∷◌, ◌++◌, append_assoc, length, Option, Some, None, Ok, Err, refl, sym, ◌∙◌, ap, subst, codes, arith, ◌⊎◌, inl, inr}
 use Rattle.std.proofs.lemmas.List.{append-nil}
 use Rattle.std.proofs.lemmas.Slice.Eq.{bytes_eq-Decides}
+use Rattle.std.specs.Option.{option_or}
 use Rattle.rv_text_laws.specs.Cut.{Piece, texts}
 use Rattle.rv_text_laws.specs.Grammar.{Kind, Name as NameToken, Text}
 use Rattle.rv_text_laws.specs.Lexing.{Token}
@@ -14,7 +15,7 @@ use Rattle.rv_parse_laws.specs.Words.{beginning, mnemonic_named, directive_named
 use Rattle.rv_parse_laws.specs.Syntax.{begins, is_comma, is_at, is_end, is_section_name, A_section, Some_flags, At_sign, A_comma, single, places, directed, colon_next, AreOperands, Part, Says, IsPart}
 use Rattle.rv_parse_laws.specs.Opening.{is_opened}
 use Rattle.rv_parse_laws.specs.WrongOpening.{flags_fault, type_fault, is_text, is_section, IsNamed, WrongFlags, WrongType, IsWrongOpening}
-use Rattle.rv_parse_laws.specs.Parsing.{part_at, section_at, single_at, front_fault, behind_read, or_else, type_wrong, flags_wrong, named_wrong, opening_at, unless, checked_at}
+use Rattle.rv_parse_laws.specs.Parsing.{part_at, section_at, single_at, front_fault, behind_read, type_wrong, flags_wrong, named_wrong, opening_at, unless, checked_at}
 use Rattle.rv_parse_laws.specs.Reading.{AreParts, told, said}
 use Rattle.rv_parse_laws.specs.Refusals.{OpensWell, AllOpenWell, CanGoOn}
 use Rattle.rv_parse_laws.proofs.SinglesLemmas.{some_token, single_found}
@@ -163,7 +164,7 @@ flags_there : (known : List ℕ → Bool) (front : List Token) (name : List ℕ)
     → flags_wrong (known name) ts ≡ Some w → OpeningThere known (front ++ ts) w
 flags_there known front name ts w named e = go (front_fault (flags_fault (known name)) ts) refl e
   where
-    go : (o : Option SyntaxError) → front_fault (flags_fault (known name)) ts ≡ o → or_else o (type_wrong (known name) ts) ≡ Some w → OpeningThere known (front ++ ts) w
+    go : (o : Option SyntaxError) → front_fault (flags_fault (known name)) ts ≡ o → option_or o (type_wrong (known name) ts) ≡ Some w → OpeningThere known (front ++ ts) w
     go None none e = type_there known front name ts w named none e
     go (Some v) some e =
         let same : v ≡ w = cc in
@@ -205,7 +206,7 @@ none_opens ss ts none before at more code whole is =
     let some : opening_at (is_opened ss) ts ≡ Some (wrong at code) = ap (opening_at (is_opened ss)) whole ∙ opening_found ss before at code more is in
     cc
 
-end_no_section : (k : Kind) → is_end k ≡ true → is_section k ≡ false
+pub end_no_section : (k : Kind) → is_end k ≡ true → is_section k ≡ false
 end_no_section (NameToken name) h = absurd (cc)
 end_no_section _ h = refl
 

@@ -4,7 +4,7 @@ use Rattle.std.proofs.Common.{◌≡◌, Bool, true, false, cond, List, [], ◌�
 use Rattle.rv_text_laws.specs.declared.punct.Punct.TheVariants.{Colon}
 use Rattle.rv_text_laws.specs.Bytes.{is_decimal}
 use Rattle.std.specs.List.{list_all}
-use Rattle.rv_text_laws.specs.Grammar.{Kind, Newline, Punctuation, Name as NameToken, Number, Bad_word}
+use Rattle.rv_text_laws.specs.Grammar.{Kind, Punctuation, Name as NameToken, Number, Bad_word}
 use Rattle.rv_text_laws.specs.Lexing.{Token, is_last, ended}
 use Rattle.rv_text_laws.specs.SyntaxError.{SyntaxError, wrong, Read}
 use Rattle.rv_text_laws.proofs.ExpressionWrongLemmas.{ended_more}
@@ -17,7 +17,7 @@ use Rattle.rv_parse_laws.specs.Parsing.{seen_as, taken, operands_at, begun_at, a
 use Rattle.rv_parse_laws.specs.Refusals.{is_label, begins_label}
 use Rattle.rv_parse_laws.proofs.StepsLemmas.{seen_ok, taken_ok, pair_parts, seen_err, taken_err}
 use Rattle.rv_parse_laws.proofs.FailingLemmas.{Failing, Shown, at_once, shown_behind, first_of, never, wrongs}
-use Rattle.rv_parse_laws.proofs.SinglesLemmas.{some_token, a_symbol}
+use Rattle.rv_parse_laws.proofs.SinglesLemmas.{some_token, a_symbol, a_newline}
 use Rattle.rv_parse_laws.proofs.InPlacesLemmas.{slots_sound, places_sound, operands_is, operands_found, operands_wrong, operands_live}
 use Rattle.rv_parse_laws.specs.declared.beginning.Beginning.{Beginning}
 use Rattle.rv_parse_laws.specs.declared.beginning.Beginning.TheVariants as beginnings
@@ -175,9 +175,6 @@ pub record WrongAt (ts : List Token) (w : SyntaxError) : Type 0 where
   pub is_wrong : Shown before at w
   pub fails : (text : List Token) → begins_label (before ++ at ∷ text) ≡ begins_label ts → part_at (before ++ at ∷ text) ≡ Err w
   pub goes : (text : List Token) × (p : Part) × PartOf ts (before ++ text) p
-
-abbrev a_newline : Token
-a_newline = some_token Newline
 
 abbrev a_colon : Token
 a_colon = some_token (Punctuation Colon)

@@ -2,7 +2,7 @@
 
 use Rattle.std.proofs.Common.{◌≡◌, ℕ, zero, suc, ◌+◌, ◌<◌, ◌≤◌, Bool, true, false, cond, ◌&&◌, ◌==◌, List, [], ◌∷◌, ◌++◌, append_assoc, length, length-append, take, refl, sym, ◌∙◌, ap, subst, arith}
 use Rattle.std.specs.List.{list_all}
-use Rattle.std.proofs.lemmas.Bool.{eqb-true}
+use Rattle.std.proofs.lemmas.Bool.{eqb-true, and_parts, and_right}
 use Rattle.std.proofs.lemmas.Bool.Decides.{nat_tests}
 use Rattle.std.proofs.lemmas.List.{append-nil, take-append-le}
 use Rattle.std.proofs.Math.Seq.{take-append_seam, take-append-add}
@@ -14,6 +14,7 @@ use Rattle.rv_text_laws.specs.Grammar.{Kind, Name, Spells, Stops}
 use Rattle.rv_text_laws.specs.Lexing.{Token, newlines, placed, is_gap, tokens_of, bad, last_kind, is_last, ended, last, Lexes}
 use Rattle.rv_text_laws.proofs.LexemesLemmas.{lexemes}
 use Rattle.rv_text_laws.proofs.TokensLemmas.{newlines-append}
+use Rattle.rv_text_laws.proofs.TokenTextsLemmas.{last_is_last}
 use Rattle.rv_text_laws.specs.Codes.{limit}
 use Rattle.rv_text_laws.specs.SyntaxError.{longest_name, is_long, offset_of}
 
@@ -29,10 +30,6 @@ Standing bytes low (t ∷ ts) = (low ≤ t.start) × LineIs bytes t × Standing 
 pub lower : (bytes : List ℕ) (low high : ℕ) (ts : List Token) → low ≤ high → Standing bytes high ts → Standing bytes low ts
 lower bytes low high [] le h = tt
 lower bytes low high (t ∷ ts) le (above, line, more) = (omega (arith, le, above), line, more)
-
-and_parts : (a b : Bool) → (a && b) ≡ true → (a ≡ true) × (b ≡ true)
-and_parts true b h = (refl, h)
-and_parts false b h = absurd (cc)
 
 -- a name has no line feed
 no_feed : (b : ℕ) → ((b ≡ 10) → ⊥) → (b == 10) ≡ false
@@ -97,14 +94,10 @@ last_short : (rest : List ℕ) → is_long (last_kind rest) ≡ false
 last_short [] = refl
 last_short (b ∷ bs) = bad_short (class b)
 
-and_false : (a b : Bool) → b ≡ false → (a && b) ≡ false
-and_false true b h = h
-and_false false b h = refl
-
 line_of_last : (bytes before rest : List ℕ) → bytes ≡ before ++ rest → LineIs bytes (last before rest)
 unfolding offset_of
 line_of_last bytes before rest whole code =
-    rw (whole, and_false (code == limit) (is_long (last_kind rest)) (last_short rest)) (sym (line_before before [] rest))
+    rw (whole, and_right (code == limit) (is_long (last_kind rest)) (last_short rest)) (sym (line_before before [] rest))
 
 -- all faults of a lexeme's token stand in it
 placed_within : (before : List ℕ) (p : Piece Kind ℕ) → 0 < length p.text → Spells p.kind p.text → suc (offset_of (placed before p) limit) ≤ length (before ++ p.text)
@@ -182,14 +175,6 @@ faults_apart bytes low front t back u more c d h =
     omega (arith, place_at_most t c, k, place_at_least u d)
 
 -- the last token of a source is a last one
-bad_is_last : (c : Class) → is_last (bad c) ≡ true
-bad_is_last Foreign = refl
-bad_is_last _ = refl
-
-last_is_last : (rest : List ℕ) → is_last (last_kind rest) ≡ true
-last_is_last [] = refl
-last_is_last (b ∷ bs) = bad_is_last (class b)
-
 ended_by : (ts : List Token) (t : Token) → is_last t.kind ≡ true → ended (ts ++ t ∷ []) ≡ true
 ended_by [] t is = is
 ended_by (u ∷ []) t is = is

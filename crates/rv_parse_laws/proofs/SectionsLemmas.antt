@@ -6,12 +6,13 @@ use Rattle.std.proofs.lemmas.Bool.Decides.{nat_tests}
 use Rattle.std.proofs.lemmas.List.{append-nil}
 use Rattle.std.proofs.lemmas.Slice.Eq.{bytes_eq-Decides}
 use Rattle.rv_text_laws.specs.declared.punct.Punct.TheVariants.{Comma, Semicolon, Open, Minus}
-use Rattle.rv_text_laws.specs.Grammar.{Kind, Newline, Punctuation, Name, Bad_byte, Bad_token, End}
+use Rattle.rv_text_laws.specs.Grammar.{Kind, Newline, Punctuation, Name, End}
 use Rattle.rv_text_laws.specs.Lexing.{Token, is_last, ended}
 use Rattle.rv_text_laws.specs.Codes.{unsupported_here, limit}
 use Rattle.rv_text_laws.specs.SyntaxError.{SyntaxError, wrong, Read, longest_name}
 use Rattle.rv_text_laws.specs.Joined.{bytes_of, AreAfter, IsJoined, joins, joined_after, first_name, joined_at}
 use Rattle.rv_text_laws.proofs.ExpressionWrongLemmas.{ended_more}
+use Rattle.rv_text_laws.proofs.JoinsLemmas.{joins_no_last}
 use Rattle.rv_parse_laws.specs.Syntax.{is_section_name, A_section}
 use Rattle.rv_parse_laws.specs.Faults.{wrong_first}
 use Rattle.rv_parse_laws.specs.Parsing.{too_long, named_or, section_at}
@@ -302,16 +303,10 @@ long_err t ts first later rest w is behind over same =
     section_by t ts first later rest is behind ∙ rw (over_bad (first ++ later) over, over_test (length (first ++ later)) over) (ap (λ (x : SyntaxError). Err x) same)
 
 -- the last token is no part of a name
-part_no_last : (k : Kind) (bytes : List ℕ) → bytes_of k ≡ Some bytes → is_last k ≡ false
-part_no_last Bad_byte bytes h = absurd (cc)
-part_no_last Bad_token bytes h = absurd (cc)
-part_no_last End bytes h = absurd (cc)
-part_no_last _ bytes h = refl
-
 pub behind_ended : (place : ℕ) (text : List Token) (bytes : List ℕ) (rest : List Token) → AreAfter place text bytes → ended (text ++ rest) ≡ true → ended rest ≡ true
 behind_ended place [] bytes rest is end = end
 behind_ended place (t ∷ text) bytes rest (here, first, later, is, w, more) end =
-    behind_ended t.stop text later rest more (ended_more t (text ++ rest) (part_no_last t.kind first is) end)
+    behind_ended t.stop text later rest more (ended_more t (text ++ rest) (joins_no_last t.kind first is) end)
 
 pub some_name : is_section_name (codes "f") ≡ true
 unfolding is_section_name

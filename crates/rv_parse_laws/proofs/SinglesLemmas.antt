@@ -1,16 +1,15 @@
 -- What one token is in its place.
 
-use Rattle.std.proofs.Common.{◌≡◌, ℕ, ◌<◌, Bool, true, false, List, [], ◌∷◌, ◌++◌, length, Some, None, Ok, Err, refl, sym, ◌∙◌, ap, codes, arith}
+use Rattle.std.proofs.Common.{◌≡◌, ◌<◌, Bool, true, false, List, [], ◌∷◌, ◌++◌, length, Some, None, Ok, Err, refl, sym, ◌∙◌, ap, codes, arith}
 use Rattle.rv_text_laws.specs.declared.punct.Punct.TheVariants.{Comma, Colon, Semicolon, Open, Close, At}
-use Rattle.rv_text_laws.specs.Grammar.{Kind, Newline, Punctuation, Name as NameToken, Number, Text, Character, Bad_byte, Bad_token, End}
+use Rattle.rv_text_laws.specs.Grammar.{Kind, Newline, Punctuation, Name as NameToken, Number, Text, Bad_byte, Bad_token, End}
 use Rattle.rv_text_laws.specs.Lexing.{Token, is_last, ended}
 use Rattle.rv_text_laws.specs.SyntaxError.{SyntaxError, wrong}
 use Rattle.rv_text_laws.proofs.ExpressionWrongLemmas.{ended_more}
 use Rattle.rv_isa.specs.RegisterNames.{abi_names}
-use Rattle.rv_isa.specs.declared.operation.AccessSet.{AccessSet}
 use Rattle.rv_statement.specs.Statement.{Operand, Register, Accesses, Word, Quoted}
 use Rattle.rv_parse_laws.specs.Words.{names_of, register, choices}
-use Rattle.rv_parse_laws.specs.Syntax.{is_symbol, register_of, symbol_of, is_comma, is_colon, is_opening, is_closing, is_end, is_zero, is_at, accesses_of, access_sets, accesses, Slot, A_register, A_value, An_address, A_callee, A_zero, Some_accesses, A_symbol, A_string, A_section, Some_flags, At_sign, A_type, An_option, A_plt, A_comma, An_opening, A_closing, single}
+use Rattle.rv_parse_laws.specs.Syntax.{is_symbol, register_of, symbol_of, is_colon, is_end, access_sets, accesses, Slot, A_register, A_value, An_address, A_callee, A_zero, Some_accesses, A_symbol, A_string, A_section, Some_flags, At_sign, A_type, An_option, A_plt, A_comma, An_opening, A_closing, single}
 use Rattle.rv_parse_laws.specs.Faults.{wrong_first}
 use Rattle.rv_parse_laws.specs.Parsing.{single_at}
 use Rattle.rv_parse_laws.proofs.StepsLemmas.{taken_ok, taken_err}
@@ -54,42 +53,18 @@ end_none s End h = end_in s
 end_none s (Punctuation _) h = absurd (cc)
 end_none s _ h = absurd (cc)
 
-pub register_no_last : (k : Kind) (r : ℕ) → register_of k ≡ Some r → is_last k ≡ false
-register_no_last (NameToken name) r h = refl
-register_no_last _ r h = absurd (cc)
-
-pub accesses_no_last : (k : Kind) (set : AccessSet) → accesses_of k ≡ Some set → is_last k ≡ false
-accesses_no_last (NameToken name) set h = refl
-accesses_no_last _ set h = absurd (cc)
-
-pub zero_no_last : (k : Kind) → is_zero k ≡ true → is_last k ≡ false
-zero_no_last (Number word number) h = refl
-zero_no_last (Character byte) h = refl
-zero_no_last _ h = absurd (cc)
-
-pub opening_no_last : (k : Kind) → is_opening k ≡ true → is_last k ≡ false
-opening_no_last (Punctuation sign) h = refl
-opening_no_last _ h = absurd (cc)
-
-pub closing_no_last : (k : Kind) → is_closing k ≡ true → is_last k ≡ false
-closing_no_last (Punctuation sign) h = refl
-closing_no_last _ h = absurd (cc)
-
-pub symbol_no_last : (k : Kind) (name : List ℕ) → symbol_of k ≡ Some name → is_last k ≡ false
-symbol_no_last (NameToken word) name h = refl
-symbol_no_last _ name h = absurd (cc)
-
-pub comma_no_last : (k : Kind) → is_comma k ≡ true → is_last k ≡ false
-comma_no_last (Punctuation sign) h = refl
-comma_no_last _ h = absurd (cc)
-
-pub at_no_last : (k : Kind) → is_at k ≡ true → is_last k ≡ false
-at_no_last (Punctuation sign) h = refl
-at_no_last _ h = absurd (cc)
-
 -- tokens that may stand in places
 abbrev pub some_token : Kind → Token
 some_token k = record { kind = k; start = 0; stop = 0; line = 0 }
+
+abbrev pub an_opening : Token
+an_opening = some_token (Punctuation Open)
+
+abbrev pub a_closing : Token
+a_closing = some_token (Punctuation Close)
+
+abbrev pub a_newline : Token
+a_newline = some_token Newline
 
 abbrev pub a_register : Token
 a_register = some_token (NameToken (codes "a0"))

@@ -1,6 +1,7 @@
 -- Expressions in their places.
 
-use Rattle.std.proofs.Common.{◌≡◌, ℕ, ◌<◌, Bool, true, false, cond, ◌||◌, ◌&&◌, List, [], ◌∷◌, ◌++◌, append_assoc, length, length-append, Some, Ok, Err, refl, sym, ◌∙◌, ap, subst, codes, ◌≤◌, arith, ◌⊎◌, inl, inr}
+use Rattle.std.proofs.Common.{◌≡◌, ℕ, ◌<◌, Bool, true, false, cond, ◌||◌, List, [], ◌∷◌, ◌++◌, append_assoc, length, length-append, Some, Ok, Err, refl, sym, ◌∙◌, ap, subst, codes, ◌≤◌, arith, ◌⊎◌, inl, inr}
+use Rattle.std.proofs.lemmas.Bool.{and_right}
 use Rattle.rv_text_laws.specs.declared.punct.Punct.TheVariants.{Comma, Semicolon, Open, Plus, Percent}
 use Rattle.rv_text_laws.specs.declared.operator.BinaryOperator.TheVariants.{Add}
 use Rattle.rv_text_laws.specs.Grammar.{Kind, Punctuation}
@@ -143,10 +144,6 @@ name_goes = (a_name, (a_symbol, refl, symbol_begins), tt, omega arith, refl)
 abbrev a_plus : Token
 a_plus = some_token (Punctuation Plus)
 
-pub and_false : (a b : Bool) → b ≡ false → (a && b) ≡ false
-and_false true b h = h
-and_false false b h = refl
-
 -- a value goes on with a sum that has a name
 pub sum_goes : (text : List Token) (e : Expression) → IsValue text e → (us : List Token) × (x : Expression) × IsValue (text ++ us) x × (is_number x ≡ false)
 sum_goes text e (tree, spelled, ordered, within, is) = (
@@ -159,7 +156,7 @@ sum_goes text e (tree, spelled, ordered, within, is) = (
     grind (arith, within),
     refl,
   ),
-  and_false (is_number (bare tree)) false refl,
+  and_right (is_number (bare tree)) false refl,
 )
 
 -- a token that no expression begins with is no opening parenthesis

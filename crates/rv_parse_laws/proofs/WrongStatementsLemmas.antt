@@ -16,13 +16,14 @@ use Rattle.rv_parse_laws.specs.Wrong.{IsWrongFirst, IsWrongCallee, IsTargetNext,
 use Rattle.rv_parse_laws.specs.Parsing.{seen_as, taken, single_at, value_at, value_in, is_target, target_next, plt_next, plt_at, section_at, operand_at, ended_at, taking, further, items_at, any_at, operands_at, begun_at, after_first, statement_at, part_at}
 use Rattle.rv_parse_laws.proofs.StepsLemmas.{seen_ok, bind_err, seen_err, taken_err}
 use Rattle.rv_parse_laws.proofs.FailingLemmas.{heads, tails, never, wrongs}
-use Rattle.rv_parse_laws.proofs.SinglesLemmas.{single_found, comma_no_last, symbol_no_last, at_no_last}
+use Rattle.rv_parse_laws.proofs.LastTokensLemmas.{comma_no_last, symbol_no_last, at_no_last, any_no_last}
+use Rattle.rv_parse_laws.proofs.SinglesLemmas.{single_found}
 use Rattle.rv_parse_laws.proofs.ValuesLemmas.{value_before, value_ended}
 use Rattle.rv_parse_laws.proofs.ArgumentsLemmas.{value_found}
 use Rattle.rv_parse_laws.proofs.CalleesLemmas.{linked_is, plt_parts, plt_is, plt_step}
 use Rattle.rv_parse_laws.proofs.LocatedLemmas.{target_parts}
 use Rattle.rv_parse_laws.proofs.OperandsLemmas.{operand_is, operand_found, operand_shorter, operand_ended}
-use Rattle.rv_parse_laws.proofs.ItemsLemmas.{items_step, ended_err, any_no_last, any_no_end}
+use Rattle.rv_parse_laws.proofs.ItemsLemmas.{items_step, ended_err, any_no_end, comma_next}
 use Rattle.rv_parse_laws.proofs.PartsLemmas.{begins_no_last}
 use Rattle.rv_parse_laws.proofs.WrongsLemmas.{SaidBy, first_is, first_said, ends_before, value_is, value_said, value_passed, value_ends, address_wrongs, address_said}
 use Rattle.rv_parse_laws.proofs.WrongSectionsLemmas.{section_wrongs, section_said, section_passed, section_ends}
@@ -148,15 +149,12 @@ no_end_said : (s : Slot) (ts : List Token) (w : SyntaxError) → ended ts ≡ tr
 no_end_said s ts w end e = let k = ended_err s ts w end e in (k.0, wrong_after s k.0.kind, (k.1, k.2, k.3, refl), k.4)
 
 -- items
-next_comma : (s : Slot) (R : List Token → Read (List Operand)) (c : Token) (us : List Token) → is_comma c.kind ≡ true → further s R (c ∷ us) ≡ R us
-next_comma s R c us comma = rw comma refl
-
 next_end : (s : Slot) (R : List Token → Read (List Operand)) (t : Token) (us : List Token) → is_comma t.kind ≡ false → further s R (t ∷ us) ≡ ended_at s (t ∷ us)
 next_end s R t us other = rw other refl
 
 next_wrongs : (s : Slot) (R : List Token → Read (List Operand)) (W : List Token → Token → ℕ → Type 0) (ts : List Token) (t : Token) (code : ℕ)
     → ((us : List Token) → W us t code → R us ≡ Err (wrong t code)) → IsWrongNext s W ts t code → further s R ts ≡ Err (wrong t code)
-next_wrongs s R W ts t code ih (inl (c, us, w, comma, x)) = ap (further s R) w ∙ next_comma s R c us comma ∙ ih us x
+next_wrongs s R W ts t code ih (inl (c, us, w, comma, x)) = ap (further s R) w ∙ comma_next s R c us comma ∙ ih us x
 next_wrongs s R W ts t code ih (inr (other, (us, w, no_end, is))) =
     ap (further s R) w ∙ next_end s R t us other ∙ no_end_wrongs s (t ∷ us) t code (us, refl, no_end, is)
 

@@ -1,6 +1,7 @@
 -- A reading is wrong at the token, and with the code, that specs/Wrong says: values and addresses.
 
 use Rattle.std.proofs.Common.{◌≡◌, ℕ, Bool, true, false, cond, ◌&&◌, List, [], ◌∷◌, ◌++◌, Option, Some, None, Ok, Err, refl, sym, ◌∙◌, ap, subst, ◌⊎◌, inl, inr, arith}
+use Rattle.std.proofs.lemmas.Bool.{and_parts, and_right}
 use Rattle.rv_text_laws.specs.Lexing.{Token, ended}
 use Rattle.rv_text_laws.specs.SyntaxError.{SyntaxError, wrong}
 use Rattle.rv_text_laws.specs.Expression.{tree_of, EndsBefore}
@@ -20,9 +21,10 @@ use Rattle.rv_parse_laws.specs.Wrong.{IsWrongFirst, IsWrongInside, IsRefused, Is
 use Rattle.rv_parse_laws.specs.Parsing.{◌>>=◌, seen_as, value_at, allowed, single_at, label_at, argument_at, enclosed_at, called_at, named_at, applied_at, value_in, base_at, base_next, offset_at, operand_at}
 use Rattle.rv_parse_laws.proofs.StepsLemmas.{bind_ok, seen_ok, bind_err, seen_err, taken_err}
 use Rattle.rv_parse_laws.proofs.FailingLemmas.{heads, tails, wrongs}
+use Rattle.rv_parse_laws.proofs.LastTokensLemmas.{function_no_last, percent_no_last}
 use Rattle.rv_parse_laws.proofs.SinglesLemmas.{single_err, single_fault, single_found, single_passed}
-use Rattle.rv_parse_laws.proofs.ValuesLemmas.{value_before, value_some, is_allowed, allowed_ok, allowed_err, value_ended, and_false, no_percent}
-use Rattle.rv_parse_laws.proofs.ArgumentsLemmas.{applied_is, argument_found, value_found, enclosed_is, opening_single, closing_single, function_no_last, percent_no_last}
+use Rattle.rv_parse_laws.proofs.ValuesLemmas.{value_before, value_some, is_allowed, allowed_ok, allowed_err, value_ended, no_percent}
+use Rattle.rv_parse_laws.proofs.ArgumentsLemmas.{applied_is, argument_found, value_found, enclosed_is, opening_single, closing_single, unopened_err, argued_err, unclosed_err}
 use Rattle.rv_parse_laws.proofs.AddressesLemmas.{opening_is, register_is}
 
 -- the fault w is what W says
@@ -120,22 +122,12 @@ argument_ends Lo ts e rest h = ends_before ts e rest h
 argument_ends PcrelHi ts e rest h = ends_before ts e rest h
 
 -- what is behind the word of a function
-call_first : (f : Function) (ts : List Token) (w : SyntaxError) → single_at (An_opening A_register) ts ≡ Err w → enclosed_at f ts ≡ Err w
-call_first f ts w h = rw h refl
-
-call_argued : (f : Function) (q : Token) (ts : List Token) (w : SyntaxError) → is_opening q.kind ≡ true → argument_at f ts ≡ Err w → enclosed_at f (q ∷ ts) ≡ Err w
-call_argued f q ts w opens h = rw (opens, h) refl
-
-call_closed : (f : Function) (q : Token) (ts us : List Token) (e : Expression) (w : SyntaxError) → is_opening q.kind ≡ true → argument_at f ts ≡ Ok (e, us) → single_at A_closing us ≡ Err w
-    → enclosed_at f (q ∷ ts) ≡ Err w
-call_closed f q ts us e w opens h g = rw (opens, h, g) refl
-
 call_is : (f : Function) (ts : List Token) (t : Token) (code : ℕ) → IsWrongCall f ts t code → enclosed_at f ts ≡ Err (wrong t code)
-call_is f ts t code (inl x) = call_first f ts (wrong t code) (first_is (An_opening A_register) ts t code x)
-call_is f ts t code (inr (q, us, w, opens, inl x)) = ap (enclosed_at f) w ∙ call_argued f q us (wrong t code) opens (argument_is f us t code x)
+call_is f ts t code (inl x) = unopened_err f ts (wrong t code) (first_is (An_opening A_register) ts t code x)
+call_is f ts t code (inr (q, us, w, opens, inl x)) = ap (enclosed_at f) w ∙ argued_err f q us (wrong t code) opens (argument_is f us t code x)
 call_is f ts t code (inr (q, us, w, opens, inr (one, rest, e, v, is, ends, x))) =
     ap (enclosed_at f) w
-    ∙ call_closed f q us rest e (wrong t code) opens (ap (argument_at f) v ∙ argument_passed f one rest e is ends) (first_is A_closing rest t code x)
+    ∙ unclosed_err f q us rest e (wrong t code) opens (ap (argument_at f) v ∙ argument_passed f one rest e is ends) (first_is A_closing rest t code x)
 
 call_said : (f : Function) (ts : List Token) (w : SyntaxError) → ended ts ≡ true → enclosed_at f ts ≡ Err w → SaidBy (IsWrongCall f) ts w
 call_said f ts w end e = elim (bind_err (single_at (An_opening A_register) ts) (λ q. argument_at f q.1 >>= λ a. seen_as (λ none. a.0) (single_at A_closing a.1)) w e) [
@@ -224,10 +216,6 @@ applied_said role p (n ∷ ts) w end e = go (function_in role n.kind) refl e
     ]
     go None none e = unnamed none (is_name n.kind) refl (wrongs _ w e)
 
-and_parts : (a b : Bool) → (a && b) ≡ true → (a ≡ true) × (b ≡ true)
-and_parts true b h = (refl, h)
-and_parts false b h = absurd (cc)
-
 pub value_said : (role : Role) (ts : List Token) (w : SyntaxError) → ended ts ≡ true → value_in role ts ≡ Err w → SaidBy (IsWrongValue role) ts w
 value_said role [] w end e = absurd (cc)
 value_said role (t ∷ ts) w end e = go (may_call role && is_percent t.kind) refl e
@@ -265,7 +253,7 @@ value_passed role [] rest o (inl (e, v, good, is)) ends = absurd (omega (arith, 
 value_passed role (t ∷ ts) rest o (inl (e, v, good, is)) ends =
     let before : EndsBefore rest = valued_ends role e rest (subst (λ x. EndsValue x rest) is ends) in
     let read : value_at (t ∷ (ts ++ rest)) ≡ Ok (e, rest) = value_before (t ∷ ts) rest e v before in
-    rw (is, and_false (may_call role) (is_percent t.kind) (no_percent t (ts ++ rest) e rest read))
+    rw (is, and_right (may_call role) (is_percent t.kind) (no_percent t (ts ++ rest) e rest read))
     (ap (seen_as (valued role)) (ap (allowed (λ x. is_refused role x) t) read ∙ is_allowed (λ x. is_refused role x) t e rest good))
 
 pub value_ends : (role : Role) (ts : List Token) (o : Operand) (rest : List Token) → value_in role ts ≡ Ok (o, rest) → EndsValue o rest

@@ -2,6 +2,7 @@
 -- tokens after it, or the first token that is wrong there, with its code.
 
 use Rattle.std.specs.Prelude.{ℕ, zero, suc, ◌+◌, Bool, false, ◌&&◌, not, nat_lt, List, [], ◌∷◌, ◌++◌, length, Option, Some, None, option_map, unwrap_or, Result, Ok, Err, if◌then◌else◌}
+use Rattle.std.specs.Option.{option_or}
 use Rattle.rv_text_laws.specs.Grammar.{Kind}
 use Rattle.rv_text_laws.specs.Lexing.{Token}
 use Rattle.rv_text_laws.specs.Codes.{unsupported_here, limit}
@@ -232,10 +233,6 @@ abbrev pub behind_read : {X : Type 0} → (List Token → Option SyntaxError) �
 behind_read f (Ok x) = f x.1
 behind_read f (Err w) = None
 
-abbrev pub or_else : {X : Type 0} → Option X → Option X → Option X
-or_else (Some x) other = Some x
-or_else None other = other
-
 -- what is wrong with a type behind flags, a comma and `@`, where the name is known, or new
 abbrev pub type_wrong : Bool → List Token → Option SyntaxError
 type_wrong known ts =
@@ -247,7 +244,7 @@ type_wrong known ts =
 
 -- what is wrong with flags, and a type behind them
 abbrev pub flags_wrong : Bool → List Token → Option SyntaxError
-flags_wrong known ts = or_else (front_fault (flags_fault known) ts) (type_wrong known ts)
+flags_wrong known ts = option_or (front_fault (flags_fault known) ts) (type_wrong known ts)
 
 -- what is wrong behind a section's name
 abbrev pub named_wrong : (List ℕ → Bool) → Read (List ℕ) → Option SyntaxError

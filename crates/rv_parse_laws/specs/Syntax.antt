@@ -1,5 +1,8 @@
 -- The syntax of statements, over the kinds of tokens (RISC-V Assembly Programmer's Manual; GNU as,
 -- "Statements" and "Pseudo Ops").
+--
+-- A statement is a word and the slots that it awaits (`places`), and what stands in a slot is said
+-- once: a new statement is a row, and which token is wrong in it follows from its slots.
 
 use Rattle.std.specs.Prelude.{◌≡◌, ℕ, zero, suc, Bool, true, false, ◌&&◌, ◌||◌, ◌==◌, not, nat_le, ◌≤◌, List, [], ◌∷◌, ◌++◌, length, Option, Some, None, option_map, is_some, codes, ◌⊎◌, if◌then◌else◌}
 use Rattle.std.specs.List.{list_all}
@@ -470,9 +473,9 @@ plt_next [] = false
 plt_next (t ∷ ts) = is_some (symbol_of t.kind) && front_begins At_sign ts
 
 -- what stands in a place, and then what N says
-abbrev pub IsTaken : Slot → (List Token → List Operand → Type 0) → List Token → List Operand →
+abbrev pub StandsThen : Slot → (List Token → List Operand → Type 0) → List Token → List Operand →
     Type 0
-IsTaken s N ts os =
+StandsThen s N ts os =
     (one rest : List Token) × (now later : List Operand) × (ts ≡ one ++ rest) × IsOperand s one now
     × N rest later × (os ≡ now ++ later)
 
@@ -485,17 +488,17 @@ IsFurther N ts os =
 abbrev pub AreItems : ℕ → Slot → List Token → List Operand → Type 0
 AreItems zero s ts os = ⊥
 AreItems (suc zero) s ts os = IsOperand s ts os
-AreItems (suc (suc n)) s ts os = IsTaken s (IsFurther (λ us ps. AreItems (suc n) s us ps)) ts os
+AreItems (suc (suc n)) s ts os = StandsThen s (IsFurther (λ us ps. AreItems (suc n) s us ps)) ts os
 
 -- the tokens stand in these places, with these operands
 abbrev pub AreOperands : Slots → List Token → List Operand → Type 0
 AreOperands (Stops behind) ts os = (ts ≡ []) × (os ≡ [])
-AreOperands (Takes s rest) ts os = IsTaken s (λ us ps. AreOperands rest us ps) ts os
+AreOperands (Takes s rest) ts os = StandsThen s (λ us ps. AreOperands rest us ps) ts os
 AreOperands (Chooses s rest others) ts os =
-    IsTaken s (λ us ps. AreOperands rest us ps) ts os
+    StandsThen s (λ us ps. AreOperands rest us ps) ts os
     ⊎ ((front_begins s ts ≡ false) × AreOperands others ts os)
 AreOperands (Locates rest) ts os =
-    IsOperand An_address ts os ⊎ IsTaken A_target (λ us ps. AreOperands rest us ps) ts os
+    IsOperand An_address ts os ⊎ StandsThen A_target (λ us ps. AreOperands rest us ps) ts os
 AreOperands (Lists s) ts os = (n : ℕ) × AreItems n s ts os
 AreOperands Anything ts os = (list_all (λ (t : Token). is_any t.kind) ts ≡ true) × (os ≡ [])
 

@@ -3,6 +3,7 @@
 
 use Rattle.std.specs.Prelude.{ℕ, zero, suc, List, [], ◌∷◌, ◌++◌, Bool, true, false, ◌||◌, ◌&&◌, ◌==◌, nat_le, length, take, drop, codes, Option, Some, None, option_map, slice_get, option_to_list, if◌then◌else◌}
 use Rattle.std.specs.Str.{bytes_eq}
+use Rattle.std.specs.Option.{option_or}
 use Rattle.rv_text_laws.specs.SyntaxError.{longest_name}
 use Rattle.rv_isa.specs.RegisterNames.{abi_names, decimal}
 use Rattle.rv_statement.specs.declared.mnemonic.Mnemonic.{Mnemonic}
@@ -195,20 +196,16 @@ form_behind front word =
     if bytes_eq (take (length front) word) front
     then named_in atomic_forms (drop (length front) word) else None
 
-abbrev pub either : {X : Type 0} → Option X → Option X → Option X
-either (Some x) other = Some x
-either None other = other
-
 abbrev pub atomic_in : List (List ℕ × AtomicOperation) → List ℕ → Option Mnemonic
 atomic_in [] word = None
 atomic_in (named ∷ table) word =
-    either (option_map (Atomic named.1) (form_behind named.0 word)) (atomic_in table word)
+    option_or (option_map (Atomic named.1) (form_behind named.0 word)) (atomic_in table word)
 
 -- the mnemonic that a word is
 unfoldable pub mnemonic_named : List ℕ → Option Mnemonic
 mnemonic_named word =
-    either (named_in instruction_words word)
-    (either (option_map LoadReserved (form_behind (codes "lr") word))
+    option_or (named_in instruction_words word)
+    (option_or (option_map LoadReserved (form_behind (codes "lr") word))
     (atomic_in atomic_operations word))
 
 -- the functions of a value, after `%` (GNU as, "RISC-V-Modifiers")
@@ -271,7 +268,7 @@ frame_directive word =
 
 -- the directive that a word is
 unfoldable pub directive_named : List ℕ → Option DirectiveWord
-directive_named word = either (named_in directive_words word) (frame_directive word)
+directive_named word = option_or (named_in directive_words word) (frame_directive word)
 
 -- what a word begins: an instruction before a directive
 abbrev pub begun_by : Option Mnemonic → Option DirectiveWord → Beginning

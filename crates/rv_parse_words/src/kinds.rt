@@ -1,4 +1,7 @@
 //! What a token is, in each slot of a statement.
+//!
+//! Each question is of one token's kind alone, without a cursor, as the definitions ask it: so a contract here is one
+//! equation, and what may stand in a slot and what is wrong there are told by the same test.
 
 ghost use Rattle.std.specs.Prelude.{◌≡◌, ◌≤◌, ◌^◌, ◌∷◌, [], option_map};
 ghost use Rattle.std.specs.List.{list_all};
@@ -101,12 +104,7 @@ pub fn type_of(kind: TokenKind<'_>) -> Option<&[u8]>
 fn is_decimal(word: &[u8]) -> bool
     ensures { result ≡ list_all is_decimal word.now }
 {
-    for digit in word {
-        if !digit.is_ascii_digit() {
-            return false;
-        }
-    }
-    true
+    word.iter().all(|digit| digit.is_ascii_digit())
 }
 
 /// The label that the token is before a colon.

@@ -1,8 +1,13 @@
 //! The words that may begin a statement.
+//!
+//! Mnemonics stand in one table for each length, so a look-up compares a word with the few of its length. An atomic has
+//! no row of its own: it is an operation and an ending for its width and its order, since all of them in one table
+//! would be 88 rows that say the same. The tables are data, so one contract on the look-up covers every row.
 
 ghost use Rattle.std.specs.Prelude.{◌≡◌, map, ◌||◌, ◌&&◌, take, drop, length, option_map, is_some, codes};
+ghost use Rattle.std.specs.Option.{option_or};
 ghost use Rattle.std.specs.Str.{bytes_eq};
-ghost use Rattle.rv_parse_laws.specs.Words.{function_words, left_out_words, left_out_options, section_types, choices, is_among, is_frame, frame_directive, directive_words, directive_named, beginning, register, named_in, atomic_forms, form_behind, either, atomic_in, atomic_operations, instruction_words, mnemonic_named};
+ghost use Rattle.rv_parse_laws.specs.Words.{function_words, left_out_words, left_out_options, section_types, choices, is_among, is_frame, frame_directive, directive_words, directive_named, beginning, register, named_in, atomic_forms, form_behind, atomic_in, atomic_operations, instruction_words, mnemonic_named};
 ghost use Rattle.rv_statement.specs.declared.mnemonic.Mnemonic.TheVariants.{LoadReserved};
 ghost use Rattle.std.specs.List.{list_all};
 ghost use Rattle.rv_parse_laws.specs.Syntax.{access_sets, with_constant, is_flag};
@@ -97,24 +102,14 @@ fn is_known_flag(letter: u8) -> bool
 pub fn are_flags(letters: &[u8]) -> bool
     ensures { result ≡ list_all is_flag letters.now }
 {
-    for letter in letters {
-        if !is_flag(*letter) {
-            return false;
-        }
-    }
-    true
+    letters.iter().all(|letter| is_flag(*letter))
 }
 
 /// Flags that the language has, or leaves out by name.
 pub fn are_known_flags(letters: &[u8]) -> bool
     ensures { result ≡ list_all is_known_flag letters.now }
 {
-    for letter in letters {
-        if !is_known_flag(*letter) {
-            return false;
-        }
-    }
-    true
+    letters.iter().all(|letter| is_known_flag(*letter))
 }
 
 /// The register of this name.
@@ -384,7 +379,7 @@ fn atomic_in(table: &[(&str, AtomicOperation)], word: &[u8]) -> Option<Mnemonic>
 #[tactic(auto, unfolding(rv_parse_laws::specs::Words::atomic_operations))]
 fn atomic_named(word: &[u8]) -> Option<Mnemonic>
     ensures { result
-        ≡ either (option_map LoadReserved (form_behind (codes "lr") word.now))
+        ≡ option_or (option_map LoadReserved (form_behind (codes "lr") word.now))
         (atomic_in atomic_operations word.now) }
 {
     match form_behind(b"lr", word) {

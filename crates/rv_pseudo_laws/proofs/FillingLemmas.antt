@@ -1,6 +1,6 @@
 -- An instruction of which a relocation fills the field keeps its operands in their ranges.
 
-use Rattle.std.proofs.Common.{◌≡◌, ◌≢◌, ℕ, ◌+◌, ◌%◌, ◌^◌, ◌<◌, true, refl, sym, subst, arith, ℤ, pos, negsuc, unsigned_abs, List, [], ◌∷◌, ◌++◌}
+use Rattle.std.proofs.Common.{◌≡◌, ◌≢◌, ℕ, ◌+◌, ◌%◌, ◌^◌, ◌<◌, true, refl, sym, subst, arith, ℤ, pos, negsuc, unsigned_abs, List, [], ◌∷◌}
 use Rattle.std.specs.List.{AllByRecursion}
 use Rattle.std.proofs.lemmas.Int.{ints}
 use Rattle.rv_isa.specs.declared.kind.Kind.{Kind}
@@ -18,9 +18,10 @@ use Rattle.rv_pseudo_laws.specs.Code.{Part, Closed, Open, Joined}
 use Rattle.rv_pseudo_laws.specs.Filled.{FieldValue, AreTaken, filled, filled_part, part_bytes, IsTaken}
 use Rattle.rv_pseudo_laws.specs.Valid.{fills_branch, fills_jump, fills, IsOpen, IsValidPart}
 use Rattle.rv_pseudo_laws.proofs.ModuloLemmas.{lo_range}
+use Rattle.rv_pseudo_laws.proofs.SequencesLemmas.{all_append}
 use Rattle.rv_pseudo_laws.proofs.FormatsLemmas.{immediate_format, upper_format, load_format, store_format, branch_format}
 
-even : (v : ℤ) → (IsOdd v → ⊥) → unsigned_abs v % 2 ≡ 0
+pub even : (v : ℤ) → (IsOdd v → ⊥) → unsigned_abs v % 2 ≡ 0
 even v odd = let not_one : unsigned_abs v % 2 ≢ 1 = odd in omega arith
 
 branch_offset : (k : Kind) (v : ℤ) → fills_branch k ≡ true → Takes k v → IsBranchOffset v
@@ -57,10 +58,6 @@ format_filled _ k v i valid e t = absurd (cc)
 pub filling_valid : (k : Kind) (v : ℤ) (i : Inst) → IsOpen k i → Takes k v → IsValid (with_value v i)
 filling_valid k v i (valid, e) t = format_filled (format_of i) k v i valid e t
 
-joined : (xs ys : List Inst) → AllByRecursion IsValid xs → AllByRecursion IsValid ys → AllByRecursion IsValid (xs ++ ys)
-joined [] ys all rest = rest
-joined (x ∷ xs) ys all rest = (all.0, joined xs ys all.1 rest)
-
 part_valid : (value : FieldValue) (a : ℕ) (p : Part) → IsValidPart p → IsTaken value a p → AllByRecursion IsValid (filled_part value a p)
 part_valid value a (Closed i) valid t = (valid, tt)
 part_valid value a (Open k i) valid t = (filling_valid k (value k a) i valid t, tt)
@@ -69,4 +66,4 @@ part_valid value a (Joined k i j) valid t = (filling_valid k (value k a) i valid
 pub filled_valid : (value : FieldValue) (a : ℕ) (ps : List Part) → AllByRecursion IsValidPart ps → AreTaken value a ps → AllByRecursion IsValid (filled value a ps)
 filled_valid value a [] valid t = tt
 filled_valid value a (p ∷ ps) valid t =
-    joined (filled_part value a p) (filled value (a + part_bytes p) ps) (part_valid value a p valid.0 t.0) (filled_valid value (a + part_bytes p) ps valid.1 t.1)
+    all_append (filled_part value a p) (filled value (a + part_bytes p) ps) (part_valid value a p valid.0 t.0) (filled_valid value (a + part_bytes p) ps valid.1 t.1)

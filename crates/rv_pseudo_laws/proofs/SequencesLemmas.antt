@@ -17,7 +17,7 @@ use Rattle.rv_isa_laws.specs.Halves.{hi, lo}
 use Rattle.rv_isa_laws.specs.Hart.{Hart, register}
 use Rattle.rv_isa_laws.specs.Effect.{Effect, Goes, Loads, Stores, Reserves, Conditional, Updates, Calls, Breaks}
 use Rattle.rv_isa_laws.specs.Meaning.{effect, with_result, upper}
-use Rattle.rv_pseudo_laws.specs.Li.{lui, addi, addiw, slli, is_signed, upper_20, zeros, above, unless_zero, li_short, then_low, li_in, li, reach, IsWithin}
+use Rattle.rv_pseudo_laws.specs.Li.{lui, addi, addiw, slli, is_signed, upper_20, zeros, above, unless_zero, li_short, then_low, li_in, li, reach, IsInReach}
 use Rattle.rv_pseudo_laws.specs.Runs.{Sized, goes_on, after, Sets as SetsRegister}
 use Rattle.rv_pseudo_laws.proofs.ModuloLemmas.{wrapped_below, wrapped_add, wrapped_times, halves_whole, hi_within, hi_some, above_within, extended_word, extended_low, floor_closer, lo_range, signed_12}
 use Rattle.rv_pseudo_laws.proofs.ZerosLemmas.{zeros_multiple, zeros_within, floor_times, floor_odd, abs_some}
@@ -261,12 +261,12 @@ step_by : (t : Bool) (rd : ℕ) (v : ℤ) (h : Hart) (before : List Inst) (ls : 
 step_by true rd v h before ls is inside within sets e = short_sets rd v h ls inside is e
 step_by false rd v h before ls is inside within sets e = long_sets rd v h before ls inside (within refl) sets e
 
-pub reach_short : (v : ℤ) → IsWithin 0 v → is_signed 32 v ≡ true
+pub reach_short : (v : ℤ) → IsInReach 0 v → is_signed 32 v ≡ true
 reach_short (pos n) within = grind (arith, ints, nat_tests)
 reach_short (negsuc n) within = grind (arith, ints, nat_tests)
 
 -- the sequence of a number of at most so many steps sets rd to it
-pub in_sets : (steps rd : ℕ) (v : ℤ) (h : Hart) (ls : List Sized) → rd < length h.registers → IsWithin steps v → unsigned_abs v ≤ 2 ^ 63
+pub in_sets : (steps rd : ℕ) (v : ℤ) (h : Hart) (ls : List Sized) → rd < length h.registers → IsInReach steps v → unsigned_abs v ≤ 2 ^ 63
     → map (λ (l : Sized). l.instruction) ls ≡ li_in steps rd v → Sets rd (wrapped v) ls h
 in_sets zero rd v h ls inside within fits e = short_sets rd v h ls inside (reach_short v within) e
 in_sets (suc steps) rd v h ls inside within fits e =
@@ -289,7 +289,7 @@ either true x y z e = refl
 either false x y z e = e
 
 -- one step more changes nothing
-one_step_more : (steps rd : ℕ) (v : ℤ) → IsWithin steps v → li_in (suc steps) rd v ≡ li_in steps rd v
+one_step_more : (steps rd : ℕ) (v : ℤ) → IsInReach steps v → li_in (suc steps) rd v ≡ li_in steps rd v
 one_step_more zero rd v within = ap (λ t. if t then li_short rd v else then_low rd v (li_in 0 rd (above v))) (reach_short v within)
 one_step_more (suc steps) rd v within =
     either (is_signed 32 v) (li_short rd v) _ _ (ap (then_low rd v) (one_step_more steps rd (above v) (above_within v (reach steps) within)))
@@ -345,10 +345,10 @@ in_word (suc steps) rd v short = ap (λ t. if t then li_short rd v else then_low
 
 pub record IsStep (steps : ℕ) (v : ℤ) : Type 0 where
   pub some : 0 < steps
-  pub within : IsWithin (steps - 1) (above v)
+  pub within : IsInReach (steps - 1) (above v)
 
 -- a number of more bits has a step left
-pub is_step : (steps : ℕ) (v : ℤ) → is_signed 32 v ≡ false → IsWithin steps v → IsStep steps v
+pub is_step : (steps : ℕ) (v : ℤ) → is_signed 32 v ≡ false → IsInReach steps v → IsStep steps v
 is_step zero v long within = absurd (let short = reach_short v within in cc)
 is_step (suc steps) v long within =
     let same : suc steps - 1 ≡ steps = omega arith in
@@ -370,7 +370,7 @@ in_long (suc steps) rd v a l z long some e f g =
 
 -- ---- every operand is in its range
 
-all_append : (xs ys : List Inst) → AllByRecursion IsValid xs → AllByRecursion IsValid ys → AllByRecursion IsValid (xs ++ ys)
+pub all_append : (xs ys : List Inst) → AllByRecursion IsValid xs → AllByRecursion IsValid ys → AllByRecursion IsValid (xs ++ ys)
 all_append [] ys all rest = rest
 all_append (x ∷ xs) ys all rest = (all.0, all_append xs ys all.1 rest)
 

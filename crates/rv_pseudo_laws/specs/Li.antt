@@ -75,5 +75,5 @@ abbrev pub reach : ℕ → ℕ
 reach zero = 2 ^ 27
 reach (suc steps) = 2 ^ 12 * reach steps
 
-abbrev pub IsWithin : ℕ → ℤ → Type 0
-IsWithin steps v = (unsigned_abs v) ≤ reach steps
+abbrev pub IsInReach : ℕ → ℤ → Type 0
+IsInReach steps v = (unsigned_abs v) ≤ reach steps
