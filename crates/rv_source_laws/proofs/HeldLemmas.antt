@@ -3,6 +3,7 @@
 use Rattle.std.proofs.Common.{◌≡◌, ℕ, suc, Bool, true, false, List, [], ◌∷◌, ◌++◌, refl, sym, subst, Option, Some, None}
 use Rattle.std.specs.Prelude.{not, ◌||◌, min, ⊤}
 use Rattle.std.specs.List.{AllByRecursion}
+use Rattle.std.proofs.lemmas.Bool.{or_parts, not-false}
 use Rattle.rv_statement.specs.Statement.{StatementKind, Label, Numbered, Instruction, Directs, Statement, Directive, Enters, Opens, Sets, Chooses}
 use Rattle.rv_unit_laws.specs.Contributions.{Contribution, Bytes, Zero_bytes, contribution}
 use Rattle.rv_unit_laws.specs.Sections.{Section, is_nobits, section_at, current_section}
@@ -39,14 +40,6 @@ pub no_test : (b : Bool) (code : ℕ) → faulty_if b code ≡ [] → b ≡ fals
 no_test true code e = absurd (cc)
 no_test false code e = refl
 
-no_either : (a b : Bool) → (a || b) ≡ false → (a ≡ false) × (b ≡ false)
-no_either true b e = absurd (cc)
-no_either false b e = (refl, e)
-
-no_not : (b : Bool) → not b ≡ false → b ≡ true
-no_not true e = refl
-no_not false e = absurd (cc)
-
 pub no_lowest : (cs : List ℕ) → lowest cs ≡ None → cs ≡ []
 no_lowest [] e = refl
 no_lowest (c ∷ cs) e = go (lowest cs) e
@@ -72,7 +65,7 @@ module _ (all t : Tables) (k : ℕ) where
   stored before after e =
       let next = none_left before (faulty_if (home.executable || is_nobits home) 15 ++ after) e in
       let test = none_left (faulty_if (home.executable || is_nobits home) 15) after next.1 in
-      no_either home.executable (is_nobits home) (no_test (home.executable || is_nobits home) 15 test.0)
+      or_parts home.executable (is_nobits home) (no_test (home.executable || is_nobits home) 15 test.0)
 
   zeroed : (before after : List ℕ) → before ++ (faulty_if home.executable 15 ++ after) ≡ [] → home.executable ≡ false
   zeroed before after e =
@@ -96,8 +89,8 @@ module _ (all t : Tables) (k : ℕ) where
 
   code : faulty_if (not home.executable || is_nobits home) 15 ≡ [] → (home.executable ≡ true) × (is_nobits home ≡ false)
   code e =
-      let parts = no_either (not home.executable) (is_nobits home) (no_test (not home.executable || is_nobits home) 15 e) in
-      (no_not home.executable parts.0, parts.1)
+      let parts = or_parts (not home.executable) (is_nobits home) (no_test (not home.executable || is_nobits home) 15 e) in
+      (not-false home.executable parts.0, parts.1)
 
   held : (says : StatementKind) → faults all t k says ≡ [] → IsHeld home says
   held (Label name) e = tt

@@ -8,7 +8,7 @@ use Rattle.rv_statement.specs.declared.statement.Statement.{Statement}
 use Rattle.rv_statement.specs.View.{statement_of}
 use Rattle.rv_unit_laws.specs.Sections.{Section, place_of_name, most_sections, section_at, current_section}
 use Rattle.rv_unit_laws.specs.Tables as laws
-use Rattle.rv_unit_laws.proofs.BeforeLemmas.{placed_latest}
+use Rattle.rv_unit_laws.specs.Tables.{gives_location}
 use Rattle.rv_unit_laws.proofs.AskedLemmas.{defined_kept, location_kept, home_same, too_many, places_length, place_at, options_at, options_length, after_depth, depth_after}
 use Rattle.rv_unit_tables.specs.declared.section_offset.SectionOffset.{SectionOffset}
 use Rattle.rv_unit_tables.specs.declared.options.Options.{Options}
@@ -16,21 +16,21 @@ use Rattle.rv_unit_tables.specs.Options.{options_of}
 use Rattle.rv_unit_tables.specs.Sections.{offset_of}
 use Rattle.rv_unit_tables.specs.Tables.{tables_of}
 use Rattle.rv_unit.specs.declared.unit.Unit.{Unit as SourceUnit}
-use Rattle.rv_unit.specs.Unit.{said, passed, IsAt, IsFilled}
+use Rattle.rv_unit.specs.Unit.{said, passed, IsStatementOf, IsFilled}
 use Rattle.rv_unit.proofs.PassedLemmas.{passed_before, passed_keeps, passed_rest, passed_more}
 use Rattle.rv_unit.proofs.ScopedLemmas.{passed_stood, said_at}
 
-within : (u : SourceUnit) (i o : ℕ) (p : SectionOffset) (kind : StatementKind) → IsAt u i o p kind → i ≤ length (said u)
+within : (u : SourceUnit) (i o : ℕ) (p : SectionOffset) (kind : StatementKind) → IsStatementOf u i o p kind → i ≤ length (said u)
 within u i o p kind at = let l : i < length (said u) = at.within in omega (arith, l)
 
 -- one that enters no section stands where its section ends
-pub at_here : (u : SourceUnit) (i o : ℕ) (p : SectionOffset) (kind : StatementKind) → IsAt u i o p kind → laws.enters kind ≡ false → offset_of p ≡ laws.here (passed (said u) i)
+pub at_here : (u : SourceUnit) (i o : ℕ) (p : SectionOffset) (kind : StatementKind) → IsStatementOf u i o p kind → laws.enters kind ≡ false → offset_of p ≡ laws.here (passed (said u) i)
 at_here u i o p kind at outside =
     let t = passed (said u) i in
     at.place ∙ ap (λ b. if b then laws.here (laws.after t (i + 1) kind) else laws.here t) outside
 
 -- its section
-pub at_home : (u : SourceUnit) (i o : ℕ) (p : SectionOffset) (kind : StatementKind) → IsAt u i o p kind → laws.enters kind ≡ false
+pub at_home : (u : SourceUnit) (i o : ℕ) (p : SectionOffset) (kind : StatementKind) → IsStatementOf u i o p kind → laws.enters kind ≡ false
     → section_at (laws.opened_of (tables_of u.tables)) p.section ≡ current_section (laws.opened_of (passed (said u) i))
 at_home u i o p kind at outside =
     let ss = said u in
@@ -41,7 +41,7 @@ at_home u i o p kind at outside =
     ∙ home_same t (i + 1) (drop i ss) (passed_stood ss i).opened
 
 -- what is defined before it
-pub at_defined : (u : SourceUnit) (i o : ℕ) (p : SectionOffset) (kind : StatementKind) (name : List ℕ) → IsAt u i o p kind
+pub at_defined : (u : SourceUnit) (i o : ℕ) (p : SectionOffset) (kind : StatementKind) (name : List ℕ) → IsStatementOf u i o p kind
     → laws.is_defined (tables_of u.tables) o name ≡ laws.is_defined (passed (said u) i) (i + 1) name
 at_defined u i o p kind name at =
     let ss = said u in
@@ -49,9 +49,9 @@ at_defined u i o p kind name at =
     ∙ defined_kept (passed ss i) (laws.tables ss) (i + 1) name (passed_keeps ss i (within u i o p kind at))
 
 abbrev by_look_up : laws.Tables → ℕ → List ℕ → Bool
-by_look_up t o name = is_some (laws.label_of t.labels false o name) || placed_latest (laws.assigned_before t.assignments o name)
+by_look_up t o name = is_some (laws.label_of t.labels false o name) || gives_location (laws.assigned_before t.assignments o name)
 
-pub at_location : (u : SourceUnit) (i o : ℕ) (p : SectionOffset) (kind : StatementKind) (name : List ℕ) → IsAt u i o p kind
+pub at_location : (u : SourceUnit) (i o : ℕ) (p : SectionOffset) (kind : StatementKind) (name : List ℕ) → IsStatementOf u i o p kind
     → by_look_up (tables_of u.tables) o name ≡ laws.has_location (passed (said u) i) (i + 1) name
 at_location u i o p kind name at =
     let ss = said u in
@@ -74,7 +74,7 @@ places_count u f = sym (length-map u.places.items offset_of) ∙ ap length f.sta
 
 -- a unit's statement and place at an index
 pub is_at : (u : SourceUnit) (i : ℕ) (x : Statement) (p d : SectionOffset) → IsFilled u → i < length u.statements.items → x ≡ get_or u.statements.items i x → p ≡ get_or u.places.items i d
-    → IsAt u i (i + 1) p (statement_of x).kind
+    → IsStatementOf u i (i + 1) p (statement_of x).kind
 is_at u i x p d f inside is at = record {
   filled = f;
   within = below;
@@ -99,7 +99,7 @@ is_at u i x p d f inside is at = record {
     here = said_at u.statements.items i i x below refl is
 
 -- the depth of the option stack before the next statement
-pub depth_next : (u : SourceUnit) (i o : ℕ) (p : SectionOffset) (kind : StatementKind) (depth next : ℕ) → IsAt u i o p kind → depth ≡ length (passed (said u) i).kept → next ≡ depth_after depth kind
+pub depth_next : (u : SourceUnit) (i o : ℕ) (p : SectionOffset) (kind : StatementKind) (depth next : ℕ) → IsStatementOf u i o p kind → depth ≡ length (passed (said u) i).kept → next ≡ depth_after depth kind
     → next ≡ length (passed (said u) (i + 1)).kept
 depth_next u i o p kind depth next at is more =
     more ∙ ap (λ n. depth_after n kind) is ∙ sym (ap (λ (t : laws.Tables). length t.kept) at.more ∙ after_depth (passed (said u) i) (i + 1) kind)

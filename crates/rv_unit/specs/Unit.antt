@@ -36,7 +36,7 @@ abbrev pub passed : List Statement → ℕ → laws.Tables
 passed ss count = laws.after_all laws.at_start 1 (take count ss)
 
 -- the statement at this index from 0 has this ordinal, stands at this offset and says this
-pub record IsAt (u : SourceUnit) (i o : ℕ) (p : SectionOffset) (kind : StatementKind) : Type 0 where
+pub record IsStatementOf (u : SourceUnit) (i o : ℕ) (p : SectionOffset) (kind : StatementKind) : Type 0 where
   pub filled : IsFilled u
   pub within : i < length (said u)
   pub ordinal : o ≡ i + 1

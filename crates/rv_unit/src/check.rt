@@ -15,7 +15,7 @@ ghost use Rattle.rv_unit_tables.specs.Sections.{section_of, offset_of};
 ghost use Rattle.rv_unit_tables.specs.declared.section_offset.SectionOffset.{SectionOffset as SectionOffsetOf};
 ghost use Rattle.rv_unit.specs.Faults.{IsLowest};
 ghost use Rattle.rv_unit.specs.FaultsAt.{faults_at, directive_faults_at};
-ghost use Rattle.rv_unit.specs.Unit.{said, passed, fault_of, IsAt, IsFilled};
+ghost use Rattle.rv_unit.specs.Unit.{said, passed, fault_of, IsStatementOf, IsFilled};
 
 use crate::faults::{
     alignment_fault, bytes_fault, choice_fault, data_fault, faulty_if, instruction_fault, lower,
@@ -51,7 +51,7 @@ impl<'a> Unit<'a> {
         assignment: &Setting<'a>,
     ) -> Option<SourceCode>
         ensures { (index : ℕ) →
-            IsAt self.now index ordinal place (Directs (setting_of assignment.now))
+            IsStatementOf self.now index ordinal place (Directs (setting_of assignment.now))
             → IsLowest result (directive_faults_at self.now index (setting_of assignment.now)) }
     {
         let value = self.early_value(ordinal, place, &assignment.expression);
@@ -71,7 +71,7 @@ impl<'a> Unit<'a> {
         count: &Expr<'a>,
     ) -> Option<SourceCode>
         ensures { (index : ℕ) →
-            IsAt self.now index ordinal place (Directs (Zeros (tree_of_expr count.now)))
+            IsStatementOf self.now index ordinal place (Directs (Zeros (tree_of_expr count.now)))
             → IsLowest result
             (directive_faults_at self.now index (Zeros (tree_of_expr count.now))) }
     {
@@ -87,7 +87,7 @@ impl<'a> Unit<'a> {
         exponent: &Expr<'a>,
     ) -> Option<SourceCode>
         ensures { (index : ℕ) →
-            IsAt self.now index ordinal place
+            IsStatementOf self.now index ordinal place
             (Directs (Aligns_to_power (tree_of_expr exponent.now)))
             → IsLowest result
             (directive_faults_at self.now index (Aligns_to_power (tree_of_expr exponent.now))) }
@@ -112,7 +112,7 @@ impl<'a> Unit<'a> {
         bytes: &Expr<'a>,
     ) -> Option<SourceCode>
         ensures { (index : ℕ) →
-            IsAt self.now index ordinal place (Directs (Aligns_to_bytes (tree_of_expr bytes.now)))
+            IsStatementOf self.now index ordinal place (Directs (Aligns_to_bytes (tree_of_expr bytes.now)))
             → IsLowest result
             (directive_faults_at self.now index (Aligns_to_bytes (tree_of_expr bytes.now))) }
     {
@@ -159,7 +159,7 @@ impl<'a> Unit<'a> {
         values: &[Expr<'a>],
     ) -> Option<SourceCode>
         ensures { (index : ℕ) →
-            IsAt self.now index ordinal place
+            IsStatementOf self.now index ordinal place
             (Directs (Values (bytes_of width) (map tree_of_expr values.now)))
             → IsLowest result
             (directive_faults_at self.now index
@@ -181,7 +181,7 @@ impl<'a> Unit<'a> {
         strings: &[&[u8]],
     ) -> Option<SourceCode>
         ensures { (index o : ℕ) →
-            IsAt self.now index o place (Directs (Strings ended (map quoted strings.now)))
+            IsStatementOf self.now index o place (Directs (Strings ended (map quoted strings.now)))
             → IsLowest result
             (directive_faults_at self.now index (Strings ended (map quoted strings.now))) }
     {
@@ -191,7 +191,7 @@ impl<'a> Unit<'a> {
 
     /// The fault of a label: its name is defined before.
     fn fault_of_label(&self, ordinal: usize, name: &[u8]) -> Option<SourceCode>
-        ensures { (index : ℕ) (p : SectionOffsetOf) → IsAt self.now index ordinal p (Label name.now)
+        ensures { (index : ℕ) (p : SectionOffsetOf) → IsStatementOf self.now index ordinal p (Label name.now)
             → IsLowest result (faults_at self.now index (Label name.now)) }
     {
         faulty_if(
@@ -203,7 +203,7 @@ impl<'a> Unit<'a> {
     /// The fault of an instruction: it stands in no section of code, or in one without bytes.
     fn fault_of_instruction(&self, place: SectionOffset) -> Option<SourceCode>
         ensures { (index o : ℕ) (mnemonic : SpecMnemonic) (operands : List SpecOperand)
-            → IsAt self.now index o place (Instruction mnemonic operands)
+            → IsStatementOf self.now index o place (Instruction mnemonic operands)
             → IsLowest result (faults_at self.now index (Instruction mnemonic operands)) }
     {
         instruction_fault(self.tables.section_at(place.section))
@@ -230,7 +230,7 @@ impl<'a> Unit<'a> {
         depth: usize,
         kind: &StatementKind<'a>,
     ) -> Option<SourceCode>
-        ensures { (index : ℕ) → IsAt self.now index ordinal place (statement_kind kind.now)
+        ensures { (index : ℕ) → IsStatementOf self.now index ordinal place (statement_kind kind.now)
             → depth ≡ length (passed (said self.now) index).kept
             → IsLowest result (faults_at self.now index (statement_kind kind.now)) }
     {

@@ -1,4 +1,8 @@
 //! The faults of one statement.
+//!
+//! Of several faults of a statement the one with the lowest code counts, so each function gives the lowest of its part
+//! and `lower` joins two, as the definitions join two lists of codes. No function needs to know what the others look
+//! at.
 
 ghost use Rattle.std.specs.Prelude.{◌≡◌, ◌≤◌, ◌<◌, ◌+◌, ◌^◌, ℕ, List, [], ◌∷◌, ◌++◌, Option, Some, None, not, ◌&&◌, ◌||◌, ◌==◌, nat_le, is_some};
 ghost use Rattle.rv_text_laws.specs.Codes.{duplicate_label, wrong_section};

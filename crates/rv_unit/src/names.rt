@@ -1,4 +1,9 @@
 //! What names mean in a statement, by its ordinal.
+//!
+//! There are three questions. In most statements a name means what the whole source gives it. Where a size counts at
+//! once (`early_..`), later definitions are no constants, since where these stand depends on that size. And a check in
+//! the order of the source (`past_..`) asks by the statements before alone, as if nothing came after: it uses the full
+//! tables all the same, by ordinals, so that a source needs one set of tables.
 
 ghost use Rattle.std.specs.Prelude.{◌≡◌, ℕ, ◌+◌, ◌≤◌, ◌<◌, ◌||◌, true, false, is_some, length};
 ghost use Rattle.rv_text_laws.specs.Bytes.{value as digits_value};
@@ -7,7 +12,7 @@ ghost use Rattle.rv_text.specs.Nodes.{symbol_of};
 ghost use Rattle.rv_text.specs.Expr.{tree_of_expr};
 ghost use Rattle.rv_text.specs.Eval.{meaning_of, IsOutcome};
 ghost use Rattle.rv_unit_laws.specs.Tables as laws;
-ghost use Rattle.rv_unit_laws.proofs.BeforeLemmas.{IsBefore, placed_latest};
+ghost use Rattle.rv_unit_laws.proofs.BeforeLemmas.{IsBefore};
 ghost use Rattle.rv_unit_tables.specs.Sections.{offset_of};
 ghost use Rattle.rv_unit_tables.specs.Tables.{tables_of, IsIndexed};
 ghost use Rattle.rv_unit.specs.Unit.{said, passed, IsFilled};
@@ -224,7 +229,7 @@ impl<'a> Unit<'a> {
         ensures { IsIndexed (self.now).tables → (o : ℕ) → IsBefore (tables_of (self.now).tables) o
             → result
             ≡ (is_some (laws.label_of (tables_of (self.now).tables).labels false ordinal name.now)
-            || placed_latest
+            || laws.gives_location
             (laws.assigned_before (tables_of (self.now).tables).assignments ordinal name.now)) }
     {
         if self.tables.label_before(ordinal, name).is_some() {

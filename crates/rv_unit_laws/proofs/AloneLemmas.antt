@@ -12,10 +12,10 @@ use Rattle.rv_statement.specs.declared.directive.Choice.{Choice}
 use Rattle.rv_statement.specs.Statement.{Expression, Directive}
 use Rattle.rv_unit_laws.specs.Sections.{Section, entered_by}
 use Rattle.rv_unit_laws.specs.Contributions.{Contribution, Nothing, contribution}
-use Rattle.rv_unit_laws.specs.Tables.{Tables, Labelled, here, value, label_of, assigned_ever, is_defined, has_location, assigned_by, chosen, with_assignment, with_section, with_chosen, with_contribution, after_directive}
+use Rattle.rv_unit_laws.specs.Tables.{Tables, Labelled, here, value, label_of, assigned_ever, is_defined, has_location, assigned_by, chosen, with_assignment, with_section, with_chosen, with_contribution, after_directive, gives_location}
 use Rattle.rv_unit_laws.proofs.EnteringLemmas.{entering}
 use Rattle.rv_unit_laws.proofs.FoundLemmas.{same_bytes}
-use Rattle.rv_unit_laws.proofs.BeforeLemmas.{IsBefore, placed_latest, has_place_now, defined_now}
+use Rattle.rv_unit_laws.proofs.BeforeLemmas.{IsBefore, has_place_now, defined_now}
 
 -- ---- what a statement leaves alone
 
@@ -71,7 +71,7 @@ module _ (name : List ℕ) where
         let free = or_parts (is_some (label_of t.labels true 0 name)) (is_some (assigned_ever t.assignments name)) (sym (defined_now t k name before) ∙ ap (is_defined t k) (sym (same_bytes n name same)) ∙ e) in
         (none_of (label_of t.labels true 0 name) free.0, none_of (assigned_ever t.assignments name) free.1)
 
-    pub unplaced : has_location t k n ≡ false → (label_of t.labels true 0 name ≡ None) × (placed_latest (assigned_ever t.assignments name) ≡ false)
+    pub unplaced : has_location t k n ≡ false → (label_of t.labels true 0 name ≡ None) × (gives_location (assigned_ever t.assignments name) ≡ false)
     unplaced e =
-        let free = or_parts (is_some (label_of t.labels true 0 name)) (placed_latest (assigned_ever t.assignments name)) (sym (has_place_now t k name before) ∙ ap (has_location t k) (sym (same_bytes n name same)) ∙ e) in
+        let free = or_parts (is_some (label_of t.labels true 0 name)) (gives_location (assigned_ever t.assignments name)) (sym (has_place_now t k name before) ∙ ap (has_location t k) (sym (same_bytes n name same)) ∙ e) in
         (none_of (label_of t.labels true 0 name) free.0, free.1)

@@ -10,8 +10,8 @@ use Rattle.rv_statement.specs.declared.directive.Choice.TheVariants.{Rvc, Norvc,
 use Rattle.rv_unit_laws.specs.Sections.{Section, Opened, place_of_name, most_sections, text_section, entered_by, section_at, current_section}
 use Rattle.rv_unit_laws.specs.Options.{Options}
 use Rattle.rv_unit_laws.specs.Contributions.{Contribution, Nothing, contribution}
-use Rattle.rv_unit_laws.specs.Tables.{Tables, SectionOffset, Assignment, here, stood, places_from, options_from, value, assigned_by, chosen, label_of, assigned_before, is_defined, has_location, may_set, with_assignment, with_section, with_contribution, with_choice, with_chosen, after_directive, after, after_all, opened_of}
-use Rattle.rv_unit_laws.proofs.BeforeLemmas.{IsBefore, label_before, set_now, has_place_now, placed_latest}
+use Rattle.rv_unit_laws.specs.Tables.{Tables, SectionOffset, Assignment, here, stood, places_from, options_from, value, assigned_by, chosen, label_of, assigned_before, is_defined, has_location, may_set, with_assignment, with_section, with_contribution, with_choice, with_chosen, after_directive, after, after_all, opened_of, gives_location}
+use Rattle.rv_unit_laws.proofs.BeforeLemmas.{IsBefore, label_before, set_now, has_place_now}
 use Rattle.rv_unit_laws.proofs.EnteringLemmas.{place_more, or_last, sections_more, sections_count, entering, entered_new}
 use Rattle.rv_unit_laws.proofs.FoundLemmas.{bytes_same}
 use Rattle.rv_unit_laws.proofs.LaterLemmas.{Keeps}
@@ -27,10 +27,10 @@ defined_kept t u o name k =
 
 -- whether it is a label or a location before an ordinal, by look-ups
 pub location_kept : (t u : Tables) (o : ℕ) (name : List ℕ) → IsBefore t o → Keeps t u o
-    → (is_some (label_of u.labels false o name) || placed_latest (assigned_before u.assignments o name)) ≡ has_location t o name
+    → (is_some (label_of u.labels false o name) || gives_location (assigned_before u.assignments o name)) ≡ has_location t o name
 location_kept t u o name h k =
-    ap (λ l. is_some l || placed_latest (assigned_before u.assignments o name)) (k.labels (λ l. bytes_eq l.name name) ∙ label_before t o name h)
-    ∙ ap (λ s. is_some (label_of t.labels true 0 name) || placed_latest s) (k.assignments (λ s. bytes_eq s.name name) ∙ set_now t o name h)
+    ap (λ l. is_some l || gives_location (assigned_before u.assignments o name)) (k.labels (λ l. bytes_eq l.name name) ∙ label_before t o name h)
+    ∙ ap (λ s. is_some (label_of t.labels true 0 name) || gives_location s) (k.assignments (λ s. bytes_eq s.name name) ∙ set_now t o name h)
     ∙ sym (has_place_now t o name h)
 
 -- ---- sections

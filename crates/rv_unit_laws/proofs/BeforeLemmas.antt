@@ -4,7 +4,7 @@ use Rattle.std.proofs.Common.{◌≡◌, ℕ, suc, ◌+◌, ◌<◌, ◌≤◌, 
 use Rattle.std.specs.Prelude.{not, is_some, if◌then◌else◌}
 use Rattle.std.specs.List.{find, list_all, list_any}
 use Rattle.std.specs.Str.{bytes_eq}
-use Rattle.std.proofs.lemmas.Bool.{ltb-true, ltb-false, lt-ltb}
+use Rattle.std.proofs.lemmas.Bool.{ltb-true, ltb-false, lt-ltb, and_parts}
 use Rattle.std.proofs.lemmas.List.Folds.{list_all-append}
 use Rattle.rv_text_laws.specs.Values.{Meaning, Known, InSection, Open, Refused, Value, Constant, Symbolic, Difference, Faulty, add}
 use Rattle.rv_text_laws.specs.Expression.{Literal, Symbol, Here, Reference}
@@ -12,9 +12,10 @@ use Rattle.rv_statement.specs.Statement.{StatementKind, Label, Numbered, Instruc
 use Rattle.rv_statement.specs.declared.directive.Choice.{Choice}
 use Rattle.rv_unit_laws.specs.Sections.{Section, entered_by}
 use Rattle.rv_unit_laws.specs.Contributions.{Contribution, Nothing, Bytes, Zero_bytes, Alignment, contribution}
-use Rattle.rv_unit_laws.specs.Tables.{Tables, Labelled, NumericLabel, Assignment, at_start, here, after, after_directive, after_all, value, assigned, assigned_by, chosen, with_label, with_numeric_label, with_assignment, with_section, with_contribution, with_choice, with_chosen, with_bindings, label_of, assigned_before, assigned_ever, has_location, is_defined, may_set, is_location}
+use Rattle.rv_unit_laws.specs.Tables.{Tables, Labelled, NumericLabel, Assignment, at_start, here, after, after_directive, after_all, value, assigned, assigned_by, chosen, with_label, with_numeric_label, with_assignment, with_section, with_contribution, with_choice, with_chosen, with_bindings, label_of, assigned_before, assigned_ever, has_location, is_defined, may_set, is_location, gives_location}
 use Rattle.rv_unit_laws.proofs.EnteringLemmas.{with_new, entering}
-use Rattle.rv_unit_laws.proofs.FoundLemmas.{and_both, find_all, find_all_swapped, any_all, find_none, all_weaker, same_bytes}
+use Rattle.rv_unit_laws.proofs.FoundLemmas.{find_all, find_all_swapped, any_all, find_none, all_weaker, same_bytes}
+pub use Rattle.rv_unit_laws.specs.Tables.{gives_location as placed_latest}
 
 abbrev pub all_labels : ℕ → List Labelled → Bool
 all_labels o labels = list_all (λ l. nat_lt l.ordinal o) labels
@@ -24,11 +25,6 @@ all_numeric_labels o numeric_labels = list_all (λ m. nat_lt m.ordinal o) numeri
 
 abbrev pub all_assignments : ℕ → List Assignment → Bool
 all_assignments o assignments = list_all (λ s. nat_lt s.ordinal o) assignments
-
--- whether the latest assignment of a name, if any, is a location
-abbrev pub placed_latest : Option Assignment → Bool
-placed_latest None = false
-placed_latest (Some s) = is_location s
 
 abbrev pub placed_ever : List Assignment → List ℕ → Bool
 placed_ever assignments name = list_any (λ s. bytes_eq s.name name && is_location s) assignments
@@ -51,7 +47,7 @@ pub record IsBefore (t : Tables) (o : ℕ) : Type 0 where
   pub numeric_labels_fall : falls (λ (m : NumericLabel). m.ordinal) t.numeric_labels ≡ true
   pub assignments : all_assignments o t.assignments ≡ true
   pub assignments_fall : falls (λ (s : Assignment). s.ordinal) t.assignments ≡ true
-  pub placed : (name : List ℕ) → placed_ever t.assignments name ≡ placed_latest (assigned_ever t.assignments name)
+  pub placed : (name : List ℕ) → placed_ever t.assignments name ≡ gives_location (assigned_ever t.assignments name)
 
 next : (a o : ℕ) → nat_lt a o ≡ true → nat_lt a (suc o) ≡ true
 next a o h = let l : a < o = ltb-true a o h in lt-ltb a (suc o) (omega arith)
@@ -89,7 +85,7 @@ below at o (Some x) = if nat_lt (at x) o then Some x else None
 find_below : {X : Type 0} (at : X → ℕ) (o : ℕ) (p : X → Bool) (xs : List X) → rises at xs ≡ true → find (λ x. p x && nat_lt (at x) o) xs ≡ below at o (find p xs)
 find_below at o p [] h = refl
 find_below at o p (x ∷ xs) h =
-    let both = and_both (list_all (λ y. nat_lt (at x) (at y)) xs) (rises at xs) h in
+    let both = and_parts (list_all (λ y. nat_lt (at x) (at y)) xs) (rises at xs) h in
     by (p x) (nat_lt (at x) o) refl both.0 (find_below at o p xs both.1)
   where
     passed : (y : ℕ) (b : Bool) → nat_lt (at x) o ≡ false → nat_lt (at x) y ≡ true → (b && nat_lt y o) ≡ false
@@ -131,7 +127,7 @@ placed_now t o name h =
     ∙ any_all (λ s. bytes_eq s.name name && is_location s) (λ s. nat_lt s.ordinal o) t.assignments h.assignments
 
 -- whether a name is a location, and whether it is defined, by look-ups
-pub has_place_now : (t : Tables) (o : ℕ) (name : List ℕ) → IsBefore t o → has_location t o name ≡ (is_some (label_of t.labels true 0 name) || placed_latest (assigned_ever t.assignments name))
+pub has_place_now : (t : Tables) (o : ℕ) (name : List ℕ) → IsBefore t o → has_location t o name ≡ (is_some (label_of t.labels true 0 name) || gives_location (assigned_ever t.assignments name))
 has_place_now t o name h =
     ap (λ l. is_some l || list_any (λ s. nat_lt s.ordinal o && bytes_eq s.name name && is_location s) t.assignments) (label_before t o name h)
     ∙ ap (λ r. is_some (label_of t.labels true 0 name) || r) (placed_now t o name h ∙ h.placed name)
@@ -161,15 +157,15 @@ before_sections t u o l m s h = record {
   numeric_labels_fall = ap (falls (λ (m : NumericLabel). m.ordinal)) m ∙ h.numeric_labels_fall;
   assignments = ap (all_assignments o) s ∙ h.assignments;
   assignments_fall = ap (falls (λ (s : Assignment). s.ordinal)) s ∙ h.assignments_fall;
-  placed = λ name. ap (λ ss. placed_ever ss name) s ∙ h.placed name ∙ ap (λ ss. placed_latest (assigned_ever ss name)) (sym s);
+  placed = λ name. ap (λ ss. placed_ever ss name) s ∙ h.placed name ∙ ap (λ ss. gives_location (assigned_ever ss name)) (sym s);
 }
 
 -- one more after lower ones
 rises_more : {X : Type 0} (at : X → ℕ) (xs : List X) (x : X) → list_all (λ y. nat_lt (at y) (at x)) xs ≡ true → rises at xs ≡ true → rises at (xs ++ x ∷ []) ≡ true
 rises_more at [] x low h = refl
 rises_more at (y ∷ ys) x low h =
-    let now = and_both (nat_lt (at y) (at x)) (list_all (λ z. nat_lt (at z) (at x)) ys) low in
-    let both = and_both (list_all (λ z. nat_lt (at y) (at z)) ys) (rises at ys) h in
+    let now = and_parts (nat_lt (at y) (at x)) (list_all (λ z. nat_lt (at z) (at x)) ys) low in
+    let both = and_parts (list_all (λ z. nat_lt (at y) (at z)) ys) (rises at ys) h in
     ap (λ b. b && rises at (ys ++ x ∷ []))
     (list_all-append (λ z. nat_lt (at y) (at z)) ys (x ∷ []) ∙ ap (λ b. b && (nat_lt (at y) (at x) && true)) both.0 ∙ ap (λ b. b && true) now.0)
     ∙ rises_more at ys x now.1 both.1
@@ -207,7 +203,7 @@ before_numeric_label t o number h =
 
 -- one assignment more that may be made
 placed_more : (t : Tables) (o : ℕ) (s : Assignment) → IsBefore t o → not (has_location t o s.name) ≡ true → is_location s ≡ false → (name : List ℕ)
-    → placed_ever (s ∷ t.assignments) name ≡ placed_latest (assigned_ever (s ∷ t.assignments) name)
+    → placed_ever (s ∷ t.assignments) name ≡ gives_location (assigned_ever (s ∷ t.assignments) name)
 placed_more t o s h may is name = by (bytes_eq s.name name) refl
   where
     or_right : (a b : Bool) → not (a || b) ≡ true → b ≡ false
@@ -215,23 +211,23 @@ placed_more t o s h may is name = by (bytes_eq s.name name) refl
     or_right false true e = absurd (cc)
     or_right false false e = refl
 
-    by : (b : Bool) → bytes_eq s.name name ≡ b → ((b && is_location s) || placed_ever t.assignments name) ≡ placed_latest (cond b (Some s) (assigned_ever t.assignments name))
+    by : (b : Bool) → bytes_eq s.name name ≡ b → ((b && is_location s) || placed_ever t.assignments name) ≡ gives_location (cond b (Some s) (assigned_ever t.assignments name))
     by false e = h.placed name
     by true e =
         let none : placed_ever t.assignments s.name ≡ false =
-        h.placed s.name ∙ or_right (is_some (label_of t.labels true 0 s.name)) (placed_latest (assigned_ever t.assignments s.name)) (ap not (sym (has_place_now t o s.name h)) ∙ may) in
+        h.placed s.name ∙ or_right (is_some (label_of t.labels true 0 s.name)) (gives_location (assigned_ever t.assignments s.name)) (ap not (sym (has_place_now t o s.name h)) ∙ may) in
         ap (λ b. b || placed_ever t.assignments name) is ∙ ap (placed_ever t.assignments) (sym (same_bytes s.name name e)) ∙ none ∙ sym is
 
 placed_first : (t : Tables) (o : ℕ) (s : Assignment) → IsBefore t o → not (is_defined t o s.name) ≡ true → is_location s ≡ true → (name : List ℕ)
-    → placed_ever (s ∷ t.assignments) name ≡ placed_latest (assigned_ever (s ∷ t.assignments) name)
+    → placed_ever (s ∷ t.assignments) name ≡ gives_location (assigned_ever (s ∷ t.assignments) name)
 placed_first t o s h may is name = by (bytes_eq s.name name) refl
   where
-    by : (b : Bool) → bytes_eq s.name name ≡ b → ((b && is_location s) || placed_ever t.assignments name) ≡ placed_latest (cond b (Some s) (assigned_ever t.assignments name))
+    by : (b : Bool) → bytes_eq s.name name ≡ b → ((b && is_location s) || placed_ever t.assignments name) ≡ gives_location (cond b (Some s) (assigned_ever t.assignments name))
     by false e = h.placed name
     by true e = ap (λ b. b || placed_ever t.assignments name) is ∙ sym is
 
 may_be : (t : Tables) (o : ℕ) (s : Assignment) (m : Meaning) → s.meaning ≡ m → IsBefore t o → may_set t o s.name m ≡ true → (name : List ℕ)
-    → placed_ever (s ∷ t.assignments) name ≡ placed_latest (assigned_ever (s ∷ t.assignments) name)
+    → placed_ever (s ∷ t.assignments) name ≡ gives_location (assigned_ever (s ∷ t.assignments) name)
 may_be t o s (InSection section offset) is h may = placed_first t o s h may (ap (λ m. is_location (record s { meaning = m })) is)
 may_be t o s (Known n) is h may = placed_more t o s h may (ap (λ m. is_location (record s { meaning = m })) is)
 may_be t o s Open is h may = placed_more t o s h may (ap (λ m. is_location (record s { meaning = m })) is)

@@ -3,7 +3,7 @@
 use Rattle.std.proofs.Common.{◌≡◌, ℕ, zero, suc, ◌+◌, ◌*◌, ◌-◌, ◌%◌, ◌^◌, ◌<◌, ◌≤◌, Bool, true, false, ◌&&◌, ◌||◌, ◌==◌, nat_lt, nat_le, List, [], ◌∷◌, ◌++◌, length, map, max, refl, sym, ap, ◌∙◌, subst, arith, Option, Some, None}
 use Rattle.std.proofs.Math.Nat.{le-max_left, le-max_right, mul-mod_left}
 use Rattle.std.proofs.Math.Pow.{pow-lt}
-use Rattle.std.proofs.lemmas.Bool.{eqb-true, leb-true, leb-false}
+use Rattle.std.proofs.lemmas.Bool.{eqb-true, leb-true, leb-false, and_parts}
 use Rattle.std.proofs.lemmas.Nat.{pow-add, pow_pos}
 use Rattle.std.proofs.lemmas.List.{map-append, length-map}
 use Rattle.std.specs.Prelude.{⊤, if◌then◌else◌, slice_index_or}
@@ -14,7 +14,6 @@ use Rattle.rv_unit_laws.specs.Sections.{Section, text_section, current_section, 
 use Rattle.rv_unit_laws.specs.Contributions.{AlignmentForm, As_power, As_bytes, Contribution, Nothing, Bytes, Zero_bytes, Alignment, contribution}
 use Rattle.rv_unit_laws.specs.Tables.{Tables, Assignment, at_start, here, value, is_power, is_power_below, greatest_alignment, alignment_of, power_alignment, byte_alignment, alignment_as, contribution_alignment, or_none, data_bytes, contributed, counted_in, changed_at, is_defined, may_set, with_assignment, with_section, with_data, with_contribution, with_choice, with_chosen, with_bindings, with_numeric_label, assigned_by, chosen, after, after_directive, after_all, opened_of, ends_of, alignments_of, Extent, empty_extent, extended}
 use Rattle.rv_unit_laws.proofs.EnteringLemmas.{with_new, sections_count, entering}
-use Rattle.rv_unit_laws.proofs.FoundLemmas.{and_both}
 
 -- ---- powers of two
 
@@ -69,7 +68,7 @@ power_aligned (Difference p q k) = tt
 power_aligned (Faulty c) = tt
 
 byte_aligned : (v : Value) → AlignsToPower (byte_alignment v)
-byte_aligned (Constant n) = if_power (is_power n && nat_le n greatest_alignment) n (λ e. power_below 63 n (and_both (is_power n) (nat_le n greatest_alignment) e).0)
+byte_aligned (Constant n) = if_power (is_power n && nat_le n greatest_alignment) n (λ e. power_below 63 n (and_parts (is_power n) (nat_le n greatest_alignment) e).0)
 byte_aligned (Symbolic p at k) = tt
 byte_aligned (Difference p q k) = tt
 byte_aligned (Faulty c) = tt

@@ -3,7 +3,7 @@
 use Rattle.std.proofs.Common.{◌≡◌, ℕ, suc, ◌<◌, Bool, true, false, cond, ◌&&◌, nat_lt, List, [], ◌∷◌, ◌++◌, refl, sym, ap, ◌∙◌, arith, Option, Some, None}
 use Rattle.std.specs.Prelude.{if◌then◌else◌}
 use Rattle.std.specs.List.{find}
-use Rattle.std.proofs.lemmas.Bool.{ltb-true, lt-ltb}
+use Rattle.std.proofs.lemmas.Bool.{ltb-true, lt-ltb, and_right}
 use Rattle.rv_text_laws.specs.Values.{Known, InSection, Open, Refused, Value, Constant, Symbolic, Difference, Faulty, add}
 use Rattle.rv_text_laws.specs.Expression.{Literal, Symbol, Here, Reference}
 use Rattle.rv_statement.specs.Statement.{StatementKind, Label, Numbered, Instruction, Directs, Statement, Expression, Directive, Sets}
@@ -79,17 +79,13 @@ not_found : {X : Type 0} (p : X → Bool) (xs : List X) (x : X) → p x ≡ fals
 not_found p [] x missed = ap (λ b. cond b (Some x) None) missed
 not_found p (y ∷ ys) x missed = ap (cond (p y) (Some y)) (not_found p ys x missed)
 
-never : (a b : Bool) → b ≡ false → (a && b) ≡ false
-never true b missed = missed
-never false b missed = refl
-
 keeps_label : (t : Tables) (o : ℕ) (name : List ℕ) → Keeps t (with_label t o name) o
 keeps_label t o name = by (is_defined t o name)
   where
     by : (b : Bool) → Keeps t (if b then t else record t { labels = t.labels ++ record { name = name; ordinal = o; place = here t } ∷ [] }) o
     by true = keeps_same t t o refl refl refl
     by false = keeps_more t (record t { labels = t.labels ++ record { name = name; ordinal = o; place = here t } ∷ [] }) o refl refl
-        (λ p. not_found (λ l. p l && nat_lt l.ordinal o) t.labels (record { name = name; ordinal = o; place = here t }) (never (p (record { name = name; ordinal = o; place = here t })) (nat_lt o o) (not_before o)))
+        (λ p. not_found (λ l. p l && nat_lt l.ordinal o) t.labels (record { name = name; ordinal = o; place = here t }) (and_right (p (record { name = name; ordinal = o; place = here t })) (nat_lt o o) (not_before o)))
 
 keeps_numeric_label : (t : Tables) (o number : ℕ) → Keeps t (with_numeric_label t o number) o
 keeps_numeric_label t o number = record {

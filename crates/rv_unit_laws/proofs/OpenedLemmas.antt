@@ -3,7 +3,7 @@
 use Rattle.std.proofs.Common.{◌≡◌, ℕ, zero, suc, ◌<◌, ◌≤◌, Bool, true, false, ◌&&◌, nat_lt, List, [], ◌∷◌, ◌++◌, length, map, refl, sym, ap, ◌∙◌, subst, arith, Option, Some, None, get_or}
 use Rattle.std.specs.Prelude.{if◌then◌else◌, slice_get}
 use Rattle.std.specs.List.{find, list_all}
-use Rattle.std.proofs.lemmas.Bool.{ltb-true, lt-ltb}
+use Rattle.std.proofs.lemmas.Bool.{ltb-true, lt-ltb, and_parts}
 use Rattle.std.proofs.lemmas.List.Folds.{list_all-append}
 use Rattle.rv_statement.specs.Statement.{StatementKind, Expression, Label, Numbered, Instruction, Directs, Statement, Directive}
 use Rattle.rv_statement.specs.declared.directive.Choice.{Choice}
@@ -12,7 +12,7 @@ use Rattle.rv_unit_laws.specs.Sections.{Section, Opened, text_section, entered_b
 use Rattle.rv_unit_laws.specs.Contributions.{Contribution, Nothing, Bytes, Zero_bytes, Alignment, contribution}
 use Rattle.rv_unit_laws.specs.Tables.{Tables, Extent, SectionOffset, Labelled, NumericLabel, Assignment, at_start, here, stands, value, assigned_by, chosen, is_defined, may_set, with_label, with_assignment, with_section, with_contribution, with_choice, with_chosen, after_directive, after, after_all, opened_of, extended, changed_at, contributed, alignment_as, with_data}
 use Rattle.rv_unit_laws.proofs.EnteringLemmas.{place_inside, sections_more, sections_count, entering}
-use Rattle.rv_unit_laws.proofs.FoundLemmas.{and_both, all_weaker}
+use Rattle.rv_unit_laws.proofs.FoundLemmas.{all_weaker}
 
 -- ---- lists
 
@@ -240,7 +240,7 @@ stood_start = record { opened = (text_section, refl); inside = record { labels =
 pub find_passes : {X : Type 0} (p q : X → Bool) (xs : List X) (x : X) → list_all q xs ≡ true → find p xs ≡ Some x → q x ≡ true
 find_passes p q [] x h e = absurd (cc)
 find_passes p q (y ∷ ys) x h e =
-    let both = and_both (q y) (list_all q ys) h in
+    let both = and_parts (q y) (list_all q ys) h in
     by (p y) both.0 (λ f. find_passes p q ys x both.1 f) e
   where
     by : (b : Bool) → q y ≡ true → (find p ys ≡ Some x → q x ≡ true) → (if b then Some y else find p ys) ≡ Some x → q x ≡ true

@@ -7,13 +7,14 @@ use Rattle.std.specs.List.{find, list_all}
 use Rattle.std.specs.Map.{lookup}
 use Rattle.std.specs.Str.{bytes_eq}
 use Rattle.std.proofs.lemmas.List.{reverse-append, map-append, length-map}
-use Rattle.std.proofs.lemmas.Bool.{leb-true}
+use Rattle.std.proofs.lemmas.Bool.{leb-true, and_parts}
 use Rattle.rv_text_laws.specs.Values.{Meaning, Known, InSection, Open, Refused}
 use Rattle.std.proofs.lemmas.List.Folds.{list_all-append}
 use Rattle.rv_unit_laws.specs.Sections.{Section, place_of_name}
 use Rattle.rv_unit_laws.specs.Tables as laws
-use Rattle.rv_unit_laws.proofs.FoundLemmas.{bytes_swap, same_bytes, find_all, and_both}
-use Rattle.rv_unit_laws.proofs.BeforeLemmas.{IsBefore, label_before, set_now, none_later, defined_now, has_place_now, placed_latest}
+use Rattle.rv_unit_laws.specs.Tables.{gives_location}
+use Rattle.rv_unit_laws.proofs.FoundLemmas.{bytes_swap, same_bytes, find_all}
+use Rattle.rv_unit_laws.proofs.BeforeLemmas.{IsBefore, label_before, set_now, none_later, defined_now, has_place_now}
 use Rattle.rv_unit_laws.proofs.EnteringLemmas.{place_more, or_last}
 use Rattle.std.proofs.Math.ListN.{set}
 use Rattle.rv_unit_tables.specs.declared.section.Extent.{Extent}
@@ -66,7 +67,7 @@ numeric_label_none t o number h = none_later o number (reverse t.numeric_labels)
     all_reversed : (p : laws.NumericLabel → Bool) (xs : List laws.NumericLabel) → list_all p xs ≡ true → list_all p (reverse xs) ≡ true
     all_reversed p [] h = refl
     all_reversed p (x ∷ xs) h =
-        let both = and_both (p x) (list_all p xs) h in
+        let both = and_parts (p x) (list_all p xs) h in
         ap (list_all p) (reverse-append (x ∷ []) xs) ∙ list_all-append p (reverse xs) (x ∷ []) ∙ ap (λ b. b && (p x && true)) (all_reversed p xs both.1) ∙ ap (λ b. b && true) both.0
 
 -- the names of one section more
@@ -116,7 +117,7 @@ taken_place t s Open b e h is same = absurd (cc)
 taken_place t s (Refused code) b e h is same = absurd (cc)
 
 pub taken_other : (t : laws.Tables) (s : laws.Assignment) (m : Meaning) (b : Bool) → s.meaning ≡ m → IsBefore t s.ordinal → laws.is_location (record s { meaning = m }) ≡ false
-    → b ≡ (is_some (laws.label_of t.labels true 0 s.name) || placed_latest (laws.assigned_ever t.assignments s.name)) → not b ≡ laws.may_set t s.ordinal s.name m
+    → b ≡ (is_some (laws.label_of t.labels true 0 s.name) || gives_location (laws.assigned_ever t.assignments s.name)) → not b ≡ laws.may_set t s.ordinal s.name m
 taken_other t s (InSection section offset) b e h is same = absurd (cc)
 taken_other t s (Known n) b e h is same = ap not (same ∙ sym (has_place_now t s.ordinal s.name h))
 taken_other t s Open b e h is same = ap not (same ∙ sym (has_place_now t s.ordinal s.name h))

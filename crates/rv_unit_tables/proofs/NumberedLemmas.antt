@@ -1,23 +1,22 @@
 -- Numeric labels by their numbers, and in the order of their ordinals: one more, and what is found.
 
-use Rattle.std.proofs.Common.{◌≡◌, ℕ, ◌-◌, ◌<◌, Bool, true, false, cond, ◌&&◌, ◌==◌, nat_lt, List, [], ◌∷◌, ◌++◌, length, map, filter, refl, sym, ap, ◌∙◌, arith, Option, Some, None, option_map}
+use Rattle.std.proofs.Common.{◌≡◌, ℕ, ◌-◌, ◌<◌, Bool, true, false, cond, ◌&&◌, ◌==◌, nat_lt, List, [], ◌∷◌, ◌++◌, length, map, filter, refl, sym, ap, ◌∙◌, arith, Option, Some, option_map}
 use Rattle.std.specs.Prelude.{reverse, slice_get, if◌then◌else◌}
-use Rattle.std.specs.Option.{option_map_or}
+use Rattle.std.specs.Option.{option_map_or, option_or}
 use Rattle.std.specs.declared.vec.Vec.{Vec}
 use Rattle.std.specs.List.{find, list_all}
 use Rattle.std.specs.List.Sorted.{IsNonDecreasingBy}
 use Rattle.std.specs.Map.{lookup}
-use Rattle.std.proofs.lemmas.Bool.{eqb-true, eq-eqb, ltb-true, le-ltb}
+use Rattle.std.proofs.lemmas.Bool.{eqb-true, eq-eqb, ltb-true, le-ltb, and_parts}
 use Rattle.std.proofs.lemmas.List.{map-append, reverse-append, reverse-reverse}
 use Rattle.indexmap.specs.IndexMap.{insert_entry}
 use Rattle.rv_text_laws.specs.Bytes.{value}
 use Rattle.rv_unit_laws.specs.Tables as laws
 use Rattle.rv_unit_laws.proofs.BeforeLemmas.{falls}
-use Rattle.rv_unit_laws.proofs.FoundLemmas.{and_both}
 use Rattle.rv_unit_tables.specs.declared.number.Number.{Number}
 use Rattle.rv_unit_tables.specs.declared.tables.NumericLabel.{NumericLabel}
 use Rattle.rv_unit_tables.specs.Tables.{numeric_label_at, numeric_labels_of, put_in_order, put_all_in_order, numeric_labels_in}
-use Rattle.rv_unit_tables.proofs.OrderedLemmas.{or_else, last_more, filter_reversed, map_reversed, rises_of, all_kept, rising}
+use Rattle.rv_unit_tables.proofs.OrderedLemmas.{last_more, filter_reversed, map_reversed, rises_of, all_kept, rising, or_map}
 
 -- ---- those of a number, of which the latest is last, where all of them stand with the latest first
 
@@ -53,27 +52,23 @@ find_first {Y} q (y ∷ ys) = by (q y) (find_first q ys)
     by true rest = refl
     by false rest = rest
 
-first_or : {Y : Type 0} (ys : List Y) (z : Y) → slice_get (ys ++ z ∷ []) 0 ≡ or_else (slice_get ys 0) (Some z)
+first_or : {Y : Type 0} (ys : List Y) (z : Y) → slice_get (ys ++ z ∷ []) 0 ≡ option_or (slice_get ys 0) (Some z)
 first_or [] z = refl
 first_or (y ∷ ys) z = refl
-
-or_mapped : {X Y : Type 0} (g : X → Y) (o : Option X) (x : X) → option_map g (or_else o (Some x)) ≡ or_else (option_map g o) (Some (g x))
-or_mapped g (Some y) x = refl
-or_mapped g None x = refl
 
 last_first : {X Y : Type 0} (g : X → Y) (xs : List X) → option_map g (slice_get xs (length xs - 1)) ≡ slice_get (reverse (map g xs)) 0
 last_first g [] = refl
 last_first g (x ∷ xs) =
     ap (λ n. option_map g (slice_get (x ∷ xs) n)) (let e : length (x ∷ xs) - 1 ≡ length xs = omega arith in e)
     ∙ ap (option_map g) (last_more x xs)
-    ∙ or_mapped g (slice_get xs (length xs - 1)) x
-    ∙ ap (λ o. or_else o (Some (g x))) (last_first g xs)
+    ∙ or_map g (slice_get xs (length xs - 1)) x
+    ∙ ap (λ o. option_or o (Some (g x))) (last_first g xs)
     ∙ sym (ap (λ l. slice_get l 0) (reverse-append (g x ∷ []) (map g xs)) ∙ first_or (reverse (map g xs)) (g x))
 
 falls_kept : {Y : Type 0} (at : Y → ℕ) (q : Y → Bool) (ys : List Y) → falls at ys ≡ true → falls at (filter q ys) ≡ true
 falls_kept at q [] h = refl
 falls_kept at q (y ∷ ys) h =
-    let both = and_both (list_all (λ z. nat_lt (at z) (at y)) ys) (falls at ys) h in
+    let both = and_parts (list_all (λ z. nat_lt (at z) (at y)) ys) (falls at ys) h in
     by (q y) (all_kept (λ z. nat_lt (at z) (at y)) q ys both.0) (falls_kept at q ys both.1)
   where
     by : (b : Bool) → list_all (λ z. nat_lt (at z) (at y)) (filter q ys) ≡ true → falls at (filter q ys) ≡ true → falls at (cond b (y ∷ filter q ys) (filter q ys)) ≡ true
@@ -126,7 +121,7 @@ all_put_all p (m ∷ ms) others =
 put_first : (m : laws.NumericLabel) (others : List laws.NumericLabel) → list_all (earlier m.ordinal) others ≡ true → put_in_order m others ≡ m ∷ others
 put_first m [] h = refl
 put_first m (x ∷ xs) h =
-    ap (λ b. if b then m ∷ x ∷ xs else x ∷ put_in_order m xs) (and_both (nat_lt x.ordinal m.ordinal) (list_all (earlier m.ordinal) xs) h).0
+    ap (λ b. if b then m ∷ x ∷ xs else x ∷ put_in_order m xs) (and_parts (nat_lt x.ordinal m.ordinal) (list_all (earlier m.ordinal) xs) h).0
 
 put_behind : (x m : laws.NumericLabel) (others : List laws.NumericLabel) → earlier x.ordinal m ≡ true → put_in_order m (x ∷ others) ≡ x ∷ put_in_order m others
 put_behind x m others h =
@@ -136,7 +131,7 @@ put_behind x m others h =
 put_all_behind : (x : laws.NumericLabel) (ms others : List laws.NumericLabel) → list_all (earlier x.ordinal) ms ≡ true → put_all_in_order ms (x ∷ others) ≡ x ∷ put_all_in_order ms others
 put_all_behind x [] others h = refl
 put_all_behind x (m ∷ ms) others h =
-    let both = and_both (earlier x.ordinal m) (list_all (earlier x.ordinal) ms) h in
+    let both = and_parts (earlier x.ordinal m) (list_all (earlier x.ordinal) ms) h in
     ap (put_in_order m) (put_all_behind x ms others both.1) ∙ put_behind x m (put_all_in_order ms others) both.0
 
 put_joined : (ms more others : List laws.NumericLabel) → put_all_in_order (ms ++ more) others ≡ put_all_in_order ms (put_all_in_order more others)
@@ -145,7 +140,7 @@ put_joined (m ∷ ms) more others = ap (put_in_order m) (put_joined ms more othe
 
 put_latest : (x : laws.NumericLabel) (ms others : List laws.NumericLabel) → list_all (earlier x.ordinal) (put_all_in_order ms others) ≡ true → put_all_in_order (ms ++ x ∷ []) others ≡ x ∷ put_all_in_order ms others
 put_latest x ms others h =
-    let both = and_both (list_all (earlier x.ordinal) ms) (list_all (earlier x.ordinal) others) (sym (all_put_all (earlier x.ordinal) ms others) ∙ h) in
+    let both = and_parts (list_all (earlier x.ordinal) ms) (list_all (earlier x.ordinal) others) (sym (all_put_all (earlier x.ordinal) ms others) ∙ h) in
     put_joined ms (x ∷ []) others ∙ ap (put_all_in_order ms) (put_first x others both.1) ∙ put_all_behind x ms others both.0
 
 -- ---- one more of a number
@@ -172,7 +167,7 @@ added {Z} (e ∷ es) k x none some is h = by (same k e.0) refl (λ more. added e
     others = numeric_labels_in es
 
     both : (list_all (earlier x.ordinal) (numeric_labels_of e) ≡ true) × (list_all (earlier x.ordinal) others ≡ true)
-    both = and_both (list_all (earlier x.ordinal) (numeric_labels_of e)) (list_all (earlier x.ordinal) others) (sym (all_put_all (earlier x.ordinal) (numeric_labels_of e) others) ∙ h)
+    both = and_parts (list_all (earlier x.ordinal) (numeric_labels_of e)) (list_all (earlier x.ordinal) others) (sym (all_put_all (earlier x.ordinal) (numeric_labels_of e) others) ∙ h)
 
     by : (b : Bool) → same k e.0 ≡ b
         → (some.items ≡ option_map_or (λ v. v.items) (lookup (same k) es) [] ++ x ∷ [] → numeric_labels_in (insert_entry same (insert_entry same es k none) k some) ≡ numeric_label_at number x ∷ others)

@@ -3,61 +3,48 @@
 use Rattle.std.proofs.Common.{◌≡◌, ℕ, zero, suc, ◌-◌, ◌<◌, ◌≤◌, Bool, true, false, cond, ◌&&◌, nat_lt, nat_le, List, [], ◌∷◌, ◌++◌, length, map, filter, slice_index_or, refl, sym, ap, ◌∙◌, subst, arith, append-nil, Option, Some, None, option_map}
 use Rattle.std.specs.Prelude.{reverse, slice_get, is_some, IfSome}
 use Rattle.std.specs.Borrow.{Bor}
-use Rattle.std.specs.Option.{option_map_or, option_copied}
+use Rattle.std.specs.Option.{option_map_or, option_copied, option_or}
 use Rattle.std.specs.declared.vec.Vec.{Vec}
 use Rattle.std.specs.List.{find, list_all, AllWithin}
 use Rattle.std.specs.List.Sorted.{IsNonDecreasingBy, IsPartitionedBy}
-use Rattle.std.proofs.lemmas.Bool.{ltb-true, ltb-false, leb-true, le-leb, lt-ltb, le-ltb}
+use Rattle.std.proofs.lemmas.Bool.{ltb-true, ltb-false, leb-true, le-leb, lt-ltb, le-ltb, and_parts}
 use Rattle.std.proofs.lemmas.List.{map-append, reverse-append, reverse-reverse}
 use Rattle.std.proofs.lemmas.List.Elements.{filter-append}
-use Rattle.std.proofs.lemmas.List.Folds.{list_all-append}
+use Rattle.std.proofs.lemmas.List.Folds.{list_all-append, find-append}
 use Rattle.rv_unit_laws.proofs.BeforeLemmas.{rises, falls}
-use Rattle.rv_unit_laws.proofs.FoundLemmas.{and_both}
 
 -- ---- the last: a search from the back finds it
 
-abbrev pub or_else : {X : Type 0} → Option X → Option X → Option X
-or_else (Some x) other = Some x
-or_else None other = other
-
-or_none : {X : Type 0} (o : Option X) → or_else o None ≡ o
+or_none : {X : Type 0} (o : Option X) → option_or o None ≡ o
 or_none (Some x) = refl
 or_none None = refl
 
-or_map : {X Y : Type 0} (f : X → Y) (o : Option X) (x : X) → option_map f (or_else o (Some x)) ≡ or_else (option_map f o) (Some (f x))
+pub or_map : {X Y : Type 0} (f : X → Y) (o : Option X) (x : X) → option_map f (option_or o (Some x)) ≡ option_or (option_map f o) (Some (f x))
 or_map f (Some y) x = refl
 or_map f None x = refl
 
-find_both : {X : Type 0} (p : X → Bool) (xs ys : List X) → find p (xs ++ ys) ≡ or_else (find p xs) (find p ys)
-find_both p [] ys = refl
-find_both p (x ∷ xs) ys = by (p x) (find_both p xs ys)
-  where
-    by : (b : Bool) → find p (xs ++ ys) ≡ or_else (find p xs) (find p ys) → cond b (Some x) (find p (xs ++ ys)) ≡ or_else (cond b (Some x) (find p xs)) (find p ys)
-    by true rest = refl
-    by false rest = rest
-
-some_last : {X : Type 0} (x y : X) (ys : List X) → or_else (slice_get (y ∷ ys) (length ys)) (Some x) ≡ slice_get (y ∷ ys) (length ys)
+some_last : {X : Type 0} (x y : X) (ys : List X) → option_or (slice_get (y ∷ ys) (length ys)) (Some x) ≡ slice_get (y ∷ ys) (length ys)
 some_last x y [] = refl
 some_last x y (z ∷ zs) = some_last x z zs
 
-pub last_more : {X : Type 0} (x : X) (xs : List X) → slice_get (x ∷ xs) (length xs) ≡ or_else (slice_get xs (length xs - 1)) (Some x)
+pub last_more : {X : Type 0} (x : X) (xs : List X) → slice_get (x ∷ xs) (length xs) ≡ option_or (slice_get xs (length xs - 1)) (Some x)
 last_more x [] = refl
-last_more x (y ∷ ys) = sym (ap (λ n. or_else (slice_get (y ∷ ys) n) (Some x)) (let e : length (y ∷ ys) - 1 ≡ length ys = omega arith in e) ∙ some_last x y ys)
+last_more x (y ∷ ys) = sym (ap (λ n. option_or (slice_get (y ∷ ys) n) (Some x)) (let e : length (y ∷ ys) - 1 ≡ length ys = omega arith in e) ∙ some_last x y ys)
 
 pub last_found : {X Y : Type 0} (f : X → Y) (q : Y → Bool) (xs : List X) → option_map f (slice_get (filter (λ x. q (f x)) xs) (length (filter (λ x. q (f x)) xs) - 1)) ≡ find q (reverse (map f xs))
 last_found f q [] = refl
-last_found {X} {Y} f q (x ∷ xs) = by (q (f x)) (last_found f q xs) ∙ sym (ap (find q) (reverse-append (f x ∷ []) (map f xs)) ∙ find_both q (reverse (map f xs)) (f x ∷ []))
+last_found {X} {Y} f q (x ∷ xs) = by (q (f x)) (last_found f q xs) ∙ sym (ap (find q) (reverse-append (f x ∷ []) (map f xs)) ∙ find-append q (reverse (map f xs)) (f x ∷ []))
   where
     others : List X
     others = filter (λ y. q (f y)) xs
 
     by : (b : Bool) → option_map f (slice_get others (length others - 1)) ≡ find q (reverse (map f xs))
-        → option_map f (slice_get (cond b (x ∷ others) others) (length (cond b (x ∷ others) others) - 1)) ≡ or_else (find q (reverse (map f xs))) (cond b (Some (f x)) None)
+        → option_map f (slice_get (cond b (x ∷ others) others) (length (cond b (x ∷ others) others) - 1)) ≡ option_or (find q (reverse (map f xs))) (cond b (Some (f x)) None)
     by true rest =
         ap (λ n. option_map f (slice_get (x ∷ others) n)) (let e : length (x ∷ others) - 1 ≡ length others = omega arith in e)
         ∙ ap (option_map f) (last_more x others)
         ∙ or_map f (slice_get others (length others - 1)) x
-        ∙ ap (λ o. or_else o (Some (f x))) rest
+        ∙ ap (λ o. option_or o (Some (f x))) rest
     by false rest = rest ∙ sym (or_none (find q (reverse (map f xs))))
 
 -- ---- of those that pass a test, the first that passes another
@@ -102,7 +89,7 @@ before_found f p q xs =
 all_reversed : {Y : Type 0} (p : Y → Bool) (ys : List Y) → list_all p ys ≡ true → list_all p (reverse ys) ≡ true
 all_reversed p [] h = refl
 all_reversed p (y ∷ ys) h =
-    let both = and_both (p y) (list_all p ys) h in
+    let both = and_parts (p y) (list_all p ys) h in
     ap (list_all p) (reverse-append (y ∷ []) ys) ∙ list_all-append p (reverse ys) (y ∷ []) ∙ ap (λ b. b && (p y && true)) (all_reversed p ys both.1) ∙ ap (λ b. b && true) both.0
 
 all_unmapped : {X Y : Type 0} (f : X → Y) (p : Y → Bool) (xs : List X) → list_all p (map f xs) ≡ list_all (λ x. p (f x)) xs
@@ -112,10 +99,10 @@ all_unmapped f p (x ∷ xs) = ap (λ b. p (f x) && b) (all_unmapped f p xs)
 falls_last : {Y : Type 0} (at : Y → ℕ) (ys : List Y) (m : Y) → falls at (ys ++ m ∷ []) ≡ true → (falls at ys ≡ true) × (list_all (λ y. nat_lt (at m) (at y)) ys ≡ true)
 falls_last at [] m h = (refl, refl)
 falls_last at (y ∷ ys) m h =
-    let both = and_both (list_all (λ k. nat_lt (at k) (at y)) (ys ++ m ∷ [])) (falls at (ys ++ m ∷ [])) h in
+    let both = and_parts (list_all (λ k. nat_lt (at k) (at y)) (ys ++ m ∷ [])) (falls at (ys ++ m ∷ [])) h in
     let rest = falls_last at ys m both.1 in
-    let now = and_both (list_all (λ k. nat_lt (at k) (at y)) ys) (nat_lt (at m) (at y) && true) (sym (list_all-append (λ k. nat_lt (at k) (at y)) ys (m ∷ [])) ∙ both.0) in
-    let one = and_both (nat_lt (at m) (at y)) true now.1 in (
+    let now = and_parts (list_all (λ k. nat_lt (at k) (at y)) ys) (nat_lt (at m) (at y) && true) (sym (list_all-append (λ k. nat_lt (at k) (at y)) ys (m ∷ [])) ∙ both.0) in
+    let one = and_parts (nat_lt (at m) (at y)) true now.1 in (
       ap (λ b. b && falls at ys) now.0 ∙ rest.0,
       ap (λ b. b && list_all (λ k. nat_lt (at m) (at k)) ys) one.0 ∙ rest.1,
     )
@@ -131,7 +118,7 @@ rises_of {X} {Y} f at (x ∷ xs) h =
 pub all_kept : {X : Type 0} (p q : X → Bool) (xs : List X) → list_all p xs ≡ true → list_all p (filter q xs) ≡ true
 all_kept p q [] h = refl
 all_kept p q (x ∷ xs) h =
-    let both = and_both (p x) (list_all p xs) h in
+    let both = and_parts (p x) (list_all p xs) h in
     by (q x) both.0 (all_kept p q xs both.1)
   where
     by : (b : Bool) → p x ≡ true → list_all p (filter q xs) ≡ true → list_all p (cond b (x ∷ filter q xs) (filter q xs)) ≡ true
@@ -141,7 +128,7 @@ all_kept p q (x ∷ xs) h =
 rises_kept : {X : Type 0} (at : X → ℕ) (q : X → Bool) (xs : List X) → rises at xs ≡ true → rises at (filter q xs) ≡ true
 rises_kept at q [] h = refl
 rises_kept at q (x ∷ xs) h =
-    let both = and_both (list_all (λ y. nat_lt (at x) (at y)) xs) (rises at xs) h in
+    let both = and_parts (list_all (λ y. nat_lt (at x) (at y)) xs) (rises at xs) h in
     by (q x) (all_kept (λ y. nat_lt (at x) (at y)) q xs both.0) (rises_kept at q xs both.1)
   where
     by : (b : Bool) → list_all (λ y. nat_lt (at x) (at y)) (filter q xs) ≡ true → rises at (filter q xs) ≡ true → rises at (cond b (x ∷ filter q xs) (filter q xs)) ≡ true
@@ -150,19 +137,19 @@ rises_kept at q (x ∷ xs) h =
 
 all_at : {X : Type 0} (p : X → Bool) (xs : List X) (j : ℕ) (d : X) → list_all p xs ≡ true → j < length xs → p (slice_index_or xs j d) ≡ true
 all_at p [] j d h inside = absurd (omega arith)
-all_at p (x ∷ xs) zero d h inside = (and_both (p x) (list_all p xs) h).0
-all_at p (x ∷ xs) (suc j) d h inside = all_at p xs j d (and_both (p x) (list_all p xs) h).1 (omega arith)
+all_at p (x ∷ xs) zero d h inside = (and_parts (p x) (list_all p xs) h).0
+all_at p (x ∷ xs) (suc j) d h inside = all_at p xs j d (and_parts (p x) (list_all p xs) h).1 (omega arith)
 
 pub rising : {X : Type 0} (at : X → ℕ) (xs : List X) → rises at xs ≡ true → (i j : ℕ) (d : X) → i ≤ j → j < length xs → at (slice_index_or xs i d) ≤ at (slice_index_or xs j d)
 rising at [] h i j d le inside = absurd (omega arith)
 rising at (x ∷ xs) h zero zero d le inside = omega arith
 rising at (x ∷ xs) h zero (suc j) d le inside =
-    let all = (and_both (list_all (λ y. nat_lt (at x) (at y)) xs) (rises at xs) h).0 in
+    let all = (and_parts (list_all (λ y. nat_lt (at x) (at y)) xs) (rises at xs) h).0 in
     let near : j < length xs = omega arith in
     let less : at x < at (slice_index_or xs j d) = ltb-true (at x) (at (slice_index_or xs j d)) (all_at (λ y. nat_lt (at x) (at y)) xs j d all near) in
     omega arith
 rising at (x ∷ xs) h (suc i) zero d le inside = absurd (omega arith)
-rising at (x ∷ xs) h (suc i) (suc j) d le inside = rising at xs (and_both (list_all (λ y. nat_lt (at x) (at y)) xs) (rises at xs) h).1 i j d (omega arith) (omega arith)
+rising at (x ∷ xs) h (suc i) (suc j) d le inside = rising at xs (and_parts (list_all (λ y. nat_lt (at x) (at y)) xs) (rises at xs) h).1 i j d (omega arith) (omega arith)
 
 -- those that pass a test stand in order
 pub in_order : {X Y : Type 0} (f : X → Y) (at : Y → ℕ) (q : X → Bool) (xs some : List X) → falls at (reverse (map f xs)) ≡ true → some ≡ filter q xs → IsNonDecreasingBy (λ x. at (f x)) some
@@ -206,27 +193,27 @@ got_before xs zero = None
 got_before xs (suc k) = slice_get xs k
 
 -- one more at the front
-before_front : {X : Type 0} (x : X) (xs : List X) (k : ℕ) → k ≤ length xs → slice_get (x ∷ xs) k ≡ or_else (got_before xs k) (Some x)
+before_front : {X : Type 0} (x : X) (xs : List X) (k : ℕ) → k ≤ length xs → slice_get (x ∷ xs) k ≡ option_or (got_before xs k) (Some x)
 before_front x xs zero within = refl
 before_front x xs (suc k) within =
     let at : slice_get xs k ≡ Some (slice_index_or xs k x) = some_at xs k x (omega arith) in
-    at ∙ sym (ap (λ o. or_else o (Some x)) at)
+    at ∙ sym (ap (λ o. option_or o (Some x)) at)
 
 abbrev FindsBefore : {X : Type 0} → (X → ℕ) → ℕ → List X → Type 0
 FindsBefore at o xs = (k : ℕ) → k ≤ length xs → AllWithin (λ x. at x < o) xs 0 k → AllWithin (λ x. o ≤ at x) xs k (length xs) → got_before xs k ≡ find (λ x. nat_lt (at x) o) (reverse xs)
 
 found_more : {X : Type 0} (at : X → ℕ) (o : ℕ) (x : X) (xs : List X) → FindsBefore at o xs → FindsBefore at o (x ∷ xs)
-found_more at o x xs rest k within low high = by k within low high ∙ sym (ap (find (λ y. nat_lt (at y) o)) (reverse-append (x ∷ []) xs) ∙ find_both (λ y. nat_lt (at y) o) (reverse xs) (x ∷ []))
+found_more at o x xs rest k within low high = by k within low high ∙ sym (ap (find (λ y. nat_lt (at y) o)) (reverse-append (x ∷ []) xs) ∙ find-append (λ y. nat_lt (at y) o) (reverse xs) (x ∷ []))
   where
     by : (k : ℕ) → k ≤ length (x ∷ xs) → AllWithin (λ y. at y < o) (x ∷ xs) 0 k → AllWithin (λ y. o ≤ at y) (x ∷ xs) k (length (x ∷ xs))
-        → got_before (x ∷ xs) k ≡ or_else (find (λ y. nat_lt (at y) o) (reverse xs)) (cond (nat_lt (at x) o) (Some x) None)
+        → got_before (x ∷ xs) k ≡ option_or (find (λ y. nat_lt (at y) o) (reverse xs)) (cond (nat_lt (at x) o) (Some x) None)
     by zero within low high =
-        ap (λ f. or_else f None) (rest zero (omega arith) (λ j d l r. absurd (omega arith)) (λ j d l r. high (suc j) d (omega arith) (omega arith)))
-        ∙ sym (ap (λ t. or_else (find (λ y. nat_lt (at y) o) (reverse xs)) (cond t (Some x) None)) (le-ltb (at x) o (high zero x (omega arith) (omega arith))))
+        ap (λ f. option_or f None) (rest zero (omega arith) (λ j d l r. absurd (omega arith)) (λ j d l r. high (suc j) d (omega arith) (omega arith)))
+        ∙ sym (ap (λ t. option_or (find (λ y. nat_lt (at y) o) (reverse xs)) (cond t (Some x) None)) (le-ltb (at x) o (high zero x (omega arith) (omega arith))))
     by (suc k) within low high =
         before_front x xs k (omega arith)
-        ∙ ap (λ f. or_else f (Some x)) (rest k (omega arith) (λ j d l r. low (suc j) d (omega arith) (omega arith)) (λ j d l r. high (suc j) d (omega arith) (omega arith)))
-        ∙ sym (ap (λ t. or_else (find (λ y. nat_lt (at y) o) (reverse xs)) (cond t (Some x) None)) (lt-ltb (at x) o (low zero x (omega arith) (omega arith))))
+        ∙ ap (λ f. option_or f (Some x)) (rest k (omega arith) (λ j d l r. low (suc j) d (omega arith) (omega arith)) (λ j d l r. high (suc j) d (omega arith) (omega arith)))
+        ∙ sym (ap (λ t. option_or (find (λ y. nat_lt (at y) o) (reverse xs)) (cond t (Some x) None)) (lt-ltb (at x) o (low zero x (omega arith) (omega arith))))
 
 found_before : {X : Type 0} (at : X → ℕ) (o : ℕ) (xs : List X) → FindsBefore at o xs
 found_before at o [] zero within low high = refl

@@ -1,4 +1,8 @@
 //! What each statement changes in the tables.
+//!
+//! Nothing is refused here but for want of memory: which statement is the first with a fault is asked later, of the
+//! full tables. So a faulty statement has an effect too, or none, as a second label of a name. A statement stands where
+//! its section ends before it, but one that enters a section stands after that.
 
 ghost use Rattle.std.specs.Prelude.{◌≡◌, ℕ, false, option_map, map, OnOk, IfOk, IfSome};
 ghost use Rattle.rv_text_laws.specs.Expression.{Primary, Here, Tree as Expression};

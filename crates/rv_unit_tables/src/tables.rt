@@ -1,4 +1,9 @@
 //! The tables that statements fill, one after the other.
+//!
+//! They are asked twice: while they are filled, by the statements whose sizes count at once, and when they are full, by
+//! all others. So nothing is taken out again, and whatever can stand more than once, assignments and numeric labels,
+//! keeps the ordinals of its statements in order: what came before a statement is then found by halving. A label stands
+//! once, in a map by its name.
 
 ghost use Rattle.std.specs.Prelude.{◌≡◌, ℕ, ◌-◌, ◌^◌, min, ◌<◌, ◌||◌, ◌==◌, List, false, true, not, is_some, nat_lt, length, Some, None, option_map, map, reverse, IfOk, OnOk};
 ghost use Rattle.std.specs.List.{find};
@@ -12,7 +17,7 @@ ghost use Rattle.rv_statement.specs.View.{statement_kind, now_of};
 ghost use Rattle.rv_unit_laws.specs.Bindings.{bound};
 ghost use Rattle.rv_unit_laws.specs.Sections as sections;
 ghost use Rattle.rv_unit_laws.specs.Tables as laws;
-ghost use Rattle.rv_unit_laws.proofs.BeforeLemmas.{IsBefore, placed_latest};
+ghost use Rattle.rv_unit_laws.proofs.BeforeLemmas.{IsBefore};
 ghost use Rattle.rv_unit_tables.specs.Sections.{section_of, offset_of};
 ghost use Rattle.rv_unit_tables.specs.Tables.{tables_of, label_at, numeric_label_at, assignment_of, IsIndexed};
 
@@ -333,7 +338,7 @@ impl<'a> Tables<'a> {
     pub(crate) fn has_location(&self, name: &[u8]) -> bool
         ensures { IsIndexed self.now → result
             ≡ (is_some (laws.label_of (tables_of self.now).labels true 0 name.now)
-            || placed_latest (laws.assigned_ever (tables_of self.now).assignments name.now)) }
+            || laws.gives_location (laws.assigned_ever (tables_of self.now).assignments name.now)) }
     {
         if self.label(name).is_some() {
             return true;

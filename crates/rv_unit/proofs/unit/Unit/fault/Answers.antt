@@ -10,7 +10,7 @@ use Rattle.rv_unit_laws.specs.Sections.{section_of}
 use Rattle.rv_unit_laws.specs.Tables as laws
 use Rattle.rv_unit_laws.proofs.OpenedLemmas.{after_opened}
 use Rattle.rv_unit.specs.Faults.{IsLowest}
-use Rattle.rv_unit.specs.Unit.{said, passed, IsAt}
+use Rattle.rv_unit.specs.Unit.{said, passed, IsStatementOf}
 use Rattle.rv_unit.proofs.InstructionsLemmas.{plain_is, with_is}
 use Rattle.rv_unit.proofs.unit.Unit.fault.Goals as goal
 
@@ -20,7 +20,7 @@ returns-in-Label c = λ i at depth.
     let all = laws.tables (said u) in
     let t = passed (said u) i in
     let k = c.in-Label.is in
-    let now = subst (λ k. IsAt u i c.args.ordinal c.args.place (statement_kind k)) k at in
+    let now = subst (λ k. IsStatementOf u i c.args.ordinal c.args.place (statement_kind k)) k at in
     subst (λ k. IsLowest c.fault_of_label.result (faults.faults all t (i + 1) (statement_kind k))) (sym k) (c.fault_of_label.ensures i c.args.place now)
 
 pub returns-in-Plain : goal.returns-in-Plain
@@ -29,11 +29,11 @@ returns-in-Plain c = λ i at depth.
     let all = laws.tables (said u) in
     let t = passed (said u) i in
     let k = c.in-Plain.is in
-    let now = subst (λ k. IsAt u i c.args.ordinal c.args.place (statement_kind k)) k at in
+    let now = subst (λ k. IsStatementOf u i c.args.ordinal c.args.place (statement_kind k)) k at in
     let is = plain_is c.in-Plain.field-0 in
     subst (λ k. IsLowest c.fault_of_instruction.result (faults.faults all t (i + 1) (statement_kind k))) (sym k)
     (subst (λ s. IsLowest c.fault_of_instruction.result (faults.faults all t (i + 1) s)) (sym is.2)
-    (c.fault_of_instruction.ensures i c.args.ordinal is.0 is.1 (subst (λ s. IsAt u i c.args.ordinal c.args.place s) is.2 now)))
+    (c.fault_of_instruction.ensures i c.args.ordinal is.0 is.1 (subst (λ s. IsStatementOf u i c.args.ordinal c.args.place s) is.2 now)))
 
 pub returns-in-With : goal.returns-in-With
 returns-in-With c = λ i at depth.
@@ -41,11 +41,11 @@ returns-in-With c = λ i at depth.
     let all = laws.tables (said u) in
     let t = passed (said u) i in
     let k = c.in-With.is in
-    let now = subst (λ k. IsAt u i c.args.ordinal c.args.place (statement_kind k)) k at in
+    let now = subst (λ k. IsStatementOf u i c.args.ordinal c.args.place (statement_kind k)) k at in
     let is = with_is c.in-With.field-0 (operand_in c.in-With.field-0 (tree_of_expr c.in-With.field-1)) in
     subst (λ k. IsLowest c.fault_of_instruction-in-With.result (faults.faults all t (i + 1) (statement_kind k))) (sym k)
     (subst (λ s. IsLowest c.fault_of_instruction-in-With.result (faults.faults all t (i + 1) s)) (sym is.2)
-    (c.fault_of_instruction-in-With.ensures i c.args.ordinal is.0 is.1 (subst (λ s. IsAt u i c.args.ordinal c.args.place s) is.2 now)))
+    (c.fault_of_instruction-in-With.ensures i c.args.ordinal is.0 is.1 (subst (λ s. IsStatementOf u i c.args.ordinal c.args.place s) is.2 now)))
 
 pub returns-in-WithFunction : goal.returns-in-WithFunction
 returns-in-WithFunction c = λ i at depth.
@@ -53,11 +53,11 @@ returns-in-WithFunction c = λ i at depth.
     let all = laws.tables (said u) in
     let t = passed (said u) i in
     let k = c.in-WithFunction.is in
-    let now = subst (λ k. IsAt u i c.args.ordinal c.args.place (statement_kind k)) k at in
+    let now = subst (λ k. IsStatementOf u i c.args.ordinal c.args.place (statement_kind k)) k at in
     let is = with_is c.in-WithFunction.field-0 (Applied c.in-WithFunction.field-1 (tree_of_expr c.in-WithFunction.field-2)) in
     subst (λ k. IsLowest c.fault_of_instruction-in-WithFunction.result (faults.faults all t (i + 1) (statement_kind k))) (sym k)
     (subst (λ s. IsLowest c.fault_of_instruction-in-WithFunction.result (faults.faults all t (i + 1) s)) (sym is.2)
-    (c.fault_of_instruction-in-WithFunction.ensures i c.args.ordinal is.0 is.1 (subst (λ s. IsAt u i c.args.ordinal c.args.place s) is.2 now)))
+    (c.fault_of_instruction-in-WithFunction.ensures i c.args.ordinal is.0 is.1 (subst (λ s. IsStatementOf u i c.args.ordinal c.args.place s) is.2 now)))
 
 pub returns-in-Ascii : goal.returns-in-Ascii
 returns-in-Ascii c = λ i at depth.
@@ -65,10 +65,10 @@ returns-in-Ascii c = λ i at depth.
     let all = laws.tables (said u) in
     let t = passed (said u) i in
     let k = c.in-Ascii.is in
-    let now = subst (λ k. IsAt u i c.args.ordinal c.args.place (statement_kind k)) k at in
+    let now = subst (λ k. IsStatementOf u i c.args.ordinal c.args.place (statement_kind k)) k at in
     subst (λ k. IsLowest c.fault_of_strings.result (faults.faults all t (i + 1) (statement_kind k))) (sym k)
     (subst (λ xs. IsLowest c.fault_of_strings.result (faults.directive_faults all t (i + 1) (Strings false (map quoted xs)))) c.deref-in-Ascii.ensures.value
-    (c.fault_of_strings.ensures i c.args.ordinal (subst (λ xs. IsAt u i c.args.ordinal c.args.place (Directs (Strings false (map quoted xs)))) (sym c.deref-in-Ascii.ensures.value) now)))
+    (c.fault_of_strings.ensures i c.args.ordinal (subst (λ xs. IsStatementOf u i c.args.ordinal c.args.place (Directs (Strings false (map quoted xs)))) (sym c.deref-in-Ascii.ensures.value) now)))
 
 pub returns-in-Asciz : goal.returns-in-Asciz
 returns-in-Asciz c = λ i at depth.
@@ -76,10 +76,10 @@ returns-in-Asciz c = λ i at depth.
     let all = laws.tables (said u) in
     let t = passed (said u) i in
     let k = c.in-Asciz.is in
-    let now = subst (λ k. IsAt u i c.args.ordinal c.args.place (statement_kind k)) k at in
+    let now = subst (λ k. IsStatementOf u i c.args.ordinal c.args.place (statement_kind k)) k at in
     subst (λ k. IsLowest c.fault_of_strings-in-Asciz.result (faults.faults all t (i + 1) (statement_kind k))) (sym k)
     (subst (λ xs. IsLowest c.fault_of_strings-in-Asciz.result (faults.directive_faults all t (i + 1) (Strings true (map quoted xs)))) c.deref-in-Asciz.ensures.value
-    (c.fault_of_strings-in-Asciz.ensures i c.args.ordinal (subst (λ xs. IsAt u i c.args.ordinal c.args.place (Directs (Strings true (map quoted xs)))) (sym c.deref-in-Asciz.ensures.value) now)))
+    (c.fault_of_strings-in-Asciz.ensures i c.args.ordinal (subst (λ xs. IsStatementOf u i c.args.ordinal c.args.place (Directs (Strings true (map quoted xs)))) (sym c.deref-in-Asciz.ensures.value) now)))
 
 pub returns-in-Enters : goal.returns-in-Enters
 returns-in-Enters c = λ i at depth.
@@ -87,7 +87,7 @@ returns-in-Enters c = λ i at depth.
     let all = laws.tables (said u) in
     let t = passed (said u) i in
     let k = c.in-Enters.is in
-    let now = subst (λ k. IsAt u i c.args.ordinal c.args.place (statement_kind k)) k at in
+    let now = subst (λ k. IsStatementOf u i c.args.ordinal c.args.place (statement_kind k)) k at in
     let is = c.standard.ensures in
     let opened = ap (λ (w : laws.Tables). laws.opened_of w) now.more ∙ after_opened t (i + 1) (Directs (Enters c.in-Enters.standard)) in
     subst (λ k. IsLowest c.fault_of_section.result (faults.faults all t (i + 1) (statement_kind k))) (sym k)
@@ -100,7 +100,7 @@ returns-in-Opens c = λ i at depth.
     let all = laws.tables (said u) in
     let t = passed (said u) i in
     let k = c.in-Opens.is in
-    let now = subst (λ k. IsAt u i c.args.ordinal c.args.place (statement_kind k)) k at in
+    let now = subst (λ k. IsStatementOf u i c.args.ordinal c.args.place (statement_kind k)) k at in
     let o = box_value c.in-Opens.opening in
     let is =
     c.of.ensures

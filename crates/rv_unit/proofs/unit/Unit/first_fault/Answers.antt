@@ -6,7 +6,7 @@ use Rattle.rv_statement.specs.View.{statement_of}
 use Rattle.rv_unit_laws.specs.Faults as faults
 use Rattle.rv_unit_laws.specs.Tables as laws
 use Rattle.rv_unit_tables.specs.declared.section_offset.SectionOffset.{SectionOffset}
-use Rattle.rv_unit.specs.Unit.{said, passed, IsAt}
+use Rattle.rv_unit.specs.Unit.{said, passed, IsStatementOf}
 use Rattle.rv_unit.proofs.StandingLemmas.{is_at, places_count, depth_next}
 use Rattle.rv_unit.proofs.CheckedLemmas.{check_more, check_found, check_lowest, next_said}
 use Rattle.rv_unit.proofs.unit.Unit.first_fault.Goals as goal
@@ -27,7 +27,7 @@ returns-in-Some c =
     let p : SectionOffset = slice_index_or c.places-places.result.now i (record { section = 0; offset = 0 }) in
     let inside = subst (λ l. i < length l) c.statements-statements.ensures c.loop-index-test.true in
     let item : x ≡ get_or xs i x = c.index-statements-index.is ∙ ap (λ l. get_or l i x) c.statements-statements.ensures in
-    let at : IsAt u i (i + 1) p (statement_of x).kind = is_at u i x p (record { section = 0; offset = 0 }) c.requires inside item (ap (λ l. get_or l i (record { section = 0; offset = 0 })) c.places-places.ensures) in
+    let at : IsStatementOf u i (i + 1) p (statement_of x).kind = is_at u i x p (record { section = 0; offset = 0 }) c.requires inside item (ap (λ l. get_or l i (record { section = 0; offset = 0 })) c.places-places.ensures) in
     let found = c.fault.ensures i at c.loop-index.invariant.0 in
     sym (check_found ss i (number_of c.in-Some.code) (statement_of x) (next_said xs i x inside item) (check_lowest ss i (statement_of x) c.fault.result (Some c.in-Some.code) found c.in-Some.is))
     ∙ c.loop-index.invariant.2
@@ -42,7 +42,7 @@ loop-index-preserved c =
     let p : SectionOffset = slice_index_or c.places-places.result.now i (record { section = 0; offset = 0 }) in
     let inside = subst (λ l. i < length l) c.statements-statements.ensures c.loop-index-test.true in
     let item : x ≡ get_or xs i x = c.index-statements-index.is ∙ ap (λ l. get_or l i x) c.statements-statements.ensures in
-    let at : IsAt u i (i + 1) p (statement_of x).kind = is_at u i x p (record { section = 0; offset = 0 }) c.requires inside item (ap (λ l. get_or l i (record { section = 0; offset = 0 })) c.places-places.ensures) in
+    let at : IsStatementOf u i (i + 1) p (statement_of x).kind = is_at u i x p (record { section = 0; offset = 0 }) c.requires inside item (ap (λ l. get_or l i (record { section = 0; offset = 0 })) c.places-places.ensures) in
     let found = c.fault.ensures i at c.loop-index.invariant.0 in
     let low = check_lowest ss i (statement_of x) c.fault.result None found c.in-None.is in
     let below = c.loop-index.invariant.1 in (
