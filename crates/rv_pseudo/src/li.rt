@@ -8,7 +8,7 @@ ghost use Rattle.rv_isa.specs.Ranges.{IsSigned12};
 ghost use Rattle.rv_isa_laws.specs.Arithmetic.{wrapped, floor};
 ghost use Rattle.rv_isa_laws.specs.Halves.{hi, lo};
 ghost use Rattle.rv_pseudo_laws.specs.Li as is;
-ghost use Rattle.rv_pseudo_laws.specs.Li.{is_signed, li, addi, addiw, slli, unless_zero, IsWithin};
+ghost use Rattle.rv_pseudo_laws.specs.Li.{is_signed, li, addi, addiw, slli, unless_zero, IsInReach};
 
 use arrayvec::ArrayVec;
 use rv_isa::{IType, Inst, Reg, Shift, UType};
@@ -170,7 +170,7 @@ fn then_low(before: ArrayVec<Inst, 8>, rd: Reg, zeros: u8, low: i32) -> ArrayVec
 
 /// `li` of a number that at most this many steps bring to 32 bits.
 fn li_in(steps: u8, rd: Reg, value: i64) -> ArrayVec<Inst, 8>
-    requires within { IsWithin steps value }
+    requires within { IsInReach steps value }
     requires steps { steps ≤ 3 }
     ensures items { result.items ≡ is.li_in steps rd value }
     ensures count { length result.items ≤ 2 + 2 * steps }

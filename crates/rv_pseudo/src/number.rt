@@ -1,4 +1,8 @@
 //! Statements with a number, or with a part of an address in place of one.
+//!
+//! A constant goes into its field here. A part of an address is known to the linker alone: the field stays 0, and the
+//! template carries the relocation that fills it, so both cases make the same instruction. Ranges are tested before
+//! (`fault`), so each function here asks for a number in range and refuses none.
 
 ghost use Rattle.std.specs.Prelude.{◌≡◌, ◌<◌, ◌^◌, Option, true};
 ghost use Rattle.rv_isa.specs.Operations.{of_immediate, of_shift, of_upper, of_load, of_store};

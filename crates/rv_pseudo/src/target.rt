@@ -1,4 +1,8 @@
 //! Statements with a target: branches, jumps, calls, and addresses of symbols.
+//!
+//! A target is never a number here: where code stands is settled later, by sizes and by the linker, so each of these
+//! has a relocation. A branch that does not reach is the opposite branch over a `jal`, since only `jal` reaches a
+//! megabyte.
 
 ghost use Rattle.std.specs.Prelude.{◌≡◌, Bool, true, false, pos};
 ghost use Rattle.rv_isa.specs.declared.kind.Kind.TheVariants.{PcrelLo12I, PcrelLo12S};

@@ -24,7 +24,7 @@ li_in-before-requires t c =
     to_z-of_z w64 c.parts-above.result.0 fits ∙ c.parts-above.ensures.above ∙ ap is.above value in
     let least = c.requires.steps in
     let measure = c.decreases in
-    (omega arith, (subst (λ (z : ℤ). is.IsWithin (c.args.steps - 1) z) (sym above) step.within, omega arith))
+    (omega arith, (subst (λ (z : ℤ). is.IsInReach (c.args.steps - 1) z) (sym above) step.within, omega arith))
 
 pub returns-clause-items : goal.returns-clause-items
 returns-clause-items t c =
