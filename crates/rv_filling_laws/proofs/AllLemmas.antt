@@ -5,6 +5,7 @@ use Rattle.std.specs.List.{AllByRecursion}
 use Rattle.rv_isa.specs.Ranges.{IsValid}
 use Rattle.std.proofs.lemmas.List.Sums.{sum_by-cons}
 use Rattle.std.specs.Prelude.{ℤ, flat_map}
+use Rattle.std.proofs.lemmas.List.{append_assoc}
 use Rattle.rv_isa.specs.declared.kind.Kind.{Kind}
 use Rattle.rv_isa.specs.declared.instruction.Inst.{Inst}
 use Rattle.rv_isa.specs.Kinds.{width_of}
@@ -22,10 +23,6 @@ use Rattle.rv_filling_laws.specs.Parts.{AreFew, IsEncodedPart, IsCallPart, AreFi
 use Rattle.rv_filling_laws.proofs.OneLemmas.{open_filled, call_filled, call_width}
 
 -- ---- lists
-
-append_assoc : {X : Type 0} (xs ys zs : List X) → (xs ++ ys) ++ zs ≡ xs ++ (ys ++ zs)
-append_assoc [] ys zs = refl
-append_assoc (x ∷ xs) ys zs = ap (λ l. x ∷ l) (append_assoc xs ys zs)
 
 -- ---- the bytes are as many
 

@@ -1,8 +1,8 @@
 -- One open field, and the two of a call.
 
-use Rattle.std.proofs.Common.{◌≡◌, ℕ, ◌%◌, Bool, true, false, List, ◌++◌, refl, sym, ap, ◌∙◌, subst, arith, ℤ, ◌≢◌, ◌⊎◌, inl, inr, unsigned_abs}
-use Rattle.std.specs.Prelude.{◌||◌}
+use Rattle.std.proofs.Common.{◌≡◌, ℕ, Bool, true, List, ◌++◌, refl, sym, ap, ◌∙◌, subst, arith, ℤ, ◌⊎◌, inl, inr}
 use Rattle.std.proofs.lemmas.Int.{ints}
+use Rattle.std.proofs.lemmas.Bool.{or_cases}
 use Rattle.rv_isa.specs.declared.kind.Kind.{Kind}
 use Rattle.rv_isa.specs.declared.kind.Kind.TheVariants as kind
 use Rattle.rv_isa.specs.declared.instruction.BType.{BType}
@@ -24,13 +24,14 @@ use Rattle.rv_compress.specs.declared.form.Compressed.TheVariants.{J, Beqz, Bnez
 use Rattle.rv_compress.specs.Parcel.{IsBranch, IsJump, IsLine, IsShortOf, expansion, parcel}
 use Rattle.rv_reloc.specs.Fields.{patched}
 use Rattle.rv_reloc.specs.Operands.{branch_to, jump_to, immediate_of, store_of, upper_of, format_with, with_value}
-use Rattle.rv_reloc.specs.Ranges.{Takes, IsOdd}
+use Rattle.rv_reloc.specs.Ranges.{Takes}
 use Rattle.rv_compress.specs.Encoded.{IsEncodedIn}
 use Rattle.rv_filling_laws.specs.Formats.{word_bytes, Fills, IsUpperKind, IsLowerKind, IsStoreKind, IsCallKind}
 use Rattle.rv_filling_laws.proofs.FormatsLemmas.{branches, jumps, uppers, immediates, stores, calls, zero, nonzero, short_jumps}
 use Rattle.rv_pseudo_laws.specs.Code.{Joined}
 use Rattle.rv_pseudo_laws.specs.Valid.{fills_branch, fills_jump, fills_call, fills_upper, fills_lower, fills_store, fills, IsOpen}
 use Rattle.rv_pseudo_laws.proofs.FormatsLemmas.{branch_format}
+use Rattle.rv_pseudo_laws.proofs.FillingLemmas.{even}
 use Rattle.rv_filling_laws.specs.Parts.{is_call, IsEncodedPart}
 use Rattle.rv_filling_laws.proofs.FormsLemmas.{rebuilt, immediate_opcode, immediate_funct3, load_funct3, store_funct3, branch_funct3, upper_opcode, immediate_form, load_form, store_form, branch_form, upper_form, immediate_selectors, load_selectors, store_selectors, branch_selectors, upper_selector}
 
@@ -77,9 +78,6 @@ call_kind kind.CallPlt e = (tt, refl)
 call_kind _ e = absurd (cc)
 
 -- ---- parcels
-
-even : (v : ℤ) → (IsOdd v → ⊥) → unsigned_abs v % 2 ≡ 0
-even v odd = let not_one : unsigned_abs v % 2 ≢ 1 = odd in omega arith
 
 branch_range : (v : ℤ) → Takes kind.RvcBranch v → IsBranch v
 branch_range v t =
@@ -161,10 +159,6 @@ jump_filled kind.RvcJump v x bytes valid e t h =
     two kind.RvcJump v (inst.Jal x) (inst.Jal (jump_to x v)) bytes refl (λ c line same. short_jump c x v line (ap format_of same) t) h
 jump_filled _ v x bytes valid e t h = absurd (cc)
 
-either_true : (a b : Bool) → (a || b) ≡ true → (a ≡ true) ⊎ (b ≡ true)
-either_true true b e = inl refl
-either_true false b e = inr e
-
 jalr_filled : (k : Kind) (v : ℤ) (x : IType) (bytes : List ℕ) → IsIType x → IsLowerKind k × (width_of k ≡ 4) → Takes k v
     → IsEncodedIn (inst.Jalr x) (width_of k) bytes → IsEncodedIn (inst.Jalr (immediate_of x v)) (width_of k) (patched k v bytes)
 jalr_filled k v x bytes valid (lower, wide) t h =
@@ -191,7 +185,7 @@ format_filled (format.Upper operation x) k v i bytes valid e t h = elim (upper_k
 ]
 format_filled (format.Branch operation x) k v i bytes valid e t h = branch_filled k v operation x bytes valid e t h
 format_filled (format.Jal x) k v i bytes valid e t h = jump_filled k v x bytes valid e t h
-format_filled (format.Jalr x) k v i bytes valid e t h = elim (either_true (fills_lower k) (fills_call k) e) [
+format_filled (format.Jalr x) k v i bytes valid e t h = elim (or_cases (fills_lower k) (fills_call k) e) [
   | inl low ↦ jalr_filled k v x bytes valid (lower_kind k low) t h
   | inr call ↦ no_eight _ (width_of k) bytes (call_kind k call).1 h
 ]
