@@ -1,8 +1,8 @@
 -- The line feeds of a lexeme: a line's end is one, and of the others block comments alone have any.
 
-use Rattle.std.proofs.Common.{◌≡◌, ℕ, ◌+◌, ◌<◌, Bool, true, false, cond, ◌&&◌, ◌==◌, List, [], ◌∷◌, ◌++◌, refl, sym, ◌∙◌, ap, subst, arith, ◌⊎◌, inl, inr, Some, take}
+use Rattle.std.proofs.Common.{◌≡◌, ℕ, ◌+◌, ◌<◌, Bool, true, false, cond, ◌==◌, List, [], ◌∷◌, ◌++◌, refl, sym, ◌∙◌, ap, subst, arith, ◌⊎◌, inl, inr, Some, take}
 use Rattle.std.specs.List.{list_all}
-use Rattle.std.proofs.lemmas.Bool.{eqb-true}
+use Rattle.std.proofs.lemmas.Bool.{eqb-true, and_parts}
 use Rattle.rv_text_laws.specs.declared.punct.Punct.{Punct}
 use Rattle.rv_text_laws.specs.declared.punct.Punct.TheVariants.{Comma}
 use Rattle.rv_text_laws.specs.declared.class.Class.{Class}
@@ -20,10 +20,6 @@ use Rattle.rv_lexer.specs.Lexeme.{has_feeds}
 use Rattle.rv_text_laws.proofs.CutLemmas.{front}
 use Rattle.rv_text_laws.proofs.LexemesLemmas.{lexemes}
 use Rattle.rv_text_laws.proofs.TokensLemmas.{newlines-append}
-
-and_parts : (a b : Bool) → (a && b) ≡ true → (a ≡ true) × (b ≡ true)
-and_parts true b h = (refl, h)
-and_parts false b h = absurd (cc)
 
 no_feed : (b : ℕ) (bs : List ℕ) → (b ≡ 10 → ⊥) → newlines bs ≡ 0 → newlines (b ∷ bs) ≡ 0
 no_feed b bs other rest = go (b == 10) refl

@@ -4,6 +4,7 @@ ghost use Rattle.std.specs.Prelude.{◌≡◌};
 ghost use Rattle.rv_lexer.specs.Fault.{number_of, name_of};
 
 use std::alloc::{AllocError, AllocFailed};
+use thiserror::Error;
 
 /// The codes of faults, E1 to E17 in this order.
 #[derive(Clone, Copy, Debug, PartialEq, Eq, Drop)]
@@ -97,11 +98,13 @@ impl SourceCode {
 }
 
 /// Why a source is refused: a fault at a line of it, or want of memory.
-#[derive(Debug, Drop)]
+#[derive(Debug, Drop, Error)]
 pub enum SourceFault {
     /// The first fault of the source: its code and its line, from 1 (0 for a source that is too long).
+    #[error("a fault at line {line}")]
     At { code: SourceCode, line: u32 },
     /// Memory ran out.
+    #[error("out of memory")]
     OutOfMemory,
 }
 

@@ -1,4 +1,8 @@
-//! Pieces of a source: blanks, comments and tokens.
+//! Lexemes: blanks, comments and tokens.
+//!
+//! The class of the first byte decides which lexeme can begin there, and a lexeme is as long as it can be: at each
+//! place at most one stands, and nothing is tried twice. Names, punctuation of one byte and line feeds are most of a
+//! source, so they are found first, without the way through all others.
 
 ghost use Rattle.std.specs.Prelude.{◌≡◌, ◌+◌, ◌≤◌, ◌<◌, ◌^◌, ◌∷◌, slice_index, true, false, MatchOption, IfSome, length, option_map, if◌then◌else◌};
 ghost use Rattle.std.specs.List.{prefix_len};

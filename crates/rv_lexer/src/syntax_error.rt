@@ -9,6 +9,7 @@ ghost use Rattle.rv_lexer.specs.Token.{token_of, kind_of};
 use crate::fault::SourceCode;
 use crate::token::{Token, TokenKind};
 use std::alloc::{AllocError, AllocFailed};
+use thiserror::Error;
 
 /// The longest name, in bytes.
 pub const LONGEST_NAME: usize = 4095;
@@ -41,11 +42,13 @@ impl SyntaxError {
 }
 
 /// Why nothing is read.
-#[derive(Debug, Drop)]
+#[derive(Debug, Drop, Error)]
 pub enum ReadError {
     /// A token is wrong.
+    #[error("a wrong token")]
     At(SyntaxError),
     /// Memory ran out.
+    #[error("out of memory")]
     OutOfMemory,
 }
 

@@ -1,4 +1,9 @@
 //! The value of an expression.
+//!
+//! An expression is evaluated wherever its value is wanted, for faults, sizes and code, so it may not want memory: its
+//! values stand in an array, and that 200 are enough for every nesting that is read is proved. The cells of an array
+//! are written before they are used. So one operator on two operands is computed without it, and most others with a
+//! small one.
 
 ghost use Rattle.std.specs.Prelude.{◌≡◌, ◌<◌, ◌≤◌, ◌+◌, ◌++◌, List, [], ◌∷◌, true, length, min, IfSome};
 ghost use Rattle.rv_text_laws.specs.Expression.{Primary, tree_of};

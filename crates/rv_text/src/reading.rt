@@ -1,4 +1,9 @@
 //! How expressions are read.
+//!
+//! What waits for an operand, parentheses and operators, stands on a stack of its own and not in calls: so the nesting
+//! is counted and its limit is one test, and no source can use up the stack of the program. Nodes are put out in
+//! postfix form, which the evaluation goes over once. Each step looks at one token, so the first token that no step
+//! takes is the fault.
 
 ghost use Rattle.std.specs.Prelude.{◌≡◌, ℕ, Bool, List, [], ◌∷◌, ◌++◌, IfOk, IfErr};
 ghost use Rattle.rv_text_laws.specs.Expression.{Tree, ReadsTree, postfix, begins, follows, level_of, named_operand, punct_begins};
