@@ -8,7 +8,7 @@ use Rattle.std.proofs.lemmas.Bool.Decides.{nat_tests}
 use Rattle.rv_elf.specs.Sections.{is_past}
 use Rattle.rv_image.specs.Executable.{Part, memory_size_of, has_memory, offset_of, with_contents, with_parts}
 
--- the parts stand in memory one behind the other, from low on and up to high
+-- the parts stand in memory one after the other, from low on and up to high
 abbrev pub Ascending : ℕ → List Part → ℕ → Type 0
 Ascending low [] high = low ≤ high
 Ascending low (part ∷ parts) high = (low ≤ part.address) × Ascending (part.address + memory_size_of part) parts high
@@ -22,7 +22,7 @@ abbrev pub AllStand : ℕ → List ℕ → List Part → Type 0
 AllStand start file [] = Unit {0}
 AllStand start file (part ∷ parts) = Stands start file part × AllStand start file parts
 
--- what is written later comes behind
+-- what is written later comes after
 pub extends : (start : ℕ) (file : List ℕ) (parts : List Part) → (extra : List ℕ) × (with_parts start file parts ≡ file ++ extra)
 extends start file [] = ([], sym (append-nil file))
 extends start file (part ∷ parts) = go part.stored (λ f. extends start f parts)
@@ -38,7 +38,7 @@ extends start file (part ∷ parts) = go part.stored (λ f. extends start f part
         let more = later (file ++ new) in
         (new ++ more.0, more.1 ∙ append_assoc file new more.0)
 
--- bytes at a place behind the end of a file, and what comes behind them
+-- bytes at a place after the end of a file, and what comes after them
 one_stands : (file bytes extra : List ℕ) (place : ℕ) → length file ≤ place →
     (is_past (with_contents file place bytes ++ extra) place (length bytes) ≡ false)
     × (take (length bytes) (drop place (with_contents file place bytes ++ extra)) ≡ bytes)

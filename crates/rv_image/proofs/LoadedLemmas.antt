@@ -62,7 +62,7 @@ loaded_cons p ps = go (is_load p) refl
         (sum_by-cons (λ q. q.p_memsz) p (filter is_load ps) ∙ ap (λ n. n + sum_by (λ q. q.p_memsz) (filter is_load ps)) (sym (zero-add p.p_memsz)))
     go false e = rw (cond-false (is_load p) (p ∷ filter is_load ps) (filter is_load ps) e, cond-false (is_load p) (p ∷ []) [] e) (sym (zero-add _))
 
--- the memory of the table from the header i on, and of those behind it
+-- the memory of the table from the header i on, and of those after it
 pub loaded_step : (count i place : ℕ) (file : List ℕ) → i < count →
     loaded_size (programs_from (count - i) (place + 56 * i) file)
     ≡ loaded_size (program_header_at (place + 56 * i) file ∷ []) + loaded_size (programs_from (count - (i + 1)) (place + 56 * (i + 1)) file)
@@ -72,7 +72,7 @@ loaded_step count i place file below =
 filter_cons : (p : ProgramHeader) (ps : List ProgramHeader) → filter is_load (p ∷ ps) ≡ filter is_load (p ∷ []) ++ filter is_load ps
 filter_cons p ps = filter-append is_load (p ∷ []) ps
 
--- the segments of the table from the header i on, and of those behind it
+-- the segments of the table from the header i on, and of those after it
 pub segments_step : (count i place : ℕ) (file : List ℕ) → i < count →
     map (segment_in file) (filter is_load (programs_from (count - i) (place + 56 * i) file))
     ≡ map (segment_in file) (filter is_load (program_header_at (place + 56 * i) file ∷ [])) ++ map (segment_in file) (filter is_load (programs_from (count - (i + 1)) (place + 56 * (i + 1)) file))

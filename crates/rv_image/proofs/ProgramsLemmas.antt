@@ -28,7 +28,7 @@ none_meets p (q ∷ qs) highest h below =
     let both = and_parts (ends_by highest q) (list_all (ends_by highest) qs) h in
     or_from _ _ (one_meets_not p q highest both.0 below) (none_meets p qs highest both.1 below)
 
--- the table from the header i on is that header and the table behind it
+-- the table from the header i on is that header and the table after it
 pub programs_from_cut : (count i place : ℕ) (file : List ℕ) → i < count →
     programs_from (count - i) (place + 56 * i) file ≡ program_header_at (place + 56 * i) file ∷ programs_from (count - (i + 1)) (place + 56 * (i + 1)) file
 programs_from_cut count i place file below =

@@ -50,11 +50,11 @@ abbrev pub parts : Linked → List Part
 parts l = filter has_memory (all_parts l)
 
 -- where the file has a segment: text, which begins at this start, at 1000h, the others as far
--- behind as in memory
+-- after it as in memory
 abbrev pub offset_of : ℕ → Part → ℕ
 offset_of start part = 0x1000 + (part.address - start)
 
--- the header: the program headers stand behind it, and there are no section headers
+-- the header: the program headers come after it, and there are no section headers
 abbrev pub header_of : Linked → FileHeader
 header_of l = record {
   e_type = et_exec;

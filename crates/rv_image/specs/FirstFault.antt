@@ -45,7 +45,7 @@ programs_tests file before [] = []
 programs_tests file before (p ∷ ps) =
     program_tests file before p ++ programs_tests file (before ++ p ∷ []) ps
 
--- so many program headers from a place on, and so many of the first of a file
+-- the program headers of a table from its place on, and the first ones of a file
 abbrev pub programs_from : ℕ → ℕ → List ℕ → List ProgramHeader
 programs_from count place file = records program_header_at program_header_size count place file
 

@@ -58,7 +58,8 @@ held-segment (t ∷ ss) (suc i) x s apart at held =
 holds-same : (s t : Segment) (x : ℕ) → t.address ≡ s.address → length t.bytes ≡ length s.bytes → lies_in t x ≡ lies_in s x
 holds-same s t x same long = grind (arith, nat_tests)
 
-swapped : {A : Type 0} (a b : Bool) (p q o : A) → (a ≡ true → b ≡ true → ⊥) → cond a p (cond b q o) ≡ cond b q (cond a p o)
+-- tests that are never both true have no order
+pub swapped : {A : Type 0} (a b : Bool) (p q o : A) → (a ≡ true → b ≡ true → ⊥) → cond a p (cond b q o) ≡ cond b q (cond a p o)
 swapped true true p q o never = absurd (never refl refl)
 swapped true false p q o never = refl
 swapped false true p q o never = refl
@@ -144,7 +145,8 @@ pub length-with_part : (s : Segment) (k : ℕ) (bs : List ℕ) → k + length bs
 length-with_part s k bs fits = simp (length-append, length-drop) (let long : length (take k s.bytes) ≡ k = grind (arith, common_steps) in omega arith)
 
 -- what an address is to n addresses from a on
-place : (x a n : ℕ) → (x < a) ⊎ (((a ≤ x) × (x < a + n)) ⊎ (a + n ≤ x))
+-- before a range, in it, or after it
+pub place : (x a n : ℕ) → (x < a) ⊎ (((a ≤ x) × (x < a + n)) ⊎ (a + n ≤ x))
 place x a n = grind (arith, cases_order x a, cases_order x (a + n))
 
 -- the byte of an address in the segment, before and after, is that of memory

@@ -16,7 +16,7 @@ use Rattle.rv_memory.specs.Flat.{memory_of, AreDisjoint}
 use Rattle.rv_memory.specs.Pages.{Page, page_of, page_at, cell_in, AreAscending, memory_of_pages, with_bytes_on, with_rights_on, with_rights}
 use Rattle.rv_memory.specs.declared.page.Page.{Page as DeclaredPage}
 use Rattle.rv_memory.proofs.MemoryLemmas.{byte-below, byte-above, byte-inside, has-with_bytes}
-use Rattle.rv_memory.proofs.FlatLemmas.{bytes-within, with-part-is, same-memory, holds-range, range-holds, held-segment}
+use Rattle.rv_memory.proofs.FlatLemmas.{bytes-within, with-part-is, same-memory, holds-range, range-holds, held-segment, place}
 
 -- a column of a page as a segment
 abbrev pub segment_in : (Page → List ℕ) → Page → Segment
@@ -200,9 +200,6 @@ put-by m a bs x fits (inr (inl here)) =
 put-by m a bs x fits (inr (inr above)) =
     let no_one : (nat_le a x && nat_lt x (a + length bs)) ≡ false = grind (arith, nat_tests) in
     rw no_one (byte-above m a bs x fits above)
-
-place : (x a n : ℕ) → (x < a) ⊎ (((a ≤ x) × (x < a + n)) ⊎ (a + n ≤ x))
-place x a n = grind (arith, cases_order x a, cases_order x (a + n))
 
 pub put-byte : (m : Mem) (s : Segment) (x : ℕ) → s.address + length s.bytes ≤ 2 ^ 64 →
     (with_bytes m s.address s.bytes).byte x ≡ cond (lies_in s x) (get_or s.bytes (x - s.address) 0) (m.byte x)

@@ -9,7 +9,7 @@ use Rattle.rv_image.specs.Segment.{Segment}
 use Rattle.rv_image.specs.Memory.{lies_in, segment_at, has_flag, byte_in, right_in}
 use Rattle.rv_memory.specs.Flat.{memory_of, AreDisjoint}
 use Rattle.rv_memory.specs.Pages.{with_rights, with_segment}
-use Rattle.rv_memory.proofs.FlatLemmas.{same-memory, holds-range}
+use Rattle.rv_memory.proofs.FlatLemmas.{same-memory, holds-range, swapped}
 use Rattle.rv_memory.proofs.PagesLemmas.{put-byte}
 
 -- bytes put, and then their rights
@@ -117,12 +117,6 @@ with-low-flags m s =
     same-memory (with_segment m (record { address = s.address; bytes = s.bytes; flags = s.flags % 8 })) (with_segment m s) refl (fun_ext (λ (x : ℕ). fun_ext (right x)))
 
 -- segments one after the other: one more of those that lie apart is put over the memory of those before it
-swapped : {A : Type 0} (a b : Bool) (p q o : A) → (a ≡ true → b ≡ true → ⊥) → cond a p (cond b q o) ≡ cond b q (cond a p o)
-swapped true true p q o never = absurd (never refl refl)
-swapped true false p q o never = refl
-swapped false true p q o never = refl
-swapped false false p q o never = refl
-
 rest-apart : (s : Segment) (ss : List Segment) → AreDisjoint (s ∷ ss) → AreDisjoint ss
 rest-apart s ss apart i j x t u at_i at_j in_t in_u =
     let e : suc i ≡ suc j = apart (suc i) (suc j) x t u at_i at_j in_t in_u in

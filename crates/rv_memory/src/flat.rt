@@ -69,7 +69,7 @@ fn zeros(alloc: Global, count: usize) -> Result<Vec<u8>, AllocError>
     vec![in alloc; 0; count]
 }
 
-/// The segments of an image, and the stack behind them.
+/// The segments of an image, and the stack after them.
 pub(crate) fn with_stack(alloc: Global, image: Image) -> Result<Vec<Segment>, AllocError>
     ensures apart { IfOk result (λ segments. AreDisjoint (map segment_of segments.items)) }
     ensures memory { IfOk result

@@ -157,7 +157,7 @@ pub fn cut(elements: &[u8], at: usize, count: usize) -> &[u8]
     &elements[at..at + count]
 }
 
-/// Replaces so many elements, from the one at `at` on, by one.
+/// Replaces `count` elements, from the one at `at` on, by one.
 pub fn overwrite_all(elements: &mut [u8], at: usize, count: usize, by: u8)
     requires { at + count ≤ length elements.old }
     ensures { elements.new

@@ -10,7 +10,7 @@ sum_of bs = get_or bs 0 0 + get_or bs 1 0 * 256 + get_or bs 2 0 * 256 ^ 2 + get_
 abbrev zeros : List ℕ
 zeros = 0 ∷ 0 ∷ 0 ∷ 0 ∷ 0 ∷ 0 ∷ 0 ∷ 0 ∷ []
 
--- zeros behind the bytes add nothing
+-- zeros after the bytes add nothing
 padded : (bs : List ℕ) → IsWidth (length bs) → sum_of (bs ++ drop (length bs) zeros) ≡ number_in bs
 padded [] n = absurd (omega (arith, n))
 padded (a ∷ []) n = omega arith
