@@ -10,7 +10,7 @@ use Rattle.rv_compress.specs.declared.form.Compressed.TheVariants.{Addi4spn, Lw,
 use Rattle.rv_compress.specs.Parcel.{bits_at, branch_offset, stack_step, jump_offset, parcel, expansion, IsLine, IsBranch, IsJump, IsStackStep, SpellsForm, StandsFor}
 use Rattle.rv_compress.proofs.JumpLemmas.{gathered, offset-gathered, field-below}
 
--- the number with sign that a field of so many bits holds
+-- the number with sign that a field of this many bits holds
 abbrev signed : (width value : ℕ) → ℤ
 signed width value = if nat_lt value (2 ^ (width - 1)) then pos value else negsuc (2 ^ width - 1 - value)
 

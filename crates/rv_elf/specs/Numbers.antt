@@ -50,7 +50,7 @@ sht_progbits = 1
 abbrev pub sht_symtab : ℕ
 sht_symtab = 2
 
--- sh_type: strings, each with a zero byte behind it
+-- sh_type: strings, each with a zero byte after it
 abbrev pub sht_strtab : ℕ
 sht_strtab = 3
 

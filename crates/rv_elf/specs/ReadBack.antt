@@ -192,7 +192,7 @@ rela_again h before after fits =
     rela_there h (length before) (before ++ (rela_bytes h ++ after)) after fits
     (drop_at before (rela_bytes h ++ after) (length before) refl)
 
--- a name without a zero byte, and what follows the zero byte behind it
+-- a name without a zero byte, and what follows the zero byte after it
 name_ends : (name after : List ℕ) → list_any (λ byte. byte == 0) name ≡ false → before_zero (name ++ (0 ∷ after)) ≡ Some name
 name_ends [] after none = refl
 name_ends (byte ∷ name) after none =

@@ -24,7 +24,7 @@ section_count file = number_in e_shnum 0 file
 abbrev pub names_section : List ℕ → ℕ
 names_section file = number_in e_shstrndx 0 file
 
--- the records of a table, so many from a place on: each begins `size` bytes behind the one before
+-- the first records of a table from its place on: each begins `size` bytes after the one before
 abbrev pub records : {X : Type 0} → (ℕ → List ℕ → X) → ℕ → ℕ → ℕ → List ℕ → List X
 records record_at size zero place bytes = []
 records record_at size (suc count) place bytes =

@@ -28,7 +28,7 @@ pub const SHT_NULL: u32 = 0;
 pub const SHT_PROGBITS: u32 = 1;
 /// `sh_type`: symbols.
 pub const SHT_SYMTAB: u32 = 2;
-/// `sh_type`: strings, each with a zero byte behind it.
+/// `sh_type`: strings, each with a zero byte after it.
 pub const SHT_STRTAB: u32 = 3;
 /// `sh_type`: relocations with addends.
 pub const SHT_RELA: u32 = 4;

@@ -81,7 +81,7 @@ impl ElfWriter {
         self.bytes.extend_from_slice(bytes)
     }
 
-    /// Writes so many zero bytes.
+    /// Writes `count` zero bytes.
     pub fn zeros(&mut self, count: usize) -> Result<(), AllocError>
         ensures ok { OnOk result (self.new ≡ self.old ++ replicate count 0) }
         ensures err { OnErr result (self.new ≡ self.old) }

@@ -4,7 +4,7 @@ use Rattle.std.proofs.lemmas.Nat.{and_mask}
 use Rattle.std.proofs.Common.{◌∙◌, ap, arith, rules}
 use Rattle.rv_compress.proofs.reading.selector_of.Goals as goal
 
--- the three bits of funct3 come to the low end, and the two of the quadrant behind them
+-- the three bits of funct3 come to the low end, and the two of the quadrant after them
 turned : (p : ℕ) → p < 65536 →
     bit_and (bit_or (p / 8192) (p * 8 % 65536)) 31 ≡ p % 4 * 8 + p / 8192
 turned p low =
