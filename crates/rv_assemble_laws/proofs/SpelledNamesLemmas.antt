@@ -3,7 +3,7 @@
 use Rattle.std.proofs.Common.{◌≡◌, ℕ, zero, suc, Bool, true, false, ◌&&◌, ◌||◌, ◌==◌, cond, List, [], ◌∷◌, ◌++◌, flat_map, Option, Some, None, refl, sym, ap, append_assoc, ◌∙◌, subst, inl, inr, arith}
 use Rattle.std.specs.Prelude.{nat_le, nat_lt, length, codes, bytes_eq, is_some, option_map}
 use Rattle.std.specs.List.{list_all}
-use Rattle.std.proofs.lemmas.Bool.{and_from}
+use Rattle.std.proofs.lemmas.Bool.{and_from, and_parts}
 use Rattle.std.proofs.lemmas.List.Folds.{list_all-append}
 use Rattle.rv_text_laws.specs.declared.class.Class.{Class}
 use Rattle.rv_text_laws.specs.declared.class.Class.TheVariants as classes
@@ -36,10 +36,6 @@ use Rattle.rv_map.specs.Name.{is_name, is_name_byte}
 use Rattle.rv_assemble_laws.specs.ShownNames.{primary_names, tree_names, said_names, are_shown, HasNames}
 
 -- ---- both of two tests
-
-and_parts : (a b : Bool) → (a && b) ≡ true → (a ≡ true) × (b ≡ true)
-and_parts true b h = (refl, h)
-and_parts false b h = absurd (cc)
 
 module _ {A : Type 0} (p : A → Bool) where
   all_parts : (xs ys : List A) → list_all p (xs ++ ys) ≡ true → (list_all p xs ≡ true) × (list_all p ys ≡ true)

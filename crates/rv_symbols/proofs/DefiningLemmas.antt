@@ -4,7 +4,7 @@ use Rattle.std.proofs.Common.{◌≡◌, ℕ, zero, suc, ◌+◌, ◌<◌, ◌^�
 use Rattle.std.specs.Prelude.{◌&&◌, ◌||◌, ◌==◌, not, nat_lt, is_some, slice_get, if◌then◌else◌}
 use Rattle.std.specs.List.{AllByRecursion, find, list_any}
 use Rattle.std.specs.Str.{bytes_eq}
-use Rattle.std.proofs.lemmas.Bool.{eq-eqb, ltb-true}
+use Rattle.std.proofs.lemmas.Bool.{eq-eqb, ltb-true, or_left}
 use Rattle.rv_map.specs.Globals.{is_one_of}
 use Rattle.rv_text_laws.specs.Expression.{Symbol as Named}
 use Rattle.rv_text_laws.specs.Values.{Meaning, Known, InSection as InData, Open as OpenAddress, Refused, add}
@@ -22,7 +22,6 @@ use Rattle.rv_assemble_laws.specs.Sites.{Site}
 use Rattle.rv_assemble_laws.specs.Symbols.{site_at, after_site, after_found, assigned_definition, site_definition, local_symbol, is_absolute, symbols_of, StandsFor}
 use Rattle.rv_symbols.specs.Numbers.{number_in}
 use Rattle.rv_symbols.proofs.StandsLemmas.{site_by, ordinal_by}
-use Rattle.rv_symbols.proofs.NumberedLemmas.{or_true}
 use Rattle.rv_symbols.proofs.OwnedLemmas.{own_stands, own_named, own_all}
 use Rattle.rv_symbols.proofs.SingleLemmas.{OnlySet, AreNumbers, of_label, of_set, of_numbers}
 use Rattle.rv_symbols.proofs.OneNameLemmas.{Is, IsSet, IsFound, one_name, labels_found, none_all}
@@ -68,7 +67,7 @@ found_any test more (z ∷ xs) x e m = go (test z) e (λ f. found_any test more 
     go : (b : Bool) → (if b then Some z else find test xs) ≡ Some x → (find test xs ≡ Some x → list_any more xs ≡ true) → (more z || list_any more xs) ≡ true
     go true e ih =
         let same : z ≡ x = cc in
-        or_true (more z) (list_any more xs) (ap more same ∙ m)
+        or_left (more z) (list_any more xs) (ap more same ∙ m)
     go false e ih = behind (more z) (ih e)
       where
         behind : (b : Bool) → list_any more xs ≡ true → (b || list_any more xs) ≡ true
@@ -162,7 +161,7 @@ module _ (ss : List Statement) (sites : List Site) (located : map (λ s. s.locat
     of_one_label : (l : Labelled) → label_of t.labels true 0 name ≡ Some l → assigned_ever t.assignments name ≡ None → Is name sites t.assignments (Some l) None → Stands
     of_one_label l e f (i, s, at, is, placed, kind) =
         own_stands t sites name o (definition_at l.ordinal) (of_label name t o l e f)
-        (own_named t sites name i s at (ap (λ k. is_one_of (defined_name t s.located.ordinal k) name) kind ∙ or_true (bytes_eq name name) false (bytes_same name))
+        (own_named t sites name i s at (ap (λ k. is_one_of (defined_name t s.located.ordinal k) name) kind ∙ or_left (bytes_eq name name) false (bytes_same name))
         (ap (λ k. is_absolute (local_symbol name (site_definition t sites s k))) kind)) (own_all t sites name (Own (definition_at l.ordinal)) shown (all_give (definition_at l.ordinal) label set))
       where
         site : site_at sites l.ordinal ≡ Some s
@@ -201,7 +200,7 @@ module _ (ss : List Statement) (sites : List Site) (located : map (λ s. s.locat
     of_one_place a none f place h only e i s at is placed kind =
         own_stands t sites name o d (of_set name t o a none f only place)
         (own_named t sites name i s at
-        (ap (λ k. is_one_of (defined_name t s.located.ordinal k) name) kind ∙ ap (λ b. is_one_of (if b then name ∷ [] else []) name) first ∙ or_true (bytes_eq name name) false (bytes_same name))
+        (ap (λ k. is_one_of (defined_name t s.located.ordinal k) name) kind ∙ ap (λ b. is_one_of (if b then name ∷ [] else []) name) first ∙ or_left (bytes_eq name name) false (bytes_same name))
         (ap (λ k. is_absolute (local_symbol name (site_definition t sites s k))) kind ∙ ap (λ x. is_absolute (local_symbol name x)) given)) (own_all t sites name (Own d) shown (all_give d label set))
       where
         d : laws.Definition

@@ -4,7 +4,7 @@ use Rattle.std.proofs.Common.{◌≡◌, ◌<◌, ◌≤◌, ◌+◌, ℕ, Bool,
 use Rattle.std.specs.Prelude.{◌&&◌, ◌||◌, ◌==◌, not, is_some, reverse, if◌then◌else◌}
 use Rattle.std.specs.List.{find, list_any}
 use Rattle.std.specs.Str.{bytes_eq}
-use Rattle.std.proofs.lemmas.Bool.{ltb-true, ltb-false, lt-ltb, leb-true, le-leb, eqb-true, eq-eqb}
+use Rattle.std.proofs.lemmas.Bool.{ltb-true, ltb-false, lt-ltb, leb-true, le-leb, eqb-true, eq-eqb, and_from}
 use Rattle.std.proofs.lemmas.List.{take_more, map-append, reverse-append}
 use Rattle.rv_unit_laws.specs.Tables.{Assignment}
 use Rattle.rv_unit_tables.specs.declared.tables.Assignment.{Assignment as DeclaredSetting}
@@ -12,9 +12,6 @@ use Rattle.rv_unit_tables.specs.Tables.{assignment_of}
 use Rattle.rv_source_laws.specs.Resolves.{sets_first}
 use Rattle.rv_symbols.specs.Settings.{least, first_ordinal}
 use Rattle.rv_unit_laws.proofs.FoundLemmas.{same_bytes}
-
-both_true : (a b : Bool) → a ≡ true → b ≡ true → (a && b) ≡ true
-both_true a b e f = ap (λ x. x && b) e ∙ f
 
 same_tests : (a b : Bool) → (a ≡ true → b ≡ true) → (b ≡ true → a ≡ true) → a ≡ b
 same_tests true b f g = sym (f refl)

@@ -5,7 +5,7 @@ use Rattle.std.specs.Prelude.{◌&&◌, ◌==◌, not, nat_lt, option_map, unwra
 use Rattle.std.specs.Borrow.{Bor}
 use Rattle.std.specs.List.{position_or_len}
 use Rattle.std.specs.Str.{bytes_eq}
-use Rattle.std.proofs.lemmas.Bool.{eqb-true}
+use Rattle.std.proofs.lemmas.Bool.{eqb-true, and_right}
 use Rattle.std.proofs.lemmas.List.{take_more, map-append, length-map, length-take-le}
 use Rattle.rv_statement.specs.View.{now_of}
 use Rattle.rv_object.specs.declared.symbol.Definition.{Definition as Defined}
@@ -49,10 +49,6 @@ no_name (b ∷ bs) e = absurd (let f : suc (length bs) ≡ 0 = eqb-true (suc (le
 pub named_nowhere : (x : Symbol) (q : ℕ × ℕ) → (length x.name == 0) ≡ false → is_at_place q.0 q.1 x ≡ false
 named_nowhere x q e = not_same (bytes_eq x.name []) (stands_in q.0 q.1 x.definition) (some_name x.name e)
 
-and_false : (b c : Bool) → c ≡ false → (b && c) ≡ false
-and_false true c e = e
-and_false false c e = refl
-
 stands_not : (d : Defined) (s o : ℕ) → ((section offset : ℕ) → d ≡ InSection section offset → ⊥) → stands_in s o d ≡ false
 stands_not Undefined s o f = refl
 stands_not (Absolute n) s o f = refl
@@ -60,7 +56,7 @@ stands_not (Skipped n) s o f = refl
 stands_not (InSection section offset) s o f = absurd (f section offset refl)
 
 pub elsewhere : (x : Symbol) (q : ℕ × ℕ) → ((section offset : ℕ) → x.definition ≡ InSection section offset → ⊥) → is_at_place q.0 q.1 x ≡ false
-elsewhere x q f = and_false (bytes_eq x.name []) (stands_in q.0 q.1 x.definition) (stands_not x.definition q.0 q.1 f)
+elsewhere x q f = and_right (bytes_eq x.name []) (stands_in q.0 q.1 x.definition) (stands_not x.definition q.0 q.1 f)
 
 pub place_more : (xs : List Symbol) (x : Symbol) (q : ℕ × ℕ) (section offset next : ℕ) (old new : Option ℕ) → (length x.name == 0) ≡ true → x.definition ≡ InSection section offset → next ≡ length xs
     → new ≡ cond (same_place (section, offset) q) (Some next) old → old ≡ last_index (is_at_place q.0 q.1) xs → new ≡ last_index (is_at_place q.0 q.1) (xs ++ x ∷ [])

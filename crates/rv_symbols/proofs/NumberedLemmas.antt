@@ -4,7 +4,7 @@ use Rattle.std.proofs.Common.{◌≡◌, ℕ, zero, suc, ◌+◌, ◌<◌, Bool,
 use Rattle.std.specs.Prelude.{◌⊎◌, ◌||◌, not, flat_map, position, slice_get, unwrap_or, if◌then◌else◌}
 use Rattle.std.specs.List.{list_any, position_or_len}
 use Rattle.std.specs.Str.{bytes_eq}
-use Rattle.std.proofs.lemmas.Bool.{lt-ltb}
+use Rattle.std.proofs.lemmas.Bool.{lt-ltb, or_right, or_left}
 use Rattle.std.proofs.lemmas.List.Folds.{list_any-append}
 use Rattle.rv_map.specs.Globals.{is_one_of}
 use Rattle.rv_text_laws.specs.Expression.{Symbol as Named}
@@ -19,24 +19,17 @@ use Rattle.rv_symbols.specs.Numbers.{last_from, last_index, own_symbols, missing
 
 -- ---- look-ups in lists
 
-pub or_true : (a b : Bool) → a ≡ true → (a || b) ≡ true
-or_true a b e = ap (λ x. x || b) e
-
-pub or_behind : (a b : Bool) → b ≡ true → (a || b) ≡ true
-or_behind true b e = refl
-or_behind false b e = e
-
 pub any_front : {X : Type 0} (p : X → Bool) (xs ys : List X) → list_any p xs ≡ true → list_any p (xs ++ ys) ≡ true
-any_front p xs ys e = list_any-append p xs ys ∙ or_true (list_any p xs) (list_any p ys) e
+any_front p xs ys e = list_any-append p xs ys ∙ or_left (list_any p xs) (list_any p ys) e
 
 pub any_behind : {X : Type 0} (p : X → Bool) (xs ys : List X) → list_any p ys ≡ true → list_any p (xs ++ ys) ≡ true
-any_behind p xs ys e = list_any-append p xs ys ∙ or_behind (list_any p xs) (list_any p ys) e
+any_behind p xs ys e = list_any-append p xs ys ∙ or_right (list_any p xs) (list_any p ys) e
 
 -- an element at an index passes
 abbrev pub Has : {X : Type 0} → List X → (X → Bool) → Option ℕ → Type 0
 Has {X} xs p found = (k : ℕ) × (x : X) × (found ≡ Some k) × (slice_get xs k ≡ Some x) × (p x ≡ true)
 
-front_got : {X : Type 0} (xs : List X) (i : ℕ) (x : X) (ys : List X) → drop i xs ≡ x ∷ ys → (slice_get xs i ≡ Some x) × (drop (suc i) xs ≡ ys)
+pub front_got : {X : Type 0} (xs : List X) (i : ℕ) (x : X) (ys : List X) → drop i xs ≡ x ∷ ys → (slice_get xs i ≡ Some x) × (drop (suc i) xs ≡ ys)
 front_got [] zero x ys e = absurd (cc)
 front_got [] (suc i) x ys e = absurd (cc)
 front_got (z ∷ zs) zero x ys e = (cc, cc)
@@ -97,8 +90,8 @@ distinct_has before (x ∷ xs) n e f = go (is_one_of before x) refl (bytes_eq x 
         → is_one_of (if b then distinct_from before xs else x ∷ distinct_from (x ∷ before) xs) n ≡ true
     go true g true h e one two = absurd (let s : is_one_of before n ≡ true = ap (is_one_of before) (sym (same_bytes x n h)) ∙ g in cc)
     go true g false h e one two = one e f
-    go false g true h e one two = or_true (bytes_eq x n) _ h
-    go false g false h e one two = or_behind (bytes_eq x n) _ (two e (ap (λ y. y || is_one_of before n) h ∙ f))
+    go false g true h e one two = or_left (bytes_eq x n) _ h
+    go false g false h e one two = or_right (bytes_eq x n) _ (two e (ap (λ y. y || is_one_of before n) h ∙ f))
 
 any_flat : (f : SymbolUse → List (List ℕ)) (rs : List SymbolUse) (i : ℕ) (r : SymbolUse) (n : List ℕ) → slice_get rs i ≡ Some r → is_one_of (f r) n ≡ true → is_one_of (flat_map f rs) n ≡ true
 any_flat f [] zero r n e h = absurd (cc)
@@ -113,8 +106,8 @@ swap_any n [] e = absurd (cc)
 swap_any n (x ∷ xs) e = go (bytes_eq x n) refl e (swap_any n xs)
   where
     go : (b : Bool) → bytes_eq x n ≡ b → (b || is_one_of xs n) ≡ true → (is_one_of xs n ≡ true → list_any (bytes_eq n) xs ≡ true) → (bytes_eq n x || list_any (bytes_eq n) xs) ≡ true
-    go true f e ih = or_true (bytes_eq n x) _ (bytes_swap n x ∙ f)
-    go false f e ih = or_behind (bytes_eq n x) _ (ih e)
+    go true f e ih = or_left (bytes_eq n x) _ (bytes_swap n x ∙ f)
+    go false f e ih = or_right (bytes_eq n x) _ (ih e)
 
 map_got : {A B : Type 0} (f : A → B) (xs : List A) (k : ℕ) (x : A) → slice_get xs k ≡ Some x → slice_get (map f xs) k ≡ Some (f x)
 map_got f [] zero x e = absurd (cc)
@@ -140,7 +133,7 @@ module _ (t : Tables) (sites : List Site) where
       let names = missing_names t rs in
       let own = own_symbols t sites in
       let one : is_one_of (missing_name t o (Named name)) name ≡ true =
-      ap (λ d. is_one_of (elim d [ None ↦ name ∷ [] | Some h ↦ [] ]) name) none ∙ or_true (bytes_eq name name) false (bytes_same name) in
+      ap (λ d. is_one_of (elim d [ None ↦ name ∷ [] | Some h ↦ [] ]) name) none ∙ or_left (bytes_eq name name) false (bytes_same name) in
       let listed : is_one_of names name ≡ true = distinct_has [] (flat_map (λ r. missing_name t r.ordinal r.symbol) rs) name (any_flat (λ r. missing_name t r.ordinal r.symbol) rs i _ name at one) refl in
       let found = position_has (bytes_eq name) names (swap_any name names listed) in
       let k = unwrap_or (position (bytes_eq name) names) 0 in

@@ -1,6 +1,7 @@
 -- Relocations name their symbols in the order of their statements, but for places of statements.
 
 use Rattle.std.proofs.Common.{◌≡◌, ℕ, zero, suc, ◌+◌, ◌≤◌, Bool, true, false, List, [], ◌∷◌, ◌++◌, length, map, refl, sym, ap, ◌∙◌, subst, arith, append_assoc, inl, inr, Option, Some, None}
+use Rattle.rv_symbols.proofs.StandsLemmas.{cons_parts}
 use Rattle.std.specs.Prelude.{◌⊎◌, flat_map, unwrap_or, if◌then◌else◌}
 use Rattle.std.specs.List.{AllByRecursion}
 use Rattle.rv_isa.specs.declared.kind.Kind.{Kind}
@@ -158,13 +159,10 @@ rises_join t low n high (x ∷ rs) qs l k (e, h) r = (
     go true f ih = ih low l
     go false f ih = ih x.ordinal (let is = own t n x e f in omega (arith, is))
 
-front : {A : Type 0} (x y : A) (xs ys : List A) → x ∷ xs ≡ y ∷ ys → (x ≡ y) × (xs ≡ ys)
-front x y xs ys e = (cc, cc)
-
 pub rises_from : (t : Tables) (k high : ℕ) (u : Tables) (ss : List Statement) (sites : List Site) → map (λ s. s.located) sites ≡ located_from 1 k u ss → k + length ss ≤ high + 1 → Rises k high (references t sites)
 rises_from t k high u ss [] e h = tt
 rises_from t k high u [] (s ∷ sites) e h = absurd (cc)
 rises_from t k high u (x ∷ ss) (s ∷ sites) e h =
-    let own : s.located.ordinal ≡ k = ap (λ (l : Located). l.ordinal) (front _ _ _ _ e).0 in
+    let own : s.located.ordinal ≡ k = ap (λ (l : Located). l.ordinal) (cons_parts _ _ _ _ e).0 in
     rises_join t k k high (references_of t s) (references t sites) (omega arith) (omega arith) (subst (λ n. AreOf t n (references_of t s)) own (of_site t s))
-    (lower k (suc k) high (references t sites) (omega arith) (rises_from t (suc k) high (after u k x.kind) ss sites (front _ _ _ _ e).1 (omega arith)))
+    (lower k (suc k) high (references t sites) (omega arith) (rises_from t (suc k) high (after u k x.kind) ss sites (cons_parts _ _ _ _ e).1 (omega arith)))

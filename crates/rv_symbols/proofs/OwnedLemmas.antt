@@ -1,6 +1,7 @@
 -- The symbols that stand for names that their file defines.
 
 use Rattle.std.proofs.Common.{◌≡◌, ℕ, zero, suc, Bool, true, false, List, [], ◌∷◌, ◌++◌, map, refl, sym, ap, ◌∙◌, subst, Some}
+use Rattle.std.proofs.lemmas.Bool.{or_right, or_left}
 use Rattle.std.specs.Prelude.{◌||◌, not, filter, flat_map, slice_get, unwrap_or, if◌then◌else◌}
 use Rattle.std.specs.List.{AllByRecursion, list_any}
 use Rattle.std.specs.Str.{bytes_eq}
@@ -17,9 +18,9 @@ use Rattle.rv_object.specs.Object.{Symbol}
 use Rattle.rv_assemble_laws.specs.Sites.{Site}
 use Rattle.rv_assemble_laws.specs.Symbols.{references, site_definition, local_symbol, global_symbol, is_absolute, unnamed_symbols, named_symbols, local_symbols, exports_of, exports, symbols_of, IsOwn, IsDefinedBy, StandsFor}
 use Rattle.rv_symbols.specs.Numbers.{last_index, is_named, own_symbols, missing_names, number_by, number_in}
-use Rattle.rv_symbols.proofs.NumberedLemmas.{or_true, or_behind, any_front, any_behind, got_last, got_front, whole}
+use Rattle.rv_symbols.proofs.NumberedLemmas.{any_front, any_behind, got_last, got_front, whole}
 
-join : {X : Type 0} (P : X → Type 0) (xs ys : List X) → AllByRecursion P xs → AllByRecursion P ys → AllByRecursion P (xs ++ ys)
+pub join : {X : Type 0} (P : X → Type 0) (xs ys : List X) → AllByRecursion P xs → AllByRecursion P ys → AllByRecursion P (xs ++ ys)
 join P [] ys h k = k
 join P (x ∷ xs) ys (h, hs) k = (h, join P xs ys hs k)
 
@@ -88,7 +89,7 @@ module _ (t : Tables) (sites : List Site) (name : List ℕ) where
         where
           one : (c : Bool) → Names (if not c then local_symbol n (place s) ∷ filter (λ x. not (is_absolute x)) rest else filter (λ x. not (is_absolute x)) rest)
           one true = f
-          one false = or_behind (bytes_eq n name) _ f
+          one false = or_right (bytes_eq n name) _ f
 
       go : (b : Bool) → bytes_eq n name ≡ b → (b || is_one_of ns name) ≡ true → (is_one_of ns name ≡ true → Names (filter (λ x. not (is_absolute x)) rest))
           → Names (filter (λ x. not (is_absolute x)) (map (λ n. local_symbol n (place s)) (if not (is_global (t.bindings n)) then n ∷ filter (λ n. not (is_global (t.bindings n))) ns else filter (λ n. not (is_global (t.bindings n))) ns)))
@@ -98,7 +99,7 @@ module _ (t : Tables) (sites : List Site) (name : List ℕ) where
           let mine : is_global (t.bindings n) ≡ false = ap (λ m. is_global (t.bindings m)) same ∙ g in
           ap (λ b. list_any (is_named name) (filter (λ x. not (is_absolute x)) (map (λ n. local_symbol n (place s)) (if not b then n ∷ filter (λ n. not (is_global (t.bindings n))) ns else filter (λ n. not (is_global (t.bindings n))) ns)))) mine
           ∙ ap (λ b. list_any (is_named name) (if not b then local_symbol n (place s) ∷ filter (λ x. not (is_absolute x)) rest else filter (λ x. not (is_absolute x)) rest)) a
-          ∙ or_true (bytes_eq n name) _ f
+          ∙ or_left (bytes_eq n name) _ f
 
   global_one : (s : Site) → is_global (t.bindings name) ≡ true → (ns : List (List ℕ)) → is_one_of ns name ≡ true → Names (map (λ n. global_symbol n (place s)) (filter (λ n. is_global (t.bindings n)) ns))
   global_one s g [] e = absurd (cc)
@@ -106,7 +107,7 @@ module _ (t : Tables) (sites : List Site) (name : List ℕ) where
     where
       behind : (b : Bool) → Names (map (λ n. global_symbol n (place s)) (filter (λ n. is_global (t.bindings n)) ns)) → Names (map (λ n. global_symbol n (place s)) (if b then n ∷ filter (λ n. is_global (t.bindings n)) ns else filter (λ n. is_global (t.bindings n)) ns))
       behind false f = f
-      behind true f = or_behind (bytes_eq n name) _ f
+      behind true f = or_right (bytes_eq n name) _ f
 
       go : (b : Bool) → bytes_eq n name ≡ b → (b || is_one_of ns name) ≡ true → (is_one_of ns name ≡ true → Names (map (λ n. global_symbol n (place s)) (filter (λ n. is_global (t.bindings n)) ns)))
           → Names (map (λ n. global_symbol n (place s)) (if is_global (t.bindings n) then n ∷ filter (λ n. is_global (t.bindings n)) ns else filter (λ n. is_global (t.bindings n)) ns))
@@ -114,7 +115,7 @@ module _ (t : Tables) (sites : List Site) (name : List ℕ) where
       go true f h ih =
           let mine : is_global (t.bindings n) ≡ true = ap (λ m. is_global (t.bindings m)) (same_bytes n name f) ∙ g in
           ap (λ b. list_any (is_named name) (map (λ n. global_symbol n (place s)) (if b then n ∷ filter (λ n. is_global (t.bindings n)) ns else filter (λ n. is_global (t.bindings n)) ns))) mine
-          ∙ or_true (bytes_eq n name) _ f
+          ∙ or_left (bytes_eq n name) _ f
 
   local_at : (before rest : List Site) (i : ℕ) (s : Site) → slice_get rest i ≡ Some s → Names (named_symbols t sites s) → Names (local_symbols t sites before rest)
   local_at before [] zero s e h = absurd (cc)

@@ -1,6 +1,9 @@
 -- Where the statements stand that uses without names mean.
 
 use Rattle.std.proofs.Common.{◌≡◌, ℕ, zero, suc, Bool, true, false, List, [], ◌∷◌, ◌++◌, map, drop, refl, sym, ap, ◌∙◌, subst, inl, inr, Option, Some, None}
+use Rattle.rv_symbols.proofs.OwnedLemmas.{join}
+use Rattle.rv_symbols.proofs.NumberedLemmas.{front_got}
+use Rattle.rv_symbols.proofs.StandsLemmas.{cons_parts}
 use Rattle.std.specs.Prelude.{reverse, flat_map, slice_get, if◌then◌else◌}
 use Rattle.std.specs.List.{AllByRecursion, find}
 use Rattle.std.proofs.lemmas.List.{reverse-append}
@@ -57,10 +60,6 @@ placed_of t s u k x e = go s.located.home.loaded
     go true = all
     go false = tt
 
-join : {X : Type 0} (P : X → Type 0) (xs ys : List X) → AllByRecursion P xs → AllByRecursion P ys → AllByRecursion P (xs ++ ys)
-join P [] ys h k = k
-join P (x ∷ xs) ys (h, hs) k = (h, join P xs ys hs k)
-
 -- what a symbol of a statement with a place means has a place
 abbrev pub Means : Tables → List Site → Type 0
 Means t all = (o : ℕ) → StandsAt all o → (q : Primary) (d : Definition) → definition t o q ≡ Some d → StandsAt all d.ordinal
@@ -74,24 +73,15 @@ both : (t : Tables) (all : List Site) → Means t all → (i : ℕ) (s : Site) (
 both t all means i s [] e h k = tt
 both t all means i s (r ∷ rs) e (h, hs) (k, ks) = (one t all means s.located.ordinal r (i, s, e, refl, k) h, both t all means i s rs e hs ks)
 
-front : {A : Type 0} (x y : A) (xs ys : List A) → x ∷ xs ≡ y ∷ ys → (x ≡ y) × (xs ≡ ys)
-front x y xs ys e = (cc, cc)
-
-front_got : {X : Type 0} (xs : List X) (i : ℕ) (x : X) (ys : List X) → drop i xs ≡ x ∷ ys → (slice_get xs i ≡ Some x) × (drop (suc i) xs ≡ ys)
-front_got [] zero x ys e = absurd (cc)
-front_got [] (suc i) x ys e = absurd (cc)
-front_got (z ∷ zs) zero x ys e = (cc, cc)
-front_got (z ∷ zs) (suc i) x ys e = front_got zs i x ys e
-
 pub uses_stand : (t : Tables) (all : List Site) → Means t all → (i k : ℕ) (u : Tables) (ss : List Statement) (sites : List Site) → drop i all ≡ sites → map (λ s. s.located) sites ≡ located_from 1 k u ss
     → AllByRecursion (λ (r : SymbolUse). StandsAt all r.ordinal) (references t sites)
 uses_stand t all means i k u ss [] d e = tt
 uses_stand t all means i k u [] (s ∷ sites) d e = absurd (cc)
 uses_stand t all means i k u (x ∷ ss) (s ∷ sites) d e =
     let at = front_got all i s sites d in
-    let now = (front _ _ _ _ e).0 in
+    let now = (cons_parts _ _ _ _ e).0 in
     join (λ (r : SymbolUse). StandsAt all r.ordinal) (references_of t s) (references t sites) (both t all means i s (references_of t s) at.0 (of_site t s) (placed_of t s u k x now))
-    (uses_stand t all means (suc i) (suc k) (after u k x.kind) ss sites at.1 (front _ _ _ _ e).1)
+    (uses_stand t all means (suc i) (suc k) (after u k x.kind) ss sites at.1 (cons_parts _ _ _ _ e).1)
 
 -- ---- numeric labels
 
@@ -138,8 +128,8 @@ numeric_stand all i k u [] sites d e h = h
 numeric_stand all i k u (x ∷ ss) [] d e h = absurd (cc)
 numeric_stand all i k u (x ∷ ss) (s ∷ sites) d e h =
     let at = front_got all i s sites d in
-    let now = (front _ _ _ _ e).0 in
-    numeric_stand all (suc i) (suc k) (after u k x.kind) ss sites at.1 (front _ _ _ _ e).1
+    let now = (cons_parts _ _ _ _ e).0 in
+    numeric_stand all (suc i) (suc k) (after u k x.kind) ss sites at.1 (cons_parts _ _ _ _ e).1
     (numeric_after all u k x.kind (λ p. (i, s, at.0, ap (λ (l : Located). l.ordinal) now, ap (λ (l : Located). l.placed) now ∙ p)) h)
 
 -- one that is found

@@ -4,7 +4,7 @@ use Rattle.std.proofs.Common.{◌≡◌, ℕ, zero, suc, ◌+◌, ◌<◌, ◌�
 use Rattle.std.specs.Borrow.{Bor}
 use Rattle.std.specs.Prelude.{IfSome, is_some, option_copied, slice_index_or, nat_lt, ◌==◌, slice_get, option_map, if◌then◌else◌}
 use Rattle.std.specs.List.{find}
-use Rattle.std.proofs.lemmas.Bool.{eqb-true, eq-eqb, ltb-true, ltb-false}
+use Rattle.std.proofs.lemmas.Bool.{eqb-true, eq-eqb, ltb-true, ltb-false, ne_eqb}
 use Rattle.rv_statement.specs.Statement.{Statement}
 use Rattle.rv_statement.specs.View.{statement_of}
 use Rattle.rv_statement.specs.declared.statement.Statement.{Statement as DeclaredStatement}
@@ -22,15 +22,8 @@ use Rattle.rv_assemble_laws.specs.Symbols.{site_at, after_found}
 use Rattle.rv_symbols.specs.declared.source.Source.{Source}
 use Rattle.rv_symbols.specs.Source.{place_in, IsSource}
 
-front : {A : Type 0} (x y : A) (xs ys : List A) → x ∷ xs ≡ y ∷ ys → (x ≡ y) × (xs ≡ ys)
-front x y xs ys e = (cc, cc)
-
-not_equal : (a b : ℕ) → (a ≡ b → ⊥) → (a == b) ≡ false
-not_equal a b f = go (a == b) refl
-  where
-    go : (c : Bool) → (a == b) ≡ c → (a == b) ≡ false
-    go true e = absurd (f (eqb-true a b e))
-    go false e = e
+pub cons_parts : {A : Type 0} (x y : A) (xs ys : List A) → x ∷ xs ≡ y ∷ ys → (x ≡ y) × (xs ≡ ys)
+cons_parts x y xs ys e = (cc, cc)
 
 -- the statement of an ordinal is that at its index
 pub site_by : (k : ℕ) (t : Tables) (ss : List Statement) (sites : List Site) → map (λ s. s.located) sites ≡ located_from 1 k t ss → (n i : ℕ) → n ≡ k + i
@@ -39,21 +32,21 @@ site_by k t ss [] e n zero m = refl
 site_by k t ss [] e n (suc i) m = refl
 site_by k t [] (s ∷ sites) e n i m = absurd (cc)
 site_by k t (x ∷ ss) (s ∷ sites) e n zero m =
-    let own : s.located.ordinal ≡ k = ap (λ (l : Located). l.ordinal) (front _ _ _ _ e).0 in
+    let own : s.located.ordinal ≡ k = ap (λ (l : Located). l.ordinal) (cons_parts _ _ _ _ e).0 in
     ap (λ b. if b then Some s else find (λ s. s.located.ordinal == n) sites) (eq-eqb s.located.ordinal n (omega arith))
 site_by k t (x ∷ ss) (s ∷ sites) e n (suc i) m =
-    let own : s.located.ordinal ≡ k = ap (λ (l : Located). l.ordinal) (front _ _ _ _ e).0 in
-    ap (λ b. if b then Some s else find (λ s. s.located.ordinal == n) sites) (not_equal s.located.ordinal n (λ f. absurd (omega arith)))
-    ∙ site_by (suc k) (after t k x.kind) ss sites (front _ _ _ _ e).1 n i (omega arith)
+    let own : s.located.ordinal ≡ k = ap (λ (l : Located). l.ordinal) (cons_parts _ _ _ _ e).0 in
+    ap (λ b. if b then Some s else find (λ s. s.located.ordinal == n) sites) (ne_eqb s.located.ordinal n (λ f. absurd (omega arith)))
+    ∙ site_by (suc k) (after t k x.kind) ss sites (cons_parts _ _ _ _ e).1 n i (omega arith)
 
 -- none stands before the first
 pub none_before : (k : ℕ) (t : Tables) (ss : List Statement) (sites : List Site) → map (λ s. s.located) sites ≡ located_from 1 k t ss → (n : ℕ) → n < k → find (λ s. s.located.ordinal == n) sites ≡ None
 none_before k t ss [] e n low = refl
 none_before k t [] (s ∷ sites) e n low = absurd (cc)
 none_before k t (x ∷ ss) (s ∷ sites) e n low =
-    let own : s.located.ordinal ≡ k = ap (λ (l : Located). l.ordinal) (front _ _ _ _ e).0 in
-    ap (λ b. if b then Some s else find (λ s. s.located.ordinal == n) sites) (not_equal s.located.ordinal n (λ f. absurd (omega arith)))
-    ∙ none_before (suc k) (after t k x.kind) ss sites (front _ _ _ _ e).1 n (omega arith)
+    let own : s.located.ordinal ≡ k = ap (λ (l : Located). l.ordinal) (cons_parts _ _ _ _ e).0 in
+    ap (λ b. if b then Some s else find (λ s. s.located.ordinal == n) sites) (ne_eqb s.located.ordinal n (λ f. absurd (omega arith)))
+    ∙ none_before (suc k) (after t k x.kind) ss sites (cons_parts _ _ _ _ e).1 n (omega arith)
 
 pub site_none : (x : Source) (sites : List Site) → IsSource x sites → site_at sites 0 ≡ None
 site_none x sites h = none_before 1 at_start (said x.unit.now) sites h.located 0 (omega arith)
@@ -92,8 +85,8 @@ pairs [] [] (o ∷ os) e f i = absurd (cc)
 pairs (s ∷ sites) [] os e f i = absurd (cc)
 pairs (s ∷ sites) (p ∷ ps) [] e f i = absurd (cc)
 pairs (s ∷ sites) (p ∷ ps) (o ∷ os) e f zero =
-    ap (λ n. Some (n, s.offset)) (front _ _ _ _ e).0 ∙ ap (λ n. Some (p.section, n)) (front _ _ _ _ f).0
-pairs (s ∷ sites) (p ∷ ps) (o ∷ os) e f (suc i) = pairs sites ps os (front _ _ _ _ e).1 (front _ _ _ _ f).1 i
+    ap (λ n. Some (n, s.offset)) (cons_parts _ _ _ _ e).0 ∙ ap (λ n. Some (p.section, n)) (cons_parts _ _ _ _ f).0
+pairs (s ∷ sites) (p ∷ ps) (o ∷ os) e f (suc i) = pairs sites ps os (cons_parts _ _ _ _ e).1 (cons_parts _ _ _ _ f).1 i
 
 pub place_of : (x : Source) (sites : List Site) → IsSource x sites → (i : ℕ) → both (slice_get x.unit.now.places.items i) (slice_get x.offsets.now i) ≡ option_map place_in (slice_get sites i)
 place_of x sites h i =
@@ -113,9 +106,9 @@ ordinal_by k t ss [] e (suc i) s f = absurd (cc)
 ordinal_by k t [] (x ∷ sites) e i s f = absurd (cc)
 ordinal_by k t (y ∷ ss) (x ∷ sites) e zero s f =
     let same : x ≡ s = cc in
-    ap (λ (s : Site). s.located.ordinal) (sym same) ∙ ap (λ (l : Located). l.ordinal) (front _ _ _ _ e).0 ∙ (let m : k ≡ k + 0 = omega arith in m)
+    ap (λ (s : Site). s.located.ordinal) (sym same) ∙ ap (λ (l : Located). l.ordinal) (cons_parts _ _ _ _ e).0 ∙ (let m : k ≡ k + 0 = omega arith in m)
 ordinal_by k t (y ∷ ss) (x ∷ sites) e (suc i) s f =
-    ordinal_by (suc k) (after t k y.kind) ss sites (front _ _ _ _ e).1 i s f ∙ (let m : suc k + i ≡ k + suc i = omega arith in m)
+    ordinal_by (suc k) (after t k y.kind) ss sites (cons_parts _ _ _ _ e).1 i s f ∙ (let m : suc k + i ≡ k + suc i = omega arith in m)
 
 -- the statement at an index
 pub ordinal_is : (x : Source) (sites : List Site) → IsSource x sites → (i : ℕ) (s : Site) → slice_get sites i ≡ Some s → s.located.ordinal ≡ i + 1

@@ -4,7 +4,7 @@ use Rattle.std.proofs.Common.{◌≡◌, ℕ, zero, suc, ◌<◌, ◌^◌, Bool,
 use Rattle.std.specs.Prelude.{◌⊎◌, ◌&&◌, ◌||◌, ◌==◌, not, slice_get, unwrap_or, if◌then◌else◌}
 use Rattle.std.specs.List.{list_any}
 use Rattle.std.specs.Str.{bytes_eq}
-use Rattle.std.proofs.lemmas.Bool.{and_parts, eqb-true, eq-eqb}
+use Rattle.std.proofs.lemmas.Bool.{and_parts, eqb-true, eq-eqb, or_right, or_left, and_from}
 use Rattle.std.proofs.lemmas.List.Folds.{list_any-append}
 use Rattle.rv_text_laws.specs.Expression.{Primary, Literal, Symbol as Named, Here, Reference}
 use Rattle.rv_text_laws.specs.Values.{add}
@@ -17,16 +17,10 @@ use Rattle.rv_object.specs.Object.{Symbol}
 use Rattle.rv_assemble_laws.specs.Sites.{Site}
 use Rattle.rv_assemble_laws.specs.Symbols.{SymbolUse, references, site_at, local_symbol, is_unnamed, is_at, is_meant, unnamed_symbols, named_symbols, local_symbols, exports, symbols_of, IsNamed, IsDefinedBy, StandsFor}
 use Rattle.rv_symbols.specs.Numbers.{last_index, stands_in, is_at_place, own_symbols, missing_names, own_number, place_number, number_by, number_in}
-use Rattle.rv_symbols.proofs.NumberedLemmas.{or_true, or_behind, any_front, any_behind, got_last, got_front, whole}
-
-eqb_same : (n : ℕ) → (n == n) ≡ true
-eqb_same n = eq-eqb n n refl
-
-both_true : (a b : Bool) → a ≡ true → b ≡ true → (a && b) ≡ true
-both_true a b e f = ap (λ x. x && b) e ∙ f
+use Rattle.rv_symbols.proofs.NumberedLemmas.{any_front, any_behind, got_last, got_front, whole}
 
 place_here : (section offset : ℕ) → is_at_place section offset (local_symbol [] (InSection section offset)) ≡ true
-place_here section offset = both_true (section == section) (offset == offset) (eqb_same section) (eqb_same offset)
+place_here section offset = and_from (section == section) (offset == offset) (eq-eqb section section refl) (eq-eqb offset offset refl)
 
 module _ (t : Tables) (sites : List Site) where
   abbrev meant : Site → Bool
@@ -46,7 +40,7 @@ module _ (t : Tables) (sites : List Site) where
       go false e = inr (
           ap (λ b. list_any (is_at_place s.located.section s.offset) ((if b && not (seen s.located.section s.offset before) then local_symbol [] (InSection s.located.section s.offset) ∷ [] else []) ++ tail)) m
           ∙ ap (λ b. list_any (is_at_place s.located.section s.offset) ((if not b then local_symbol [] (InSection s.located.section s.offset) ∷ [] else []) ++ tail)) e
-          ∙ or_true (is_at_place s.located.section s.offset (local_symbol [] (InSection s.located.section s.offset))) _ (place_here s.located.section s.offset))
+          ∙ or_left (is_at_place s.located.section s.offset (local_symbol [] (InSection s.located.section s.offset))) _ (place_here s.located.section s.offset))
 
   local_has : (before rest : List Site) (i : ℕ) (q : Site) → slice_get rest i ≡ Some q → meant q ≡ true → (seen q.located.section q.offset before ≡ true) ⊎ At q (local_symbols t sites before rest)
   local_has before [] zero q e m = absurd (cc)
@@ -102,10 +96,10 @@ module _ (t : Tables) (sites : List Site) where
   is_meant_by [] (suc j) r s d e u f o = absurd (cc)
   is_meant_by (q ∷ qs) zero r s d e u f o =
       let same : q ≡ r = cc in
-      or_true (is_unnamed q.symbol && is_at s.located.ordinal (laws.definition t q.ordinal q.symbol)) _
+      or_left (is_unnamed q.symbol && is_at s.located.ordinal (laws.definition t q.ordinal q.symbol)) _
       (ap (λ (y : SymbolUse). is_unnamed y.symbol && is_at s.located.ordinal (laws.definition t y.ordinal y.symbol)) same
-      ∙ both_true (is_unnamed r.symbol) (is_at s.located.ordinal (laws.definition t r.ordinal r.symbol)) u (ap (is_at s.located.ordinal) f ∙ eq-eqb d.ordinal s.located.ordinal o))
-  is_meant_by (q ∷ qs) (suc j) r s d e u f o = or_behind (is_unnamed q.symbol && is_at s.located.ordinal (laws.definition t q.ordinal q.symbol)) _ (is_meant_by qs j r s d e u f o)
+      ∙ and_from (is_unnamed r.symbol) (is_at s.located.ordinal (laws.definition t r.ordinal r.symbol)) u (ap (is_at s.located.ordinal) f ∙ eq-eqb d.ordinal s.located.ordinal o))
+  is_meant_by (q ∷ qs) (suc j) r s d e u f o = or_right (is_unnamed q.symbol && is_at s.located.ordinal (laws.definition t q.ordinal q.symbol)) _ (is_meant_by qs j r s d e u f o)
 
   place_parts : (section offset : ℕ) (x : Symbol) → is_at_place section offset x ≡ true → (x.name ≡ []) × (x.definition ≡ InSection section offset)
   place_parts section offset x e =

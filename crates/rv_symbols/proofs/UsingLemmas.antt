@@ -1,6 +1,7 @@
 -- What uses of symbols mean, use by use.
 
 use Rattle.std.proofs.Common.{◌≡◌, ℕ, ◌+◌, ◌<◌, ◌≤◌, Bool, true, false, List, [], ◌∷◌, ◌++◌, length, map, take, drop, refl, sym, ap, ◌∙◌, append_assoc, append-nil, arith, Option, Some, None}
+use Rattle.std.proofs.lemmas.Bool.{and_from}
 use Rattle.std.specs.Prelude.{is_some, ◌&&◌, ◌||◌, flat_map, slice_get, slice_index_or, option_map, if◌then◌else◌}
 use Rattle.std.specs.Borrow.{Bor}
 use Rattle.std.specs.List.{list_any}
@@ -165,9 +166,6 @@ numbers_more f rs i r old new n all at push is h =
     let rest = map f (drop (i + 1) rs) in
     ap (λ l. l ++ rest) push ∙ append_assoc old (n ∷ []) rest ∙ ap (λ m. old ++ m ∷ rest) is ∙ ap (λ l. old ++ map f l) (sym (drop_next rs i r at)) ∙ h
 
-both_true : (a b : Bool) → a ≡ true → b ≡ true → (a && b) ≡ true
-both_true a b e f = ap (λ x. x && b) e ∙ f
-
 -- with a name that a map can show all can still be shown
 pub put_shown : (name : Bor (List ℕ)) (ks new : List (Bor (List ℕ))) → new ≡ (if list_any (λ k. bytes_eq name.now k.now) ks then ks else ks ++ name ∷ []) → are_shown (name.now ∷ []) ≡ true
     → are_shown (map now_of ks) ≡ true → are_shown (map now_of new) ≡ true
@@ -177,4 +175,4 @@ put_shown name ks new e named old = ap (λ l. are_shown (map now_of l)) e ∙ go
     go true = old
     go false =
         ap are_shown (map_join ks name) ∙ list_all-append is_name (map now_of ks) (name.now ∷ [])
-        ∙ both_true (are_shown (map now_of ks)) (are_shown (name.now ∷ [])) old named
+        ∙ and_from (are_shown (map now_of ks)) (are_shown (name.now ∷ [])) old named

@@ -1,4 +1,7 @@
 //! The indices of the symbols that uses name.
+//!
+//! Maps by name and by place are made once for all uses, so that a use costs one look-up and no search through the
+//! symbols.
 
 ghost use Rattle.std.specs.Prelude.{◌≡◌, ◌+◌, ◌++◌, ℕ, List, [], ◌∷◌, length, map, option_map, IfOk, OnOk};
 ghost use Rattle.rv_text.specs.Nodes.{symbol_of};
