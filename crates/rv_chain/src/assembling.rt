@@ -6,7 +6,7 @@ ghost use Rattle.rv_chain.specs.Refusals.{IsRefusedAt};
 
 use crate::building::object;
 use crate::fault::Fault;
-use rv_object_writer::{known, write};
+use rv_object_writer::write;
 use std::alloc::Global;
 
 /// Assembles a source: the bytes of its object's file. A refused source is file 1.
@@ -15,7 +15,5 @@ pub fn assemble_object(alloc: Global, source: &[u8]) -> Result<Vec<u8>, Fault>
     ensures refuses { IfErr result (IsRefusedAt 1 source.now) }
 {
     let object = object(alloc, 0, source)?;
-    // what the types of an object keep
-    known(&object);
     Ok(write(alloc, &object)?)
 }

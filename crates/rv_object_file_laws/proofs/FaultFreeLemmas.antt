@@ -1,6 +1,7 @@
 -- A written file has no fault.
 
 use Rattle.std.proofs.Common.{◌≡◌, ℕ, suc, ◌+◌, ◌/◌, ◌%◌, ◌<◌, ◌≤◌, ◌^◌, ◌==◌, nat_le, Bool, true, false, not, ◌&&◌, ◌||◌, List, [], ◌∷◌, ◌++◌, length, drop, map, filter, flat_map, codes, None, refl, ap, sym, subst, ◌∙◌, arith, inl, inr, append_assoc, append-nil, if◌then◌else◌}
+use Rattle.rv_elf.specs.FirstTrue.{first_true_none}
 use Rattle.std.specs.List.{AllByRecursion, list_any, list_all, slice_get}
 use Rattle.std.proofs.lemmas.Bool.{cases_Bool, cond-true, cond-false, and_left, and_right, and_parts, and_from, or_right, not_from_true, lt-ltb, ne_eqb}
 use Rattle.std.proofs.lemmas.List.Elements.{filter-append}
@@ -18,9 +19,10 @@ use Rattle.rv_object_file_laws.specs.Parts.{FileSection, name_of, sections, is_s
 use Rattle.rv_object_file_laws.specs.ObjectOf.{names_of}
 use Rattle.rv_object_file_laws.specs.FirstFault.{is_rela_linked, is_none, record_size, is_linked, is_unsupported, section_tests, symbol_tests, row_tests, relocations_tests, symbol_count, rela_tests, records_tests, sections_tests, object_tests, first_fault}
 use Rattle.rv_object_file_laws.specs.Known.{IsSection, IsObject}
-use Rattle.rv_object_file_laws.specs.Written.{relocations_bytes, table_piece, Piece, table_of, aligned, kind_of, section_piece, rela_pieces, row_pieces, row_record, header_of, symtab_index, last_index, section_names, symbol_names, symbols_bytes, symbol_record, file_header_of, file_of, HasFile}
+use Rattle.rv_layout_laws.specs.Alignment.{aligned}
+use Rattle.rv_object_file_laws.specs.Written.{relocations_bytes, table_piece, Piece, table_of, kind_of, section_piece, rela_pieces, row_pieces, row_record, header_of, symtab_index, last_index, section_names, symbol_names, symbols_bytes, symbol_record, file_header_of, file_of, HasFile}
 use Rattle.rv_object_file_laws.proofs.LaidLemmas.{listed, Shows, AllShow}
-use Rattle.rv_object_file_laws.proofs.ListsLemmas.{all_append, all_mapped, all_weaker, any_none, filter_none, first_true_none, flat_map_none}
+use Rattle.rv_object_file_laws.proofs.ListsLemmas.{all_append, all_mapped, all_weaker, any_none, filter_none, flat_map_none}
 use Rattle.rv_object_file_laws.proofs.HeadingLemmas.{header_sound, table_sound}
 use Rattle.rv_object_file_laws.proofs.GroupsLemmas.{entry, piece_rows, rows_seen, section_answers}
 use Rattle.rv_object_file_laws.proofs.RelocatedLemmas.{FitsFields, length-relocations, relas_read, rela_piece}
@@ -66,7 +68,7 @@ one_header : (file : List ℕ) (names : List (List ℕ)) (i at : ℕ) (p : Piece
 unfolding section_tests
 one_header file names i at p before shows symbols rows multiple alignment even linked supported =
     let h : SectionHeader = header_of names at p in
-    let past : (not (p.kind == 8) && is_past file (aligned at) p.size) ≡ false = past_none (p.kind == 8) (is_past file (aligned at) p.size) shows.past in
+    let past : (not (p.kind == 8) && is_past file (aligned 8 at) p.size) ≡ false = past_none (p.kind == 8) (is_past file (aligned 8 at) p.size) shows.past in
     let whole : not (p.size % record_size file h == 0) ≡ false = ap (λ n. not (n == 0)) multiple in
     let power : not (p.alignment == 0 || is_alignment p.alignment) ≡ false = not_from_true _ alignment in
     let name : is_none (name_of file h) ≡ false = ap is_none shows.name in
@@ -116,7 +118,7 @@ plains_pass : (file : List ℕ) (names : List (List ℕ)) (i at : ℕ) (ps : Lis
 plains_pass file names i at [] before shows plain = tt
 plains_pass file names i at (p ∷ ps) before shows plain =
     let one = plain_passes file names i at p before shows.0 plain.0 in
-    (one.0, one.1, plains_pass file names (suc i) (aligned at + length p.bytes) ps (before ++ entry names i at p ∷ []) shows.1 plain.1)
+    (one.0, one.1, plains_pass file names (suc i) (aligned 8 at + length p.bytes) ps (before ++ entry names i at p ∷ []) shows.1 plain.1)
 
 even_code : (x b : Bool) → (not x || b) ≡ true → (x && not b) ≡ false
 even_code true b h = not_from_true b h
@@ -150,7 +152,7 @@ Homes file names index (s ∷ ss) = ((place : ℕ) × (section_header_of file in
 
 homes_of : (file : List ℕ) (names : List (List ℕ)) (i at : ℕ) (ss : List Section) → AllShow file names i at (map section_piece ss) → Homes file names i ss
 homes_of file names i at [] shows = tt
-homes_of file names i at (s ∷ ss) shows = ((at, shows.0.of), homes_of file names (suc i) (aligned at + length (stored s.contents)) ss shows.1)
+homes_of file names i at (s ∷ ss) shows = ((at, shows.0.of), homes_of file names (suc i) (aligned 8 at + length (stored s.contents)) ss shows.1)
 
 -- what the tests of relocations look up
 record Symbols (file : List ℕ) (symtab count : ℕ) : Type 0 where
@@ -209,7 +211,7 @@ relas_pass file names symtab count index i at (s ∷ ss) before symbols shows ho
           let shown : AllShow file names i at some = subst (AllShow file names i at) same shows in
           let here : FileSection = entry names i at (rela_piece symtab index s) in
           let one = rela_passes file names symtab count index i at s before symbols shown.0 homes.0.0 homes.0.1 sound.0 fits.0 (none index (omega arith)) low (omega arith) in
-          let next = aligned at + length (relocations_bytes s.relocations) in
+          let next = aligned 8 at + length (relocations_bytes s.relocations) in
           let nothing : (k : ℕ) → suc index ≤ k → filter (relocates k) (before ++ here ∷ []) ≡ [] =
           (λ k above. filter-append (relocates k) before (here ∷ [])
           ∙ (λ j. none k (omega arith) j ++ cond-false (index == k) (here ∷ []) [] (ne_eqb index k (λ q. omega arith)) j)) in
@@ -274,7 +276,7 @@ tables_pass o file before has f r count none =
     let whole : length (symbols_bytes (last_index o) o) % 24 ≡ 0 = omega (arith, length-symbols (last_index o) o) in
     let read : symbols_in (contents_of file (header_of names at p)) ≡ _ = sym (ap (symbols_of file) r.symbols) ∙ r.records in
     let table : section_of file (i + 1) ≡ table_of strings = sym (ap (names_of file) r.symbols) ∙ r.strings in
-    let rest = plains_pass file names (suc i) (aligned at + length p.bytes) (strtab_piece o ∷ names_piece o ∷ []) (before ++ first ∷ []) f.show_tables.1
+    let rest = plains_pass file names (suc i) (aligned 8 at + length p.bytes) (strtab_piece o ∷ names_piece o ∷ []) (before ++ first ∷ []) f.show_tables.1
     (strings_plain (codes ".strtab") (table_of strings), (strings_plain (codes ".shstrtab") (table_of names), tt)) in (
       one_header file names i at p before f.show_tables.0 none refl whole refl refl (is_there file (i + 1) (omega arith) (omega (arith, count))) refl,
       ap (λ ss. first_true (flat_map (symbol_tests file (section_of file (i + 1))) (drop 1 ss))) read

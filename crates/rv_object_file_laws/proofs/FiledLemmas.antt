@@ -11,7 +11,7 @@ use Rattle.rv_elf.specs.Sections.{names_section, section_of, section_count}
 use Rattle.rv_object.specs.Object.{Object}
 use Rattle.rv_object_file_laws.specs.Parts.{sections}
 use Rattle.rv_object_file_laws.specs.Known.{IsSection, IsObject}
-use Rattle.rv_object_file_laws.specs.Written.{Piece, table_of, contents_from, end_of, headers_from, section_piece, row_pieces, symtab_index, last_index, first_pieces, pieces, section_names, symbol_names, symbols_bytes, locals, file_header_of, file_of, HasFile}
+use Rattle.rv_object_file_laws.specs.Written.{Piece, table_of, contents_from, headers_offset, headers_from, section_piece, row_pieces, symtab_index, last_index, first_pieces, pieces, section_names, symbol_names, symbols_bytes, locals, file_header_of, file_of, HasFile}
 use Rattle.rv_object_file_laws.proofs.StringsLemmas.{is_among}
 use Rattle.rv_object_file_laws.proofs.LaidLemmas.{after, length-contents, all_stand, Headed, all_headed, sections_are, headers_fit, length-headers, listed, listed-append, AllShow, IsSized, all_show, show-append}
 use Rattle.rv_object_file_laws.proofs.ListsLemmas.{all_append, all_mapped, all_weaker}
@@ -34,12 +34,12 @@ pub record IsFiled (o : Object) (file : List ℕ) : Type 0 where
   pub show_rows : AllShow file (section_names o) (1 + length o.sections + length (rela_group o)) at_rows (row_pieces o.rows)
   pub show_tables : AllShow file (section_names o) (symtab_index o) at_tables (tables o)
   pub reads : ReadsHeader (file_header_of o) file
-  pub long : end_of 64 (pieces o) + 64 * (1 + length (pieces o)) ≤ length file
+  pub long : headers_offset 64 (pieces o) + 64 * (1 + length (pieces o)) ≤ length file
   pub starts : 64 ≤ length file
 
 -- four lists in their places
 groups_filed : (o : Object) (file : List ℕ) → sections file ≡ listed (section_names o) 1 64 (pieces o) → AllShow file (section_names o) 1 64 (pieces o) →
-    ReadsHeader (file_header_of o) file → end_of 64 (pieces o) + 64 * (1 + length (pieces o)) ≤ length file → 64 ≤ length file → IsFiled o file
+    ReadsHeader (file_header_of o) file → headers_offset 64 (pieces o) + 64 * (1 + length (pieces o)) ≤ length file → 64 ≤ length file → IsFiled o file
 groups_filed o file all shows reads long starts =
     let names = section_names o in
     let p₁ : List Piece = map section_piece o.sections in
@@ -121,7 +121,7 @@ from_parts o null known has nulls file whole small =
     let heading : List ℕ = file_header_bytes (file_header_of o) in
     let contents : List ℕ = contents_from 64 ps in
     let table : List ℕ = flat_map section_header_bytes hs in
-    let end : ℕ = end_of 64 ps in
+    let end : ℕ = headers_offset 64 ps in
     let few = small_of o has in
     let last = few.last in
     let size : length file ≡ end + 64 * (1 + length ps) =

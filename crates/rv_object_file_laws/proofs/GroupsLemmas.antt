@@ -9,7 +9,8 @@ use Rattle.rv_object.specs.declared.row.Row.{Row}
 use Rattle.rv_object_file_laws.specs.Rows.{rows_name}
 use Rattle.rv_object_file_laws.specs.Parts.{FileSection, is_named, is_rows, is_kept, is_index}
 use Rattle.rv_object_file_laws.specs.Known.{IsSection}
-use Rattle.rv_object_file_laws.specs.Written.{Piece, aligned, kind_of, section_piece, rela_pieces, row_pieces, header_of, has_relocations}
+use Rattle.rv_layout_laws.specs.Alignment.{aligned}
+use Rattle.rv_object_file_laws.specs.Written.{Piece, kind_of, section_piece, rela_pieces, row_pieces, header_of, has_relocations}
 use Rattle.rv_object_file_laws.proofs.LaidLemmas.{listed, Shows, AllShow}
 use Rattle.rv_object_file_laws.proofs.ListsLemmas.{all_mapped}
 
@@ -35,7 +36,7 @@ pub listed_all : (file : List ℕ) (names : List (List ℕ)) (Q : Piece → Type
     ((i at : ℕ) (p : Piece) → Shows file names i at p → Q p → P (entry names i at p)) →
     (i at : ℕ) (ps : List Piece) → AllShow file names i at ps → AllByRecursion Q ps → AllByRecursion P (listed names i at ps)
 listed_all file names Q P f i at [] shows h = tt
-listed_all file names Q P f i at (p ∷ ps) shows h = (f i at p shows.0 h.0, listed_all file names Q P f (suc i) (aligned at + length p.bytes) ps shows.1 h.1)
+listed_all file names Q P f i at (p ∷ ps) shows h = (f i at p shows.0 h.0, listed_all file names Q P f (suc i) (aligned 8 at + length p.bytes) ps shows.1 h.1)
 
 -- the answers of the tests of a kind of piece
 pub record Answers (kept rows symbols relas : Bool) (p : Piece) : Type 0 where
@@ -95,10 +96,10 @@ find_listed names i at k [] low high = absurd (omega arith)
 find_listed names i at k (p ∷ ps) low high = elim (cases_Bool (i == k)) [
   | inl e ↦
       let same : i ≡ k = eqb-true i k e in
-      (at, p, cond-true (i == k) (Some (entry names i at p)) (find (is_index k) (listed names (suc i) (aligned at + length p.bytes) ps)) e ∙ ap (λ n. Some (entry names n at p)) same)
+      (at, p, cond-true (i == k) (Some (entry names i at p)) (find (is_index k) (listed names (suc i) (aligned 8 at + length p.bytes) ps)) e ∙ ap (λ n. Some (entry names n at p)) same)
   | inr e ↦
       let other = eqb-false i k e in
-      let next = aligned at + length p.bytes in
+      let next = aligned 8 at + length p.bytes in
       let more = find_listed names (suc i) next k ps (omega arith) (omega arith) in
       (more.0, more.1, cond-false (i == k) (Some (entry names i at p)) (find (is_index k) (listed names (suc i) next ps)) e ∙ more.2)
 ]
@@ -106,7 +107,7 @@ find_listed names i at k (p ∷ ps) low high = elim (cases_Bool (i == k)) [
 pub find_beyond : (names : List (List ℕ)) (i at k : ℕ) (ps : List Piece) → i + length ps ≤ k → find (is_index k) (listed names i at ps) ≡ None
 find_beyond names i at k [] high = refl
 find_beyond names i at k (p ∷ ps) high =
-    let next = aligned at + length p.bytes in
+    let next = aligned 8 at + length p.bytes in
     cond-false (i == k) (Some (entry names i at p)) (find (is_index k) (listed names (suc i) next ps)) (ne_eqb i k (λ e. omega arith))
     ∙ find_beyond names (suc i) next k ps (omega arith)
 
@@ -114,7 +115,7 @@ find_beyond names i at k (p ∷ ps) high =
 pub count_before : (names : List (List ℕ)) (i at k : ℕ) (ps : List Piece) → k ≤ i + length ps → length (filter (λ s. nat_lt s.index k) (listed names i at ps)) ≡ k - i
 count_before names i at k [] high = omega arith
 count_before names i at k (p ∷ ps) high =
-    let next = aligned at + length p.bytes in
+    let next = aligned 8 at + length p.bytes in
     let rest : List FileSection = filter (λ s. nat_lt s.index k) (listed names (suc i) next ps) in
     let more : length rest ≡ k - suc i = count_before names (suc i) next k ps (omega arith) in
     elim (cases_Bool (nat_lt i k)) [

@@ -1,6 +1,7 @@
 -- Searches of lists at whose elements a test has one answer; lists of tests.
 
 use Rattle.std.proofs.Common.{◌≡◌, Bool, true, false, List, [], ◌∷◌, ◌++◌, map, flat_map, filter, Some, None, refl, ap, ◌∙◌}
+use Rattle.rv_elf.specs.FirstTrue.{first_true_none}
 use Rattle.std.specs.List.{AllByRecursion, find, list_any}
 use Rattle.std.proofs.lemmas.Bool.{cond-true, cond-false, or_from}
 use Rattle.rv_elf.specs.declared.fault.FileFault.{FileFault}
@@ -39,11 +40,6 @@ pub all_mapped : {X Y : Type 0} (P : X → Type 0) (Q : Y → Type 0) (g : X →
     AllByRecursion P xs → AllByRecursion Q (map g xs)
 all_mapped P Q g f [] h = tt
 all_mapped P Q g f (x ∷ xs) h = (f x h.0, all_mapped P Q g f xs h.1)
-
-pub first_true_none : (xs ys : List (Bool × FileFault)) → first_true xs ≡ None → first_true (xs ++ ys) ≡ first_true ys
-first_true_none [] ys e = refl
-first_true_none ((false, f) ∷ xs) ys e = first_true_none xs ys e
-first_true_none ((true, f) ∷ xs) ys e = cc
 
 -- none of the tests of each is true
 pub flat_map_none : {X : Type 0} (tests : X → List (Bool × FileFault)) (xs : List X) → AllByRecursion (λ x. first_true (tests x) ≡ None) xs →

@@ -13,7 +13,8 @@ use Rattle.rv_object.specs.Valid.{is_alignment, is_string}
 use Rattle.rv_object.specs.declared.row.Row.{Row}
 use Rattle.rv_object_file_laws.specs.Known.{IsSection}
 use Rattle.rv_object_file_laws.specs.Parts.{name_at}
-use Rattle.rv_object_file_laws.specs.Written.{name_offset, Piece, table_of, table_piece, aligned, end_of, headers_from, kind_of, flag_if, section_piece, rela_pieces, row_pieces, symtab_index, last_index, pieces, section_names, symbol_names, symbols_bytes, is_local, locals}
+use Rattle.rv_layout_laws.specs.Alignment.{aligned}
+use Rattle.rv_object_file_laws.specs.Written.{name_offset, Piece, table_of, table_piece, headers_offset, headers_from, kind_of, flag_if, section_piece, rela_pieces, row_pieces, symtab_index, last_index, pieces, section_names, symbol_names, symbols_bytes, is_local, locals}
 use Rattle.rv_object_file_laws.proofs.RecordsLemmas.{length-section_header}
 use Rattle.rv_object_file_laws.proofs.StringsLemmas.{is_among, name_back}
 use Rattle.rv_object_file_laws.proofs.LaidLemmas.{end_after, AllStand, not_past, FitsPiece, Headed, IsSized, AllNamed}
@@ -33,10 +34,10 @@ pub record IsFine (p : Piece) : Type 0 where
   pub large : (p.kind == 8) ≡ true → p.size < 2 ^ 64
   pub string : is_string p.name ≡ true
 
-pub pieces_fit : (at : ℕ) (ps : List Piece) → end_of at ps < 2 ^ 64 → AllByRecursion IsFine ps → AllByRecursion FitsPiece ps
+pub pieces_fit : (at : ℕ) (ps : List Piece) → headers_offset at ps < 2 ^ 64 → AllByRecursion IsFine ps → AllByRecursion FitsPiece ps
 pieces_fit at [] room fine = tt
 pieces_fit at (p ∷ ps) room fine =
-    let next = aligned at + length p.bytes in
+    let next = aligned 8 at + length p.bytes in
     let size : p.size < 2 ^ 64 = elim (cases_Bool (p.kind == 8)) [
       | inl e ↦ fine.0.large e
       | inr e ↦ omega (arith, fine.0.sized e, room, end_after next ps)
@@ -166,13 +167,13 @@ pub last_bytes : (file : List ℕ) (names : List (List ℕ)) (i at : ℕ) (ps : 
     Headed file i (headers_from names at (ps ++ q ∷ [])) → (q.kind == 8) ≡ false → q.size ≡ length q.bytes → section_of file (i + length ps) ≡ q.bytes
 last_bytes file names i at [] q stand headed bytes sized =
     let none : i + 0 ≡ i = omega arith in
-    let past = ap (is_past file (aligned at)) sized ∙ not_past file (aligned at) (length q.bytes) stand.0.within in
+    let past = ap (is_past file (aligned 8 at)) sized ∙ not_past file (aligned 8 at) (length q.bytes) stand.0.within in
     ap (section_of file) none ∙ ap (contents_of file) headed.0
     ∙ cond-false _ [] _ (or_from _ _ bytes past)
-    ∙ ap (λ n. take n (drop (aligned at) file)) sized ∙ stand.0.bytes
+    ∙ ap (λ n. take n (drop (aligned 8 at) file)) sized ∙ stand.0.bytes
 last_bytes file names i at (p ∷ ps) q stand headed bytes sized =
     let next : i + suc (length ps) ≡ suc i + length ps = omega arith in
-    ap (section_of file) next ∙ last_bytes file names (suc i) (aligned at + length p.bytes) ps q stand.1 headed.1 bytes sized
+    ap (section_of file) next ∙ last_bytes file names (suc i) (aligned 8 at + length p.bytes) ps q stand.1 headed.1 bytes sized
 
 pub all_unmapped : {X Y : Type 0} (P : Y → Type 0) (f : X → Y) (xs : List X) → AllByRecursion P (map f xs) → AllByRecursion (λ x. P (f x)) xs
 all_unmapped P f [] h = tt
@@ -184,7 +185,7 @@ named_all file names at [] other table fine among = tt
 named_all file names at (p ∷ ps) other table fine among = (
   cond-false (names_section file == 0) _ _ other ∙ ap (λ t. name_at t (name_offset names p.name)) table
       ∙ name_back names p.name fine.0.string among.0,
-  named_all file names (aligned at + length p.bytes) ps other table fine.1 among.1,
+  named_all file names (aligned 8 at + length p.bytes) ps other table fine.1 among.1,
 )
 
 pub flag_small : (b : Bool) → (if b then 1 else 0) < 2 ^ 32

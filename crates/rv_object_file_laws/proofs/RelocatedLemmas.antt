@@ -15,7 +15,8 @@ use Rattle.rv_elf.specs.Sections.{records, relas_in}
 use Rattle.rv_object.specs.Object.{Relocation, Section}
 use Rattle.rv_object_file_laws.specs.Parts.{FileSection, kind_numbered, symbol_index, relocation_by, relocation_in, relocations_in, relocates, relas_of}
 use Rattle.rv_object_file_laws.specs.Known.{IsRelocation}
-use Rattle.rv_object_file_laws.specs.Written.{Piece, aligned, table_piece, symbol_number, rela_of, relocations_bytes, rela_pieces}
+use Rattle.rv_layout_laws.specs.Alignment.{aligned}
+use Rattle.rv_object_file_laws.specs.Written.{Piece, table_piece, symbol_number, rela_of, relocations_bytes, rela_pieces}
 use Rattle.rv_object_file_laws.proofs.RecordsLemmas.{length-rela, records_back}
 use Rattle.rv_object_file_laws.proofs.LaidLemmas.{listed, Shows, AllShow}
 use Rattle.rv_object_file_laws.proofs.GroupsLemmas.{entry}
@@ -188,7 +189,7 @@ relas_for file names symtab index i at (s ∷ ss) k count few shows fits =
       | inr e ↦
           let same : rela_pieces symtab index (s ∷ ss) ≡ some = cond-false (length s.relocations == 0) none some e in
           let shown : AllShow file names i at some = subst (AllShow file names i at) same shows in
-          let next = aligned at + length (relocations_bytes s.relocations) in
+          let next = aligned 8 at + length (relocations_bytes s.relocations) in
           ap (λ ps. relas_of file (filter (relocates k) (listed names i at ps))) same
           ∙ one_more file names symtab index i at k count s (listed names (suc i) next none) (relas_at (suc index) ss k) few fits.0 shown.0
           (relas_for file names symtab (suc index) (suc i) next ss k count few shown.1 fits.1)

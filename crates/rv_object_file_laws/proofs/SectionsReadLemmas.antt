@@ -10,7 +10,8 @@ use Rattle.rv_object.specs.Valid.{is_alignment, is_loaded_alone}
 use Rattle.rv_object_file_laws.specs.Parts.{sections, is_loaded, contents_in, relocates, relas_of, relocations_in}
 use Rattle.rv_object_file_laws.specs.ObjectOf.{section_in}
 use Rattle.rv_object_file_laws.specs.Known.{IsSection}
-use Rattle.rv_object_file_laws.specs.Written.{aligned, kind_of, flag_if, section_piece, header_of, rela_of}
+use Rattle.rv_layout_laws.specs.Alignment.{aligned}
+use Rattle.rv_object_file_laws.specs.Written.{kind_of, flag_if, section_piece, header_of, rela_of}
 use Rattle.rv_object_file_laws.proofs.LaidLemmas.{listed, Shows, AllShow}
 use Rattle.rv_object_file_laws.proofs.GroupsLemmas.{entry}
 use Rattle.rv_object_file_laws.proofs.RelocatedLemmas.{relas_at, relas_here, relas_later, relocations_back}
@@ -76,7 +77,7 @@ pub sections_back : (file : List ℕ) (names : List (List ℕ)) (i at : ℕ) (ss
     map (section_in file) (listed names i at (map section_piece ss)) ≡ ss
 sections_back file names i at [] shows sound relas = refl
 sections_back file names i at (s ∷ ss) shows sound relas =
-    let next = aligned at + length (stored s.contents) in
+    let next = aligned 8 at + length (stored s.contents) in
     let first = section_back file names i at s shows.0 sound.0 (relas i (omega arith) ∙ relas_here i s ss) in
     let rest = sections_back file names (suc i) next ss shows.1 sound.1 (λ k above. relas k (omega arith) ∙ relas_later i s ss k (omega arith)) in
     (λ j. first j ∷ rest j)

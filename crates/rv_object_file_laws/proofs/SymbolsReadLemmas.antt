@@ -23,7 +23,8 @@ use Rattle.rv_object_file_laws.specs.Rows.{row_size, row_at, row_bytes, rows_in}
 use Rattle.rv_object_file_laws.specs.Parts.{kept, kept_at, kept_before, is_index, name_at, symbol_table}
 use Rattle.rv_object_file_laws.specs.ObjectOf.{names_of, definition_in, definition_by, symbol_in, row_in}
 use Rattle.rv_object_file_laws.specs.Known.{IsSymbol, IsRow}
-use Rattle.rv_object_file_laws.specs.Written.{aligned, section_piece, name_offset, table_of, binding_number, home_of, value_of, symbol_record, symbols_bytes, symbol_names, row_record}
+use Rattle.rv_layout_laws.specs.Alignment.{aligned}
+use Rattle.rv_object_file_laws.specs.Written.{section_piece, name_offset, table_of, binding_number, section_index_of, value_of, symbol_record, symbols_bytes, symbol_names, row_record}
 use Rattle.rv_object_file_laws.proofs.RecordsLemmas.{length-symbol, FitsRow, length-row, row_back, records_back}
 use Rattle.rv_object_file_laws.proofs.StringsLemmas.{is_among, name_back, name_offset_within}
 use Rattle.rv_object_file_laws.proofs.LaidLemmas.{listed}
@@ -63,11 +64,11 @@ find_section names i at zero j (t ∷ ss) s has same =
     let here : i ≡ j = omega arith in
     let this : t ≡ s = cc in
     let p = section_piece t in
-    let rest = find (is_index j) (listed names (suc i) (aligned at + length p.bytes) (map section_piece ss)) in
+    let rest = find (is_index j) (listed names (suc i) (aligned 8 at + length p.bytes) (map section_piece ss)) in
     (at, cond-true (i == j) (Some (entry names i at p)) rest (eq-eqb i j here) ∙ (λ n. Some (entry names (here n) at (section_piece (this n)))))
 find_section names i at (suc k) j (t ∷ ss) s has same =
     let p = section_piece t in
-    let next = aligned at + length p.bytes in
+    let next = aligned 8 at + length p.bytes in
     let more = find_section names (suc i) next k j ss s has (omega arith) in (
       more.0,
       cond-false (i == j) (Some (entry names i at p)) (find (is_index j) (listed names (suc i) next (map section_piece ss))) (ne_eqb i j (λ e. omega arith)) ∙ more.1,
@@ -98,7 +99,7 @@ at_back file names ss k s keeps has =
 -- ---- what a symbol is
 
 pub definition_back : (file : List ℕ) (names : List (List ℕ)) (ss : List Section) (last : ℕ) (s : SymbolRecord) (d : Definition) → KeepsSections file names ss →
-    length ss < last → last < 0xFF00 → is_defined_in (length ss) d ≡ true → s.st_shndx ≡ home_of last d → s.st_value ≡ value_of d → definition_in file s ≡ d
+    length ss < last → last < 0xFF00 → is_defined_in (length ss) d ≡ true → s.st_shndx ≡ section_index_of last d → s.st_value ≡ value_of d → definition_in file s ≡ d
 definition_back file names ss last s Undefined keeps high few inside home value = cond-true (s.st_shndx == 0) _ _ (eq-eqb s.st_shndx 0 home)
 definition_back file names ss last s (Absolute v) keeps high few inside home value =
     cond-false (s.st_shndx == 0) _ _ (ne_eqb s.st_shndx 0 (λ e. omega arith)) ∙ cond-true (s.st_shndx == 0xFFF1) _ _ (eq-eqb s.st_shndx 0xFFF1 home)
@@ -145,7 +146,7 @@ symbols_again file names ss last strings [] keeps high few table fits = refl
 symbols_again file names ss last strings (y ∷ ys) keeps high few table fits =
     (λ i. symbol_again file names ss last strings y keeps high few table fits.0 i ∷ symbols_again file names ss last strings ys keeps high few table fits.1 i)
 
-home_small : (count last : ℕ) (d : Definition) → count < last → last < 0xFF00 → is_defined_in count d ≡ true → home_of last d < 2 ^ 16
+home_small : (count last : ℕ) (d : Definition) → count < last → last < 0xFF00 → is_defined_in count d ≡ true → section_index_of last d < 2 ^ 16
 home_small count last Undefined high few inside = omega arith
 home_small count last (Absolute v) high few inside = omega arith
 home_small count last (InSection k offset) high few inside = let below = ltb-true k count inside in omega arith

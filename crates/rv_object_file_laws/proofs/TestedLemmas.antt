@@ -1,6 +1,7 @@
 -- No test of a record that was written is true: relocations, symbols and rows.
 
 use Rattle.std.proofs.Common.{◌≡◌, ℕ, suc, ◌+◌, ◌*◌, ◌/◌, ◌%◌, ◌<◌, ◌==◌, nat_lt, nat_le, Bool, true, false, not, ◌&&◌, ◌||◌, List, [], ◌∷◌, ◌++◌, length, map, replicate, Option, Some, None, refl, ap, ◌∙◌, arith, if◌then◌else◌}
+use Rattle.rv_elf.specs.FirstTrue.{first_true_none}
 use Rattle.std.specs.List.{AllByRecursion, list_all, list_any}
 use Rattle.std.proofs.lemmas.Bool.{and_right, and_parts, and_from, or_from, or_right, not_from_true, lt-leb, lt-ltb, ltb-true}
 use Rattle.std.proofs.lemmas.List.{length-replicate}
@@ -20,9 +21,8 @@ use Rattle.rv_object.specs.Object.{Contents, Progbits, Note, Nobits, Relocation,
 use Rattle.rv_object.specs.Valid.{fits_inside, fit_inside, is_padding, is_padding_of, padding_of, is_align, are_apart, are_all_apart, are_paddings, is_shown, is_defined_in}
 use Rattle.rv_object_file_laws.specs.Parts.{FileSection, name_at, extent_of, is_executable, is_loaded, kind_numbered, relocation_in, relocations_in, kept_at}
 use Rattle.rv_object_file_laws.specs.FirstFault.{is_none, is_misplaced, relocation_tests, relocations_tests, is_bad_name, has_binding, has_home, symbol_tests, is_row_of, row_tests}
-use Rattle.rv_object_file_laws.specs.Written.{kind_of, symbol_number, rela_of, name_offset, table_of, binding_number, home_of, symbol_record, row_record}
+use Rattle.rv_object_file_laws.specs.Written.{kind_of, symbol_number, rela_of, name_offset, table_of, binding_number, section_index_of, symbol_record, row_record}
 use Rattle.rv_object_file_laws.proofs.StringsLemmas.{name_back}
-use Rattle.rv_object_file_laws.proofs.ListsLemmas.{first_true_none}
 use Rattle.rv_object_file_laws.proofs.RelocatedLemmas.{FitsRelocation, kind_back, relocation_back, relocations_back}
 use Rattle.rv_object_file_laws.proofs.SymbolsReadLemmas.{FitsName, shown_string}
 
@@ -127,7 +127,7 @@ bound Local = refl
 bound Global = refl
 
 housed : (file : List ℕ) (count last sections : ℕ) (d : Definition) → section_count file ≡ sections → count < last → last < sections → is_defined_in count d ≡ true →
-    (home_of last d == 0 || home_of last d == 0xFFF1 || nat_lt (home_of last d) (section_count file)) ≡ true
+    (section_index_of last d == 0 || section_index_of last d == 0xFFF1 || nat_lt (section_index_of last d) (section_count file)) ≡ true
 housed file count last sections Undefined many high low inside = refl
 housed file count last sections (Absolute v) many high low inside = refl
 housed file count last sections (InSection k offset) many high low inside =

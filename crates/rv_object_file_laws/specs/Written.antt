@@ -2,7 +2,7 @@
 -- "Relocation"; this project's order of sections): the header; the contents of the sections, each at
 -- a multiple of 8; and the section headers.
 
-use Rattle.std.specs.Prelude.{ℕ, suc, ◌+◌, ◌-◌, ◌*◌, ◌/◌, ◌≤◌, ◌<◌, ◌^◌, ◌==◌, Bool, not, List, [], ◌∷◌, ◌++◌, length, replicate, map, flat_map, filter, codes, bytes_eq, if◌then◌else◌, Option, Some, None}
+use Rattle.std.specs.Prelude.{ℕ, suc, ◌+◌, ◌-◌, ◌*◌, ◌≤◌, ◌<◌, ◌^◌, ◌==◌, Bool, not, List, [], ◌∷◌, ◌++◌, length, replicate, map, flat_map, filter, codes, bytes_eq, if◌then◌else◌, Option, Some, None}
 use Rattle.std.specs.List.{list_any}
 use Rattle.rv_isa.specs.Kinds.{number_of}
 use Rattle.rv_elf.specs.declared.file_header.FileHeader.{FileHeader}
@@ -12,6 +12,7 @@ use Rattle.rv_elf.specs.declared.rela.Rela.{Rela}
 use Rattle.rv_elf.specs.Fields.{file_header_size, section_header_size, symbol_size, rela_size}
 use Rattle.rv_elf.specs.Numbers.{et_rel, em_riscv, sht_progbits, sht_symtab, sht_strtab, sht_rela, sht_note, sht_nobits, shf_write, shf_alloc, shf_execinstr, shn_undef, shn_abs, stb_local, stb_global}
 use Rattle.rv_elf.specs.Records.{file_header_bytes, section_header_bytes, symbol_bytes, rela_bytes}
+use Rattle.rv_layout_laws.specs.Alignment.{aligned}
 use Rattle.rv_object.specs.declared.symbol.Binding.{Binding}
 use Rattle.rv_object.specs.declared.symbol.Binding.TheVariants.{Local, Global}
 use Rattle.rv_object.specs.declared.symbol.Definition.{Definition}
@@ -148,11 +149,11 @@ binding_number Local = stb_local
 binding_number Global = stb_global
 
 -- the index of a symbol's section, and its value; one without an address names the last section
-abbrev pub home_of : ℕ → Definition → ℕ
-home_of last Undefined = shn_undef
-home_of last (Absolute value) = shn_abs
-home_of last (InSection section offset) = suc section
-home_of last (Skipped value) = last
+abbrev pub section_index_of : ℕ → Definition → ℕ
+section_index_of last Undefined = shn_undef
+section_index_of last (Absolute value) = shn_abs
+section_index_of last (InSection section offset) = suc section
+section_index_of last (Skipped value) = last
 
 abbrev pub value_of : Definition → ℕ
 value_of Undefined = 0
@@ -166,7 +167,7 @@ symbol_record names last s = record {
   st_name = name_offset names s.name;
   st_info = binding_number s.binding * 16;
   st_other = 0;
-  st_shndx = home_of last s.definition;
+  st_shndx = section_index_of last s.definition;
   st_value = value_of s.definition;
   st_size = 0;
 }
@@ -218,21 +219,18 @@ pieces o = first_pieces o
 
 -- ---- the file
 
--- the next multiple of 8, and the zeros up to it
-abbrev pub aligned : ℕ → ℕ
-aligned at = (at + 7) / 8 * 8
-
+-- the zeros up to the next multiple of 8
 abbrev pub zeros_at : ℕ → List ℕ
-zeros_at at = replicate (aligned at - at) 0
+zeros_at at = replicate (aligned 8 at - at) 0
 
 -- the contents from an offset on, the last up to a multiple of 8 as well
 abbrev pub contents_from : ℕ → List Piece → List ℕ
 contents_from at [] = zeros_at at
-contents_from at (p ∷ ps) = zeros_at at ++ (p.bytes ++ contents_from (aligned at + length p.bytes) ps)
+contents_from at (p ∷ ps) = zeros_at at ++ (p.bytes ++ contents_from (aligned 8 at + length p.bytes) ps)
 
-abbrev pub end_of : ℕ → List Piece → ℕ
-end_of at [] = aligned at
-end_of at (p ∷ ps) = end_of (aligned at + length p.bytes) ps
+abbrev pub headers_offset : ℕ → List Piece → ℕ
+headers_offset at [] = aligned 8 at
+headers_offset at (p ∷ ps) = headers_offset (aligned 8 at + length p.bytes) ps
 
 abbrev pub header_of : List (List ℕ) → ℕ → Piece → SectionHeader
 header_of names at p = record {
@@ -240,7 +238,7 @@ header_of names at p = record {
   sh_type = p.kind;
   sh_flags = p.flags;
   sh_addr = 0;
-  sh_offset = aligned at;
+  sh_offset = aligned 8 at;
   sh_size = p.size;
   sh_link = p.link;
   sh_info = p.info;
@@ -251,7 +249,7 @@ header_of names at p = record {
 abbrev pub headers_from : List (List ℕ) → ℕ → List Piece → List SectionHeader
 headers_from names at [] = []
 headers_from names at (p ∷ ps) =
-    header_of names at p ∷ headers_from names (aligned at + length p.bytes) ps
+    header_of names at p ∷ headers_from names (aligned 8 at + length p.bytes) ps
 
 abbrev pub file_header_of : Object → FileHeader
 file_header_of o = record {
@@ -260,7 +258,7 @@ file_header_of o = record {
   e_version = 1;
   e_entry = 0;
   e_phoff = 0;
-  e_shoff = end_of file_header_size (pieces o);
+  e_shoff = headers_offset file_header_size (pieces o);
   e_flags = if o.rvc then 1 else 0;
   e_ehsize = file_header_size;
   e_phentsize = 0;

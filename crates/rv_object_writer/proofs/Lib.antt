@@ -1,3 +1,4 @@
 pub mod CutLemmas
+pub mod KnownLemmas
 pub mod NamingLemmas
 pub mod StepsLemmas

@@ -1,14 +1,17 @@
 -- One step of each loop, and its end.
 
-use Rattle.std.proofs.Common.{◌≡◌, ℕ, suc, ◌+◌, ◌-◌, ◌<◌, ◌≤◌, Bool, true, false, not, ◌==◌, List, [], ◌∷◌, ◌++◌, length, drop, filter, get_or, replicate, refl, sym, ap, ◌∙◌, append_assoc, append-nil, length-append, arith, ne_eqb, if◌then◌else◌}
+use Rattle.std.proofs.Common.{◌≡◌, ℕ, suc, ◌+◌, ◌-◌, ◌<◌, ◌≤◌, Bool, true, false, not, ◌==◌, List, [], ◌∷◌, ◌++◌, length, map, drop, filter, get_or, replicate, refl, sym, ap, ◌∙◌, append_assoc, append-nil, length-append, arith, ne_eqb, if◌then◌else◌}
 use Rattle.std.specs.Prelude.{flat_map}
 use Rattle.std.proofs.lemmas.List.{drop_more, drop_all, length-replicate}
 use mir.Val.{bool_byte}
 use Rattle.rv_elf.specs.declared.file_header.FileHeader.{FileHeader}
 use Rattle.rv_elf.specs.Records.{file_header_bytes, section_header_bytes}
 use Rattle.rv_object.specs.declared.row.Row.{Row}
+use Rattle.rv_object.specs.declared.section.Section.{Section as DeclaredSection}
 use Rattle.rv_object.specs.Object.{Section, Symbol}
-use Rattle.rv_object_file_laws.specs.Written.{Piece, aligned, zeros_at, contents_from, headers_from, header_of, rela_pieces, row_pieces, has_relocations, is_local, locals}
+use Rattle.rv_object.specs.Sections.{section_of}
+use Rattle.rv_layout_laws.specs.Alignment.{aligned}
+use Rattle.rv_object_file_laws.specs.Written.{Piece, zeros_at, contents_from, headers_from, header_of, rela_pieces, row_pieces, has_relocations, is_local, locals}
 
 -- the next of those that are left
 pub left : {A : Type 0} (xs : List A) (i : ℕ) (x d : A) → i < length xs → x ≡ get_or xs i d → drop i xs ≡ x ∷ drop (i + 1) xs
@@ -31,6 +34,13 @@ done F nil xs i past out whole so_far =
 pub three : (a b c old one two new : List ℕ) → one ≡ old ++ a → two ≡ one ++ b → new ≡ two ++ c → new ≡ old ++ (a ++ (b ++ c))
 three a b c old one two new e f g =
     g ∙ ap (λ l. l ++ c) (f ∙ ap (λ l. l ++ b) e) ∙ append_assoc (old ++ a) b c ∙ append_assoc old a (b ++ c)
+
+-- three lists and two items, one after the other
+pub five : {A : Type 0} (a b c : List A) (x y : A) {one two more most all : List A} → one ≡ a → two ≡ one ++ b → more ≡ two ++ c → most ≡ more ++ x ∷ []
+    → all ≡ most ++ y ∷ [] → all ≡ a ++ (b ++ (c ++ (x ∷ y ∷ [])))
+five a b c x y e f g h k =
+    k ∙ ap (λ l. l ++ y ∷ []) (h ∙ ap (λ l. l ++ x ∷ []) (g ∙ ap (λ l. l ++ c) (f ∙ ap (λ l. l ++ b) e)))
+    ∙ append_assoc ((a ++ b) ++ c) (x ∷ []) (y ∷ []) ∙ append_assoc (a ++ b) c (x ∷ y ∷ []) ∙ append_assoc a b (c ++ (x ∷ y ∷ []))
 
 -- ---- contents and headers
 
@@ -55,22 +65,22 @@ pub contents_more : (p : Piece) (ps : List Piece) (out new : List ℕ) → new �
     → new ++ contents_from (length new) ps ≡ out ++ contents_from (length out) (p ∷ ps)
 contents_more p ps out new grown =
     let at = length out in
-    let zeros : length (zeros_at at) ≡ aligned at - at = length-replicate {A = ℕ} (aligned at - at) 0 in
+    let zeros : length (zeros_at at) ≡ aligned 8 at - at = length-replicate {A = ℕ} (aligned 8 at - at) 0 in
     let sums : length new ≡ length out + length (zeros_at at) + length p.bytes =
     ap length grown ∙ length-append (out ++ zeros_at at) p.bytes ∙ ap (λ n. n + length p.bytes) (length-append out (zeros_at at)) in
-    let up : at ≤ aligned at = omega arith in
-    let is : length new ≡ aligned at + length p.bytes = omega arith in
-    let rest = contents_from (aligned at + length p.bytes) ps in
+    let up : at ≤ aligned 8 at = omega arith in
+    let is : length new ≡ aligned 8 at + length p.bytes = omega arith in
+    let rest = contents_from (aligned 8 at + length p.bytes) ps in
     ap (λ n. new ++ contents_from n ps) is ∙ ap (λ l. l ++ rest) grown
     ∙ append_assoc (out ++ zeros_at at) p.bytes rest ∙ append_assoc out (zeros_at at) (p.bytes ++ rest)
 
 pub headers_more : (ns : List (List ℕ)) (at next : ℕ) (p : Piece) (ps : List Piece) (out new : List ℕ)
-    → new ≡ out ++ section_header_bytes (header_of ns at p) → next ≡ aligned at + length p.bytes
+    → new ≡ out ++ section_header_bytes (header_of ns at p) → next ≡ aligned 8 at + length p.bytes
     → new ++ flat_map section_header_bytes (headers_from ns next ps) ≡ out ++ flat_map section_header_bytes (headers_from ns at (p ∷ ps))
 headers_more ns at next p ps out new grown is =
     ap (λ n. new ++ flat_map section_header_bytes (headers_from ns n ps)) is
-    ∙ ap (λ l. l ++ flat_map section_header_bytes (headers_from ns (aligned at + length p.bytes) ps)) grown
-    ∙ append_assoc out (section_header_bytes (header_of ns at p)) (flat_map section_header_bytes (headers_from ns (aligned at + length p.bytes) ps))
+    ∙ ap (λ l. l ++ flat_map section_header_bytes (headers_from ns (aligned 8 at + length p.bytes) ps)) grown
+    ∙ append_assoc out (section_header_bytes (header_of ns at p)) (flat_map section_header_bytes (headers_from ns (aligned 8 at + length p.bytes) ps))
 
 -- ---- tables of relocations
 
@@ -81,6 +91,18 @@ relas_more symtab i s ss = by (length s.relocations == 0) _ (rela_pieces symtab 
     by : (b : Bool) (p : Piece) (ps : List Piece) → (if b then ps else p ∷ ps) ≡ (if b then [] else p ∷ []) ++ ps
     by true p ps = refl
     by false p ps = refl
+
+-- one section later
+pub relas_step : (symtab i : ℕ) (xs : List DeclaredSection) (x : DeclaredSection) → i < length xs → x ≡ get_or xs i x → (old new whole : List Piece)
+    → new ≡ old ++ rela_pieces symtab (i + 1) (section_of x ∷ []) → old ++ rela_pieces symtab (suc i) (map section_of (drop i xs)) ≡ whole
+    → new ++ rela_pieces symtab (suc (i + 1)) (map section_of (drop (i + 1) xs)) ≡ whole
+relas_step symtab i xs x inside is old new whole grown so_far =
+    let next : i + 1 ≡ suc i = omega arith in
+    let rest : List Section = map section_of (drop (i + 1) xs) in
+    ap (λ l. l ++ rela_pieces symtab (suc (i + 1)) rest) grown
+    ∙ append_assoc old (rela_pieces symtab (i + 1) (section_of x ∷ [])) (rela_pieces symtab (suc (i + 1)) rest)
+    ∙ ap (λ l. old ++ l) (sym (relas_more symtab (i + 1) (section_of x) rest)) ∙ ap (λ n. old ++ rela_pieces symtab n (section_of x ∷ rest)) next
+    ∙ ap (λ l. old ++ rela_pieces symtab (suc i) (map section_of l)) (sym (left xs i x x inside is)) ∙ so_far
 
 -- there is one for each section that has relocations
 pub relas_count : (symtab i : ℕ) (ss : List Section) → length (rela_pieces symtab i ss) ≡ length (filter has_relocations ss)

@@ -1,12 +1,14 @@
 -- What the pieces of the code stand for.
 
 use Rattle.std.specs.Prelude.{◌≡◌, ℕ, ◌+◌, Bool, List, length, map, flat_map, if◌then◌else◌}
+use Rattle.std.specs.List.{AllByRecursion}
 use Rattle.rv_elf.specs.declared.file_header.FileHeader.{FileHeader}
 use Rattle.rv_elf.specs.Fields.{rela_size, file_header_size, section_header_size}
 use Rattle.rv_elf.specs.Numbers.{sht_rela, et_rel, em_riscv}
 use Rattle.rv_object.specs.Object.{Object}
+use Rattle.rv_object_file_laws.specs.Known.{IsRelocation, IsSymbol, IsRow}
 use Rattle.rv_object_file_laws.specs.Rows.{row_bytes}
-use Rattle.rv_object_file_laws.specs.Written.{Piece, table_piece, rela_pieces, row_record, symtab_index, last_index, end_of, symbols_bytes, symbol_names, table_of}
+use Rattle.rv_object_file_laws.specs.Written.{Piece, table_piece, rela_pieces, row_record, symtab_index, last_index, headers_offset, symbols_bytes, symbol_names, table_of}
 use Rattle.rv_object_writer.specs.declared.pieces.Tables.{Tables}
 use Rattle.rv_object_writer.specs.declared.piece.Piece.{Piece as DeclaredPiece}
 use Rattle.rv_object_writer.specs.declared.tables.RelaTable.{RelaTable}
@@ -36,6 +38,12 @@ pub record AreTables (o : Object) (t : Tables) : Type 0 where
   pub all_symbols : t.symbols.items ≡ symbols_bytes (last_index o) o
   pub all_names : t.names.items ≡ table_of (symbol_names o)
 
+-- the numbers that the tables of an object are made of have the widths of their fields
+pub record HaveKnownNumbers (o : Object) : Type 0 where
+  pub fields : AllByRecursion (λ s. AllByRecursion IsRelocation s.relocations) o.sections
+  pub all_symbols : AllByRecursion IsSymbol o.symbols
+  pub all_rows : AllByRecursion IsRow o.rows
+
 -- the header of a file with these sections, of which the last has their names
 abbrev pub header_by : Bool → ℕ → List Piece → FileHeader
 header_by rvc last ps = record {
@@ -44,7 +52,7 @@ header_by rvc last ps = record {
   e_version = 1;
   e_entry = 0;
   e_phoff = 0;
-  e_shoff = end_of file_header_size ps;
+  e_shoff = headers_offset file_header_size ps;
   e_flags = if rvc then 1 else 0;
   e_ehsize = file_header_size;
   e_phentsize = 0;

@@ -13,7 +13,6 @@
 //! Source: System V gABI, "ELF Header", "Sections", "String Table", "Symbol Table", "Relocation".
 #![tactic(auto)]
 
-mod law;
 mod names;
 mod piece;
 mod pieces;
@@ -21,5 +20,4 @@ mod strings;
 mod tables;
 mod writing;
 
-pub use law::known;
 pub use writing::write;

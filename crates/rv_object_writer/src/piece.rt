@@ -1,6 +1,7 @@
 //! Sections as the file has them.
 
-ghost use Rattle.std.specs.Prelude.{◌≡◌};
+ghost use Rattle.std.specs.Prelude.{◌≡◌, ◌<◌, ◌^◌};
+ghost use Rattle.rv_object.specs.Object.{size_of};
 ghost use Rattle.rv_object.specs.Parts.{contents_of};
 ghost use Rattle.rv_object.specs.Sections.{section_of};
 ghost use Rattle.rv_object_file_laws.specs.Written.{kind_of, flags_of};
@@ -31,7 +32,8 @@ impl<'p> Piece<'p> {
 
     /// A section of the object.
     pub(crate) fn of(section: &'p Section) -> Self
-        ensures { piece_of result ≡ section_piece (section_of section.now) }
+        ensures is { piece_of result ≡ section_piece (section_of section.now) }
+        ensures size { size_of (section_of section.now).contents < 2 ^ 64 }
     {
         Piece {
             name: section.name.as_slice(),

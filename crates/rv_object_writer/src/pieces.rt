@@ -1,13 +1,15 @@
 //! The sections of an object's file.
 
 ghost use Rattle.std.specs.Prelude.{◌≡◌, ◌+◌, ◌++◌, ◌∷◌, [], ◌<◌, ◌^◌, map, flat_map, codes, IfOk, OnOk};
+ghost use Rattle.std.specs.List.{AllByRecursion};
 ghost use Rattle.rv_elf.specs.Fields.{rela_size, symbol_size};
 ghost use Rattle.rv_elf.specs.Numbers.{sht_strtab, sht_symtab};
+ghost use Rattle.rv_object.specs.Object.{size_of};
 ghost use Rattle.rv_object.specs.Parts.{symbol_of};
 ghost use Rattle.rv_object.specs.Sections.{section_of};
 ghost use Rattle.rv_object.specs.View.{object_of};
 ghost use Rattle.rv_object_file_laws.specs.Written.{section_piece, table_piece, row_pieces, symtab_index, last_index, first_pieces, symbol_names, symbols_bytes, rela_pieces, table_of, locals};
-ghost use Rattle.rv_object_writer.specs.Pieces.{piece_of, rela_piece, AreTables};
+ghost use Rattle.rv_object_writer.specs.Pieces.{piece_of, rela_piece, AreTables, HaveKnownNumbers};
 ghost use Rattle.rv_object_file_laws.specs.Rows.{row_bytes};
 ghost use Rattle.rv_object_file_laws.specs.Written.{row_record};
 
@@ -51,6 +53,7 @@ impl Tables {
     pub(crate) fn of(alloc: Global, object: &Object) -> Result<Self, AllocError>
         ensures tables { IfOk result (λ tables. AreTables (object_of object.now) tables) }
         ensures room { IfOk result (λ tables. tables.symtab + 2 < 2 ^ 64) }
+        ensures known { IfOk result (λ tables. HaveKnownNumbers (object_of object.now)) }
     {
         let relocations = rela_tables(alloc, object.sections.as_slice())?;
         let symtab = symtab_index(object, relocations.as_slice())?;
@@ -69,8 +72,10 @@ impl Tables {
 
 /// Adds the sections of the object.
 fn put_sections<'p>(pieces: &mut Vec<Piece<'p>>, sections: &'p [Section]) -> Result<(), AllocError>
-    ensures { OnOk result (map piece_of pieces.new.items ≡ map piece_of pieces.old.items
+    ensures added { OnOk result (map piece_of pieces.new.items ≡ map piece_of pieces.old.items
         ++ map section_piece (map section_of sections.now)) }
+    ensures sizes { OnOk result
+        (AllByRecursion (λ s. size_of s.contents < 2 ^ 64) (map section_of sections.now)) }
 {
     for section in sections {
         pieces.push(Piece::of(section))?;
@@ -155,8 +160,10 @@ pub(crate) fn first_pieces<'p>(
 ) -> Result<Vec<Piece<'p>>, AllocError>
     requires tables { AreTables (object_of object.now) tables.now }
     requires room { (tables.now).symtab + 2 < 2 ^ 64 }
-    ensures { IfOk result
+    ensures pieces { IfOk result
         (λ pieces. map piece_of pieces.items ≡ first_pieces (object_of object.now)) }
+    ensures sizes { IfOk result (λ pieces. AllByRecursion
+        (λ s. size_of s.contents < 2 ^ 64) (object_of object.now).sections) }
 {
     let mut pieces = Vec::new(alloc);
     put_sections(&mut pieces, object.sections.as_slice())?;

@@ -1,14 +1,20 @@
 //! The tables of a file: relocations, rows and symbols.
+//!
+//! Their bytes are made before any section is written, since the headers of the file and of its sections say how large
+//! they are. The loops that write a table also show that its numbers have the widths of their fields: only a look at
+//! each part of an object can show it.
 
 ghost use Rattle.std.specs.Prelude.{◌≡◌, ◌+◌, ◌<◌, ◌%◌, ◌^◌, ℕ, suc, List, [], ◌∷◌, ◌++◌, map, flat_map, replicate, codes, IfOk, OnOk};
+ghost use Rattle.std.specs.List.{AllByRecursion};
 ghost use Rattle.byteorder.specs.Endian.{little_bytes};
 ghost use Rattle.rv_elf.specs.Fields.{bytes_of, symbol_size};
 ghost use Rattle.rv_elf.specs.Records.{rela_bytes, symbol_bytes};
 ghost use Rattle.rv_object.specs.Parts.{relocation_of, symbol_of};
 ghost use Rattle.rv_object.specs.Sections.{section_of};
+ghost use Rattle.rv_object_file_laws.specs.Known.{IsRelocation, IsSymbol, IsRow};
 ghost use Rattle.rv_object_file_laws.specs.Rows.{row_bytes};
 ghost use Rattle.rv_object_file_laws.specs.Rows as fields;
-ghost use Rattle.rv_object_file_laws.specs.Written.{strings_of, symbol_number, rela_of, relocations_bytes, row_record, binding_number, home_of, value_of, symbol_record, is_local, locals, rela_pieces};
+ghost use Rattle.rv_object_file_laws.specs.Written.{strings_of, symbol_number, rela_of, relocations_bytes, row_record, binding_number, section_index_of, value_of, symbol_record, is_local, locals, rela_pieces};
 ghost use Rattle.rv_object_writer.specs.Pieces.{rela_piece};
 ghost use Rattle.rv_object_writer.specs.Strings.{IsTable};
 
@@ -33,9 +39,10 @@ fn symbol_number(symbol: Option<u32>) -> u32
 
 /// Writes a relocation.
 #[tactic(auto, unfolding(rv_elf::specs::Records::rela_bytes))]
-fn put_relocation(out: &mut ElfWriter, relocation: &Relocation) -> Result<(), AllocError>
-    ensures { OnOk result
-        (out.new ≡ out.old ++ rela_bytes (rela_of (relocation_of relocation.now))) }
+fn put_relocation(out: &mut ElfWriter, relocation: Relocation) -> Result<(), AllocError>
+    ensures written { OnOk result
+        (out.new ≡ out.old ++ rela_bytes (rela_of (relocation_of relocation))) }
+    ensures known { IsRelocation (relocation_of relocation) }
 {
     out.rela(&Rela {
         r_offset: relocation.place,
@@ -47,12 +54,14 @@ fn put_relocation(out: &mut ElfWriter, relocation: &Relocation) -> Result<(), Al
 
 /// The bytes of relocations.
 fn relocations_table(alloc: Global, relocations: &[Relocation]) -> Result<Vec<u8>, AllocError>
-    ensures { IfOk result
+    ensures written { IfOk result
         (λ bytes. bytes.items ≡ relocations_bytes (map relocation_of relocations.now)) }
+    ensures known { IfOk result
+        (λ bytes. AllByRecursion IsRelocation (map relocation_of relocations.now)) }
 {
     let mut out = ElfWriter::new(alloc);
     for relocation in relocations {
-        put_relocation(&mut out, relocation)?;
+        put_relocation(&mut out, *relocation)?;
     }
     Ok(out.finish())
 }
@@ -72,6 +81,8 @@ fn rela_table(alloc: Global, index: u64, section: &Section) -> Result<RelaTable,
     ensures bytes { IfOk result (λ t. t.bytes.items
         ≡ relocations_bytes (map relocation_of (section.now).relocations.items)) }
     ensures section { IfOk result (λ t. t.section ≡ index) }
+    ensures known { IfOk result
+        (λ t. AllByRecursion IsRelocation (section_of section.now).relocations) }
 {
     let mut name = Vec::new(alloc);
     name.extend_from_slice(b".rela")?;
@@ -91,9 +102,11 @@ fn put_rela_table(
     index: u64,
     section: &Section,
 ) -> Result<(), AllocError>
-    ensures { OnOk result ((symtab : ℕ) → map (rela_piece symtab) tables.new.items
+    ensures added { OnOk result ((symtab : ℕ) → map (rela_piece symtab) tables.new.items
         ≡ map (rela_piece symtab) tables.old.items
         ++ rela_pieces symtab index (section_of section.now ∷ [])) }
+    ensures known { OnOk result
+        (AllByRecursion IsRelocation (section_of section.now).relocations) }
 {
     if section.relocations.is_empty() {
         return Ok(());
@@ -104,8 +117,10 @@ fn put_rela_table(
 
 /// The tables of the relocations of sections.
 pub(crate) fn rela_tables(alloc: Global, sections: &[Section]) -> Result<Vec<RelaTable>, AllocError>
-    ensures { IfOk result (λ tables. (symtab : ℕ) → map (rela_piece symtab) tables.items
+    ensures tables { IfOk result (λ tables. (symtab : ℕ) → map (rela_piece symtab) tables.items
         ≡ rela_pieces symtab 1 (map section_of sections.now)) }
+    ensures known { IfOk result (λ tables. AllByRecursion
+        (λ s. AllByRecursion IsRelocation s.relocations) (map section_of sections.now)) }
 {
     let mut tables = Vec::new(alloc);
     for i in 0..sections.len() {
@@ -174,21 +189,23 @@ fn put_row_extent(out: &mut ElfWriter, row: &Row) -> Result<(), AllocError>
 
 /// Writes a row.
 #[tactic(auto, unfolding(rv_object_file_laws::specs::Rows::row_bytes))]
-fn put_row(out: &mut ElfWriter, row: &Row) -> Result<(), AllocError>
-    ensures { OnOk result (out.new ≡ out.old ++ row_bytes (row_record row.now)) }
+fn put_row(out: &mut ElfWriter, row: Row) -> Result<(), AllocError>
+    ensures written { OnOk result (out.new ≡ out.old ++ row_bytes (row_record row)) }
+    ensures known { IsRow row }
 {
-    put_row_place(out, row)?;
-    put_row_extent(out, row)
+    put_row_place(out, &row)?;
+    put_row_extent(out, &row)
 }
 
 /// The bytes of rows.
 pub(crate) fn rows_table(alloc: Global, rows: &[Row]) -> Result<Vec<u8>, AllocError>
-    ensures { IfOk result (λ bytes. bytes.items
+    ensures written { IfOk result (λ bytes. bytes.items
         ≡ flat_map (λ row. row_bytes (row_record row)) rows.now) }
+    ensures known { IfOk result (λ bytes. AllByRecursion IsRow rows.now) }
 {
     let mut out = ElfWriter::new(alloc);
     for row in rows {
-        put_row(&mut out, row)?;
+        put_row(&mut out, *row)?;
     }
     Ok(out.finish())
 }
@@ -206,8 +223,8 @@ fn binding(binding: Binding) -> u8
 }
 
 /// The index of a symbol's section; one without an address names the last section.
-fn home(last: u64, definition: Definition) -> u16
-    ensures { result ≡ home_of last definition % 2 ^ 16 }
+fn section_index(last: u64, definition: Definition) -> u16
+    ensures { result ≡ section_index_of last definition % 2 ^ 16 }
 {
     match definition {
         Definition::Undefined => SHN_UNDEF,
@@ -219,7 +236,8 @@ fn home(last: u64, definition: Definition) -> u16
 
 /// The value of a symbol.
 fn value(definition: Definition) -> u64
-    ensures { result ≡ value_of definition }
+    ensures is { result ≡ value_of definition }
+    ensures small { value_of definition < 2 ^ 64 }
 {
     match definition {
         Definition::Undefined => 0,
@@ -237,15 +255,16 @@ fn put_symbol(
     last: u64,
     symbol: &Symbol,
 ) -> Result<(), AllocError>
-    ensures { OnOk result ((ns : List (List ℕ)) → IsTable (strings_of ns) names.now
+    ensures written { OnOk result ((ns : List (List ℕ)) → IsTable (strings_of ns) names.now
         → out.new ≡ out.old ++ symbol_bytes (symbol_record ns last (symbol_of symbol.now))) }
+    ensures known { OnOk result (IsSymbol (symbol_of symbol.now)) }
 {
     let name = names.offset(symbol.name.as_slice());
     out.symbol(&SymbolRecord {
         st_name: (name % 0x1_0000_0000) as u32,
         st_info: binding(symbol.binding) * 16,
         st_other: 0,
-        st_shndx: home(last, symbol.definition),
+        st_shndx: section_index(last, symbol.definition),
         st_value: value(symbol.definition),
         st_size: 0,
     })?;
@@ -259,9 +278,10 @@ pub(crate) fn symbols_table(
     last: u64,
     symbols: &[Symbol],
 ) -> Result<Vec<u8>, AllocError>
-    ensures { IfOk result (λ bytes. (ns : List (List ℕ)) → IsTable (strings_of ns) names.now
+    ensures written { IfOk result (λ bytes. (ns : List (List ℕ)) → IsTable (strings_of ns) names.now
         → bytes.items ≡ replicate symbol_size 0
         ++ flat_map (λ s. symbol_bytes (symbol_record ns last s)) (map symbol_of symbols.now)) }
+    ensures known { IfOk result (λ bytes. AllByRecursion IsSymbol (map symbol_of symbols.now)) }
 {
     let mut out = ElfWriter::new(alloc);
     out.zeros(SYMBOL_SIZE)?;

@@ -1,16 +1,22 @@
 //! Writes the file of an object.
+//!
+//! Nothing is refused but want of memory. An object with more sections, symbols or bytes of names than a file has
+//! numbers for loses their upper bytes and cannot be read again. The object of a source is never one.
 
 ghost use Rattle.std.specs.Prelude.{◌≡◌, ◌+◌, ◌++◌, ◌^◌, ◌<◌, ℕ, List, None, map, flat_map, length, replicate, if◌then◌else◌, IfOk, OnOk};
+ghost use Rattle.std.specs.List.{AllByRecursion};
 ghost use Rattle.rv_elf.specs.Fields.{file_header_size, section_header_size};
 ghost use Rattle.rv_elf.specs.Records.{file_header_bytes, section_header_bytes};
+ghost use Rattle.rv_object.specs.Object.{size_of};
 ghost use Rattle.rv_object.specs.View.{object_of};
 ghost use Rattle.rv_object_file_laws.specs.FirstFault.{first_fault};
+ghost use Rattle.rv_object_file_laws.specs.Known.{IsObject};
 ghost use Rattle.rv_object_file_laws.specs.ObjectOf.{ObjectOf};
-ghost use Rattle.rv_object_file_laws.specs.Written.{aligned, zeros_at, contents_from, end_of, header_of, headers_from, HasFile, file_of, file_header_of, strings_of, last_index, pieces as file_pieces, section_names as file_names};
+ghost use Rattle.rv_layout_laws.specs.Alignment.{aligned};
+ghost use Rattle.rv_object_file_laws.specs.Written.{zeros_at, contents_from, headers_offset, header_of, headers_from, HasFile, file_of, file_header_of, strings_of, last_index, pieces as file_pieces, section_names as file_names};
 ghost use Rattle.rv_object_writer.specs.Pieces.{piece_of, header_by, AreTables};
 ghost use Rattle.rv_object_writer.specs.Strings.{IsTable};
 
-use crate::law::known;
 use crate::names::section_names;
 use crate::piece::Piece;
 use crate::pieces::{Tables, all_pieces, first_pieces};
@@ -26,8 +32,9 @@ pub fn write(alloc: Global, object: &Object) -> Result<Vec<u8>, AllocError>
     // Where the fields of a file can hold what the object has, the file has no fault and is a file of this object.
     ensures read { IfOk result (λ file. HasFile (object_of object.now)
         → (first_fault file.items ≡ None) × ObjectOf file.items (object_of object.now)) }
+    // An object that is written keeps what a reader of files tests, and its numbers have the widths of their fields.
+    ensures known { IfOk result (λ file. IsObject (object_of object.now)) }
 {
-    known(object);
     written_object_is_read();
     let tables = Tables::of(alloc, object)?;
     let file = write_tables(alloc, object, &tables)?;
@@ -38,7 +45,9 @@ pub fn write(alloc: Global, object: &Object) -> Result<Vec<u8>, AllocError>
 fn write_tables(alloc: Global, object: &Object, tables: &Tables) -> Result<Vec<u8>, AllocError>
     requires tables { AreTables (object_of object.now) tables.now }
     requires room { (tables.now).symtab + 2 < 2 ^ 64 }
-    ensures { IfOk result (λ file. file.items ≡ file_of (object_of object.now)) }
+    ensures written { IfOk result (λ file. file.items ≡ file_of (object_of object.now)) }
+    ensures sizes { IfOk result (λ file. AllByRecursion
+        (λ s. size_of s.contents < 2 ^ 64) (object_of object.now).sections) }
 {
     let pieces = first_pieces(alloc, object, tables)?;
     let names = section_names(alloc, pieces.as_slice())?;
@@ -94,28 +103,24 @@ fn put_file(
 
 /// The next multiple of 8.
 fn aligned(at: u64) -> Result<u64, AllocError>
-    ensures { IfOk result (λ next. next ≡ aligned at) }
+    ensures { IfOk result (λ next. next ≡ aligned 8 at) }
 {
-    match at.checked_add(7) {
-        Some(past) => Ok(past / 8 * 8),
-        None => Err(AllocError),
-    }
+    let past = at.checked_add(7).ok_or(AllocError)?;
+    Ok(past / 8 * 8)
 }
 
 /// Where contents end that begin at the next multiple of 8.
 fn after(at: u64, bytes: &[u8]) -> Result<u64, AllocError>
-    ensures { IfOk result (λ next. next ≡ aligned at + length bytes.now) }
+    ensures { IfOk result (λ next. next ≡ aligned 8 at + length bytes.now) }
 {
     let begin = aligned(at)?;
-    match begin.checked_add(bytes.len() as u64) {
-        Some(end) => Ok(end),
-        None => Err(AllocError),
-    }
+    let end = begin.checked_add(bytes.len() as u64).ok_or(AllocError)?;
+    Ok(end)
 }
 
 /// Where the section headers stand.
-fn end_of(pieces: &[Piece<'_>]) -> Result<u64, AllocError>
-    ensures { IfOk result (λ end. end ≡ end_of file_header_size (map piece_of pieces.now)) }
+fn headers_offset(pieces: &[Piece<'_>]) -> Result<u64, AllocError>
+    ensures { IfOk result (λ end. end ≡ headers_offset file_header_size (map piece_of pieces.now)) }
 {
     let mut at = 64;
     for piece in pieces {
@@ -135,7 +140,7 @@ fn put_header(
     ensures { OnOk result (out.new
         ≡ out.old ++ file_header_bytes (header_by rvc last (map piece_of pieces.now))) }
 {
-    let e_shoff = end_of(pieces)?;
+    let e_shoff = headers_offset(pieces)?;
     out.header(&FileHeader {
         e_type: ET_REL,
         e_machine: EM_RISCV,
@@ -183,7 +188,7 @@ fn put_section_header(
     piece: &Piece<'_>,
 ) -> Result<(), AllocError>
     ensures { OnOk result ((ns : List (List ℕ)) (at : ℕ) → IsTable (strings_of ns) names.now
-        → offset ≡ aligned at
+        → offset ≡ aligned 8 at
         → out.new ≡ out.old ++ section_header_bytes (header_of ns at (piece_of piece.now))) }
 {
     let name = names.offset(piece.name);
