@@ -1,9 +1,10 @@
 -- The rows of operations with an address, whose field stays open: as many bytes as they have ask for the same parts again.
 
 use Rattle.std.proofs.Common.{◌≡◌, ◌⊎◌, inl, inr, ℕ, Bool, true, false, refl, sym, ap, ◌∙◌, subst, arith, ℤ, pos, List, [], ◌∷◌, Option, Some, None, option_map}
+use Rattle.std.proofs.lemmas.Bool.{and_parts, or_parts}
 use Rattle.std.proofs.lemmas.Int.{ints}
 use Rattle.std.proofs.lemmas.Bool.Decides.{nat_tests}
-use Rattle.std.specs.Prelude.{◌&&◌, ◌||◌, ◌==◌, is_some, if◌then◌else◌}
+use Rattle.std.specs.Prelude.{◌&&◌, ◌==◌, is_some, if◌then◌else◌}
 use Rattle.std.specs.List.{AllByRecursion}
 use Rattle.rv_isa.specs.declared.instruction.Inst.{Inst}
 use Rattle.rv_isa.specs.declared.instruction.Inst.TheVariants as isa
@@ -112,14 +113,6 @@ branch_zero = grind (arith, ints)
 jump_zero : IsJump (pos 0)
 jump_zero = grind (arith, ints)
 
-second_and : (a b : Bool) → (a && b) ≡ true → b ≡ true
-second_and true b e = e
-second_and false b e = absurd (cc)
-
-first_and : (a b : Bool) → (a && b) ≡ true → a ≡ true
-first_and true b e = refl
-first_and false b e = absurd (cc)
-
 zero_is : (r : ℕ) → (r == 0) ≡ true → 0 ≡ r
 zero_is r e = grind (arith, nat_tests)
 
@@ -146,8 +139,8 @@ bnez_short r s short zero = (
 )
 
 branch_short : (o : BranchOperation) (r s : ℕ) → is_short_branch o r s ≡ true → HasShort (of_branch o (b_type r s (pos 0)))
-branch_short Beq r s e = beqz_short r s (second_and (s == 0) _ e) (zero_is s (first_and (s == 0) _ e))
-branch_short Bne r s e = bnez_short r s (second_and (s == 0) _ e) (zero_is s (first_and (s == 0) _ e))
+branch_short Beq r s e = beqz_short r s (and_parts (s == 0) _ e).1 (zero_is s (and_parts (s == 0) _ e).0)
+branch_short Bne r s e = bnez_short r s (and_parts (s == 0) _ e).1 (zero_is s (and_parts (s == 0) _ e).0)
 branch_short _ r s e = absurd (cc)
 
 abbrev branch_by : (two eight : Bool) → BranchOperation → ℕ → ℕ → List Part
@@ -270,14 +263,6 @@ jal_open false rd b rvc e = link_open rd b e
 
 through_is : (r : ℕ) (ps : List Part) → (r == 0) ≡ false → through r ps ≡ Some ps
 through_is r ps e = ap (λ t. if t then None else Some ps) e
-
-or_left : (a b : Bool) → (a || b) ≡ false → a ≡ false
-or_left true b e = absurd (cc)
-or_left false b e = refl
-
-or_right : (a b : Bool) → (a || b) ≡ false → b ≡ false
-or_right true b e = absurd (cc)
-or_right false b e = e
 
 -- ---- parts of addresses
 
@@ -407,11 +392,11 @@ made_of kind e forms b F rows are = record { F = F; rows = λ c rvc size none. r
 
 target_row : (o : Operation) (rvc : Bool) (b : ℕ) (e : Expression) → is_bad_scratch o ≡ false → takes_target o ≡ true → IsRowOf o None rvc b e
 target_row (operations.Branch operation r s) rvc b e good t =
-    made_of _ e _ _ (λ n. branch n operation r s) (λ c rvc size. refl) (branch_open (rvc && is_short_branch operation r s) b operation r s (λ x. branch_short operation r s (second_and rvc _ x)))
+    made_of _ e _ _ (λ n. branch n operation r s) (λ c rvc size. refl) (branch_open (rvc && is_short_branch operation r s) b operation r s (λ x. branch_short operation r s (and_parts rvc _ x).1))
 target_row (operations.ZeroBranch Beqz r) rvc b e good t =
-    made_of _ e _ _ (λ n. branch n Beq r 0) (λ c rvc size. refl) (branch_open (rvc && is_short_register r) b Beq r 0 (λ x. beqz_short r 0 (second_and rvc _ x) refl))
+    made_of _ e _ _ (λ n. branch n Beq r 0) (λ c rvc size. refl) (branch_open (rvc && is_short_register r) b Beq r 0 (λ x. beqz_short r 0 (and_parts rvc _ x).1 refl))
 target_row (operations.ZeroBranch Bnez r) rvc b e good t =
-    made_of _ e _ _ (λ n. branch n Bne r 0) (λ c rvc size. refl) (branch_open (rvc && is_short_register r) b Bne r 0 (λ x. bnez_short r 0 (second_and rvc _ x) refl))
+    made_of _ e _ _ (λ n. branch n Bne r 0) (λ c rvc size. refl) (branch_open (rvc && is_short_register r) b Bne r 0 (λ x. bnez_short r 0 (and_parts rvc _ x).1 refl))
 target_row (operations.ZeroBranch Bgez r) rvc b e good t = made_of _ e _ _ (λ n. branch n Bge r 0) (λ c rvc size. refl) (branch_open false b Bge r 0 not_short)
 target_row (operations.ZeroBranch Bltz r) rvc b e good t = made_of _ e _ _ (λ n. branch n Blt r 0) (λ c rvc size. refl) (branch_open false b Blt r 0 not_short)
 target_row (operations.ZeroBranch Blez r) rvc b e good t = made_of _ e _ _ (λ n. branch n Bge 0 r) (λ c rvc size. refl) (branch_open false b Bge 0 r not_short)
@@ -430,7 +415,7 @@ target_row (operations.LoadSymbol operation rd) rvc b e good t =
     (near_open rd kinds.PcrelLo12I (of_load operation (i_type rd rd (pos 0))) b refl refl)
 target_row (operations.StoreSymbol operation rs2 rt) rvc b e good t =
     made_of _ e _ _ (λ n. near rt kinds.PcrelLo12S (of_store operation (s_type rs2 rt (pos 0))))
-    (λ c rvc size. ap (λ x. if x then None else through rt (near rt kinds.PcrelLo12S (of_store operation (s_type rs2 rt (pos 0))))) (or_right (rt == 0) _ good) ∙ through_is rt _ (or_left (rt == 0) _ good))
+    (λ c rvc size. ap (λ x. if x then None else through rt (near rt kinds.PcrelLo12S (of_store operation (s_type rs2 rt (pos 0))))) (or_parts (rt == 0) _ good).1 ∙ through_is rt _ (or_parts (rt == 0) _ good).0)
     (near_open rt kinds.PcrelLo12S (of_store operation (s_type rs2 rt (pos 0))) b refl refl)
 target_row (operations.Call rd) rvc b e good t = made_of _ e _ _ (λ n. far n rd rd) (λ c rvc size. through_is rd _ good) (far_open rd rd)
 target_row operations.CallLinked rvc b e good t = made_of _ e _ _ (λ n. far n 1 1) (λ c rvc size. refl) (far_open 1 1)

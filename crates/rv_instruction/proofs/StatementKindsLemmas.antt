@@ -1,6 +1,7 @@
 -- What the statements of instructions have, by their kinds.
 
 use Rattle.std.proofs.Common.{◌≡◌, ℕ, List, [], ◌∷◌, ◌++◌, Option, Some, None, Bool, true, false, inl, inr, map, Result, Ok, Err, refl, sym, ap, ◌∙◌, subst, append-nil, ℤ, length, option_map}
+use Rattle.std.proofs.lemmas.Bool.{and_right}
 use Rattle.std.proofs.lemmas.List.Sums.{sum_by-cons}
 use Rattle.std.specs.Prelude.{◌&&◌, is_some}
 use Rattle.arrayvec.specs.ArrayVec.{ArrayVec}
@@ -323,14 +324,10 @@ nothing ps [] e same = refl
 nothing [] (c ∷ cs) e same = absurd (cc)
 nothing (p ∷ ps) (c ∷ cs) e same = absurd (cc)
 
-and_false : (a b : Bool) → b ≡ false → (a && b) ≡ false
-and_false true b e = e
-and_false false b e = refl
-
 has_code : (kind : StatementKind) (v : Expression → values.Value) (rvc : Bool) (bytes : ℕ) (ts : List Template) (found : List Coded) → HasTemplates v rvc bytes kind ts → MayHave rvc kind bytes → AreCodable ts
     → AreCodedParts (rvc && are_closed (parts_in ts)) (parts_in ts) (coded_by found) → map shape_in found ≡ map shape_of (parts_in ts) → HasCode v rvc bytes kind found
 has_code (Instruction mnemonic operands) v rvc bytes ts found rows offers codable coded shapes =
-    let size : are_closed (parts_in ts) ≡ false → length (joined (coded_by found)) ≡ code_bytes (parts_in ts) = λ left. coded_bytes _ (parts_in ts) (coded_by found) (and_false rvc _ left) codable coded in
+    let size : are_closed (parts_in ts) ≡ false → length (joined (coded_by found)) ≡ code_bytes (parts_in ts) = λ left. coded_bytes _ (parts_in ts) (coded_by found) (and_right rvc _ left) codable coded in
     record {
       is = record {
         ps = parts_in ts;

@@ -1,4 +1,7 @@
 //! The code of a statement.
+//!
+//! There are two ways to ask: `code` gives a list of parts, and `one_code` the one instruction that most statements
+//! are. The second makes no list, so that a large source is assembled faster.
 
 ghost use Rattle.std.specs.Prelude.{◌≡◌, ◌≤◌, ℕ, Bool, None, Ok, length, IfOk, IfSome};
 ghost use Rattle.rv_isa.specs.Ranges.{IsValid};

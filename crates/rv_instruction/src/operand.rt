@@ -1,4 +1,7 @@
 //! The faults of an instruction's operands, by the values of their expressions.
+//!
+//! A statement with several faults has the lowest of their codes. So each function answers at most one code, and where
+//! two faults can meet (`beside_scratch`) it takes the lower.
 
 ghost use Rattle.std.specs.Prelude.{◌≡◌, ℕ, ◌+◌, ◌==◌, Bool, not, List, ◌++◌, is_some};
 ghost use Rattle.rv_isa_laws.specs.Arithmetic.{signed};
