@@ -2,7 +2,7 @@
 
 use Rattle.std.proofs.Common.{◌≡◌, ◌≢◌, ℕ, zero, suc, ◌+◌, ◌≤◌, Bool, true, false, List, [], ◌∷◌, ◌++◌, length, refl, sym, ap, ◌∙◌, subst, arith, map, drop, append-nil, append_assoc, length-append, Option, Some, None, inl, inr}
 use Rattle.std.specs.Prelude.{◌&&◌, unwrap_or, if◌then◌else◌}
-use Rattle.std.proofs.lemmas.List.{at_drop_all}
+use Rattle.std.proofs.lemmas.List.{at_drop_all, map-append}
 use Rattle.rv_isa.specs.declared.instruction.Inst.{Inst}
 use Rattle.rv_isa.specs.declared.kind.Kind.{Kind}
 use Rattle.rv_isa.specs.Kinds.{width_of}
@@ -177,16 +177,12 @@ free_fields t l x coded section (Directs directive) plain free = ap (λ c. field
 
 -- ---- part by part
 
-pub map_joined : {X Y : Type 0} (f : X → Y) (xs ys : List X) → map f (xs ++ ys) ≡ map f xs ++ map f ys
-map_joined f [] ys = refl
-map_joined f (x ∷ xs) ys = ap (λ l. f x ∷ l) (map_joined f xs ys)
-
 -- fields that are added twice at a place
 pub added_twice : (section place : ℕ) (old mid new : List Field) (a b : List Open) → mid ≡ old ++ map (field_at section place) a → new ≡ mid ++ map (field_at section place) b
     → new ≡ old ++ map (field_at section place) (a ++ b)
 added_twice section place old mid new a b first second =
     second ∙ ap (λ l. l ++ map (field_at section place) b) first ∙ append_assoc old (map (field_at section place) a) (map (field_at section place) b)
-    ∙ ap (λ l. old ++ l) (sym (map_joined (field_at section place) a b))
+    ∙ ap (λ l. old ++ l) (sym (map-append (field_at section place) a b))
 
 -- one part more of the fields so far
 pub coded_more : (fields : Kind → List Open) (more : List Open) (section place behind : ℕ) (c : Coded) (left rest : List Coded) (old new all : List Field)

@@ -2,7 +2,7 @@
 
 use Rattle.std.proofs.Common.{◌≡◌, ℕ, ◌+◌, ◌*◌, ◌-◌, ◌/◌, ◌^◌, ◌<◌, ◌≤◌, Bool, true, false, ◌||◌, nat_lt, nat_le, List, [], ◌++◌, length, refl, sym, ap, ◌∙◌, subst, arith, Option, Some, None}
 use Rattle.std.proofs.Math.Nat.{div-mul-le_self, mul-le-mul_right}
-use Rattle.std.proofs.lemmas.Bool.{leb-true, le-leb}
+use Rattle.std.proofs.lemmas.Bool.{leb-true, le-leb, not-false, or_parts}
 use Rattle.std.proofs.lemmas.Nat.{le-div}
 use Rattle.std.specs.Prelude.{IfErr, Result, Ok, Err, not, flat_map, slice_index_or, if◌then◌else◌}
 use Rattle.rv_layout_laws.specs.Alignment.{aligned}
@@ -43,19 +43,11 @@ true_false : {A : Type 0} (b : Bool) → b ≡ true → b ≡ false → A
 true_false true e f = absurd (cc)
 true_false false e f = absurd (cc)
 
-first_false : (a b : Bool) → (a || b) ≡ false → a ≡ false
-first_false true b e = absurd (cc)
-first_false false b e = refl
-
-not_false : (b : Bool) → not b ≡ false → b ≡ true
-not_false true e = refl
-not_false false e = absurd (cc)
-
 -- bytes that do not pass the longest section
 past_fits : (executable : Bool) (offset bytes : ℕ) → executable ≡ false → past_section executable offset bytes ≡ [] → offset + bytes ≤ longest_section
 past_fits true offset bytes e none = absurd (cc)
 past_fits false offset bytes e none =
-    leb-true (offset + bytes) longest_section (not_false (nat_le (offset + bytes) longest_section) (no_test (not (nat_le (offset + bytes) longest_section)) 17 none))
+    leb-true (offset + bytes) longest_section (not-false (nat_le (offset + bytes) longest_section) (no_test (not (nat_le (offset + bytes) longest_section)) 17 none))
 
 within_fits : (offset bytes : ℕ) → offset + bytes ≤ longest_section → within offset bytes ≡ bytes
 within_fits offset bytes fits = ap (λ b. if b then bytes else 0) (le-leb (offset + bytes) longest_section fits)
@@ -66,7 +58,7 @@ record IsCount (v : Value) (n : ℕ) : Type 0 where
   below : nat_lt n (2 ^ 63) ≡ true
 
 a_count : (v : Value) → size_faults v ≡ [] → (n : ℕ) × IsCount v n
-a_count (Constant n) e = (n, record { is = refl; below = not_false (nat_lt n (2 ^ 63)) (no_test (not (nat_lt n (2 ^ 63))) 14 e) })
+a_count (Constant n) e = (n, record { is = refl; below = not-false (nat_lt n (2 ^ 63)) (no_test (not (nat_lt n (2 ^ 63))) 14 e) })
 a_count (Symbolic p at k) e = absurd (cc)
 a_count (Difference p q k) e = absurd (cc)
 a_count (Faulty c) e = absurd (cc)
@@ -168,7 +160,7 @@ module _ (all t : Tables) (k begins offset : ℕ) (own : CodeSize) (low : offset
   values_here width values none =
       let later = none_left (flat_map (λ e. value_faults width (value all true k (here t) e)) values) (faulty_if (home.executable || is_nobits home) 15 ++ past_section home.executable (here t).offset (width * length values)) none in
       let last = none_left (faulty_if (home.executable || is_nobits home) 15) (past_section home.executable (here t).offset (width * length values)) later.1 in
-      let other = first_false home.executable (is_nobits home) (no_test (home.executable || is_nobits home) 15 last.0) in
+      let other = (or_parts home.executable (is_nobits home) (no_test (home.executable || is_nobits home) 15 last.0)).0 in
       let fits = past_fits home.executable (here t).offset (width * length values) other last.1 in
       let less = before other in
       put_here (Values width values) other refl (omega (arith, fits)) fits (λ n h. omega (arith, h, less))
@@ -177,7 +169,7 @@ module _ (all t : Tables) (k begins offset : ℕ) (own : CodeSize) (low : offset
   strings_here ended strings none =
       let count = length (string_bytes ended strings) in
       let last = none_left (faulty_if (home.executable || is_nobits home) 15) (past_section home.executable (here t).offset count) none in
-      let other = first_false home.executable (is_nobits home) (no_test (home.executable || is_nobits home) 15 last.0) in
+      let other = (or_parts home.executable (is_nobits home) (no_test (home.executable || is_nobits home) 15 last.0)).0 in
       let fits = past_fits home.executable (here t).offset count other last.1 in
       let less = before other in
       put_here (Strings ended strings) other refl (omega (arith, fits)) fits (λ n h. omega (arith, h, less))
@@ -272,6 +264,6 @@ module _ (all t : Tables) (k begins offset : ℕ) (own : CodeSize) (low : offset
   statement_here (Label name) placed multiples more fits none = none_here (Label name) tt (λ n h. h) more
   statement_here (Numbered number) placed multiples more fits none = none_here (Numbered number) tt (λ n h. h) more
   statement_here (Instruction mnemonic operands) placed multiples more fits none =
-      let code = not_false home.executable (first_false (not home.executable) (is_nobits home) (no_test (not home.executable || is_nobits home) 15 none)) in
+      let code = not-false home.executable (or_parts (not home.executable) (is_nobits home) (no_test (not home.executable || is_nobits home) 15 none)).0 in
       code_here (Instruction mnemonic operands) tt (λ n h. h) code (fits code)
   statement_here (Directs d) placed multiples more fits none = directive_here d placed (multiples d refl) more none fits

@@ -1,4 +1,8 @@
 //! The code of a source's sections: its instructions as they lie in memory, one after another.
+//!
+//! The code of a statement is made three times: for the sizes of branches, here for the bytes, and for the open fields.
+//! To keep it would take memory for each statement. Most statements are one instruction with nothing open, so this pass
+//! asks for that first and needs no list for them.
 
 ghost use Rattle.std.specs.Prelude.{◌≡◌, ◌<◌, ◌≤◌, ℕ, ◌+◌, ◌++◌, Bool, true, List, [], length, IfOk, IfSome, OnOk};
 ghost use Rattle.rv_isa_laws.specs.Bytes.{little_endian};

@@ -1,4 +1,8 @@
 //! The bytes of a source's data, and the fields that stay open.
+//!
+//! This is a pass of its own over the statements, as each question about them has one, since a short loop is proved by
+//! itself.
+//! A field that stays open has zeros in the bytes, and the linker writes its number there.
 
 ghost use Rattle.std.specs.Prelude.{◌≡◌, ℕ, ◌<◌, ◌≤◌, ◌+◌, ◌*◌, ◌++◌, ◌^◌, ℤ, pos, List, [], ◌∷◌, true, false, flat_map, map, length, replicate, IfOk, OnOk, if◌then◌else◌};
 ghost use Rattle.std.specs.Global.{Vec};

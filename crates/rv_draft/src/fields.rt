@@ -1,5 +1,8 @@
 //! The open fields of code, in the order of the source.
 //!
+//! The code of each statement is made again, since to keep it would take memory for each statement. Where its length is
+//! not that of the pass before, the answer is want of memory, and never a field at a wrong place.
+//!
 //! Source: System V gABI, "Relocation"; RISC-V ELF psABI, "Relocations", "Linker Relaxation".
 
 ghost use Rattle.std.specs.Prelude.{◌≡◌, ◌≤◌, true, false, ◌+◌, ◌++◌, List, [], ◌∷◌, map, length, None, IfOk, OnOk};

@@ -1,5 +1,8 @@
 //! The statements of a source as items: their bytes, one after the other in each section, and which have a row in the
 //! map.
+//!
+//! The unit has tested each section's length before. It is tested again here, so that the condition of each function
+//! stays what the function sees itself.
 
 ghost use Rattle.std.specs.Prelude.{◌≡◌, ◌&&◌, ◌+◌, ◌*◌, ◌<◌, ◌≤◌, ℕ, true, false, [], ◌∷◌, length, map, slice_index, slice_set, None, IfOk, IfErr};
 ghost use Rattle.rv_text_laws.specs.Values as values;
