@@ -1,10 +1,10 @@
 -- Where the statements of a source stand.
 
-use Rattle.std.proofs.Common.{◌≡◌, ℕ, zero, suc, ◌+◌, ◌<◌, ◌≤◌, Bool, true, false, List, [], ◌∷◌, length, map, drop, refl, sym, ap, ◌∙◌, subst, arith, Option, Some, None}
+use Rattle.std.proofs.Common.{◌≡◌, ℕ, zero, suc, ◌+◌, ◌<◌, ◌≤◌, List, [], ◌∷◌, length, map, drop, refl, sym, ap, ◌∙◌, subst, arith, Option, Some, None}
 use Rattle.std.specs.Borrow.{Bor}
 use Rattle.std.specs.Prelude.{IfSome, is_some, option_copied, slice_index_or, nat_lt, ◌==◌, slice_get, option_map, if◌then◌else◌}
 use Rattle.std.specs.List.{find}
-use Rattle.std.proofs.lemmas.Bool.{eqb-true, eq-eqb, ltb-true, ltb-false, ne_eqb}
+use Rattle.std.proofs.lemmas.Bool.{eq-eqb, ltb-true, ltb-false, ne_eqb}
 use Rattle.rv_statement.specs.Statement.{Statement}
 use Rattle.rv_statement.specs.View.{statement_of}
 use Rattle.rv_statement.specs.declared.statement.Statement.{Statement as DeclaredStatement}

@@ -1,10 +1,11 @@
 -- No two symbols of a source have one name and one place.
 
 use Rattle.std.proofs.Common.{◌≡◌, ℕ, ◌+◌, ◌≤◌, Bool, true, false, List, [], ◌∷◌, ◌++◌, map, refl, sym, ap, ◌∙◌, subst, arith, Option, Some, None}
+use Rattle.rv_symbols.specs.Numbers.{is_named, stands_in}
 use Rattle.std.specs.Prelude.{not, ◌&&◌, ◌||◌, ◌==◌, filter, flat_map, if◌then◌else◌}
 use Rattle.std.specs.List.{AllByRecursion, list_any}
 use Rattle.std.specs.Str.{bytes_eq}
-use Rattle.std.proofs.lemmas.Bool.{eqb-true, eq-eqb, and_parts}
+use Rattle.std.proofs.lemmas.Bool.{eqb-true, eq-eqb, and_parts, and_right}
 use Rattle.std.proofs.lemmas.List.Folds.{list_any-append}
 use Rattle.rv_map.specs.Globals.{is_one_of}
 use Rattle.rv_statement.specs.Statement.{StatementKind, Directs, Sets}
@@ -29,13 +30,6 @@ is_this name n = bytes_eq n name
 abbrev pub names_of : Tables → Site → List (List ℕ)
 names_of t s = defined_name t s.located.ordinal s.located.kind
 
-abbrev pub is_named : List ℕ → Symbol → Bool
-is_named name x = bytes_eq x.name name
-
-abbrev pub stands_in : ℕ → ℕ → Defined → Bool
-stands_in section offset (InSection s o) = (s == section) && (o == offset)
-stands_in section offset _ = false
-
 abbrev pub is_undefined : Defined → Bool
 is_undefined Undefined = true
 is_undefined _ = false
@@ -46,10 +40,6 @@ is_place name section offset x = is_named name x && stands_in section offset x.d
 
 abbrev pub is_outer : List ℕ → Symbol → Bool
 is_outer name x = is_named name x && is_undefined x.definition
-
-and_false : (b c : Bool) → c ≡ false → (b && c) ≡ false
-and_false true c e = e
-and_false false c e = refl
 
 join : {X : Type 0} (P : X → Type 0) (xs ys : List X) → AllByRecursion P xs → AllByRecursion P ys → AllByRecursion P (xs ++ ys)
 join P [] ys h k = k
@@ -152,7 +142,7 @@ module _ (t : Tables) (sites : List Site) where
     unnamed_inner before s = go _
       where
         go : (b : Bool) → AllByRecursion Inner (if b then local_symbol [] (InSection s.located.section s.offset) ∷ [] else [])
-        go true = (and_false (bytes_eq [] name) false refl, tt)
+        go true = (and_right (bytes_eq [] name) false refl, tt)
         go false = tt
 
     locals_inner : (before xs : List Site) → AllByRecursion Inner (local_symbols t sites before xs)
@@ -160,12 +150,12 @@ module _ (t : Tables) (sites : List Site) where
     locals_inner before (s ∷ xs) =
         join Inner (unnamed_symbols t (references t sites) before s) _ (unnamed_inner before s)
         (join Inner (named_symbols t sites s) _
-        (named_all Inner s (every (λ n. Inner (local_symbol n (place s))) (names_of t s) (λ n. and_false (bytes_eq n name) (is_undefined (place s)) (not_undefined s s.located.kind))))
+        (named_all Inner s (every (λ n. Inner (local_symbol n (place s))) (names_of t s) (λ n. and_right (bytes_eq n name) (is_undefined (place s)) (not_undefined s s.located.kind))))
         (locals_inner (before ++ s ∷ []) xs))
 
     exports_inner : (xs : List Site) → AllByRecursion Inner (flat_map (exports_of t sites) xs)
     exports_inner xs =
-        exported_all Inner xs (every (Globals Inner) xs (λ s. every (λ n. Inner (global_symbol n (place s))) (names_of t s) (λ n. and_false (bytes_eq n name) (is_undefined (place s)) (not_undefined s s.located.kind))))
+        exported_all Inner xs (every (Globals Inner) xs (λ s. every (λ n. Inner (global_symbol n (place s))) (names_of t s) (λ n. and_right (bytes_eq n name) (is_undefined (place s)) (not_undefined s s.located.kind))))
 
     outer_named : (x : Symbol) → is_outer name x ≡ true → is_named name x ≡ true
     outer_named x e = (and_parts (is_named name x) (is_undefined x.definition) e).0
@@ -283,7 +273,7 @@ module _ (t : Tables) (sites : List Site) where
         let all = whole test in
         let locals = count_less test (is_named name) less (local_symbols t sites [] sites) in
         let globals = count_less test (is_named name) less (exports t sites) in
-        let outer = count_none test (undefined_symbols t sites) (mapped (λ x. test x ≡ false) (λ n. global_symbol n Undefined) names (every (λ n. test (global_symbol n Undefined) ≡ false) names (λ n. and_false (bytes_eq n name) false refl))) in
+        let outer = count_none test (undefined_symbols t sites) (mapped (λ x. test x ≡ false) (λ n. global_symbol n Undefined) names (every (λ n. test (global_symbol n Undefined) ≡ false) names (λ n. and_right (bytes_eq n name) false refl))) in
         let own = own_once once in
         omega (arith, all, locals, globals, outer, own)
 
@@ -387,5 +377,5 @@ module _ (t : Tables) (sites : List Site) where
         let all = whole here in
         let locals = locals_once [] sites shown in
         let globals = exports_nameless in
-        let outer = count_none here (undefined_symbols t sites) (mapped (λ x. here x ≡ false) (λ n. global_symbol n Undefined) names (every (λ n. here (global_symbol n Undefined) ≡ false) names (λ n. and_false (bytes_eq n []) false refl))) in
+        let outer = count_none here (undefined_symbols t sites) (mapped (λ x. here x ≡ false) (λ n. global_symbol n Undefined) names (every (λ n. here (global_symbol n Undefined) ≡ false) names (λ n. and_right (bytes_eq n []) false refl))) in
         omega (arith, all, locals, globals, outer)

@@ -1,10 +1,11 @@
 -- A reference has one symbol.
 
 use Rattle.std.proofs.Common.{◌≡◌, ℕ, suc, ◌+◌, Bool, true, false, List, [], ◌∷◌, ◌++◌, map, length, refl, sym, ap, ◌∙◌, Option, Some, None}
-use Rattle.std.specs.Prelude.{◌&&◌, ◌==◌, flat_map, slice_get, option_map, if◌then◌else◌}
+use Rattle.rv_symbols.specs.Numbers.{stands_in}
+use Rattle.std.specs.Prelude.{◌==◌, flat_map, slice_get, option_map, if◌then◌else◌}
 use Rattle.std.specs.List.{AllByRecursion, list_all}
 use Rattle.std.specs.Str.{bytes_eq}
-use Rattle.std.proofs.lemmas.Bool.{eq-eqb, and_parts}
+use Rattle.std.proofs.lemmas.Bool.{eq-eqb, and_parts, and_from}
 use Rattle.rv_text_laws.specs.Expression.{Primary, Symbol as Named, Literal, Here, Reference}
 use Rattle.rv_text_laws.specs.Values.{add}
 use Rattle.rv_statement.specs.Statement.{StatementKind, Label, Directs, Statement, Sets}
@@ -24,7 +25,7 @@ use Rattle.rv_assemble_laws.specs.ShownNames.{said_names, are_shown, HasNames}
 use Rattle.rv_assemble_laws.specs.IsObjectOf.{Numbering, relocation_at, relocations_from, IsNumbered, ArePartsNumbered}
 use Rattle.rv_unique_object_laws.proofs.CountsLemmas.{one_index}
 use Rattle.rv_unique_object_laws.proofs.OneDefinitionLemmas.{defined_once}
-use Rattle.rv_unique_object_laws.proofs.LoneSymbolsLemmas.{names_of, stands_in, is_undefined, is_place, is_outer, outer_once, named_once, unnamed_once}
+use Rattle.rv_unique_object_laws.proofs.LoneSymbolsLemmas.{names_of, is_undefined, is_place, is_outer, outer_once, named_once, unnamed_once}
 use Rattle.rv_unique_object_laws.proofs.RecodedLemmas.{Recoded}
 use Rattle.rv_unique_object_laws.proofs.OneTableLemmas.{place_same}
 
@@ -60,22 +61,16 @@ names_some t u k (x ∷ ss) (s ∷ sites) e h =
 
 -- ---- two symbols for one reference
 
-both_true : (a b : Bool) → a ≡ true → b ≡ true → (a && b) ≡ true
-both_true a b e f = ap (λ x. x && b) e ∙ f
-
-eqb_same : (n : ℕ) → (n == n) ≡ true
-eqb_same n = eq-eqb n n refl
-
 named_as : (name : List ℕ) (x : Symbol) → x.name ≡ name → bytes_eq x.name name ≡ true
 named_as name x e = ap (λ n. bytes_eq n name) e ∙ bytes_same name
 
 at_place : (name : List ℕ) (section offset : ℕ) (x : Symbol) → x.name ≡ name → x.definition ≡ InSection section offset → is_place name section offset x ≡ true
 at_place name section offset x e f =
-    both_true (bytes_eq x.name name) (stands_in section offset x.definition) (named_as name x e)
-    (ap (stands_in section offset) f ∙ both_true (section == section) (offset == offset) (eqb_same section) (eqb_same offset))
+    and_from (bytes_eq x.name name) (stands_in section offset x.definition) (named_as name x e)
+    (ap (stands_in section offset) f ∙ and_from (section == section) (offset == offset) (eq-eqb section section refl) (eq-eqb offset offset refl))
 
 left_out : (name : List ℕ) (x : Symbol) → x.name ≡ name → x.definition ≡ Undefined → is_outer name x ≡ true
-left_out name x e f = both_true (bytes_eq x.name name) (is_undefined x.definition) (named_as name x e) (ap is_undefined f)
+left_out name x e f = and_from (bytes_eq x.name name) (is_undefined x.definition) (named_as name x e) (ap is_undefined f)
 
 -- the name that a reference's symbol has
 abbrev name_for : Primary → List ℕ

@@ -22,15 +22,15 @@ SameLocated x y = x.located ≡ y.located
 abbrev pub SameBytes : Site → Site → Type 0
 SameBytes x y = (x.located ≡ y.located) × (x.bytes ≡ y.bytes)
 
-front : {A : Type 0} (x y : A) (xs ys : List A) → x ∷ xs ≡ y ∷ ys → (x ≡ y) × (xs ≡ ys)
-front x y xs ys e = (cc, cc)
+pub cons_parts : {A : Type 0} (x y : A) (xs ys : List A) → x ∷ xs ≡ y ∷ ys → (x ≡ y) × (xs ≡ ys)
+cons_parts x y xs ys e = (cc, cc)
 
 pub located_pairs : (xs ys : List Site) → map (λ s. s.located) xs ≡ map (λ s. s.located) ys → Pairs SameLocated xs ys
 located_pairs [] [] e = tt
 located_pairs [] (y ∷ ys) e = absurd (cc)
 located_pairs (x ∷ xs) [] e = absurd (cc)
 located_pairs (x ∷ xs) (y ∷ ys) e =
-    let both = front x.located y.located (map (λ s. s.located) xs) (map (λ s. s.located) ys) e in
+    let both = cons_parts x.located y.located (map (λ s. s.located) xs) (map (λ s. s.located) ys) e in
     (both.0, located_pairs xs ys both.1)
 
 -- one statement in both, with the same number of some kind
@@ -42,7 +42,7 @@ pairs_by f [] [] l e = tt
 pairs_by f [] (y ∷ ys) l e = absurd l
 pairs_by f (x ∷ xs) [] l e = absurd l
 pairs_by f (x ∷ xs) (y ∷ ys) (l, ls) e =
-    let both = front (f x) (f y) (map f xs) (map f ys) e in
+    let both = cons_parts (f x) (f y) (map f xs) (map f ys) e in
     ((l, both.0), pairs_by f xs ys ls both.1)
 
 -- ---- those of a section

@@ -1,7 +1,7 @@
 -- The parcel that is chosen for an instruction is the only one.
 
 use Rattle.std.proofs.Common.{◌≡◌, ℕ, ◌≤◌, Bool, true, false, refl, sym, ap, ◌∙◌, arith}
-use Rattle.std.proofs.lemmas.Bool.{eq-eqb, eqb-true, le-leb, leb-true}
+use Rattle.std.proofs.lemmas.Bool.{eq-eqb, le-leb, leb-true, ne_eqb}
 use Rattle.std.proofs.lemmas.Int.{ints}
 use Rattle.std.specs.Prelude.{ℤ, pos, negsuc, unsigned_abs, nat_le, ◌==◌, if◌then◌else◌}
 use Rattle.rv_isa.specs.declared.instruction.Inst.{Inst}
@@ -30,13 +30,6 @@ six_no (negsuc n) f = go (nat_le n 31) refl
   where
     go : (b : Bool) → nat_le n 31 ≡ b → nat_le n 31 ≡ false
     go true e = absurd (f (let low : n ≤ 31 = leb-true n 31 e in (omega (arith, ints, low), omega (arith, ints, low))))
-    go false e = e
-
-not_equal : (a b : ℕ) → (a ≡ b → ⊥) → (a == b) ≡ false
-not_equal a b f = go (a == b) refl
-  where
-    go : (c : Bool) → (a == b) ≡ c → (a == b) ≡ false
-    go true e = absurd (f (eqb-true a b e))
     go false e = e
 
 yes_if : (b : Bool) (f g : Compressed) → b ≡ true → f ≡ (if b then f else g)
@@ -84,20 +77,20 @@ form_for _ = Ebreak
 own_adds : (rd : ℕ) (i : ℤ) (f : Compressed) → (rd ≡ 0 → ⊥) → f ≡ (if is_six i then Addi rd i else Addi16sp i) → f ≡ adds rd rd i
 own_adds rd i f some e =
     e ∙ yes_if (rd == rd) (if is_six i then Addi rd i else Addi16sp i) (Addi4spn rd (unsigned_abs i)) (eq-eqb rd rd refl)
-    ∙ no_if (rd == 0) (if rd == 0 then Nop i else Li rd i) _ (not_equal rd 0 some)
+    ∙ no_if (rd == 0) (if rd == 0 then Nop i else Li rd i) _ (ne_eqb rd 0 some)
 
 chosen_form : (f : Compressed) → IsLine f → IsChosen f → f ≡ form_for (expansion f)
 chosen_form (Addi4spn rd u) ((low, high), m, some) c =
-    no_if (2 == rd) (if is_six (pos u) then Addi rd (pos u) else Addi16sp (pos u)) (Addi4spn rd u) (not_equal 2 rd (λ e. absurd (omega (arith, e, low))))
-chosen_form (Lw rd rs1 u) (a, (low, high), m) c = no_if (rs1 == 2) (Lwsp rd u) (Lw rd rs1 u) (not_equal rs1 2 (λ e. absurd (omega (arith, e, low))))
-chosen_form (Ld rd rs1 u) (a, (low, high), m) c = no_if (rs1 == 2) (Ldsp rd u) (Ld rd rs1 u) (not_equal rs1 2 (λ e. absurd (omega (arith, e, low))))
-chosen_form (Sw rs1 rs2 u) ((low, high), a, m) c = no_if (rs1 == 2) (Swsp rs2 u) (Sw rs1 rs2 u) (not_equal rs1 2 (λ e. absurd (omega (arith, e, low))))
-chosen_form (Sd rs1 rs2 u) ((low, high), a, m) c = no_if (rs1 == 2) (Sdsp rs2 u) (Sd rs1 rs2 u) (not_equal rs1 2 (λ e. absurd (omega (arith, e, low))))
+    no_if (2 == rd) (if is_six (pos u) then Addi rd (pos u) else Addi16sp (pos u)) (Addi4spn rd u) (ne_eqb 2 rd (λ e. absurd (omega (arith, e, low))))
+chosen_form (Lw rd rs1 u) (a, (low, high), m) c = no_if (rs1 == 2) (Lwsp rd u) (Lw rd rs1 u) (ne_eqb rs1 2 (λ e. absurd (omega (arith, e, low))))
+chosen_form (Ld rd rs1 u) (a, (low, high), m) c = no_if (rs1 == 2) (Ldsp rd u) (Ld rd rs1 u) (ne_eqb rs1 2 (λ e. absurd (omega (arith, e, low))))
+chosen_form (Sw rs1 rs2 u) ((low, high), a, m) c = no_if (rs1 == 2) (Swsp rs2 u) (Sw rs1 rs2 u) (ne_eqb rs1 2 (λ e. absurd (omega (arith, e, low))))
+chosen_form (Sd rs1 rs2 u) ((low, high), a, m) c = no_if (rs1 == 2) (Sdsp rs2 u) (Sd rs1 rs2 u) (ne_eqb rs1 2 (λ e. absurd (omega (arith, e, low))))
 chosen_form (Nop i) l c = refl
 chosen_form (Addi rd i) ((some, below), six) c =
     own_adds rd i (Addi rd i) (λ e. absurd (omega (arith, e, some))) (yes_if (is_six i) (Addi rd i) (Addi16sp i) (six_yes i six))
 chosen_form (Addiw rd i) l c = refl
-chosen_form (Li rd i) l some = no_if (rd == 0) (Nop i) (Li rd i) (not_equal rd 0 (λ e. absurd (omega (arith, e, some))))
+chosen_form (Li rd i) l some = no_if (rd == 0) (Nop i) (Li rd i) (ne_eqb rd 0 (λ e. absurd (omega (arith, e, some))))
 chosen_form (Addi16sp i) l c = no_if (is_six i) (Addi 2 i) (Addi16sp i) (six_no i c)
 chosen_form (Lui rd u) l c = refl
 chosen_form (Srli rd u) l c = refl
@@ -119,7 +112,7 @@ chosen_form (Jr rs1) l c = refl
 chosen_form (Mv rd rs2) l c = refl
 chosen_form Ebreak l c = refl
 chosen_form (Jalr rs1) l c = refl
-chosen_form (Add rd rs2) l some = no_if (rd == 0) (Mv rd rs2) (Add rd rs2) (not_equal rd 0 (λ e. absurd (omega (arith, e, some))))
+chosen_form (Add rd rs2) l some = no_if (rd == 0) (Mv rd rs2) (Add rd rs2) (ne_eqb rd 0 (λ e. absurd (omega (arith, e, some))))
 chosen_form (Swsp rs2 u) l c = refl
 chosen_form (Sdsp rs2 u) l c = refl
 

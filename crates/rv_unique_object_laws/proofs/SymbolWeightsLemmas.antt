@@ -1,6 +1,7 @@
 -- The names of an object's symbols weigh no more than the source's statements and what they say.
 
 use Rattle.std.proofs.Common.{◌≡◌, ℕ, suc, ◌+◌, ◌*◌, ◌≤◌, Bool, true, false, List, [], ◌∷◌, ◌++◌, flat_map, map, length, Option, Some, None, refl, ap, arith}
+use Rattle.rv_unique_object_laws.proofs.PairsLemmas.{cons_parts}
 use Rattle.std.specs.Prelude.{not, filter, if◌then◌else◌}
 use Rattle.rv_map.specs.Globals.{is_one_of}
 use Rattle.rv_text_laws.specs.Expression.{Primary, Symbol as Named, Literal, Here, Reference}
@@ -167,15 +168,12 @@ module _ (t : Tables) (sites : List Site) where
 
 -- ---- the statements of a source
 
-front : {A : Type 0} (x y : A) (xs ys : List A) → x ∷ xs ≡ y ∷ ys → (x ≡ y) × (xs ≡ ys)
-front x y xs ys e = (cc, cc)
-
 pub sites_said : (k : ℕ) (u : Tables) (ss : List Statement) (sites : List Site) → map (λ s. s.located) sites ≡ located_from 1 k u ss → (site_said sites ≡ all_said ss) × (length sites ≡ length ss)
 sites_said k u [] [] e = (refl, refl)
 sites_said k u [] (s ∷ sites) e = absurd (cc)
 sites_said k u (x ∷ ss) [] e = absurd (cc)
 sites_said k u (x ∷ ss) (s ∷ sites) e =
-    let both = front _ _ _ _ e in
+    let both = cons_parts _ _ _ _ e in
     let rest = sites_said (suc k) (after u k x.kind) ss sites both.1 in
     let kind : weight (said_names s.located.kind) ≡ weight (said_names x.kind) = ap (λ (l : Located). weight (said_names l.kind)) both.0 in
     let said = rest.0 in
