@@ -1,4 +1,7 @@
 //! The order of the rows in a listing.
+//!
+//! A map that was read may have several rows of one statement, so the order is sorted and stable, in the words of the
+//! sort's contract. That it leaves one listing is the law `one_listing`.
 
 ghost use Rattle.std.specs.Prelude.{IfOk};
 ghost use Rattle.rv_disasm.specs.Order.{IsInOrder};

@@ -1,4 +1,9 @@
 //! A source with its bytes and its open fields.
+//!
+//! The statements are gone over once for each question (sizes, code, items, data), so that each loop is proved by
+//! itself; code is made anew each time, because keeping it would take memory for each statement. Where a later look
+//! found another length, memory is said to have run out and no wrong bytes are written; that this cannot happen is read
+//! and tested, and not proved.
 
 ghost use Rattle.std.specs.Prelude.{◌≡◌, None, IfOk, IfErr};
 ghost use Rattle.rv_unit_laws.specs.Faults.{first_fault};

@@ -1,4 +1,7 @@
 //! Which size a statement takes at a distance.
+//!
+//! A form reaches where the constant and the distance with it are both in its range, since the relocation moves with its
+//! symbol. Ranges are even, so an odd constant reaches by no form.
 
 ghost use Rattle.std.specs.Prelude.{◌≡◌, ◌↔◌, ◌^◌, ◌≤◌, pos, ◌≤ℤ◌, neg_ℤ, IsTrue};
 ghost use Rattle.rv_layout_laws.specs.Offsets.{IsImmediate, Reaches};

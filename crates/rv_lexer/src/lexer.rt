@@ -1,4 +1,8 @@
 //! The lexer: the tokens of a source, one after the other.
+//!
+//! Sources are below 4 GiB, so that places and lines fit 32 bits; the parser's limit of 16 MiB is below that. No
+//! function here is `inline(always)`: a token's parts are then built apart and put together again, which cost half as
+//! many instructions again.
 
 ghost use Rattle.std.specs.Prelude.{◌≡◌, ◌+◌, ◌-◌, ◌<◌, ◌≤◌, ◌^◌, ◌∷◌, [], true, length, take, drop, if◌then◌else◌};
 ghost use Rattle.rv_text_laws.specs.Grammar.{Spells};

@@ -1,4 +1,7 @@
 //! The passes of a link of objects whose calls are as long as they will be.
+//!
+//! What costs nothing to see comes first, and what names mean is fixed before any address. Whether there is an entry is
+//! known before anything is placed, because `_start` is asked for its offset in the object.
 
 ghost use Rattle.std.specs.Prelude.{◌≡◌, ◌%◌, ◌<◌, [], List, Some, map, IfOk, IfErr, OnOk};
 ghost use Rattle.std.specs.List.{list_any};

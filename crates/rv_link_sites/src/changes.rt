@@ -1,4 +1,7 @@
 //! What may change of a section of text.
+//!
+//! Where the rules are silent, a call keeps eight bytes: a symbol past its section's end lies in no section, and at an
+//! odd place no instruction begins. A relocation given twice is another one in the call's bytes.
 
 ghost use Rattle.std.specs.Prelude.{◌≡◌, ◌+◌, ◌≤◌, ◌<◌, ◌^◌, ◌++◌, ◌∷◌, [], List, map, length, replicate, Some, None, false, IfOk, OnOk, if◌then◌else◌};
 ghost use Rattle.std.specs.Ordering.{nat_cmp};

@@ -1,4 +1,7 @@
 //! The high parts of distances, by where they stand.
+//!
+//! The high parts of distances are indexed always, in one pass, by file, section and moved offset, the first at each. To
+//! know whether a low part exists would take the same pass; where there is no high part nothing is allocated.
 
 ghost use Rattle.std.specs.Prelude.{◌≡◌, ℕ, [], ◌∷◌, Some, map, option_map, IfOk, OnOk};
 ghost use Rattle.std.specs.List.{slice_get};

@@ -1,4 +1,7 @@
 //! What a guest reads its input from, and writes its console to.
+//!
+//! What holds for every input that begins with the bytes read holds unless a take gave nothing, so a contract has to see
+//! that: `GuestIn` has a ghost number that changes at each such take. A reader may have given nothing before the run.
 
 ghost use Rattle.std.specs.Prelude.{◌≡◌, ◌≤◌, ℕ, Bool, List, [], Option, None, length, IfOk};
 ghost use Rattle.std.specs.Io.KnownBytes.{WriteAppends};

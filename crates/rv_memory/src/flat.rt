@@ -1,4 +1,7 @@
 //! A memory that keeps each segment as one piece.
+//!
+//! An access looks first at the segment where the latest search ended, a fetch at the first segment, where linkers put
+//! code: a constant index costs least. Each guess is tested like any other index, so no contract speaks of it.
 
 ghost use Rattle.std.specs.Prelude.{
   ◌≡◌,

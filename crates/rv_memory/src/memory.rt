@@ -1,4 +1,7 @@
 //! What a hart asks of its memory.
+//!
+//! `try_load` and `try_store` are the test of the right and the access in one look-up. `piece` and `put_piece` move the
+//! bytes of an environment call at once.
 
 ghost use Rattle.std.specs.Prelude.{
   ◌≡◌,

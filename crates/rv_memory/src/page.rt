@@ -1,4 +1,6 @@
 //! A page: bytes with a right each.
+//!
+//! The rights of 1, 2, 4 or 8 bytes are tested as one number.
 
 ghost use Rattle.std.specs.Prelude.{
   ◌≡◌,

@@ -1,4 +1,8 @@
 //! A memory that keeps pages of 4096 bytes.
+//!
+//! Pages that follow one another by number follow one another in the list, so an access guesses its page by the distance
+//! from the latest one found; three distances are kept, for fetches, for data and for the stack. A loop over two arrays
+//! then searches for neither; the bound tests page and room at once, and a miss searches.
 
 ghost use Rattle.std.specs.Prelude.{
   ◌≡◌,

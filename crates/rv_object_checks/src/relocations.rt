@@ -1,4 +1,7 @@
 //! The relocations of a section.
+//!
+//! Records are looked at one by one, each next to those before it, so of two that meet the later is at fault. A table of
+//! symbols is known by the header that names it: nothing is looked up ahead, and a fault is told where its record is.
 
 ghost use Rattle.std.specs.Prelude.{◌≡◌, ◌⊎◌, ◌+◌, ◌*◌, ◌≤◌, ◌<◌, ◌^◌, ℕ, true, false, [], ◌∷◌, ◌++◌, List, None, Some, MatchResult, MatchBool, IfOk, length, option_to_list};
 ghost use Rattle.rv_elf.specs.Fields.{rela_size};

@@ -1,4 +1,6 @@
 //! Tables of names.
+//!
+//! Names are looked up in an `indexmap`, so that each string is in the table once and no name is searched for.
 
 ghost use Rattle.std.specs.Prelude.{◌≡◌, ℕ, List, [], ◌∷◌, IfOk, OnOk};
 ghost use Rattle.rv_object_file_laws.specs.Written.{offset_in};

@@ -1,4 +1,7 @@
 //! The openings of sections: the names that a source has had, and what is wrong with the flags or the type of a name.
+//!
+//! Names of opened sections are in std's hash set with its fixed seed. A hostile source can choose names that collide;
+//! the bound is the source's 16 MiB.
 
 ghost use Rattle.std.specs.Str.{bytes_eq};
 ghost use Rattle.std.specs.Prelude.{◌≡◌, ℕ, List, [], Bool, ◌||◌, option_map, IfOk, OnOk};

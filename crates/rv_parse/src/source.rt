@@ -1,4 +1,7 @@
 //! The statements of a source.
+//!
+//! Lines that are too long are searched apart from the tokens, 65,536 bytes at a time from the back, so that ordinary
+//! sources are hardly read for it. `memchr` looks for line feeds.
 
 ghost use Rattle.std.specs.Prelude.{◌≡◌, ◌<◌, ◌≤◌, List, [], IfOk, IfErr, IfSome, MatchResult, map, length, false, take, ◌+◌};
 ghost use Rattle.rv_lexer.specs.Token.{token_of, kind_of};

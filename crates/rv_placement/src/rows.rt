@@ -1,4 +1,7 @@
 //! The rows of a map.
+//!
+//! A map has the rows of a file by their ordinals, and a reader of objects tests no order: rows that do not rise are
+//! sorted, and those of one ordinal keep their order.
 
 ghost use Rattle.std.specs.Prelude.{◌≡◌, ◌+◌, ◌<◌, ◌++◌, ◌^◌, ℕ, Some, List, IfOk, IsTrue, map};
 ghost use Rattle.std.specs.Bool.{OnTrue};

@@ -1,4 +1,7 @@
 //! The system itself: the files of the disk and the standard streams of the process.
+//!
+//! The real system is in this library, and not in `rv_cli`, where one test of a real disk would have the whole program
+//! proved twice.
 
 use crate::system::{FILE_LIMIT, GuestInput, Purpose, System};
 use rv_image::Image;

@@ -1,4 +1,7 @@
 //! What the program asks of the system: files, and the standard streams, whole or as a guest asks.
+//!
+//! Files and streams go through one trait, so that tests see each status and each line without starting a process. It
+//! has no ghost state, so what a command line gives and takes is tested and not proved.
 
 use rv_image::Image;
 use rv_machine::{End, RunFault};

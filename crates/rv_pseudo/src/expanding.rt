@@ -1,4 +1,8 @@
 //! The templates of any statement of code.
+//!
+//! `Form.value` is the value of the expression before `%hi` or `%lo`, so whoever sizes or writes a statement evaluates
+//! its expression and does nothing else. A difference of symbols, and whether the L of `%pcrel_lo` is a label, are the
+//! caller's to refuse.
 
 ghost use Rattle.std.specs.Prelude.{◌≡◌, Some, None, IfSome};
 ghost use Rattle.rv_statement.specs.Statement.{Expression};

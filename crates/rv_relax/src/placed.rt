@@ -1,4 +1,7 @@
 //! The sites of a text.
+//!
+//! What is found over numbers knows no object: the sites are those of a text by ghost fields. These are tests
+//! (`ArePlaced`), since what the passes ask has alternatives, which no ghost field may have.
 
 ghost use Rattle.std.specs.Prelude.{◌≡◌, ℕ, true, length};
 ghost use Rattle.rv_layout_laws.specs.Calls.{site_at};

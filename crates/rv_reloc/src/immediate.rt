@@ -1,4 +1,7 @@
 //! Instructions with their immediates set anew: each function keeps the instruction's other bits.
+//!
+//! The definition has a table of pieces for each format: bits of the immediate, how many, and where they are in the
+//! word. The code writes each format by shifts and masks, from the low field up, and is proved equal with no answer.
 
 ghost use Rattle.std.specs.Prelude.{◌≡◌, ◌<◌, ◌^◌};
 ghost use Rattle.rv_reloc.specs.Fields.{

@@ -1,4 +1,7 @@
 //! Writing a relocation's value to its field.
+//!
+//! A field is one number of at most eight bytes, the lowest first, so that each kind is one line whatever its width; a
+//! call's two words are one number. Bits above the field's width do not count.
 
 ghost use Rattle.std.specs.Prelude.{◌≡◌, ◌<◌, ◌*◌, ◌^◌, ◌↔◌, IsTrue, OnOk, OnErr, IfErr, length};
 ghost use Rattle.rv_isa.specs.Kinds.{width_of};

@@ -1,4 +1,7 @@
 //! What symbols mean that their own objects do not define.
+//!
+//! The name of each symbol that its object does not define is looked up once, when all names are known; 8 bytes a symbol
+//! keep what it means. Looked up for each relocation, references to one long name cost their number times its length.
 
 ghost use Rattle.std.specs.Prelude.{◌≡◌, ◌++◌, List, map, IfOk, OnOk};
 ghost use Rattle.rv_object.specs.Object.{Object as SaidObject};

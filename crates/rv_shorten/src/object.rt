@@ -1,4 +1,7 @@
 //! An object of which calls are cut short.
+//!
+//! An object is lent with what is cut of its calls, so that each byte moves once, from its object into the program. What
+//! it represents is `short_object_of`; nothing of it is made.
 
 ghost use Rattle.std.specs.Prelude.{◌≡◌, true, IsTrue, map};
 ghost use Rattle.rv_object.specs.Valid.{are_rows};

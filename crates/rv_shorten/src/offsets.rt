@@ -1,4 +1,6 @@
 //! Offsets before and after calls are cut short.
+//!
+//! Rows may overlap, so what each loses is the difference of two running sums, found by halves.
 
 ghost use Rattle.std.specs.Prelude.{◌≡◌, ◌≤◌, ◌<◌, ℕ, true, Option, nat_lt, length, map};
 ghost use Rattle.std.specs.List.Sorted.{IsPartitionPoint};

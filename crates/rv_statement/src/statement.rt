@@ -1,4 +1,7 @@
 //! Statements as the code holds them: names, digits and strings are parts of the source.
+//!
+//! A statement has 40 bytes, since a source may have 4 million of them. `.set`, `.section` and expressions with
+//! operators are behind a pointer.
 
 use crate::directive::{Choice, Standard, Width};
 use crate::pseudo::{

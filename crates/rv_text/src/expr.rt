@@ -1,4 +1,7 @@
 //! Expressions that were read.
+//!
+//! An expression has 24 bytes at most, so that a statement has 40. A number, its negative, a symbol, and a name with an
+//! operator and a number below 2^32 take no heap; every other takes one block, or two.
 
 ghost use Rattle.std.specs.Prelude.{◌≡◌, true, [], ◌∷◌, IfOk};
 ghost use Rattle.rv_text_laws.specs.Expression.{Primary_node};

@@ -1,4 +1,6 @@
 //! An expression by its first tokens: most have no operator, or one that a number follows.
+//!
+//! Most expressions have no operator, or one that a number follows. They are read here without the loop and its stack.
 
 ghost use Rattle.std.specs.Prelude.{◌≡◌, [], ◌∷◌, IfOk};
 ghost use Rattle.rv_text_laws.specs.Expression.{Primary_node, Literal, follows};

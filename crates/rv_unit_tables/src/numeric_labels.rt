@@ -1,4 +1,7 @@
 //! Numeric labels by their numbers.
+//!
+//! Each label is kept once, in the source's order, and a number keeps the indices of its own; the nearest one is found
+//! by halving their ordinals. Twelve bytes a label.
 
 ghost use Rattle.std.specs.Prelude.{◌≡◌, ◌==◌, ◌++◌, ◌≤◌, ◌<◌, ℕ, true, List, [], ◌∷◌, nat_lt, nat_le, length, reverse, if◌then◌else◌, OnOk};
 ghost use Rattle.std.specs.List.{find, list_all};
