@@ -11,7 +11,7 @@ use Rattle.rv_statement.specs.declared.mnemonic.Mnemonic.TheVariants.{Registers}
 use Rattle.rv_statement.specs.declared.directive.DirectiveWord.{DirectiveWord}
 use Rattle.rv_statement.specs.declared.directive.DirectiveWord.TheVariants as words
 use Rattle.rv_statement.specs.Statement.{Operand}
-use Rattle.rv_parse_laws.specs.Syntax.{is_comma, is_end, is_opening, with_constant, source, Slot, A_value, An_address, A_callee, A_section, A_comma, An_opening, single, front_begins, Slots, Stops, Takes, Chooses, Locates, Lists, Anything, slots, places, IsOperand, StandsThen, AreOperands, colon_next, EndsHere}
+use Rattle.rv_parse_laws.specs.Syntax.{is_comma, is_end, is_opening, with_constant, source, Slot, A_value, An_address, A_callee, A_section, A_comma, An_opening, single, front_begins, Slots, Stops, Takes, Chooses, Locates, Lists, Anything, slots, places, IsOperand, IsTaken, AreOperands, colon_next, EndsHere}
 use Rattle.rv_parse_laws.specs.Faults.{wrong_after}
 use Rattle.rv_parse_laws.specs.Parsing.{taking, operands_at}
 use Rattle.rv_parse_laws.proofs.FailingLemmas.{Failing, at_once, alike, first_of, same_first}
@@ -248,11 +248,11 @@ operands_live Anything = ([], [], (refl, refl), refl)
 
 -- where a choice is made
 chosen_wrong : (s : Slot) (more others : Slots) (ts : List Token) (w : SyntaxError) → front_begins s ts ≡ true
-    → Failing (List Operand) (StandsThen s (λ us ps. AreOperands more us ps)) (taking s (λ us. operands_at more us)) ts w
+    → Failing (List Operand) (IsTaken s (λ us ps. AreOperands more us ps)) (taking s (λ us. operands_at more us)) ts w
     → Failing (List Operand) (λ us ps. AreOperands (Chooses s more others) us ps) (λ us. operands_at (Chooses s more others) us) ts w
 unfolding operands_at
 chosen_wrong s more others ts w begins x =
-    alike (List Operand) (List Operand) (λ us ps. AreOperands (Chooses s more others) us ps) (StandsThen s (λ us ps. AreOperands more us ps))
+    alike (List Operand) (List Operand) (λ us ps. AreOperands (Chooses s more others) us ps) (IsTaken s (λ us ps. AreOperands more us ps))
     (λ us. operands_at (Chooses s more others) us) (taking s (λ us. operands_at more us)) ts w
     (λ us ps taken. (ps, inl taken)) (λ us first h. rw (front_same s us ts first ∙ begins) h) x
 
@@ -293,7 +293,7 @@ pub operands_wrong : (ss : Slots) (ts : List Token) (w : SyntaxError) → ended 
 unfolding operands_at
 operands_wrong (Stops s) ts w end e = stop_wrong s ts w (ended_err s ts w end e)
 operands_wrong (Takes s more) ts w end e =
-    alike (List Operand) (List Operand) (λ us ps. AreOperands (Takes s more) us ps) (StandsThen s (λ us ps. AreOperands more us ps))
+    alike (List Operand) (List Operand) (λ us ps. AreOperands (Takes s more) us ps) (IsTaken s (λ us ps. AreOperands more us ps))
     (λ us. operands_at (Takes s more) us) (taking s (λ us. operands_at more us)) ts w (λ us ps taken. (ps, taken)) (λ us first h. h)
     (taken_wrong s (λ us. operands_at more us) (λ us ps. AreOperands more us ps) ts w (operands_go more) end e (λ os rest h last f. operands_wrong more rest w last f))
 operands_wrong (Chooses s more others) ts w end e =

@@ -11,7 +11,7 @@ use Rattle.rv_text_laws.specs.SyntaxError.{SyntaxError, wrong, Read, nowhere, is
 use Rattle.rv_text_laws.specs.Joined.{joined_at}
 use Rattle.rv_text_laws.proofs.ExpressionWrongLemmas.{ended_more}
 use Rattle.rv_statement.specs.Statement.{Operand}
-use Rattle.rv_parse_laws.specs.Syntax.{is_comma, is_end, is_wrong, is_any, Slot, A_value, An_address, A_callee, A_section, IsOperand, StandsThen, IsFurther, AreItems, EndsHere}
+use Rattle.rv_parse_laws.specs.Syntax.{is_comma, is_end, is_wrong, is_any, Slot, A_value, An_address, A_callee, A_section, IsOperand, IsTaken, IsFurther, AreItems, EndsHere}
 use Rattle.rv_parse_laws.specs.Faults.{wrong_after, wrong_any}
 use Rattle.rv_parse_laws.specs.Parsing.{◌>>=◌, seen_as, operand_at, end_at, ended_at, taking, further, items_in, items_at, any_at}
 use Rattle.rv_parse_laws.proofs.StepsLemmas.{bind_ok, tested_ok, pair_parts, bind_err, tested_err}
@@ -125,7 +125,7 @@ Items s us os = (n : ℕ) × AreItems n s us os
 abbrev pub Behind : Slot → List Token → List Operand → Type 0
 Behind s us os = ((us ≡ []) × (os ≡ [])) ⊎ IsFurther (λ vs ps. Items s vs ps) us os
 
-to_items : (s : Slot) (ts : List Token) (os : List Operand) → StandsThen s (λ us ps. Behind s us ps) ts os → Items s ts os
+to_items : (s : Slot) (ts : List Token) (os : List Operand) → IsTaken s (λ us ps. Behind s us ps) ts os → Items s ts os
 to_items s ts os (one, rest, now, later, w, is, inl (none, nil), v) =
     let text : one ≡ ts = sym (w ∙ ap (λ us. one ++ us) none ∙ append-nil one) in
     let same : now ≡ os = sym (v ∙ ap (λ ps. now ++ ps) nil ∙ append-nil now) in
@@ -163,7 +163,7 @@ items_found_in zero s ts os rest le e = absurd (none ts le (sym (items_step s ts
 items_found_in (suc room) s ts os rest le e = finish
     (taken_found s (further s (λ us. items_at s us)) (λ us ps. Behind s us ps) ts os rest (λ now us h ps f. next us ps (operand_shorter s ts now us h) f (λ vs ps less g. items_found_in room s vs ps rest less g)) (sym (items_step s ts) ∙ e))
   where
-    finish : FoundTo (StandsThen s (λ us ps. Behind s us ps)) ts os rest → FoundTo (λ us ps. Items s us ps) ts os rest
+    finish : FoundTo (IsTaken s (λ us ps. Behind s us ps)) ts os rest → FoundTo (λ us ps. Items s us ps) ts os rest
     finish (text, whole, is, ends) = (text, whole, to_items s text os is, ends)
 
     next : (us : List Token) (ps : List Operand) → length us < length ts → further s (λ us. items_at s us) us ≡ Ok (ps, rest)
@@ -183,7 +183,7 @@ items_wrong_in : (room : ℕ) (s : Slot) (ts : List Token) (w : SyntaxError) →
 items_wrong_in zero s [] w le end e = absurd (cc)
 items_wrong_in zero s (t ∷ ts) w le end e = absurd (omega (arith, le))
 items_wrong_in (suc room) s ts w le end e =
-    alike (List Operand) (List Operand) (λ us ps. Items s us ps) (StandsThen s (λ us ps. Behind s us ps)) (λ us. items_at s us) (taking s (further s (λ us. items_at s us))) ts w
+    alike (List Operand) (List Operand) (λ us ps. Items s us ps) (IsTaken s (λ us ps. Behind s us ps)) (λ us. items_at s us) (taking s (further s (λ us. items_at s us))) ts w
     (λ us ps is. (ps, to_items s us ps is)) (λ us first h. items_step s us ∙ h)
     (taken_wrong s (further s (λ us. items_at s us)) (λ us ps. Behind s us ps) ts w ([], [], inl (refl, refl)) end (sym (items_step s ts) ∙ e)
     (λ os rest h last f. next rest (operand_shorter s ts os rest h) last f (λ us less last g. items_wrong_in room s us w less last g)))

@@ -9,7 +9,7 @@ use Rattle.rv_text_laws.specs.SyntaxError.{SyntaxError, wrong, Read}
 use Rattle.rv_text_laws.proofs.ExpressionWrongLemmas.{ended_behind}
 use Rattle.rv_statement.specs.Statement.{Expression, Operand, Target}
 use Rattle.rv_parse_laws.specs.declared.role.Role.TheVariants as roles
-use Rattle.rv_parse_laws.specs.Syntax.{is_opening, is_end, is_number, A_register, A_target, An_address, An_opening, front_begins, IsValue, IsOperand, StandsThen, EndsHere}
+use Rattle.rv_parse_laws.specs.Syntax.{is_opening, is_end, is_number, A_register, A_target, An_address, An_opening, front_begins, IsValue, IsOperand, IsTaken, EndsHere}
 use Rattle.rv_parse_laws.specs.Faults.{wrong_after}
 use Rattle.rv_parse_laws.specs.Parsing.{seen_as, value_at, is_target, target_next, operand_at, ended_at, taking}
 use Rattle.rv_parse_laws.proofs.StepsLemmas.{bind_err, seen_err}
@@ -25,7 +25,7 @@ abbrev pub located : (List Token → Read (List Operand)) → List Token → Rea
 located R ts = cond (target_next ts) (taking A_target R ts) (taking An_address (ended_at An_address) ts)
 
 abbrev pub IsLocated : (List Token → List Operand → Type 0) → List Token → List Operand → Type 0
-IsLocated N ts os = IsOperand An_address ts os ⊎ StandsThen A_target N ts os
+IsLocated N ts os = IsOperand An_address ts os ⊎ IsTaken A_target N ts os
 
 -- behind a target there is a comma or the end
 abbrev pub Parted : List Token → Type 0
@@ -61,7 +61,7 @@ located_found R N ts os rest ih e = go (target_next ts) e
     go false e = whole (taken_found An_address (ended_at An_address) (λ us ps. (us ≡ []) × (ps ≡ [])) ts os rest
         (λ now us h ps g. let f = ended_found An_address us ps rest g in ([], f.0, (refl, f.1), f.2)) e)
       where
-        whole : FoundTo (StandsThen An_address (λ us ps. (us ≡ []) × (ps ≡ []))) ts os rest → FoundTo (IsLocated N) ts os rest
+        whole : FoundTo (IsTaken An_address (λ us ps. (us ≡ []) × (ps ≡ []))) ts os rest → FoundTo (IsLocated N) ts os rest
         whole (text, w, (one, others, now, later, parts, is, (none, nil), v), ends) =
             let same : one ≡ text = sym (parts ∙ ap (λ us. one ++ us) none ∙ append-nil one) in
             let all : now ≡ os = sym (v ∙ ap (λ ps. now ++ ps) nil ∙ append-nil now) in

@@ -6,7 +6,7 @@ use Rattle.rv_text_laws.specs.Lexing.{Token, ended}
 use Rattle.rv_text_laws.specs.SyntaxError.{SyntaxError, Read}
 use Rattle.rv_text_laws.proofs.ExpressionWrongLemmas.{ended_more}
 use Rattle.rv_statement.specs.Statement.{Operand, Word}
-use Rattle.rv_parse_laws.specs.Syntax.{is_colon, Slot, A_value, An_address, A_callee, A_section, IsValueIn, IsOperand, StandsThen, EndsHere}
+use Rattle.rv_parse_laws.specs.Syntax.{is_colon, Slot, A_value, An_address, A_callee, A_section, IsValueIn, IsOperand, IsTaken, EndsHere}
 use Rattle.rv_parse_laws.specs.Parsing.{seen_as, value_in, section_at, operand_at, taking}
 use Rattle.rv_parse_laws.proofs.StepsLemmas.{bind_ok, seen_ok, bind_err, seen_err}
 use Rattle.rv_parse_laws.proofs.FailingLemmas.{Failing, behind, alike, first_of}
@@ -138,7 +138,7 @@ FoundTo N ts os rest = (text : List Token) × (ts ≡ text ++ rest) × N text os
 
 pub taken_found : (s : Slot) (R : List Token → Read (List Operand)) (N : List Token → List Operand → Type 0) (ts : List Token) (os : List Operand) (rest : List Token)
     → ((now : List Operand) (us : List Token) → operand_at s ts ≡ Ok (now, us) → (ps : List Operand) → R us ≡ Ok (ps, rest) → FoundTo N us ps rest)
-    → taking s R ts ≡ Ok (os, rest) → FoundTo (StandsThen s N) ts os rest
+    → taking s R ts ≡ Ok (os, rest) → FoundTo (IsTaken s N) ts os rest
 taken_found s R N ts os rest ih e =
     let d = bind_ok (operand_at s ts) (λ o. seen_as (λ os. o.0 ++ os) (R o.1)) (os, rest) e in
     let o = operand_found s ts d.0.0 d.0.1 d.1 in
@@ -160,18 +160,18 @@ rest_err s R us os rest w e f = rw (e, f) refl
 pub taken_wrong : (s : Slot) (R : List Token → Read (List Operand)) (N : List Token → List Operand → Type 0) (ts : List Token) (w : SyntaxError)
     → (text : List Token) × (os : List Operand) × N text os → ended ts ≡ true → taking s R ts ≡ Err w
     → ((os : List Operand) (rest : List Token) → operand_at s ts ≡ Ok (os, rest) → ended rest ≡ true → R rest ≡ Err w → Failing (List Operand) N R rest w)
-    → Failing (List Operand) (StandsThen s N) (taking s R) ts w
+    → Failing (List Operand) (IsTaken s N) (taking s R) ts w
 taken_wrong s R N ts w (text, later, n) end e ih = elim (bind_err (operand_at s ts) (λ o. seen_as (λ os. o.0 ++ os) (R o.1)) w e) [
   | inl f ↦ first (operand_wrong s ts w end f)
   | inr good ↦ (let o = operand_found s ts good.0.0 good.0.1 good.1 in
-      subst (λ us. Failing (List Operand) (StandsThen s N) (taking s R) us w) (sym o.whole)
-      (behind (List Operand) (List Operand) (StandsThen s N) N (taking s R) R o.text good.0.1 w
+      subst (λ us. Failing (List Operand) (IsTaken s N) (taking s R) us w) (sym o.whole)
+      (behind (List Operand) (List Operand) (IsTaken s N) N (taking s R) R o.text good.0.1 w
       (λ us os n. (good.0.0 ++ os, (o.text, us, good.0.0, os, refl, o.is, n, refl)))
       (λ us start f. rest_err s R (o.text ++ us) good.0.0 us w (o.steady us start) f)
       (ih good.0.0 good.0.1 good.1 (operand_ended s ts good.0.0 good.0.1 end good.1) (seen_err (λ os. good.0.0 ++ os) (R good.0.1) w good.2))))
 ]
   where
-    first : Failing (List Operand) (IsOperand s) (operand_at s) ts w → Failing (List Operand) (StandsThen s N) (taking s R) ts w
+    first : Failing (List Operand) (IsOperand s) (operand_at s) ts w → Failing (List Operand) (IsTaken s N) (taking s R) ts w
     first x = record {
       before = x.before;
       at = x.at;

@@ -473,9 +473,9 @@ plt_next [] = false
 plt_next (t ∷ ts) = is_some (symbol_of t.kind) && front_begins At_sign ts
 
 -- what stands in a place, and then what N says
-abbrev pub StandsThen : Slot → (List Token → List Operand → Type 0) → List Token → List Operand →
+abbrev pub IsTaken : Slot → (List Token → List Operand → Type 0) → List Token → List Operand →
     Type 0
-StandsThen s N ts os =
+IsTaken s N ts os =
     (one rest : List Token) × (now later : List Operand) × (ts ≡ one ++ rest) × IsOperand s one now
     × N rest later × (os ≡ now ++ later)
 
@@ -488,17 +488,17 @@ IsFurther N ts os =
 abbrev pub AreItems : ℕ → Slot → List Token → List Operand → Type 0
 AreItems zero s ts os = ⊥
 AreItems (suc zero) s ts os = IsOperand s ts os
-AreItems (suc (suc n)) s ts os = StandsThen s (IsFurther (λ us ps. AreItems (suc n) s us ps)) ts os
+AreItems (suc (suc n)) s ts os = IsTaken s (IsFurther (λ us ps. AreItems (suc n) s us ps)) ts os
 
 -- the tokens stand in these places, with these operands
 abbrev pub AreOperands : Slots → List Token → List Operand → Type 0
 AreOperands (Stops behind) ts os = (ts ≡ []) × (os ≡ [])
-AreOperands (Takes s rest) ts os = StandsThen s (λ us ps. AreOperands rest us ps) ts os
+AreOperands (Takes s rest) ts os = IsTaken s (λ us ps. AreOperands rest us ps) ts os
 AreOperands (Chooses s rest others) ts os =
-    StandsThen s (λ us ps. AreOperands rest us ps) ts os
+    IsTaken s (λ us ps. AreOperands rest us ps) ts os
     ⊎ ((front_begins s ts ≡ false) × AreOperands others ts os)
 AreOperands (Locates rest) ts os =
-    IsOperand An_address ts os ⊎ StandsThen A_target (λ us ps. AreOperands rest us ps) ts os
+    IsOperand An_address ts os ⊎ IsTaken A_target (λ us ps. AreOperands rest us ps) ts os
 AreOperands (Lists s) ts os = (n : ℕ) × AreItems n s ts os
 AreOperands Anything ts os = (list_all (λ (t : Token). is_any t.kind) ts ≡ true) × (os ≡ [])
 

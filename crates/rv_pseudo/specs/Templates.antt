@@ -75,11 +75,11 @@ statement_with operation function e = with_operand operation (operand operation 
 -- ---- the code's answers
 
 -- of a statement without a fault its templates, else its fault
-abbrev pub GivesTemplates : Option SourceCode → Option (List Template) →
+abbrev pub Answers : Option SourceCode → Option (List Template) →
     Result (ArrayVec Template) SourceCode → Type 0
-GivesTemplates None row (Ok found) = row ≡ Some found.items
-GivesTemplates (Some code) row (Err found) = found ≡ code
-GivesTemplates _ _ _ = ⊥
+Answers None row (Ok found) = row ≡ Some found.items
+Answers (Some code) row (Err found) = found ≡ code
+Answers _ _ _ = ⊥
 
 -- the same at a line; never want of memory
 abbrev pub IsExpansion : Option SourceCode → Option (List Template) → ℕ →

@@ -9,7 +9,7 @@ ghost use Rattle.rv_statement.specs.Statement.{Expression};
 ghost use Rattle.rv_statement.specs.View.{statement_kind};
 ghost use Rattle.rv_pseudo.specs.Faults as faults;
 ghost use Rattle.rv_pseudo.specs.Templates as is;
-ghost use Rattle.rv_pseudo.specs.Templates.{GivesTemplates, IsExpansion};
+ghost use Rattle.rv_pseudo.specs.Templates.{Answers, IsExpansion};
 
 use crate::bare::without_operand;
 use crate::fault::fault;
@@ -49,7 +49,7 @@ pub fn with_operand(
     form: Form,
 ) -> Result<Templates, SourceCode>
     ensures { (e : Expression) →
-        GivesTemplates (faults.fault operation function form.value)
+        Answers (faults.fault operation function form.value)
         (is.templates form (is.statement_with operation function e)) result }
 {
     match fault(&operation, function, form.value) {
@@ -73,7 +73,7 @@ pub fn single(operation: &Operation, number: i64) -> Option<Inst>
 
 /// The templates of what a statement says, or its fault.
 fn expanded(kind: &StatementKind<'_>, form: Form) -> Result<Templates, SourceCode>
-    ensures { GivesTemplates (faults.fault_of form kind.now)
+    ensures { Answers (faults.fault_of form kind.now)
         (is.templates form (statement_kind kind.now)) result }
 {
     match kind {

@@ -1,5 +1,9 @@
 //! `li`: the instructions that put a number into a register.
 //!
+//! Of more than 32 bits the bits above the low twelve are made first, by `li` again, without the zero bits that they
+//! end with; a shift and an `addi` follow. So one rule serves every width: three such steps lead from 64 bits to 32,
+//! which bounds the sequence at eight. GNU as takes other sequences for some numbers.
+//!
 //! Source: RISC-V Assembly Programmer's Manual, "Load Immediate".
 
 ghost use Rattle.std.specs.Prelude.{◌≡◌, ◌≢◌, ◌≤◌, ◌<◌, ◌+◌, ◌*◌, ◌%◌, ◌^◌, ◌++◌, [], ◌∷◌, false, pos, length, unsigned_abs};
