@@ -1,6 +1,7 @@
 -- The places of sections among those that an object keeps.
 
 use Rattle.std.proofs.Common.{◌≡◌, ℕ, zero, suc, ◌+◌, ◌-◌, ◌≤◌, ◌<◌, Bool, true, false, List, [], ◌∷◌, ◌++◌, length, get_or, map, filter, max, Option, Some, None, refl, ap, sym, subst, ◌∙◌, arith}
+use Rattle.rv_object_checks.specs.SectionsFrom.{from_more}
 use Rattle.std.specs.Prelude.{nat_lt, ◌==◌, if◌then◌else◌}
 use Rattle.std.specs.List.{find}
 use Rattle.std.specs.Option.{is_some}
@@ -11,7 +12,7 @@ use Rattle.std.proofs.lemmas.Bool.Decides.{nat_tests}
 use Rattle.rv_elf.specs.Sections.{section_count}
 use Rattle.rv_object_file_laws.specs.Parts.{FileSection, is_kept, is_index, kept, kept_at, kept_before}
 use Rattle.rv_object_checks.specs.Found.{section_at, sections_from, place_of, place_at, places_of}
-use Rattle.rv_object_checks.proofs.SectionsFromLemmas.{sections_are, from_more}
+use Rattle.rv_object_checks.proofs.SectionsFromLemmas.{sections_are}
 
 other_index : (k j : ℕ) → k < j → (k == j) ≡ false
 other_index k j h = grind (arith, nat_tests)

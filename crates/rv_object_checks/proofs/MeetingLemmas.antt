@@ -1,6 +1,7 @@
 -- Which relocations meet one that comes after them, by the stretches that they hold.
 
 use Rattle.std.proofs.Common.{◌≡◌, ℕ, ◌+◌, ◌<◌, Bool, true, false, not, ◌&&◌, ◌||◌, nat_le, nat_lt, max, List, [], ◌∷◌, ◌++◌, refl, sym, ap, ◌∙◌, arith}
+use Rattle.std.proofs.lemmas.Bool.{or_right}
 use Rattle.std.specs.List.{list_any}
 use Rattle.std.proofs.lemmas.Bool.Decides.{nat_tests}
 use Rattle.rv_object.specs.Object.{Relocation}
@@ -27,7 +28,7 @@ any_split x h (q ∷ qs) =
     ap (λ r. (x q && h q || not (x q) && h q) || r) (any_split x h qs)
     ∙ or_apart (x q) (h q) (list_any (λ q. x q && h q) qs) (list_any (λ q. not (x q) && h q) qs)
 
-or_false : (b : Bool) → (b || false) ≡ b
+pub or_false : (b : Bool) → (b || false) ≡ b
 or_false true = refl
 or_false false = refl
 
@@ -104,10 +105,6 @@ nothing_meets r before none =
 behind : (a n : ℕ) → 0 < n → a < a + n
 behind a n some = omega (arith, some)
 
-or_second : (a b : Bool) → b ≡ true → (a || b) ≡ true
-or_second true b h = refl
-or_second false b h = h
-
 module _ (p f : List (ℕ × ℕ)) (before : List Relocation) (r : Relocation) (hold : AreHeld p f before) where
   -- a padding before it is met
   pub meets_padding : (n : ℕ) → n ≡ held r → 0 < n → list_any (ends_in r.place (r.place + n)) p ≡ true → meets_any r before ≡ true
@@ -127,7 +124,7 @@ module _ (p f : List (ℕ × ℕ)) (before : List Relocation) (r : Relocation) (
       let has : 0 < held r = rw same at some in
       let fills : list_any (fills_in r.place (r.place + held r)) before ≡ true =
       sym (hold.filled r.place (r.place + held r) (behind r.place (held r) has)) ∙ (rw same at h) in
-      padding_meets r before align has ∙ or_second (list_any (pads_in r.place (r.place + held r)) before) (list_any (fills_in r.place (r.place + held r)) before) fills
+      padding_meets r before align has ∙ or_right (list_any (pads_in r.place (r.place + held r)) before) (list_any (fills_in r.place (r.place + held r)) before) fills
 
   pub put_nothing : held r ≡ 0 → (meets_any r before ≡ false) × AreHeld p f (before ++ r ∷ [])
   put_nothing none = (

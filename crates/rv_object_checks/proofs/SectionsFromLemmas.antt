@@ -1,6 +1,7 @@
 -- The sections of a file, by their indices.
 
-use Rattle.std.proofs.Common.{◌≡◌, ℕ, zero, suc, ◌+◌, ◌*◌, ◌-◌, ◌≤◌, ◌<◌, Bool, true, false, List, [], ◌∷◌, ◌++◌, drop, Some, None, refl, ap, ◌∙◌, arith}
+use Rattle.std.proofs.Common.{◌≡◌, ℕ, zero, suc, ◌+◌, ◌*◌, ◌-◌, ◌≤◌, ◌<◌, Bool, true, false, List, [], ◌∷◌, drop, Some, None, refl, ap, ◌∙◌, arith}
+use Rattle.rv_object_checks.specs.SectionsFrom.{from_cut}
 use Rattle.std.specs.List.{find}
 use Rattle.std.proofs.lemmas.Bool.{cond-true, cond-false}
 use Rattle.rv_elf.specs.Fields.{number_in, e_shoff, section_header_size}
@@ -26,28 +27,8 @@ sections_are file =
     ap (λ ss. drop 1 ss) (numbered_from file (section_count file) 0 (number_in e_shoff 0 file) (omega arith))
     ∙ behind_first file (section_count file)
 
--- one section further
-pub from_cut : (file : List ℕ) (n i : ℕ) → i < n →
-    sections_from file (n - i) (i + 1) ≡ section_at file (i + 1) ∷ sections_from file (n - (i + 1)) (i + 1 + 1)
-from_cut file n i below =
-    let left : n - i ≡ suc (n - (i + 1)) = omega arith in
-    let next : suc (i + 1) ≡ i + 1 + 1 = omega arith in
-    ap (λ m. sections_from file m (i + 1)) left ∙ ap (λ k. section_at file (i + 1) ∷ sections_from file (n - (i + 1)) k) next
-
 from_end : (file : List ℕ) (n i k : ℕ) → n ≤ i → sections_from file (n - i) k ≡ []
 from_end file n i k past = let none : n - i ≡ 0 = omega arith in rw none refl
-
-from_last : (file : List ℕ) (n k : ℕ) → sections_from file (suc n) k ≡ sections_from file n k ++ section_at file (k + n) ∷ []
-from_last file zero k = let same : k + 0 ≡ k = omega arith in rw same refl
-from_last file (suc n) k =
-    let next : suc k + n ≡ k + suc n = omega arith in
-    ap (λ ss. section_at file k ∷ ss) (from_last file n (suc k)) ∙ ap (λ j. section_at file k ∷ (sections_from file n (suc k) ++ section_at file j ∷ [])) next
-
-pub from_more : (file : List ℕ) (i : ℕ) → sections_from file (i + 1) 1 ≡ sections_from file i 1 ++ section_at file (i + 1) ∷ []
-from_more file i =
-    let next : i + 1 ≡ suc i = omega arith in
-    let place : 1 + i ≡ i + 1 = omega arith in
-    ap (λ m. sections_from file m 1) next ∙ from_last file i 1 ∙ ap (λ j. sections_from file i 1 ++ section_at file j ∷ []) place
 
 -- a search, one section further
 pub find_past : (P : FileSection → Bool) (file : List ℕ) (n i : ℕ) → i < n → P (section_at file (i + 1)) ≡ false →

@@ -1,6 +1,6 @@
 -- Symbols: their records, and their names.
 
-use Rattle.std.proofs.Common.{◌≡◌, ℕ, zero, suc, ◌+◌, ◌/◌, ◌≤◌, ◌<◌, true, false, List, [], ◌∷◌, length, drop, take, Option, Some, None, refl, ap, sym, ◌∙◌, arith}
+use Rattle.std.proofs.Common.{◌≡◌, ℕ, ◌+◌, ◌/◌, ◌≤◌, ◌<◌, true, false, List, drop, Option, Some, None, refl, ap, sym, ◌∙◌, arith}
 use Rattle.std.specs.Prelude.{nat_le, ◌==◌, ◌&&◌, not}
 use Rattle.rv_map.specs.Name.{is_name}
 use Rattle.std.proofs.lemmas.List.{drop-drop}
@@ -30,12 +30,6 @@ symbol_behind p bytes = λ i. record {
   st_value = number_behind at.st_value p bytes i;
   st_size = number_behind at.st_size p bytes i;
 }
-
-pub take_whole : (n : ℕ) (xs : List ℕ) → length xs ≡ n → take n xs ≡ xs
-take_whole zero [] e = refl
-take_whole (suc n) [] e = refl
-take_whole zero (x ∷ xs) e = absurd (omega (arith, e))
-take_whole (suc n) (x ∷ xs) e = ap (λ ys. x ∷ ys) (take_whole n xs (omega (arith, e)))
 
 none_bad : (s : Symbol) (o : Option (List ℕ)) → is_none o ≡ true → true ≡ is_bad_name s o
 none_bad s None e = refl

@@ -1,6 +1,8 @@
 -- Over the sections of a file, one after the other.
 
 use Rattle.std.proofs.Common.{◌≡◌, ◌⊎◌, inl, inr, ℕ, zero, suc, ◌+◌, ◌-◌, ◌≤◌, ◌<◌, Bool, true, false, List, [], ◌∷◌, ◌++◌, length, get_or, set, filter, Option, Some, None, refl, ap, sym, subst, ◌∙◌, arith, append_assoc, take, drop, drop_of_length-le, take_all}
+use Rattle.rv_object_checks.specs.SectionsFrom.{from_cut, from_more}
+use Rattle.rv_object_checks.proofs.MeetingLemmas.{or_false}
 use Rattle.std.specs.Prelude.{Result, MatchResult, IfSome, ◌==◌, ◌||◌, ◌&&◌}
 use Rattle.std.specs.List.{list_any, slice_get}
 use Rattle.std.specs.declared.result.Result.TheVariants.{Ok, Err}
@@ -23,7 +25,6 @@ use Rattle.rv_object_checks.specs.Stretches.{Holds, AreHeld}
 use Rattle.rv_object_checks.specs.Tests.{tests_behind, size_tests, link_tests}
 use Rattle.rv_object_checks.specs.Walk.{relocations_before, HoldsOf, HoldBefore, AreEmpty}
 use Rattle.rv_elf.specs.FirstTrue.{first_true_none, first_true_some}
-use Rattle.rv_object_checks.proofs.SectionsFromLemmas.{from_cut, from_more}
 
 -- ---- one section further
 
@@ -89,10 +90,6 @@ module _ (file : List ℕ) (n i : ℕ) (below : i < n) where
 -- no section is left
 pub walk_over : (file : List ℕ) (before : List FileSection) (n i k : ℕ) → n ≤ i → first_true (sections_tests file before (sections_from file (n - i) k)) ≡ None
 walk_over file before n i k past = let none : n - i ≡ 0 = omega arith in rw none refl
-
-or_false : (b : Bool) → (b || false) ≡ b
-or_false true = refl
-or_false false = refl
 
 -- whether one of the sections passes a test, one section further
 pub any_more : (P : FileSection → Bool) (file : List ℕ) (i : ℕ) (old new here : Bool) → old ≡ list_any P (sections_from file i 1) →

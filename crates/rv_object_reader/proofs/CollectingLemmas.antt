@@ -1,6 +1,7 @@
 -- The lists of relocations, one for each kept section, as the sections of the file are gone through.
 
 use Rattle.std.proofs.Common.{◌≡◌, ℕ, zero, suc, ◌+◌, ◌-◌, ◌<◌, ◌==◌, Bool, true, false, ◌&&◌, List, [], ◌∷◌, ◌++◌, length, map, filter, set, get_or, Option, Some, None, refl, ap, sym, ◌∙◌, arith, cond}
+use Rattle.rv_object_checks.specs.SectionsFrom.{from_cut}
 use Rattle.std.specs.List.{slice_get, AllByRecursion}
 use Rattle.std.specs.Global.{Vec}
 use Rattle.std.proofs.lemmas.Bool.{and_parts, and_from, cond-true, cond-false}
@@ -23,25 +24,6 @@ use Rattle.rv_object_reader.proofs.SymbolCountLemmas.{no_symbols}
 use Rattle.rv_object_reader.proofs.WalkLemmas.{fine, passed_find, sections_are, header_says}
 
 -- ---- one section further
-
-from_last : (file : List ℕ) (n k : ℕ) → sections_from file (suc n) k ≡ sections_from file n k ++ section_at file (k + n) ∷ []
-from_last file zero k = let same : k + 0 ≡ k = omega arith in rw same refl
-from_last file (suc n) k =
-    let next : suc k + n ≡ k + suc n = omega arith in
-    ap (λ ss. section_at file k ∷ ss) (from_last file n (suc k)) ∙ ap (λ j. section_at file k ∷ (sections_from file n (suc k) ++ section_at file j ∷ [])) next
-
-pub from_more : (file : List ℕ) (i : ℕ) → sections_from file (i + 1) 1 ≡ sections_from file i 1 ++ section_at file (i + 1) ∷ []
-from_more file i =
-    let next : i + 1 ≡ suc i = omega arith in
-    let place : 1 + i ≡ i + 1 = omega arith in
-    ap (λ m. sections_from file m 1) next ∙ from_last file i 1 ∙ ap (λ j. sections_from file i 1 ++ section_at file j ∷ []) place
-
-pub from_cut : (file : List ℕ) (n i : ℕ) → i < n →
-    sections_from file (n - i) (i + 1) ≡ section_at file (i + 1) ∷ sections_from file (n - (i + 1)) (i + 1 + 1)
-from_cut file n i below =
-    let left : n - i ≡ suc (n - (i + 1)) = omega arith in
-    let next : suc (i + 1) ≡ i + 1 + 1 = omega arith in
-    ap (λ m. sections_from file m (i + 1)) left ∙ ap (λ k. section_at file (i + 1) ∷ sections_from file (n - (i + 1)) k) next
 
 -- the kept sections that are left
 abbrev pub kept_left : List ℕ → ℕ → List FileSection

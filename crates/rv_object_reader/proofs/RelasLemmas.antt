@@ -1,6 +1,6 @@
 -- Records of relocations behind a place.
 
-use Rattle.std.proofs.Common.{◌≡◌, ℕ, zero, suc, ◌+◌, List, [], ◌∷◌, ◌++◌, length, drop, take, map, Some, None, refl, ap, sym, ◌∙◌, arith}
+use Rattle.std.proofs.Common.{◌≡◌, ℕ, ◌+◌, List, [], ◌∷◌, ◌++◌, drop, map, Some, None, ap, sym, ◌∙◌, arith}
 use Rattle.std.specs.List.{cons_option}
 use Rattle.std.specs.Int.{cast_signed, w64}
 use Rattle.std.proofs.lemmas.List.{append_assoc, drop-drop, map-append}
@@ -26,12 +26,6 @@ rela_behind p bytes = λ i. record {
   r_sym = number_behind at.r_sym p bytes i;
   r_addend = cast_signed w64 (number_behind at.r_addend p bytes i);
 }
-
-pub take_whole : (n : ℕ) (xs : List ℕ) → length xs ≡ n → take n xs ≡ xs
-take_whole zero [] e = refl
-take_whole (suc n) [] e = refl
-take_whole zero (x ∷ xs) e = absurd (omega (arith, e))
-take_whole (suc n) (x ∷ xs) e = ap (λ ys. x ∷ ys) (take_whole n xs (omega (arith, e)))
 
 -- one record further, whose relocation is added
 pub relas_some : (whole : List Relocation) (made new : List DeclaredRelocation) (r : Rela) (x : DeclaredRelocation) (left rest : List Rela) →
