@@ -4,7 +4,7 @@ use Rattle.std.proofs.Common.{◌≡◌, ℕ, zero, suc, ◌+◌, ◌-◌, ◌*�
 use Rattle.std.proofs.lemmas.List.{length-replicate}
 use Rattle.std.specs.Prelude.{flat_map, not, ◌&&◌, ◌||◌, nat_lt, nat_le, ⊤, slice_index_or, unwrap_or, if◌then◌else◌}
 use Rattle.std.specs.List.{AllByRecursion}
-use Rattle.std.proofs.lemmas.Bool.{leb-true}
+use Rattle.std.proofs.lemmas.Bool.{leb-true, both_ways}
 use Rattle.rv_isa_laws.specs.Bytes.{zeros}
 use Rattle.rv_text_laws.specs.Values.{Value, Constant, Symbolic, Difference, Faulty}
 use Rattle.rv_statement.specs.declared.mnemonic.Mnemonic.{Mnemonic}
@@ -40,10 +40,6 @@ use Rattle.rv_draft.proofs.EvensLemmas.{none_more, padding_of_even}
 use Rattle.rv_object.proofs.NopsLemmas.{length_even}
 use Rattle.rv_draft.proofs.RoomyLemmas.{a_power, a_multiple}
 use Rattle.rv_draft.proofs.SoundLemmas.{AreSound, sound}
-
-true_false : {A : Type 0} (b : Bool) → b ≡ true → b ≡ false → A
-true_false true e f = absurd (cc)
-true_false false e f = absurd (cc)
 
 -- ---- which statements have a place
 
@@ -202,9 +198,9 @@ module _ (all : Tables) (s : Located) (x : Item) (begins : ℕ) (found : List Co
 
   directive_code : (d : Directive) → s.home.executable ≡ true → PlacedDirective s.placed d → Sized (Directs d) → DirectiveHeld s.home d → found ≡ []
       → flat_map part_bytes (Parts (Directs d)) ≡ no_operations (pads (Directs d))
-  directive_code (Values w vs) code is size held none = true_false s.home.executable code held.0
-  directive_code (Strings ended strings) code is size held none = true_false s.home.executable code held.0
-  directive_code (Zeros count) code is size held none = true_false s.home.executable code held
+  directive_code (Values w vs) code is size held none = absurd (both_ways s.home.executable held.0 code)
+  directive_code (Strings ended strings) code is size held none = absurd (both_ways s.home.executable held.0 code)
+  directive_code (Zeros count) code is size held none = absurd (both_ways s.home.executable held code)
   directive_code (Aligns_to_power e) code is size held none =
       padding_whole s.home.executable x.bytes code
       ∙ ap no_operations (padded_bytes s.home.executable (Aligns_to_power e) (alignment_of worth (Aligns_to_power e)) code none (size is).1.1)
@@ -221,13 +217,13 @@ module _ (all : Tables) (s : Located) (x : Item) (begins : ℕ) (found : List Co
       directive_code d code is size held none ∙ sym (append-nil (no_operations (pads (Directs d)))) ∙ ap (λ l. no_operations (pads (Directs d)) ++ l) (sym (no_joined none))
 
   no_code : (says : StatementKind) → s.home.executable ≡ false → Own says → IsHeld s.home says → code_of says ≡ []
-  no_code (Instruction mnemonic operands) other own held = true_false s.home.executable held.0 other
+  no_code (Instruction mnemonic operands) other own held = absurd (both_ways s.home.executable other held.0)
   no_code (Label name) other (asked, none) held = no_joined none
   no_code (Numbered number) other (asked, none) held = no_joined none
   no_code (Directs d) other (asked, none) held = ap (λ b. no_operations (if b then code_padding (alignment_of worth d) else 0) ++ bytes) other ∙ no_joined none
 
   empty_code : (says : StatementKind) → is_nobits s.home ≡ true → (is_nobits s.home ≡ true → pads says ≡ 0) → Own says → IsHeld s.home says → code_of says ≡ []
-  empty_code (Instruction mnemonic operands) empty spare own held = true_false (is_nobits s.home) empty held.1
+  empty_code (Instruction mnemonic operands) empty spare own held = absurd (both_ways (is_nobits s.home) held.1 empty)
   empty_code (Label name) empty spare (asked, none) held = no_joined none
   empty_code (Numbered number) empty spare (asked, none) held = no_joined none
   empty_code (Directs d) empty spare (asked, none) held = ap (λ n. no_operations n ++ bytes) (spare empty) ∙ no_joined none
@@ -262,7 +258,7 @@ module _ (all : Tables) (s : Located) (x : Item) (begins : ℕ) (found : List Co
   code_fields (Label name) e held = refl
   code_fields (Numbered number) e held = refl
   code_fields (Instruction mnemonic operands) e held = refl
-  code_fields (Directs (Values w vs)) e held = true_false s.home.executable e held.0
+  code_fields (Directs (Values w vs)) e held = absurd (both_ways s.home.executable held.0 e)
   code_fields (Directs (Strings ended strings)) e held = refl
   code_fields (Directs (Aligns_to_power n)) e held = ap (λ b. Fields (map (part_of s.ordinal) (padding_templates b s.ordinal x.bytes))) (sym e)
   code_fields (Directs (Aligns_to_bytes n)) e held = ap (λ b. Fields (map (part_of s.ordinal) (padding_templates b s.ordinal x.bytes))) (sym e)
@@ -271,8 +267,8 @@ module _ (all : Tables) (s : Located) (x : Item) (begins : ℕ) (found : List Co
   no_fields : (says : StatementKind) → s.home.executable ≡ false → is_filled s.home ≡ false → IsHeld s.home says → Fields (Parts says) ≡ []
   no_fields (Label name) other e held = refl
   no_fields (Numbered number) other e held = refl
-  no_fields (Instruction mnemonic operands) other e held = true_false s.home.executable held.0 other
-  no_fields (Directs (Values w vs)) other e held = true_false (is_filled s.home) (data_filled s.home.executable (is_nobits s.home) held.0 held.1) e
+  no_fields (Instruction mnemonic operands) other e held = absurd (both_ways s.home.executable other held.0)
+  no_fields (Directs (Values w vs)) other e held = absurd (both_ways (is_filled s.home) e (data_filled s.home.executable (is_nobits s.home) held.0 held.1))
   no_fields (Directs (Strings ended strings)) other e held = refl
   no_fields (Directs (Aligns_to_power n)) other e held = ap (λ b. Fields (map (part_of s.ordinal) (padding_templates b s.ordinal x.bytes))) other
   no_fields (Directs (Aligns_to_bytes n)) other e held = ap (λ b. Fields (map (part_of s.ordinal) (padding_templates b s.ordinal x.bytes))) other
@@ -315,7 +311,7 @@ module _ (all : Tables) (s : Located) (x : Item) (begins : ℕ) (found : List Co
       let padded = padded_in s.home.executable (Aligns_to_power e) refl none h.0 h.1.1 in (h.1.0, padded.0, padded.1)
   directive_size (Aligns_to_bytes e) there is h none =
       let padded = padded_in s.home.executable (Aligns_to_bytes e) refl none h.0 h.1.1 in (h.1.0, padded.0, padded.1)
-  directive_size _ there is h none = true_false s.placed there is
+  directive_size _ there is h none = absurd (both_ways s.placed is there)
 
   said_size : (says : StatementKind) → s.placed ≡ true → PlacedAs s.placed says → IsSized worth s.home.executable x begins (size_of (pads says) found) says → Own says → HasSize worth site begins says
   said_size (Label name) there is h (asked, none) = (h.0, no_count (Label name) refl none h.1)
@@ -354,8 +350,8 @@ abbrev pub IsWideKind : StatementKind → Type 0
 IsWideKind says = (w : ℕ) (vs : List Expression) → says ≡ Directs (Values w vs) → IsWidth w
 
 wide : (w : ℕ) → IsWidth w → faulty_if (nat_lt w 4) 13 ≡ [] → IsWide w
-wide w (inl e) none = true_false (nat_lt w 4) (ap (λ n. nat_lt n 4) e) (no_test (nat_lt w 4) 13 none)
-wide w (inr (inl e)) none = true_false (nat_lt w 4) (ap (λ n. nat_lt n 4) e) (no_test (nat_lt w 4) 13 none)
+wide w (inl e) none = absurd (both_ways (nat_lt w 4) (no_test (nat_lt w 4) 13 none) (ap (λ n. nat_lt n 4) e))
+wide w (inr (inl e)) none = absurd (both_ways (nat_lt w 4) (no_test (nat_lt w 4) 13 none) (ap (λ n. nat_lt n 4) e))
 wide w (inr (inr h)) none = h
 
 has_field : (w : ℕ) (x : Value) → IsWidth w → value_faults w x ≡ [] → HasField w x

@@ -2,7 +2,7 @@
 
 use Rattle.std.proofs.Common.{◌≡◌, ℕ, ◌+◌, ◌*◌, ◌-◌, ◌/◌, ◌^◌, ◌<◌, ◌≤◌, Bool, true, false, ◌||◌, nat_lt, nat_le, List, [], ◌++◌, length, refl, sym, ap, ◌∙◌, subst, arith, Option, Some, None}
 use Rattle.std.proofs.Math.Nat.{div-mul-le_self, mul-le-mul_right}
-use Rattle.std.proofs.lemmas.Bool.{leb-true, le-leb, not-false, or_parts}
+use Rattle.std.proofs.lemmas.Bool.{leb-true, le-leb, not-false, or_parts, both_ways}
 use Rattle.std.proofs.lemmas.Nat.{le-div}
 use Rattle.std.specs.Prelude.{IfErr, Result, Ok, Err, not, flat_map, slice_index_or, if◌then◌else◌}
 use Rattle.rv_layout_laws.specs.Alignment.{aligned}
@@ -38,10 +38,6 @@ room_by true offset bytes low none fits = fits refl
 room_by false offset bytes low none fits = let e = none refl in omega (arith, e, low)
 
 -- ---- what no fault says
-
-true_false : {A : Type 0} (b : Bool) → b ≡ true → b ≡ false → A
-true_false true e f = absurd (cc)
-true_false false e f = absurd (cc)
 
 -- bytes that do not pass the longest section
 past_fits : (executable : Bool) (offset bytes : ℕ) → executable ≡ false → past_section executable offset bytes ≡ [] → offset + bytes ≤ longest_section
@@ -127,7 +123,7 @@ module _ (all t : Tables) (k begins offset : ℕ) (own : CodeSize) (low : offset
   put_here d other puts size fits less = record {
     size = size;
     room = λ n h. let l = less n h in omega (arith, l, fits);
-    code = λ e. true_false home.executable e other;
+    code = λ e. absurd (both_ways home.executable other e);
     stored = λ e n h. let l = less n h in let f = end_behind t k d puts inside other in omega (arith, l, f);
   }
 
@@ -147,7 +143,7 @@ module _ (all t : Tables) (k begins offset : ℕ) (own : CodeSize) (low : offset
     size = size;
     room = λ n h. let f = four n h in omega (arith, f, fits);
     code = λ e n h. let f = four n h in omega (arith, f);
-    stored = λ e. true_false home.executable code e;
+    stored = λ e. absurd (both_ways home.executable e code);
   }
 
   -- padding in data does not pass the longest section
