@@ -30,7 +30,7 @@ use Rattle.rv_assemble_laws.proofs.FilledLemmas.{filled}
 use Rattle.rv_draft.specs.declared.draft.Draft.{Draft}
 use Rattle.rv_draft.specs.Draft.{item_of, field_of, bytes_in, IsDrafted, IsDraft}
 use Rattle.rv_assemble.specs.KeptNames.{OpenKept}
-use Rattle.rv_assemble.specs.Making.{row_of as made_row, rows_from, relocation_by, relocations_in, list_of, section_by, IsMakeable, sections_by, AreEach}
+use Rattle.rv_assemble.specs.Making.{item_row, rows_from, field_relocation, relocations_in, list_of, section_by, IsMakeable, sections_by, AreEach}
 use Rattle.rv_assemble.specs.Lists.{list_in}
 use Rattle.rv_assemble.proofs.SettledLemmas.{IsSettled, settled, IsIn, all_in}
 use Rattle.rv_assemble.proofs.FieldListsLemmas.{numbered, in_section, section_relocations, parts_numbered}
@@ -51,7 +51,7 @@ fields_numbered number j [] = refl
 fields_numbered number j (f ∷ fs) = go (f.section == j) (fields_numbered number j fs)
   where
     go : (b : Bool) → relocations_in j fs (map (λ f. option_map (number f.ordinal) f.symbol) fs) ≡ map (numbered number) (in_section j fs)
-        → (if b then relocation_by f (option_map (number f.ordinal) f.symbol) ∷ [] else []) ++ relocations_in j fs (map (λ f. option_map (number f.ordinal) f.symbol) fs)
+        → (if b then field_relocation f (option_map (number f.ordinal) f.symbol) ∷ [] else []) ++ relocations_in j fs (map (λ f. option_map (number f.ordinal) f.symbol) fs)
         ≡ map (numbered number) (if b then f ∷ in_section j fs else in_section j fs)
     go true e = ap (λ l. numbered number f ∷ l) e
     go false e = e
@@ -169,7 +169,7 @@ rows_are k t (x ∷ ss) (s ∷ sites) e =
     let own : s.located ≡ located_now 1 k t x = cc in
     let later : map (λ (s : Site). s.located) sites ≡ located_from 1 (suc k) (after t k x.kind) ss = cc in
     let number : s.located.ordinal ≡ k = ap (λ (l : Located). l.ordinal) own in
-    ap (λ n. (if has_row s.located then made_row n (item_of s) ∷ [] else []) ++ rows_from (k + 1) (map item_of sites)) (sym number)
+    ap (λ n. (if has_row s.located then item_row n (item_of s) ∷ [] else []) ++ rows_from (k + 1) (map item_of sites)) (sym number)
     ∙ ap (λ l. rows_at s ++ l) (ap (λ n. rows_from n (map item_of sites)) (add-one k) ∙ rows_are (suc k) (after t k x.kind) ss sites later)
 
 un_map : {X Y : Type 0} (f : X → Y) (xs : List X) (j : ℕ) (y : Y) → slice_get (map f xs) j ≡ Some y → (x : X) × (slice_get xs j ≡ Some x) × (f x ≡ y)

@@ -1,7 +1,10 @@
 -- The open fields of a source, section by section, are the relocations of its sections, and their symbols those that the
 -- source's relocations name.
 
-use Rattle.std.proofs.Common.{◌≡◌, ℕ, ◌+◌, Bool, true, false, List, [], ◌∷◌, ◌++◌, length, refl, sym, ap, ◌∙◌, subst, arith, map, length-append, Some}
+use Rattle.std.proofs.Common.{◌≡◌, ℕ, ◌+◌, Bool, true, false, List, [], ◌∷◌, ◌++◌, length, refl, sym, ap, ◌∙◌, subst, arith, map, length-append, Some, append_assoc}
+use Rattle.std.proofs.lemmas.List.Concat.{flat_map-append}
+use Rattle.std.proofs.lemmas.List.Elements.{filter-append}
+use Rattle.std.proofs.lemmas.List.{map-append}
 use Rattle.std.proofs.lemmas.Bool.{eqb-true}
 use Rattle.std.specs.Prelude.{◌==◌, if◌then◌else◌, filter, flat_map, option_map, slice_get}
 use Rattle.std.specs.List.{AllByRecursion}
@@ -16,30 +19,6 @@ use Rattle.rv_assemble_laws.specs.Fields.{Field, field_at, fields_from, fields_a
 use Rattle.rv_assemble.proofs.SettledLemmas.{IsSettled}
 
 -- ---- lists
-
-pub append_assoc : {X : Type 0} (xs ys zs : List X) → (xs ++ ys) ++ zs ≡ xs ++ (ys ++ zs)
-append_assoc [] ys zs = refl
-append_assoc (x ∷ xs) ys zs = ap (λ l. x ∷ l) (append_assoc xs ys zs)
-
-pub append_nil : {X : Type 0} (xs : List X) → xs ++ [] ≡ xs
-append_nil [] = refl
-append_nil (x ∷ xs) = ap (λ l. x ∷ l) (append_nil xs)
-
-pub map_append : {X Y : Type 0} (f : X → Y) (xs ys : List X) → map f (xs ++ ys) ≡ map f xs ++ map f ys
-map_append f [] ys = refl
-map_append f (x ∷ xs) ys = ap (λ l. f x ∷ l) (map_append f xs ys)
-
-filter_append : {X : Type 0} (test : X → Bool) (xs ys : List X) → filter test (xs ++ ys) ≡ filter test xs ++ filter test ys
-filter_append test [] ys = refl
-filter_append test (x ∷ xs) ys = go (test x) (filter_append test xs ys)
-  where
-    go : (b : Bool) → filter test (xs ++ ys) ≡ filter test xs ++ filter test ys → (if b then x ∷ filter test (xs ++ ys) else filter test (xs ++ ys)) ≡ (if b then x ∷ filter test xs else filter test xs) ++ filter test ys
-    go true e = ap (λ l. x ∷ l) e
-    go false e = e
-
-pub flat_append : {X Y : Type 0} (f : X → List Y) (xs ys : List X) → flat_map f (xs ++ ys) ≡ flat_map f xs ++ flat_map f ys
-flat_append f [] ys = refl
-flat_append f (x ∷ xs) ys = ap (λ l. f x ++ l) (flat_append f xs ys) ∙ sym (append_assoc (f x) (flat_map f xs) (flat_map f ys))
 
 pub all_split : {X : Type 0} (P : X → Type 0) (xs ys : List X) → AllByRecursion P (xs ++ ys) → AllByRecursion P xs × AllByRecursion P ys
 all_split P [] ys h = (tt, h)
@@ -69,7 +48,7 @@ module _ (number : Numbering) where
   of_parts : (section offset : ℕ) (ps : List Part) → map (numbered number) (fields_from section offset ps) ≡ relocations_from number offset ps
   of_parts section offset [] = refl
   of_parts section offset (p ∷ ps) =
-      map_append (numbered number) (map (field_at section offset) (template_fields p.ordinal p.template)) (fields_from section (offset + length (part_bytes p)) ps)
+      map-append (numbered number) (map (field_at section offset) (template_fields p.ordinal p.template)) (fields_from section (offset + length (part_bytes p)) ps)
       ∙ ap (λ l. l ++ map (numbered number) (fields_from section (offset + length (part_bytes p)) ps)) (of_part section offset (template_fields p.ordinal p.template))
       ∙ ap (λ l. map (relocation_at number offset) (template_fields p.ordinal p.template) ++ l) (of_parts section (offset + length (part_bytes p)) ps)
 
@@ -107,7 +86,7 @@ parts_in j section offset false e [] = refl
 parts_in j section offset b e (p ∷ ps) =
     let own = map (field_at section offset) (template_fields p.ordinal p.template) in
     let rest = fields_from section (offset + length (part_bytes p)) ps in
-    filter_append (λ f. f.section == j) own rest
+    filter-append (λ f. f.section == j) own rest
     ∙ ap (λ l. l ++ in_section j rest) (opens_in j section offset b e (template_fields p.ordinal p.template))
     ∙ ap (λ l. (if b then own else []) ++ l) (parts_in j section (offset + length (part_bytes p)) b e ps)
     ∙ if_append b own rest
@@ -150,7 +129,7 @@ module _ (t : Tables) (number : Numbering) (sections : List Section) (j : ℕ) (
   section_relocations offset (s ∷ ss) (h, hs) tile = start ∙ go (λ o k. section_relocations o ss hs k) (s.located.section == j) refl tile
     where
       start : map (numbered number) (in_section j (fields_at t s ++ fields t ss)) ≡ map (numbered number) (in_section j (fields_at t s)) ++ map (numbered number) (in_section j (fields t ss))
-      start = ap (map (numbered number)) (filter_append (λ f. f.section == j) (fields_at t s) (fields t ss)) ∙ map_append (numbered number) (in_section j (fields_at t s)) (in_section j (fields t ss))
+      start = ap (map (numbered number)) (filter-append (λ f. f.section == j) (fields_at t s) (fields t ss)) ∙ map-append (numbered number) (in_section j (fields_at t s)) (in_section j (fields t ss))
 
       go : ((o : ℕ) → Tile t o (sites_in j ss) → map (numbered number) (in_section j (fields t ss)) ≡ loaded o (parts t (sites_in j ss)))
           → (b : Bool) → (s.located.section == j) ≡ b → Tile t offset (if b then s ∷ sites_in j ss else sites_in j ss)
@@ -174,7 +153,7 @@ uses_of_part section offset (f ∷ fs) = ap (λ l. use_of f.ordinal f.symbol ++ 
 uses_of_parts : (section offset : ℕ) (ps : List Part) → flat_map use_of_field (fields_from section offset ps) ≡ flat_map references_in ps
 uses_of_parts section offset [] = refl
 uses_of_parts section offset (p ∷ ps) =
-    flat_append use_of_field (map (field_at section offset) (template_fields p.ordinal p.template)) (fields_from section (offset + length (part_bytes p)) ps)
+    flat_map-append use_of_field (map (field_at section offset) (template_fields p.ordinal p.template)) (fields_from section (offset + length (part_bytes p)) ps)
     ∙ ap (λ l. l ++ flat_map use_of_field (fields_from section (offset + length (part_bytes p)) ps)) (uses_of_part section offset (template_fields p.ordinal p.template))
     ∙ ap (λ l. references_in p ++ l) (uses_of_parts section (offset + length (part_bytes p)) ps)
 
@@ -188,7 +167,7 @@ uses_of_site t s = go s.located.home.loaded
 pub uses_of_fields : (t : Tables) (sites : List Site) → flat_map use_of_field (fields t sites) ≡ references t sites
 uses_of_fields t [] = refl
 uses_of_fields t (s ∷ ss) =
-    flat_append use_of_field (fields_at t s) (fields t ss)
+    flat_map-append use_of_field (fields_at t s) (fields t ss)
     ∙ ap (λ l. l ++ flat_map use_of_field (fields t ss)) (uses_of_site t s) ∙ ap (λ l. references_of t s ++ l) (uses_of_fields t ss)
 
 -- what is numbered of all that relocations name is numbered of the parts of each loaded section

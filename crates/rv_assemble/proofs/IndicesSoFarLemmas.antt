@@ -1,10 +1,9 @@
 -- One index more of the indices so far.
 
-use Rattle.std.proofs.Common.{◌≡◌, ℕ, zero, suc, ◌+◌, ◌≤◌, List, [], ◌∷◌, ◌++◌, drop, refl, sym, ap, ◌∙◌, add-one, arith, Option, Some, None}
+use Rattle.std.proofs.Common.{◌≡◌, ℕ, zero, suc, ◌+◌, ◌≤◌, List, [], ◌∷◌, ◌++◌, drop, refl, sym, ap, ◌∙◌, add-one, arith, Option, Some, None, append_assoc}
 use Rattle.rv_text_laws.specs.Expression.{Primary}
 use Rattle.rv_assemble_laws.specs.Fields.{Field}
 use Rattle.rv_assemble.specs.Making.{index_of, next_of, indices_of}
-use Rattle.rv_assemble.proofs.FieldListsLemmas.{append_assoc}
 
 drop_one : (ns : List ℕ) (n : ℕ) → drop 1 (drop n ns) ≡ drop (n + 1) ns
 drop_one ns n = by ns n ∙ ap (λ m. drop m ns) (sym (add-one n))

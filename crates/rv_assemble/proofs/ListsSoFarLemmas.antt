@@ -1,8 +1,8 @@
 -- One field more of the relocations so far, and one section more of the sections.
 
-use Rattle.std.proofs.Common.{◌≡◌, ℕ, ℤ, zero, suc, ◌+◌, ◌<◌, ◌==◌, Bool, true, false, List, [], ◌∷◌, ◌++◌, length, drop, map, Option, Some, None, refl, sym, ap, ◌∙◌, subst, arith, get_or, add-one}
+use Rattle.std.proofs.Common.{◌≡◌, ℕ, ℤ, zero, suc, ◌+◌, ◌<◌, ◌==◌, Bool, true, false, List, [], ◌∷◌, ◌++◌, length, drop, map, Option, Some, None, refl, sym, ap, ◌∙◌, subst, arith, get_or, add-one, append_assoc, append-nil}
 use Rattle.std.proofs.lemmas.Bool.{eqb-true, eq-eqb}
-use Rattle.std.proofs.lemmas.List.{length-set, drop_more}
+use Rattle.std.proofs.lemmas.List.{length-set, drop_more, map-append}
 use Rattle.std.specs.Global.{Vec}
 use Rattle.std.specs.List.{AllByRecursion}
 use Rattle.std.specs.Prelude.{slice_get, slice_set, if◌then◌else◌}
@@ -12,10 +12,9 @@ use Rattle.rv_object.specs.Object.{Relocation}
 use Rattle.rv_assemble_laws.specs.Fields.{Field}
 use Rattle.rv_draft.specs.declared.field.OpenField.{OpenField}
 use Rattle.rv_draft.specs.Draft.{field_of}
-use Rattle.rv_assemble.specs.Making.{list_of, relocation_by, relocations_at, relocations_in}
+use Rattle.rv_assemble.specs.Making.{list_of, field_relocation, relocations_at, relocations_in}
 use Rattle.rv_assemble.specs.Lists.{list_in, GainsOne}
 use Rattle.rv_object.specs.Parts.{relocation_of}
-use Rattle.rv_assemble.proofs.FieldListsLemmas.{append_assoc, append_nil, map_append}
 
 pub empty_behind : (xs : List (Vec DeclaredRelocation)) (x : Vec DeclaredRelocation) (j : ℕ) → x.items ≡ [] → ((i : ℕ) → list_in xs i ≡ []) → list_in (xs ++ x ∷ []) j ≡ []
 empty_behind [] x zero e h = ap (map relocation_of) e
@@ -49,12 +48,12 @@ left_map f xs i d inside = by xs i inside ∙ ap (λ n. f (get_or xs i d) ∷ dr
 one_more : (old new : List (Vec DeclaredRelocation)) (f : Field) (n : Option ℕ) (fs : List Field) (ns : List (Option ℕ)) (whole : ℕ → List Relocation)
     → GainsOne old new f n → ((j : ℕ) → list_in old j ++ relocations_in j (f ∷ fs) (n ∷ ns) ≡ whole j) → (j : ℕ) → list_in new j ++ relocations_in j fs ns ≡ whole j
 one_more old new f n fs ns whole (count, gains) h j =
-    ap (λ l. l ++ relocations_in j fs ns) (gains j ∙ ap (λ b. if b then list_in old j ++ relocation_by f n ∷ [] else list_in old j) (swap j f.section) ∙ go (f.section == j))
+    ap (λ l. l ++ relocations_in j fs ns) (gains j ∙ ap (λ b. if b then list_in old j ++ field_relocation f n ∷ [] else list_in old j) (swap j f.section) ∙ go (f.section == j))
     ∙ append_assoc (list_in old j) (relocations_at j f n) (relocations_in j fs ns) ∙ h j
   where
-    go : (b : Bool) → (if b then list_in old j ++ relocation_by f n ∷ [] else list_in old j) ≡ list_in old j ++ (if b then relocation_by f n ∷ [] else [])
+    go : (b : Bool) → (if b then list_in old j ++ field_relocation f n ∷ [] else list_in old j) ≡ list_in old j ++ (if b then field_relocation f n ∷ [] else [])
     go true = refl
-    go false = sym (append_nil (list_in old j))
+    go false = sym (append-nil (list_in old j))
 
 -- ---- a list that gains one
 
@@ -71,24 +70,24 @@ set_other (y ∷ ys) (suc i) zero v h = refl
 set_other (y ∷ ys) (suc i) (suc j) v h = set_other ys i j v (λ e. h (ap suc e))
 
 pub gains_one : (xs : List (Vec DeclaredRelocation)) (i : ℕ) (x v : Vec DeclaredRelocation) (r : DeclaredRelocation) (f : Field) (n : Option ℕ)
-    → slice_get xs i ≡ Some x → v.items ≡ x.items ++ r ∷ [] → relocation_of r ≡ relocation_by f n → f.section ≡ i → GainsOne xs (slice_set xs i v) f n
+    → slice_get xs i ≡ Some x → v.items ≡ x.items ++ r ∷ [] → relocation_of r ≡ field_relocation f n → f.section ≡ i → GainsOne xs (slice_set xs i v) f n
 gains_one xs i x v r f n got more is same = (length-set xs i v, gained)
   where
-    new : list_of v ≡ list_of x ++ relocation_by f n ∷ []
-    new = ap (map relocation_of) more ∙ map_append relocation_of x.items (r ∷ []) ∙ ap (λ (q : Relocation). list_of x ++ q ∷ []) is
+    new : list_of v ≡ list_of x ++ field_relocation f n ∷ []
+    new = ap (map relocation_of) more ∙ map-append relocation_of x.items (r ∷ []) ∙ ap (λ (q : Relocation). list_of x ++ q ∷ []) is
 
     here : list_in xs i ≡ list_of x
     here = ap (λ o. elim o [ None ↦ [] | Some y ↦ list_of y ]) got
 
-    go : (j : ℕ) (b : Bool) → (j == i) ≡ b → list_in (slice_set xs i v) j ≡ (if b then list_in xs j ++ relocation_by f n ∷ [] else list_in xs j)
+    go : (j : ℕ) (b : Bool) → (j == i) ≡ b → list_in (slice_set xs i v) j ≡ (if b then list_in xs j ++ field_relocation f n ∷ [] else list_in xs j)
     go j true e =
         let at : j ≡ i = eqb-true j i e in
-        subst (λ k. list_in (slice_set xs i v) k ≡ list_in xs k ++ relocation_by f n ∷ []) (sym at)
-        (set_here xs i x v got ∙ new ∙ ap (λ l. l ++ relocation_by f n ∷ []) (sym here))
+        subst (λ k. list_in (slice_set xs i v) k ≡ list_in xs k ++ field_relocation f n ∷ []) (sym at)
+        (set_here xs i x v got ∙ new ∙ ap (λ l. l ++ field_relocation f n ∷ []) (sym here))
     go j false e = set_other xs i j v (λ at. let t : (j == i) ≡ true = eq-eqb j i at in cc)
 
-    gained : (j : ℕ) → list_in (slice_set xs i v) j ≡ (if j == f.section then list_in xs j ++ relocation_by f n ∷ [] else list_in xs j)
-    gained j = subst (λ k. list_in (slice_set xs i v) j ≡ (if j == k then list_in xs j ++ relocation_by f n ∷ [] else list_in xs j)) (sym same) (go j (j == i) refl)
+    gained : (j : ℕ) → list_in (slice_set xs i v) j ≡ (if j == f.section then list_in xs j ++ field_relocation f n ∷ [] else list_in xs j)
+    gained j = subst (λ k. list_in (slice_set xs i v) j ≡ (if j == k then list_in xs j ++ field_relocation f n ∷ [] else list_in xs j)) (sym same) (go j (j == i) refl)
 
 -- ---- the next field
 

@@ -1,7 +1,7 @@
 -- One section more of the sections so far.
 
-use Rattle.std.proofs.Common.{◌≡◌, ℕ, zero, suc, ◌+◌, ◌<◌, ◌≤◌, List, [], ◌∷◌, ◌++◌, length, drop, map, refl, sym, ap, ◌∙◌, subst, arith, get_or, add-one}
-use Rattle.std.proofs.lemmas.List.{length-set}
+use Rattle.std.proofs.Common.{◌≡◌, ℕ, zero, suc, ◌+◌, ◌<◌, ◌≤◌, List, [], ◌∷◌, ◌++◌, length, drop, map, refl, sym, ap, ◌∙◌, subst, arith, get_or, add-one, append_assoc, append-nil}
+use Rattle.std.proofs.lemmas.List.{length-set, map-append}
 use Rattle.std.specs.Global.{Vec}
 use Rattle.std.specs.List.{AllByRecursion}
 use Rattle.std.specs.Prelude.{slice_set}
@@ -12,7 +12,6 @@ use Rattle.rv_object.specs.declared.section.Section.{Section as DeclaredSection}
 use Rattle.rv_object.specs.Object.{Section}
 use Rattle.rv_object.specs.Sections.{section_of}
 use Rattle.rv_assemble.specs.Making.{list_of, section_by, IsMakeable, sections_by, AreEach}
-use Rattle.rv_assemble.proofs.FieldListsLemmas.{append_assoc, append_nil, map_append}
 use Rattle.rv_assemble.proofs.ListsSoFarLemmas.{left}
 
 -- the sections of those that are left: some vectors were taken
@@ -71,14 +70,14 @@ module _ (i : ℕ) (es : List Extent) (ns : List ℕ) (bs : List (Vec ℕ)) (rs 
       record {
         each = (h.each.0, length-set vs i x ∙ h.each.1, length-set ls i y ∙ h.each.2);
         makeable = subst (λ xs. AllByRecursion IsMakeable xs) (sym same) both.1;
-        whole = ap (λ xs. map section_of (made ++ s ∷ []) ++ xs) same ∙ ap (λ xs. xs ++ rest) (map_append section_of made (s ∷ [])) ∙ append_assoc (map section_of made) (section_of s ∷ []) rest
+        whole = ap (λ xs. map section_of (made ++ s ∷ []) ++ xs) same ∙ ap (λ xs. xs ++ rest) (map-append section_of made (s ∷ [])) ∙ append_assoc (map section_of made) (section_of s ∷ []) rest
             ∙ ap (λ (z : Section). map section_of made ++ z ∷ rest) is ∙ ap (λ xs. map section_of made ++ xs) (sym front) ∙ h.whole;
       }
 
 pub finish : (i : ℕ) (es : List Extent) (ns : List ℕ) (bs : List (Vec ℕ)) (rs : List (Vec DeclaredRelocation)) (vs : List (Vec ℕ)) (ls : List (Vec DeclaredRelocation)) (made : List DeclaredSection)
     → IsSoFar i es ns bs rs vs ls made → length es ≤ i → map section_of made ≡ sections_by es ns bs rs
 finish i es ns bs rs vs ls made h past =
-    sym (append_nil (map section_of made)) ∙ ap (λ xs. map section_of made ++ xs) (sym (ap (λ xs. sections_by xs (drop i ns) (drop i vs) (drop i ls)) (none_left es i past))) ∙ h.whole
+    sym (append-nil (map section_of made)) ∙ ap (λ xs. map section_of made ++ xs) (sym (ap (λ xs. sections_by xs (drop i ns) (drop i vs) (drop i ls)) (none_left es i past))) ∙ h.whole
   where
     none_left : (xs : List Extent) (i : ℕ) → length xs ≤ i → drop i xs ≡ []
     none_left [] zero h = refl

@@ -1,6 +1,7 @@
 -- The symbols that relocations name are names that a map can show, or have a definition in their file.
 
 use Rattle.std.proofs.Common.{◌≡◌, ℕ, zero, suc, Bool, true, false, ◌&&◌, List, [], ◌∷◌, ◌++◌, refl, sym, ap, ◌∙◌, subst, map, Option, Some, None}
+use Rattle.std.proofs.lemmas.List.Concat.{flat_map-append}
 use Rattle.std.proofs.lemmas.Bool.{and_parts}
 use Rattle.std.proofs.lemmas.List.Folds.{list_all-append}
 use Rattle.std.specs.Prelude.{⊤, if◌then◌else◌, flat_map, is_some, unwrap_or}
@@ -25,7 +26,6 @@ use Rattle.rv_assemble_laws.specs.Sites.{Site, form, part_of, parts_of, coded_te
 use Rattle.rv_assemble_laws.specs.Symbols.{SymbolUse, use_of, references_in, references_of, references}
 use Rattle.rv_assemble_laws.specs.ShownNames.{primary_names, tree_names, own_names, said_names, are_shown, HasNames, is_shown_use, AreShown}
 use Rattle.rv_symbols.specs.SymbolUse.{is_meant_use, AreMeant}
-use Rattle.rv_assemble.proofs.FieldListsLemmas.{flat_append}
 use Rattle.rv_assemble.proofs.ValueSymbolsLemmas.{Pass, IsPlace, LeavesPass, by_value}
 
 and_join : (a b : Bool) → a ≡ true → b ≡ true → (a && b) ≡ true
@@ -170,7 +170,7 @@ module _ (t : Tables) where
   of_part l (Closed i) h = refl
   of_part l (OpenPart k i) h = of_operand l (operand_of l.kind) k h
   of_part l (Joined k i j) h =
-      ap (list_all is_known) (flat_append (λ (f : Open). use_of f.ordinal f.symbol) (field_of t (form t l) l.ordinal (operand_of l.kind) k) (relax_fields l.options.relax l.ordinal))
+      ap (list_all is_known) (flat_map-append (λ (f : Open). use_of f.ordinal f.symbol) (field_of t (form t l) l.ordinal (operand_of l.kind) k) (relax_fields l.options.relax l.ordinal))
       ∙ all_append (uses (field_of t (form t l) l.ordinal (operand_of l.kind) k)) (uses (relax_fields l.options.relax l.ordinal)) (of_operand l (operand_of l.kind) k h) (of_relax l.options.relax l.ordinal)
 
   of_code : (l : Located) (ordinal : ℕ) (ps : List CodePart) (coded : List (List ℕ)) → IsKnown l (operand_of l.kind)

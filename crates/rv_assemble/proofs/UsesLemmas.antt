@@ -1,6 +1,6 @@
 -- The fields of a draft as the symbols that its source's relocations name.
 
-use Rattle.std.proofs.Common.{◌≡◌, ℕ, suc, ◌+◌, ◌<◌, List, [], ◌∷◌, ◌++◌, length, map, refl, sym, ap, ◌∙◌, subst, None, drop, get_or}
+use Rattle.std.proofs.Common.{◌≡◌, ℕ, suc, ◌+◌, ◌<◌, List, [], ◌∷◌, ◌++◌, length, map, refl, sym, ap, ◌∙◌, subst, None, drop, get_or, append_assoc}
 use Rattle.std.proofs.lemmas.List.{length-map, drop_more}
 use Rattle.std.specs.List.{AllByRecursion}
 use Rattle.std.specs.Prelude.{Bool, true, false, flat_map, if◌then◌else◌}
@@ -24,7 +24,7 @@ use Rattle.rv_symbols.specs.SymbolUse.{AreMeant, uses_of}
 use Rattle.rv_symbols.specs.HasSymbols.{AreSites}
 use Rattle.rv_assemble.specs.Tabled.{use_of, uses_in, offsets_of}
 use Rattle.rv_assemble.proofs.SettledLemmas.{IsSettled, settled}
-use Rattle.rv_assemble.proofs.FieldListsLemmas.{use_of_field, uses_of_fields, all_join, append_assoc}
+use Rattle.rv_assemble.proofs.FieldListsLemmas.{use_of_field, uses_of_fields, all_join}
 use Rattle.rv_assemble.proofs.UsesKnownLemmas.{are_shown_uses, are_meant_uses}
 
 offsets_are : (sites : List Site) → map (λ s. s.offset) sites ≡ offsets_of (map item_of sites)

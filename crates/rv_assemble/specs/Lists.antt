@@ -5,7 +5,7 @@ use Rattle.std.specs.Global.{Vec}
 use Rattle.rv_object.specs.declared.relocation.Relocation.{Relocation as DeclaredRelocation}
 use Rattle.rv_object.specs.Object.{Relocation}
 use Rattle.rv_assemble_laws.specs.Fields.{Field}
-use Rattle.rv_assemble.specs.Making.{list_of, relocation_by}
+use Rattle.rv_assemble.specs.Making.{list_of, field_relocation}
 
 abbrev pub list_of_some : Option (Vec DeclaredRelocation) → List Relocation
 list_of_some None = []
@@ -20,4 +20,4 @@ abbrev pub GainsOne : List (Vec DeclaredRelocation) → List (Vec DeclaredReloca
 GainsOne old new f n =
     (length new ≡ length old)
     × ((j : ℕ) → list_in new j
-    ≡ (if j == f.section then list_in old j ++ relocation_by f n ∷ [] else list_in old j))
+    ≡ (if j == f.section then list_in old j ++ field_relocation f n ∷ [] else list_in old j))

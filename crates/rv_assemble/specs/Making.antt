@@ -18,8 +18,8 @@ use Rattle.rv_draft.specs.declared.item.Item.{Item}
 
 -- ---- rows
 
-abbrev pub row_of : ℕ → Item → Row
-row_of ordinal i = record {
+abbrev pub item_row : ℕ → Item → Row
+item_row ordinal i = record {
   line = i.line;
   ordinal = ordinal;
   section = i.section;
@@ -28,23 +28,23 @@ row_of ordinal i = record {
   instructions = i.instructions;
 }
 
-abbrev pub rows_of : ℕ → Item → List Row
-rows_of ordinal i = if i.shown then row_of ordinal i ∷ [] else []
+abbrev pub item_rows : ℕ → Item → List Row
+item_rows ordinal i = if i.shown then item_row ordinal i ∷ [] else []
 
 -- the rows of items from an ordinal on
 abbrev pub rows_from : ℕ → List Item → List Row
 rows_from ordinal [] = []
-rows_from ordinal (i ∷ is) = rows_of ordinal i ++ rows_from (ordinal + 1) is
+rows_from ordinal (i ∷ is) = item_rows ordinal i ++ rows_from (ordinal + 1) is
 
 -- ---- relocations
 
 -- a field with the index of its symbol, if it has one
-abbrev pub relocation_by : Field → Option ℕ → Relocation
-relocation_by f n =
+abbrev pub field_relocation : Field → Option ℕ → Relocation
+field_relocation f n =
     record { place = f.place; kind = f.kind; symbol = n; addend = f.addend }
 
 abbrev pub relocations_at : ℕ → Field → Option ℕ → List Relocation
-relocations_at section f n = if f.section == section then relocation_by f n ∷ [] else []
+relocations_at section f n = if f.section == section then field_relocation f n ∷ [] else []
 
 -- those of a section, of fields with their indices
 abbrev pub relocations_in : ℕ → List Field → List (Option ℕ) → List Relocation

@@ -1,7 +1,7 @@
 //! The rows of an object.
 
 ghost use Rattle.std.specs.Prelude.{◌≡◌, ◌++◌, ◌^◌, ◌<◌, IfOk, OnOk, length};
-ghost use Rattle.rv_assemble.specs.Making.{rows_of, rows_from};
+ghost use Rattle.rv_assemble.specs.Making.{item_rows, rows_from};
 
 use rv_draft::Item;
 use rv_object::Row;
@@ -21,7 +21,7 @@ pub(crate) fn rows(alloc: Global, items: &[Item]) -> Result<Vec<Row>, AllocError
 
 /// Adds the row of a statement, if it has one.
 fn put_row(rows: &mut Vec<Row>, ordinal: u32, item: Item) -> Result<(), AllocError>
-    ensures { OnOk result (rows.new.items ≡ rows.old.items ++ rows_of ordinal item) }
+    ensures { OnOk result (rows.new.items ≡ rows.old.items ++ item_rows ordinal item) }
 {
     if !item.shown {
         return Ok(());
