@@ -15,6 +15,9 @@ const OPTIONS: LinkOptions = LinkOptions {
 /// `call f`, `li a7, 93`, `ecall` and `f: ret`.
 const CODE: &[u8] = b"\x97\0\0\0\xe7\x80\0\0\x93\x08\xd0\x05\x73\0\0\0\x82\x80";
 
+/// The same with `jal ra` for the call.
+const SHORT: &[u8] = b"\xef\0\xc0\0\x93\x08\xd0\x05\x73\0\0\0\x82\x80";
+
 const CALL: [[u64; 3]; 2] = [[0, CALL_OF_FIRST, 0], [0, RELAX, 0]];
 
 /// The call has four bytes in the program.
@@ -24,7 +27,7 @@ fn a_program(rt: HostRuntime) -> Result<(), Fail> {
     let object = object(alloc, &[(CODE, 2, CALL.as_slice())], &[place(16), START])?;
     let objects = vec![in alloc; object]?;
     let linked = link(alloc, &objects, OPTIONS)?;
-    assert!(rt; linked.text.as_slice() == b"\xef\0\xc0\0\x93\x08\xd0\x05\x73\0\0\0\x82\x80");
+    assert!(rt; linked.text.as_slice() == SHORT);
     assert!(rt; linked.rodata.is_empty() && linked.data.is_empty() && linked.rvc);
     let map = &linked.map;
     let text = Region {
