@@ -1,5 +1,5 @@
-# A second definition is refused, the first by file and symbol. A definition counts where its section has no address,
-# and comes before what is undefined.
+# A second definition is refused, the first by file and symbol. A definition counts also in a section without an
+# address, and this fault comes before that of an undefined name.
 # rv: build -o exe reads.s seven.s both.s
 # fault: L6 Duplicate g
 # rv: build -o exe reads.s both.s seven.s

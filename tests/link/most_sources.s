@@ -1,5 +1,5 @@
-# As many sources as can be linked, 1,024, and one more: their count comes before what they say and before the text's
-# start.
+# As many sources as can be linked, 1,024, and one more: the fault of their count comes before their own and before
+# that of the text's start.
 # rv: build -o exe exit.s {{1023 * empty.s }}
 # status: 0
 # rv: run exe

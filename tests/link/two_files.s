@@ -1,5 +1,5 @@
-# Names across two files, a local name that both have, and where their sections stand: the data of both are `p`, `v`,
-# a gap, `v`, a padding, `f` and `g`. Bytes are the encodings of the ISA manual, the map is by docs/manual/files.md.
+# Names across two files, a local name that both have, and the places of their sections: the data are `p`, `v`, a gap,
+# `v`, a padding, `f` and `g`. Bytes are the encodings of the ISA manual, the map is by docs/manual/files.md.
 # rv: build -o exe --map map reads.s seven.s
 # data: 0c10010001000000030000000700000008100100
 # same: map wanted.map

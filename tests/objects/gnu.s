@@ -2,8 +2,8 @@
 # `.riscv.attributes`, an alignment in code, a difference by ADD32 and SUB32, and an `.eh_frame` with SET6, SUB6 and
 # 32_PCREL. It exits with 7 and the distance from `_start` to `exit`, as qemu-riscv64 says of the link of
 # riscv64-unknown-elf-ld, with relaxation and without, by a script that sets no global pointer: a call of four bytes
-# wants no padding, one of eight a padding of 4. At 268h stands the kind of its first relocation, at 300h the addend
-# of its last one, an ALIGN of 6 bytes: other values there are refused (docs/manual/faults.md).
+# wants no padding, one of eight a padding of 4. At 268h is the kind of its first relocation, at 300h the addend of
+# its last one, an ALIGN of 6 bytes: other values there are refused (docs/manual/faults.md).
 # rv: ld -o exe gnu.o
 # status: 0
 # rv: run --limit 100 exe

@@ -1,4 +1,4 @@
-# An alignment of 0 is that of 1: at 318h stands the alignment of `.text`, and the executable is that of the source.
+# An alignment of 0 is that of 1. With 0 at 318h, the alignment of `.text`, the executable is that of the source.
 # rv: as -o hello.o hello.s
 # patch: hello.o 318 00
 # rv: build -o built --map built.map hello.s
