@@ -3,6 +3,7 @@
 # rv: build -o exe --map map hello.s
 # text: 0545971500009385e5ff1546930800047300000001459308d00573000000
 # rodata: 68656c6c6f
+# size: 8197
 # same: map wanted.map
 # rv: run exe
 # console: hello

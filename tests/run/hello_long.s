@@ -3,6 +3,7 @@
 # rv: build -o exe --map map hello.s
 # text: 13051000971500009385c5ff130650009308000473000000130500009308d00573000000
 # rodata: 68656c6c6f
+# size: 8197
 # same: map wanted.map
 # rv: run exe
 # console: hello
