@@ -24,6 +24,7 @@ rv: $(SOURCES)
 
 check: rv
 	tests/run.py
+	tests/damaged.py
 	scripts/links.py
 
 test:

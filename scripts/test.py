@@ -16,7 +16,7 @@ import gate_times
 
 ROOT = Path(__file__).resolve().parent.parent
 BUILT = ROOT / "crates" / "rv_cli" / "out" / "rv_cli"
-AFTER = [["tests/run.py"], ["scripts/links.py"]]
+AFTER = [["tests/run.py"], ["tests/damaged.py", "--all"], ["scripts/links.py"]]
 
 
 def counts(line):

@@ -22,7 +22,7 @@ TESTS = Path(__file__).resolve().parent
 RV = TESTS.parent / "rv"
 SECONDS = 60
 LINE = re.compile(r"# (?P<key>[a-z]+(?: has| at [0-9a-f]+| [.\w$-]+(?: \w+)?)?|no map): ?(?P<value>.*)")
-KEYS = "rv options input limit exit end console fault status error out text rodata data map listing section size".split()
+KEYS = "rv options input limit exit end console fault status error errors out text rodata data map listing section size same patch cut".split()
 SEGMENTS = {"text": 1, "rodata": 4, "data": 6}
 BEGIN_RUN = {"exit", "end", "console"}
 
@@ -39,8 +39,15 @@ def unescaped(text):
 
 
 def repeated(text):
-    """The bytes of a source, in which {{N * TEXT}} stands for TEXT, N times."""
-    return re.sub(rb"\{\{(\d+) \* (.*?)\}\}", lambda it: int(it[1]) * unescaped(it[2].decode("latin-1")), text, flags=re.S)
+    """The bytes of a source, in which {{N * TEXT}} stands for TEXT, N times, and \\# in TEXT for which time it is."""
+
+    def times(found):
+        count, held = int(found[1]), found[2].decode("latin-1")
+        if r"\#" not in held:
+            return count * unescaped(held)
+        return b"".join(unescaped(held.replace(r"\#", str(at))) for at in range(1, count + 1))
+
+    return re.sub(rb"\{\{(\d+) \* (.*?)\}\}", times, text, flags=re.S)
 
 
 def expectations(lines):
@@ -108,7 +115,7 @@ def calls(files, head):
         found = []
         for key, value in head:
             if key == "rv":
-                found.append((shlex.split(value), []))
+                found.append((shlex.split(repeated(value.encode()).decode()), []))
             else:
                 found[-1][1].append((key, value))
         return found
@@ -170,11 +177,21 @@ def look_at_files(folder, words, key, value):
         same(key, bytes.fromhex(value).hex(), section(written("-o").read_bytes(), rest).hex())
     elif key == "size":
         same(key, int(value), written("-o").stat().st_size)
+    elif key == "same":
+        same(f"{key}: {value}", *((folder / it).read_bytes() for it in value.split()))
+    elif key == "cut":
+        os.truncate(folder / value.split()[0], int(value.split()[1]))
+    elif key == "patch":
+        name, at, put = value.split()
+        with open(folder / name, "r+b") as file:
+            file.seek(int(at, 16))
+            file.write(bytes.fromhex(put))
 
 
 def look_at(folder, words, head):
     """Makes one call, and compares each expectation with what came."""
-    given = b"".join(unescaped(value) for key, value in head if key == "input")
+    given = b"".join(repeated_text(value) for key, value in head if key == "input")
+    before = sorted(folder.iterdir())
     ran = subprocess.run([RV, *words], cwd=folder, input=given, capture_output=True, timeout=SECONDS)
     said = ran.stderr.decode("utf8", "replace").splitlines()
     last, one = said[-1] if said else "", dict(head)
@@ -183,18 +200,32 @@ def look_at(folder, words, head):
     wanted = one.get("error") or ("rv: " + one["fault"] if "fault" in one else "rv: " + one["end"] if "end" in one else None)
     if wanted is not None:
         same("standard error", wanted, last)
-    for key in ("console", "out"):
+    for key, came in (("console", ran.stdout), ("out", ran.stdout), ("errors", ran.stderr)):
         if key in one:
-            same(key, unescaped(one[key]), ran.stdout)
+            same(key, unescaped(one[key]), came)
+    if ran.returncode and not last.endswith(": cannot write"):
+        same("files of a call that is refused", before, sorted(folder.iterdir()))
+    if not ran.returncode and words and words[0] in ("build", "ld"):
+        look_at_modes(folder, words)
     for key, value in head:
         if key == "out has" and value not in ran.stdout.decode("utf8", "replace").splitlines():
             raise Failed(f"out has: {value}\n  came   {ran.stdout!r}")
+        if key == "out is":
+            same(key, (folder / value).read_bytes(), ran.stdout)
         look_at_files(folder, words, key, value)
     mapped, listing = ([value for key, value in head if key == it] for it in ("map", "listing"))
     if "rvmap 1" in mapped:
         same("the map", mapped, (folder / words[words.index("--map") + 1]).read_text().splitlines())
     if listing:
         look_at_listing(folder, words, listing)
+
+
+def look_at_modes(folder, words):
+    """Who may read what was linked may run it, and nobody runs the map (docs/manual/files.md)."""
+    for flag, runs in (("-o", 0o444), ("--map", 0)):
+        if flag in words:
+            mode = (folder / words[words.index(flag) + 1]).stat().st_mode
+            same(f"who may run {words[words.index(flag) + 1]}", (mode & runs) >> 2, mode & 0o111)
 
 
 def look_at_listing(folder, words, wanted):

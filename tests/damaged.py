@@ -1,0 +1,118 @@
+#!/usr/bin/env python3
+"""Files of which bytes are changed, or cut off: rv refuses each by a fault's name, or takes it as what it now is.
+
+usage: damaged.py [--all]
+
+Makes the object and the executable of two programs with ./rv. Each front part of a file is refused as truncated, and
+with any one of its bytes set to 0, or to FFh, it is answered: no signal ends rv, and what it says is a fault or an end.
+Of the zeros up to an executable's first page one in 64 is changed, and the file cut there; all of them with --all.
+Standard library alone; the last line is 'N passed, M failed', where a file counts once for each of the three.
+"""
+
+import multiprocessing
+import os
+import re
+import subprocess
+import sys
+import tempfile
+from pathlib import Path
+
+RV = Path(__file__).resolve().parent.parent / "rv"
+PAGE = 4096
+SECONDS = 60
+EXIT7 = """.option norvc
+.globl _start
+_start: li a0, 7
+li a7, 93
+ecall
+"""
+HELLO = """.globl _start
+_start: li a0, 1
+la a1, msg
+li a2, 5
+li a7, 64
+ecall
+li a0, 0
+li a7, 93
+ecall
+.section .rodata
+msg: .ascii "hello"
+"""
+# What rv may say of a file: its fault, the link's or, where it is no longer an executable, that of a source; or the
+# end of a run.
+SAID = re.compile(r"rv: ((\S+: F\d+|L\d+|\S+:\d+: E\d+) \w+( \S*)?|[A-Z][A-Za-z]+( [0-9a-f]+)?)")
+# How each file is used, and which statuses rv may give: a link does or does not; a guest's status is any.
+USES = {"object": ["ld", "-o", "out"], "executable": ["run", "--limit", "1000"]}
+
+
+def answer(use, held, folder):
+    """The status of rv for a file with these bytes, and the last line of its standard error."""
+    path = Path(folder, str(os.getpid()))
+    path.mkdir(exist_ok=True)
+    (path / "file").write_bytes(held)
+    words = [RV, *USES[use], "file"]
+    ran = subprocess.run(words, cwd=path, stdin=subprocess.DEVNULL, capture_output=True, timeout=SECONDS, close_fds=False)
+    lines = ran.stderr.decode("utf8", "replace").splitlines()
+    return ran.returncode, lines[-1] if lines else ""
+
+
+def wrong_cut(job):
+    """What is wrong with the answer to the front of a file, or nothing."""
+    folder, use, held, size = job
+    status, said = answer(use, held[:size], folder)
+    # without its first four bytes it is no executable, and rv takes it for a source
+    is_source = use == "executable" and size < 4
+    if status == 1 and (SAID.fullmatch(said) if is_source else said == "rv: file: F1 Truncated"):
+        return None
+    return f"{use} cut off after {size} bytes: status {status}, {said!r}"
+
+
+def wrong_byte(job):
+    """What is wrong with the answer to a file with another byte at one place, or nothing."""
+    folder, use, held, at, byte = job
+    status, said = answer(use, held[:at] + bytes([byte]) + held[at + 1 :], folder)
+    statuses = range(256) if use == "executable" else (0, 1)
+    if status in statuses and (SAID.fullmatch(said) if said else status == 0 or use == "executable"):
+        return None
+    return f"{use} with {byte:02x} at {at:x}: status {status}, {said!r}"
+
+
+def made(source, use):
+    """The object or the executable of a source."""
+    with tempfile.TemporaryDirectory() as folder:
+        Path(folder, "a.s").write_text(source)
+        word = "as" if use == "object" else "build"
+        subprocess.run([RV, word, "-o", "made", "a.s"], cwd=folder, check=True, timeout=SECONDS)
+        return Path(folder, "made").read_bytes()
+
+
+def places(held, use, every):
+    """The offsets that are tried: all, but of the zeros up to an executable's first page one in so many."""
+    front = len(held[:PAGE].rstrip(b"\0")) if use == "executable" else len(held)
+    return [at for at in range(len(held)) if not front <= at < PAGE or at % every == 0]
+
+
+def main(words):
+    if not RV.exists():
+        sys.exit("no ./rv: run make first")
+    passed = failed = answers = 0
+    with tempfile.TemporaryDirectory() as folder, multiprocessing.Pool(len(os.sched_getaffinity(0))) as pool:
+        for source in (EXIT7, HELLO):
+            for use in USES:
+                held = made(source, use)
+                tried = places(held, use, 1 if words == ["--all"] else 64)
+                tests = [(wrong_cut, [(folder, use, held, at) for at in tried])]
+                for byte in (0, 0xFF):
+                    changed = [(folder, use, held, at, byte) for at in tried if held[at] != byte]
+                    tests.append((wrong_byte, changed))
+                for test, jobs in tests:
+                    wrong = [it for it in pool.map(test, jobs, chunksize=16) if it]
+                    print("\n".join(wrong[:5]), end="\n" if wrong else "")
+                    passed, failed, answers = passed + (not wrong), failed + bool(wrong), answers + len(jobs)
+    print(f"damaged files: {answers} answers")
+    print(f"{passed} passed, {failed} failed")
+    return 1 if failed else 0
+
+
+if __name__ == "__main__":
+    sys.exit(main(sys.argv[1:]))
