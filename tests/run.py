@@ -22,7 +22,7 @@ TESTS = Path(__file__).resolve().parent
 RV = TESTS.parent / "rv"
 SECONDS = 60
 LINE = re.compile(r"# (?P<key>[a-z]+(?: has| at [0-9a-f]+| [.\w$-]+(?: \w+)?)?|no map): ?(?P<value>.*)")
-KEYS = "rv options input limit exit end console fault status error out text rodata data map listing section size".split()
+KEYS = "rv options input limit exit end console fault status error out text rodata data map listing section size same patch".split()
 SEGMENTS = {"text": 1, "rodata": 4, "data": 6}
 BEGIN_RUN = {"exit", "end", "console"}
 
@@ -39,8 +39,15 @@ def unescaped(text):
 
 
 def repeated(text):
-    """The bytes of a source, in which {{N * TEXT}} stands for TEXT, N times."""
-    return re.sub(rb"\{\{(\d+) \* (.*?)\}\}", lambda it: int(it[1]) * unescaped(it[2].decode("latin-1")), text, flags=re.S)
+    """The bytes of a source, in which {{N * TEXT}} stands for TEXT, N times, and \\# in TEXT for which time it is."""
+
+    def times(found):
+        count, held = int(found[1]), found[2].decode("latin-1")
+        if r"\#" not in held:
+            return count * unescaped(held)
+        return b"".join(unescaped(held.replace(r"\#", str(at))) for at in range(1, count + 1))
+
+    return re.sub(rb"\{\{(\d+) \* (.*?)\}\}", times, text, flags=re.S)
 
 
 def expectations(lines):
@@ -108,7 +115,7 @@ def calls(files, head):
         found = []
         for key, value in head:
             if key == "rv":
-                found.append((shlex.split(value), []))
+                found.append((shlex.split(repeated(value.encode()).decode()), []))
             else:
                 found[-1][1].append((key, value))
         return found
@@ -170,6 +177,13 @@ def look_at_files(folder, words, key, value):
         same(key, bytes.fromhex(value).hex(), section(written("-o").read_bytes(), rest).hex())
     elif key == "size":
         same(key, int(value), written("-o").stat().st_size)
+    elif key == "same":
+        same(f"{key}: {value}", *((folder / it).read_bytes() for it in value.split()))
+    elif key == "patch":
+        name, at, put = value.split()
+        with open(folder / name, "r+b") as file:
+            file.seek(int(at, 16))
+            file.write(bytes.fromhex(put))
 
 
 def look_at(folder, words, head):
