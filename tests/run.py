@@ -22,7 +22,7 @@ TESTS = Path(__file__).resolve().parent
 RV = TESTS.parent / "rv"
 SECONDS = 60
 LINE = re.compile(r"# (?P<key>[a-z]+(?: has| at [0-9a-f]+| [.\w$-]+(?: \w+)?)?|no map): ?(?P<value>.*)")
-KEYS = "rv options input limit exit end console fault status error out text rodata data map listing section size same patch".split()
+KEYS = "rv options input limit exit end console fault status error errors out text rodata data map listing section size same patch".split()
 SEGMENTS = {"text": 1, "rodata": 4, "data": 6}
 BEGIN_RUN = {"exit", "end", "console"}
 
@@ -188,7 +188,8 @@ def look_at_files(folder, words, key, value):
 
 def look_at(folder, words, head):
     """Makes one call, and compares each expectation with what came."""
-    given = b"".join(unescaped(value) for key, value in head if key == "input")
+    given = b"".join(repeated_text(value) for key, value in head if key == "input")
+    before = sorted(folder.iterdir())
     ran = subprocess.run([RV, *words], cwd=folder, input=given, capture_output=True, timeout=SECONDS)
     said = ran.stderr.decode("utf8", "replace").splitlines()
     last, one = said[-1] if said else "", dict(head)
@@ -197,9 +198,13 @@ def look_at(folder, words, head):
     wanted = one.get("error") or ("rv: " + one["fault"] if "fault" in one else "rv: " + one["end"] if "end" in one else None)
     if wanted is not None:
         same("standard error", wanted, last)
-    for key in ("console", "out"):
+    for key, came in (("console", ran.stdout), ("out", ran.stdout), ("errors", ran.stderr)):
         if key in one:
-            same(key, unescaped(one[key]), ran.stdout)
+            same(key, unescaped(one[key]), came)
+    if ran.returncode and not last.endswith(": cannot write"):
+        same("files of a call that is refused", before, sorted(folder.iterdir()))
+    if not ran.returncode and words and words[0] in ("build", "ld"):
+        look_at_modes(folder, words)
     for key, value in head:
         if key == "out has" and value not in ran.stdout.decode("utf8", "replace").splitlines():
             raise Failed(f"out has: {value}\n  came   {ran.stdout!r}")
@@ -209,6 +214,14 @@ def look_at(folder, words, head):
         same("the map", mapped, (folder / words[words.index("--map") + 1]).read_text().splitlines())
     if listing:
         look_at_listing(folder, words, listing)
+
+
+def look_at_modes(folder, words):
+    """Who may read what was linked may run it, and nobody runs the map (docs/manual/files.md)."""
+    for flag, runs in (("-o", 0o444), ("--map", 0)):
+        if flag in words:
+            mode = (folder / words[words.index(flag) + 1]).stat().st_mode
+            same(f"who may run {words[words.index(flag) + 1]}", (mode & runs) >> 2, mode & 0o111)
 
 
 def look_at_listing(folder, words, wanted):
