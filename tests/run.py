@@ -22,7 +22,7 @@ TESTS = Path(__file__).resolve().parent
 RV = TESTS.parent / "rv"
 SECONDS = 60
 LINE = re.compile(r"# (?P<key>[a-z]+(?: has| at [0-9a-f]+| [.\w$-]+(?: \w+)?)?|no map): ?(?P<value>.*)")
-KEYS = "rv options input limit exit end console fault status error errors out text rodata data map listing section size same patch".split()
+KEYS = "rv options input limit exit end console fault status error errors out text rodata data map listing section size same patch cut".split()
 SEGMENTS = {"text": 1, "rodata": 4, "data": 6}
 BEGIN_RUN = {"exit", "end", "console"}
 
@@ -179,6 +179,8 @@ def look_at_files(folder, words, key, value):
         same(key, int(value), written("-o").stat().st_size)
     elif key == "same":
         same(f"{key}: {value}", *((folder / it).read_bytes() for it in value.split()))
+    elif key == "cut":
+        os.truncate(folder / value.split()[0], int(value.split()[1]))
     elif key == "patch":
         name, at, put = value.split()
         with open(folder / name, "r+b") as file:
@@ -208,6 +210,8 @@ def look_at(folder, words, head):
     for key, value in head:
         if key == "out has" and value not in ran.stdout.decode("utf8", "replace").splitlines():
             raise Failed(f"out has: {value}\n  came   {ran.stdout!r}")
+        if key == "out is":
+            same(key, (folder / value).read_bytes(), ran.stdout)
         look_at_files(folder, words, key, value)
     mapped, listing = ([value for key, value in head if key == it] for it in ("map", "listing"))
     if "rvmap 1" in mapped:
