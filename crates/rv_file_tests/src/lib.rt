@@ -1,4 +1,5 @@
-//! Files as bytes: maps' texts, and executables made by hand. The values are those of the manual and of the gABI.
+//! Maps, executables and listings as values: what is read, written and read again. Texts that are no maps, damaged
+//! executables and other listings are cases in `tests/map`, `tests/faults` and `tests/listing`.
 #![tactic(auto)]
 
 #[cfg(test)]

@@ -1,12 +1,6 @@
-//! Sources as against `parse`: every form that it reads, each refusal with its code and line, which of several comes
-//! first, and the limits at their edges.
+//! `parse` with ample memory: the statements of a source with their lines, and a fault. Each form of each statement, and
+//! each fault with its line, is a case in `tests/reading` and `tests/forms`.
 #![tactic(auto)]
 
-#[cfg(test)]
-mod forms;
-#[cfg(test)]
-mod malformed;
-#[cfg(test)]
-mod rows;
 #[cfg(test)]
 mod tests;

@@ -1,4 +1,4 @@
-//! A system that stands in for the real one, and rows of words over it.
+//! A system that stands in for the real one, and fails where it is told to.
 
 use rv_image::Image;
 use rv_machine::{End, Io, RunFault, run_io};
@@ -7,64 +7,37 @@ use rv_streams::ReadFault;
 use std::alloc::{AllocError, Global};
 use std::io::{self, ErrorKind, Read, Write};
 
-/// What is there to be read, and what cannot be written. There are the files `a.s`, `a` and `b.s`, which is empty, and
-/// those that the program wrote.
+/// What is there to be read, and what cannot be written. There is the file `a.s`.
 #[derive(Clone, Copy)]
 pub(super) struct Scene<'a> {
     /// The bytes of the file `a.s`.
     pub(super) source: &'a [u8],
-    /// The bytes of the file `a`.
-    pub(super) exe: &'a [u8],
     /// Standard input; `None` where it cannot be read.
     pub(super) input: Option<&'a [u8]>,
-    /// The file that cannot be written; `-` is standard output.
-    pub(super) closed: &'static str,
+    /// Whether nothing can be written, neither files nor standard output.
+    pub(super) closed: bool,
 }
 
-impl<'a> Scene<'a> {
-    /// A file `a.s` of these bytes; the input is empty, and all can be written.
-    pub(super) const fn source(source: &'a [u8]) -> Self {
-        Scene {
-            source,
-            exe: b"",
-            input: Some(b""),
-            closed: "",
-        }
-    }
-
-    /// A file `a` of these bytes and this input; all can be written.
-    pub(super) const fn exe(exe: &'a [u8], input: Option<&'a [u8]>) -> Self {
-        Scene {
-            source: b"",
-            exe,
-            input,
-            closed: "",
-        }
-    }
-}
-
-/// A file that the program wrote.
+/// A reader that gives its bytes one by one, and then ends, or fails.
 #[derive(Drop)]
-pub(super) struct Written {
-    pub(super) name: String,
-    pub(super) purpose: Purpose,
-    pub(super) bytes: Vec<u8>,
+pub(super) struct Reader<'a> {
+    pub(super) bytes: &'a [u8],
+    pub(super) fails: bool,
 }
 
-/// Standard input; `None` where it cannot be read.
-#[derive(Drop)]
-struct Input<'a>(Option<&'a [u8]>);
-
-impl Read for Input<'_> {
+impl Read for Reader<'_> {
     fn read(&mut self, buffer: &mut [u8]) -> io::Result<usize> {
-        let Some(bytes) = self.0 else {
-            return Err(io::Error::from(ErrorKind::Other));
+        let (Some((first, rest)), Some(place)) = (self.bytes.split_first(), buffer.first_mut())
+        else {
+            return if self.fails {
+                Err(io::Error::from(ErrorKind::Other))
+            } else {
+                Ok(0)
+            };
         };
-        let count = bytes.len().min(buffer.len());
-        let (now, later) = bytes.split_at(count);
-        buffer[..count].copy_from_slice(now);
-        self.0 = Some(later);
-        Ok(count)
+        *place = *first;
+        self.bytes = rest;
+        Ok(1)
     }
 }
 
@@ -94,9 +67,10 @@ impl Write for Output {
 pub(super) struct Fake<'a> {
     alloc: Global,
     scene: Scene<'a>,
-    pub(super) written: Vec<Written>,
-    pub(super) output: Vec<u8>,
-    pub(super) errors: String,
+    /// What each file that was written is for.
+    pub(super) written: Vec<Purpose>,
+    output: Vec<u8>,
+    errors: String,
 }
 
 /// A file of this name asks for more memory than there is.
@@ -115,7 +89,11 @@ impl<'a> Fake<'a> {
 
     /// What the program does with words that blanks separate; its exit status.
     pub(super) fn does(&mut self, words: &str) -> Result<u8, AllocError> {
-        let words = split(self.alloc, words)?;
+        let alloc = self.alloc;
+        let words: Vec<String> = words
+            .split(' ')
+            .map(|word| word.to_string(alloc))
+            .try_collect(alloc)?;
         Ok(exit_status(self, words.as_slice()))
     }
 
@@ -131,19 +109,11 @@ impl System for Fake<'_> {
     }
 
     fn file(&mut self, name: &str) -> Result<Vec<u8>, ReadFault> {
-        for file in &self.written {
-            if file.name.as_str() == name {
-                return Ok(Vec::from_slice(self.alloc, file.bytes.as_slice())?);
-            }
+        match name {
+            "a.s" => Ok(Vec::from_slice(self.alloc, self.scene.source)?),
+            TOO_LARGE => Err(ReadFault::Memory),
+            _ => Err(ReadFault::Failed),
         }
-        let bytes = match name {
-            "a.s" => self.scene.source,
-            "a" => self.scene.exe,
-            "b.s" => b"",
-            TOO_LARGE => return Err(ReadFault::Memory),
-            _ => return Err(ReadFault::Failed),
-        };
-        Ok(Vec::from_slice(self.alloc, bytes)?)
     }
 
     fn input(&mut self, limit: usize) -> Result<Vec<u8>, ReadFault> {
@@ -153,21 +123,16 @@ impl System for Fake<'_> {
         }
     }
 
-    fn write(&mut self, name: &str, purpose: Purpose, bytes: &[u8]) -> io::Result<()> {
-        if name == self.scene.closed {
+    fn write(&mut self, _: &str, purpose: Purpose, _: &[u8]) -> io::Result<()> {
+        if self.scene.closed {
             return Err(io::Error::from(ErrorKind::PermissionDenied));
         }
-        let written = Written {
-            name: name.to_string(self.alloc)?,
-            purpose,
-            bytes: Vec::from_slice(self.alloc, bytes)?,
-        };
-        self.written.push(written)?;
+        self.written.push(purpose)?;
         Ok(())
     }
 
     fn print(&mut self, bytes: &[u8]) -> io::Result<()> {
-        if self.scene.closed == "-" {
+        if self.scene.closed {
             return Err(io::Error::from(ErrorKind::BrokenPipe));
         }
         self.output.extend_from_slice(bytes)?;
@@ -181,9 +146,12 @@ impl System for Fake<'_> {
         };
         let mut output = Output {
             bytes: Vec::new(self.alloc),
-            closed: self.scene.closed == "-",
+            closed: self.scene.closed,
         };
-        let mut reader = Io::new(Input(bytes));
+        let mut reader = Io::new(Reader {
+            bytes: bytes.unwrap_or_default(),
+            fails: bytes.is_none(),
+        });
         let mut writer = Io::new(&mut output);
         let ended = run_io(self.alloc, image, &mut reader, &mut writer, limit);
         if self
@@ -205,43 +173,4 @@ impl System for Fake<'_> {
         let _ = self.errors.push_str(line);
         let _ = self.errors.push_str("\n");
     }
-}
-
-/// The words that blanks separate.
-pub(super) fn split(alloc: Global, words: &str) -> Result<Vec<String>, AllocError> {
-    words
-        .split(' ')
-        .map(|word| word.to_string(alloc))
-        .try_collect(alloc)
-}
-
-/// Words, and the status, the text on standard output and the text on standard error with which they end.
-pub(super) type Row = (&'static str, u8, &'static str, &'static str);
-
-/// Whether in this scene words end with this status and these texts, and write no file.
-pub(super) fn ends(
-    alloc: Global,
-    scene: Scene<'_>,
-    words: &str,
-    status: u8,
-    output: &str,
-    errors: &str,
-) -> Result<bool, AllocError> {
-    let mut fake = Fake::new(alloc, scene);
-    let found = fake.does(words)?;
-    Ok(found == status && fake.said(output, errors) && fake.written.is_empty())
-}
-
-/// The first row that ends otherwise in this scene, or writes a file.
-pub(super) fn first_other(
-    alloc: Global,
-    scene: Scene<'_>,
-    rows: &[Row],
-) -> Result<Option<usize>, AllocError> {
-    for (index, (words, status, output, errors)) in rows.iter().enumerate() {
-        if !ends(alloc, scene, *words, *status, *output, *errors)? {
-            return Ok(Some(index));
-        }
-    }
-    Ok(None)
 }

@@ -1,19 +1,10 @@
-//! The program from its words to its exit status, and the lines that it writes.
+//! What the program does where the system fails, and the lines that it writes of what no source makes. What its words
+//! do else is said by the cases in `tests/`.
 #![tactic(auto)]
 
 #[cfg(test)]
+mod failures;
+#[cfg(test)]
 mod fake;
 #[cfg(test)]
-mod files;
-#[cfg(test)]
 mod lines;
-#[cfg(test)]
-mod listings;
-#[cfg(test)]
-mod objects;
-#[cfg(test)]
-mod refusals;
-#[cfg(test)]
-mod runs;
-#[cfg(test)]
-mod usage;

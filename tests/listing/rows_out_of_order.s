@@ -1,0 +1,33 @@
+# Rows out of order; one of a constant, one past the text's end, and two of one address.
+# The executable is made by hand: its header, its program header, and the code from 10000h on.
+# rv: objdump --map map exe
+# out is: listing
+# errors:
+#--- map
+rvmap 1
+text 10000 1000c
+rodata 11000 11004
+data 12000 12000
+bss 12000 12000
+entry 10000
+row 2 9 1 10008 4 1
+row 2 1 1 10004 4 1
+row 1 2 2 10004 4 1
+row 1 7 7 11000 4 0
+row 1 8 8 1000a 4 1
+row 1 1 1 10000 3 1
+#--- listing
+@ 1 1 1
+10000: unknown
+10002: unknown
+@ 1 2 2
+10004: addi a7,zero,93
+@ 2 1 1
+10004: addi a7,zero,93
+@ 2 9 1
+10008: ecall
+#--- exe hex
+7f454c460201010000000000000000000200f30001000000000001000000000040000000000000000000000000000000
+010000004000380001000000000000000100000001000000780000000000000000000100000000000000010000000000
+0c000000000000000c000000000000000010000000000000
+130570009308d00573000000
