@@ -3,5 +3,4 @@ pub mod FrontsLemmas
 pub mod HeldLemmas
 pub mod LinesOnLemmas
 pub mod OrderedLemmas
-pub mod PaddedLemmas
 pub mod RegistersLemmas

@@ -2,7 +2,7 @@
 
 use Rattle.std.proofs.Common.{◌≡◌, ℕ, zero, suc, ◌<◌, ◌≤◌, Bool, true, false, List, [], ◌∷◌, length, get_or, filter, is_lt, refl, sym, ap, ◌∙◌, inl, inr, suc-le-suc, zero-le}
 use Rattle.std.specs.Prelude.{not, flat_map}
-use Rattle.std.proofs.lemmas.Bool.{cond-true, cond-false, cases_Bool, and_parts, and_from}
+use Rattle.std.proofs.lemmas.Bool.{cond-true, cond-false, cases_Bool, and_parts, and_from, not-true, not_from_false}
 use Rattle.std.specs.Cmp.{IsStrictWeakOrder, IsTotalOrder, nat_cmp_total, on_total, then_total}
 use Rattle.std.specs.List.Sorted.{IsSortedBy, IsStableBy, ties}
 use Rattle.std.proofs.lemmas.List.Sorted.{ranks_by, sorted_far}
@@ -15,25 +15,18 @@ use Rattle.rv_image.specs.Image.{Image}
 use Rattle.rv_disasm.specs.Order.{compared, IsInOrder}
 use Rattle.rv_disasm.specs.Listing.{row_text, IsListing}
 
-not_true : (b : Bool) → not b ≡ true → b ≡ false
-not_true false h = refl
-not_true true h = absurd (cc)
-
-not_from : (b : Bool) → b ≡ false → not b ≡ true
-not_from b h = ap not h
-
 module _ {X : Type 0} (lt : X → X → Bool) (o : IsStrictWeakOrder lt) where
   -- nothing is less than itself
   itself : (x : X) → lt x x ≡ false
   itself x = elim (cases_Bool (lt x x)) [ inl less ↦ o.one_way x x less | inr level ↦ level ]
 
   same_from : (x y : X) → lt x y ≡ false → lt y x ≡ false → ties lt x y ≡ true
-  same_from x y h k = and_from (not (lt x y)) (not (lt y x)) (not_from (lt x y) h) (not_from (lt y x) k)
+  same_from x y h k = and_from (not (lt x y)) (not (lt y x)) (not_from_false (lt x y) h) (not_from_false (lt y x) k)
 
   same_parts : (x y : X) → ties lt x y ≡ true → (lt x y ≡ false) × (lt y x ≡ false)
   same_parts x y h =
       let parts = and_parts (not (lt x y)) (not (lt y x)) h in
-      (not_true (lt x y) parts.0, not_true (lt y x) parts.1)
+      (not-true (lt x y) parts.0, not-true (lt y x) parts.1)
 
   kept : (p : X → Bool) (y : X) (ys : List X) → p y ≡ true → filter p (y ∷ ys) ≡ y ∷ filter p ys
   kept p y ys h = cond-true _ _ _ h

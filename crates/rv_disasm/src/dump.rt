@@ -4,8 +4,8 @@ ghost use Rattle.std.specs.Prelude.{◌≡◌, ◌≤◌, ◌++◌, OnOk, IfOk, 
 ghost use Rattle.hex.specs.Hex.{encode_lower};
 ghost use Rattle.rv_disasm.specs.Dump.{dump_line, dump_of};
 
-use crate::numbers::put_padded;
 use hex::encode_to_slice;
+use rv_map::put_padded;
 use std::alloc::{AllocError, Global};
 
 /// How many bytes stand on a line.

@@ -77,7 +77,7 @@ fn put_target(text: &mut Vec<u8>, address: u64, offset: i32) -> Result<(), Alloc
     put_prefixed(text, b',', target(address, offset))
 }
 
-/// The address so many bytes on, modulo 2^64.
+/// The address `offset` bytes on, modulo 2^64.
 fn target(address: u64, offset: i32) -> u64
     ensures { result ≡ sum_of address (wrapped offset) }
 {

@@ -9,8 +9,8 @@ ghost use Rattle.rv_isa_laws.specs.Reader.{Reader};
 ghost use Rattle.rv_disasm.specs.Lines.{front, shown, taken, line, lines};
 
 use crate::instruction::put_instruction;
-use crate::numbers::put_hexadecimal;
 use rv_compress::next_inst;
+use rv_map::put_hexadecimal;
 use std::alloc::AllocError;
 
 /// Adds the lines of the bytes that stand at this address.
@@ -27,7 +27,7 @@ pub(crate) fn put_lines(text: &mut Vec<u8>, address: u64, bytes: &[u8]) -> Resul
     Ok(())
 }
 
-/// Adds the line of the front of the bytes; it stands for so many of them.
+/// Adds the line of the front of the bytes; answers how many of them it stands for.
 fn put_line(text: &mut Vec<u8>, address: u64, bytes: &[u8]) -> Result<usize, AllocError>
     ensures text { (reader : Reader Spells StandsFor) → IfOk result (λ _.
         text.new.items ≡ text.old.items ++ line address (front reader bytes.now)) }
@@ -42,7 +42,7 @@ fn put_line(text: &mut Vec<u8>, address: u64, bytes: &[u8]) -> Result<usize, All
     Ok(count)
 }
 
-/// Adds what the front of the bytes spells; it has so many of them.
+/// Adds what the front of the bytes spells; answers how many bytes it has.
 fn put_front(text: &mut Vec<u8>, address: u64, bytes: &[u8]) -> Result<usize, AllocError>
     ensures text { (reader : Reader Spells StandsFor) → IfOk result (λ _.
         text.new.items ≡ text.old.items ++ shown address (front reader bytes.now)) }

@@ -58,7 +58,7 @@ pub behind_again : (front rest : List ℕ) → behind front (front ++ rest) ≡ 
 unfolding behind
 behind_again front rest = rw (take_at front rest (length front) refl, (bytes_eq-Decides front front).1 refl, drop_at front rest (length front) refl) refl
 
--- what `strip_prefix` leaves stands behind the front
+-- what `strip_prefix` leaves comes after the front
 pub stripped : (front bytes : List ℕ) (r : Option (Bor (List ℕ)))
     → MatchOption r (bytes_eq (take (length front) bytes) front ≡ false) (λ x. (bytes_eq (take (length front) bytes) front ≡ true) × (x.now ≡ drop (length front) bytes) × (length x.now + length front ≡ length bytes))
     → IfSome r (λ x. bytes ≡ front ++ x.now)

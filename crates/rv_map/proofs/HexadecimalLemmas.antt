@@ -1,6 +1,7 @@
 -- The last digit of a number in hexadecimal.
 
-use Rattle.std.proofs.Common.{◌≡◌, ℕ, zero, suc, ◌/◌, ◌%◌, ◌^◌, ◌≤◌, ◌<◌, false, cond, List, [], ◌∷◌, ◌++◌, refl, eqb, sym, ap, ◌∙◌, append_assoc, arith, ◌⊎◌, inl, inr}
+use Rattle.std.proofs.Common.{◌≡◌, ℕ, zero, suc, ◌/◌, ◌%◌, ◌^◌, ◌≤◌, ◌<◌, false, cond, List, [], ◌∷◌, ◌++◌, refl, eqb, sym, ap, ◌∙◌, append_assoc, arith, inl, inr}
+use Rattle.std.proofs.lemmas.Bool.{cases_lt}
 use Rattle.std.proofs.lemmas.Bool.Decides.{nat_tests}
 use Rattle.std.specs.Fmt.{digits, digits_onto, digit_glyph}
 use Rattle.std.proofs.lemmas.Fmt.{hex_one_digit}
@@ -12,9 +13,6 @@ spell k n acc = digits_onto k 16 false n acc
 abbrev last : ℕ → ℕ
 last n = digit_glyph false (n % 16)
 
-small_or_not : (n : ℕ) → (n < 16) ⊎ (16 ≤ n)
-small_or_not n = grind arith
-
 spell_last : (k n : ℕ) (acc : List ℕ) → n < 16 → spell (suc k) n acc ≡ last n ∷ acc
 spell_last k n acc h = let zero_left : n / 16 ≡ 0 = omega arith in rw zero_left refl
 
@@ -23,7 +21,7 @@ spell_next k n acc h = let more : eqb (n / 16) 0 ≡ false = grind (arith, nat_t
 
 spell-append : (k n : ℕ) (acc : List ℕ) → spell k n acc ≡ spell k n [] ++ acc
 spell-append zero n acc = refl
-spell-append (suc k) n acc = elim (small_or_not n) [
+spell-append (suc k) n acc = elim (cases_lt n 16) [
   | inl l ↦ spell_last k n acc l ∙ ap (λ x. x ++ acc) (sym (spell_last k n [] l))
   | inr l ↦ spell_next k n acc l ∙ spell-append k (n / 16) (last n ∷ acc) ∙ sym (append_assoc (spell k (n / 16) []) (last n ∷ []) acc)
       ∙ ap (λ x. x ++ acc) (sym (spell_next k n [] l ∙ spell-append k (n / 16) (last n ∷ [])))
@@ -33,7 +31,7 @@ spell-append (suc k) n acc = elim (small_or_not n) [
 spell_enough : (j k n : ℕ) (acc : List ℕ) → n < 16 ^ suc j → n < 16 ^ suc k → spell (suc j) n acc ≡ spell (suc k) n acc
 spell_enough zero k n acc p q = spell_last zero n acc (omega arith) ∙ sym (spell_last k n acc (omega arith))
 spell_enough (suc j) zero n acc p q = spell_last (suc j) n acc (omega arith) ∙ sym (spell_last zero n acc (omega arith))
-spell_enough (suc j) (suc k) n acc p q = elim (small_or_not n) [
+spell_enough (suc j) (suc k) n acc p q = elim (cases_lt n 16) [
   | inl l ↦ spell_last (suc j) n acc l ∙ sym (spell_last (suc k) n acc l)
   | inr l ↦ spell_next (suc j) n acc l ∙ spell_enough j k (n / 16) (last n ∷ acc) (omega arith) (omega arith) ∙ sym (spell_next (suc k) n acc l)
 ]
@@ -45,9 +43,3 @@ hexadecimal_step n h small =
 
 pub hexadecimal_digit : (n : ℕ) → n < 16 → hexadecimal n ≡ digit_glyph false n ∷ []
 hexadecimal_digit n h = hex_one_digit false n h
-
--- the text so far and one digit more
-pub hexadecimal_grows : (front : List ℕ) (n digit : ℕ) → 16 ≤ n → n < 2 ^ 64 → digit ≡ digit_glyph false (n % 16) →
-    (front ++ hexadecimal (n / 16)) ++ (digit ∷ []) ≡ front ++ hexadecimal n
-hexadecimal_grows front n digit large small is =
-    append_assoc front (hexadecimal (n / 16)) (digit ∷ []) ∙ ap (λ d. front ++ (hexadecimal (n / 16) ++ (d ∷ []))) is ∙ ap (λ x. front ++ x) (sym (hexadecimal_step n large small))

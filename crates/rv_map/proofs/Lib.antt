@@ -1,4 +1,5 @@
 pub mod HexadecimalLemmas
+pub mod PaddedLemmas
 pub mod CuttingLemmas
 pub mod DigitsLemmas
 pub mod NumbersLemmas

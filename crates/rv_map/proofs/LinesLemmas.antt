@@ -16,7 +16,7 @@ use Rattle.rv_map.specs.Reading.{number_at, region_at, global_at, row_at, head_a
 use Rattle.rv_map.proofs.CuttingLemmas.{cut_again, behind_again}
 use Rattle.rv_map.proofs.NumbersLemmas.{number_again, digits_pass_at, digit_above}
 
--- a word, the byte behind it, and what follows
+-- a word, the byte after it, and what follows
 abbrev then : List ℕ → ℕ → List ℕ → List ℕ
 then word end rest = word ++ end ∷ rest
 

@@ -35,7 +35,7 @@ module _ {A : Type 0} (line : A → List (List ℕ)) (at : List ℕ → Option (
       let tail = same_items xs ys r s p.1 q.1 both.1 end last in
       (ap (λ z. z ∷ xs) both.0 ∙ ap (λ zs. y ∷ zs) tail.0, tail.1)
 
--- the lines behind those of a kind are of another
+-- the lines after those of a kind are of another
 no_gap_at_global : (g : Global) (rest : List ℕ) → region_at (codes "gap ") (line_text (global_line g) ++ rest) ≡ None
 unfolding region_at line_text behind
 no_gap_at_global g rest = refl

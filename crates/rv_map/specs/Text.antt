@@ -1,6 +1,6 @@
 -- The text of a map: lines of words, addresses in hexadecimal and other numbers in decimal.
 
-use Rattle.std.specs.Prelude.{ℕ, false, List, [], ◌∷◌, ◌++◌, map, flat_map, codes, decimal}
+use Rattle.std.specs.Prelude.{ℕ, ◌-◌, false, List, [], ◌∷◌, ◌++◌, length, replicate, map, flat_map, codes, decimal}
 use Rattle.std.specs.Fmt.{digits}
 use Rattle.rv_map.specs.declared.map.Region.{Region}
 use Rattle.rv_map.specs.declared.map.Row.{Row}
@@ -9,6 +9,10 @@ use Rattle.rv_map.specs.Map.{Map, Global}
 -- lower case, without leading zeros
 abbrev pub hexadecimal : ℕ → List ℕ
 hexadecimal n = digits 16 false n
+
+-- hexadecimal digits in lower case, with zeros in front where there are fewer than these
+abbrev pub padded : ℕ → ℕ → List ℕ
+padded width n = replicate (width - length (hexadecimal n)) 48 ++ hexadecimal n
 
 -- a line: its words with a blank between each two, and LF after the last
 unfoldable pub line_text : List (List ℕ) → List ℕ

@@ -16,6 +16,7 @@
 //! ```
 #![tactic(auto)]
 
+mod digits;
 mod law;
 mod lookup;
 mod map;
@@ -23,6 +24,7 @@ mod numeral;
 mod reading;
 mod writing;
 
+pub use digits::{put_hexadecimal, put_padded};
 pub use law::{known, one_map, reread};
 pub use lookup::row_at;
 pub use map::{Global, Map, Region, Row};

@@ -1,11 +1,11 @@
 //! The text of a map.
 
-ghost use Rattle.std.specs.Prelude.{◌≡◌, ◌<◌, ◌++◌, ◌∷◌, [], IfOk, OnOk, false, map, flat_map, codes, decimal};
-ghost use Rattle.std.specs.Fmt.{digit_glyph};
+ghost use Rattle.std.specs.Prelude.{◌≡◌, ◌++◌, ◌∷◌, [], IfOk, OnOk, map, flat_map, codes, decimal};
 ghost use Rattle.rv_map.specs.Map.{map_of, global_of};
 ghost use Rattle.rv_map.specs.Limits.{IsMap};
 ghost use Rattle.rv_map.specs.Text.{hexadecimal, line_text, region_line, gap_line, global_line, row_line, region_lines, head_lines, map_text};
 
+use crate::digits::put_hexadecimal;
 use crate::law::known;
 use crate::map::{Global, Map, Region, Row};
 use itoa::Buffer;
@@ -54,7 +54,7 @@ fn put_entry(text: &mut Vec<u8>, entry: u64) -> Result<(), AllocError>
         (text.new.items ≡ text.old.items ++ line_text (codes "entry" ∷ hexadecimal entry ∷ [])) }
 {
     text.extend_from_slice(b"entry ")?;
-    put_hexadecimal(text, entry, b'\n')?;
+    put_address(text, entry, b'\n')?;
     Ok(())
 }
 
@@ -96,8 +96,8 @@ fn put_region(text: &mut Vec<u8>, name: &[u8], region: Region) -> Result<(), All
 {
     text.extend_from_slice(name)?;
     text.push(b' ')?;
-    put_hexadecimal(text, region.start, b' ')?;
-    put_hexadecimal(text, region.end, b'\n')?;
+    put_address(text, region.start, b' ')?;
+    put_address(text, region.end, b'\n')?;
     Ok(())
 }
 
@@ -109,7 +109,7 @@ fn put_global(text: &mut Vec<u8>, global: &Global) -> Result<(), AllocError>
     text.extend_from_slice(b"global ")?;
     text.extend_from_slice(&global.name)?;
     text.push(b' ')?;
-    put_hexadecimal(text, global.address, b'\n')?;
+    put_address(text, global.address, b'\n')?;
     Ok(())
 }
 
@@ -118,7 +118,7 @@ fn put_row(text: &mut Vec<u8>, row: Row) -> Result<(), AllocError>
     ensures { OnOk result (text.new.items ≡ text.old.items ++ line_text (row_line row)) }
 {
     put_statement(text, row)?;
-    put_hexadecimal(text, row.address, b' ')?;
+    put_address(text, row.address, b' ')?;
     put_decimal(text, row.bytes, b' ')?;
     put_decimal(text, row.instructions, b'\n')?;
     Ok(())
@@ -144,32 +144,9 @@ fn put_decimal(text: &mut Vec<u8>, number: u64, end: u8) -> Result<(), AllocErro
     Ok(text.push(end)?)
 }
 
-fn put_hexadecimal(text: &mut Vec<u8>, number: u64, end: u8) -> Result<(), AllocError>
-    ensures { OnOk result (text.new.items ≡ text.old.items ++ (hexadecimal number ++ end ∷ [])) }
+fn put_address(text: &mut Vec<u8>, address: u64, end: u8) -> Result<(), AllocError>
+    ensures { OnOk result (text.new.items ≡ text.old.items ++ (hexadecimal address ++ end ∷ [])) }
 {
-    put_digits(text, number)?;
+    put_hexadecimal(text, address)?;
     Ok(text.push(end)?)
-}
-
-#[tactic(auto, using(crate::proofs::HexadecimalLemmas::hexadecimal_step, crate::proofs::HexadecimalLemmas::hexadecimal_digit))]
-fn put_digits(text: &mut Vec<u8>, number: u64) -> Result<(), AllocError>
-    ensures { OnOk result (text.new.items ≡ text.old.items ++ hexadecimal number) }
-{
-    if number < 16 {
-        return Ok(text.push(digit(number))?);
-    }
-    put_digits(text, number / 16)?;
-    Ok(text.push(digit(number % 16))?)
-}
-
-/// The hexadecimal digit of a number below 16.
-fn digit(number: u64) -> u8
-    requires { number < 16 }
-    ensures { result ≡ digit_glyph false number }
-{
-    if number < 10 {
-        b'0' + number as u8
-    } else {
-        b'a' + (number - 10) as u8
-    }
 }

@@ -4,4 +4,4 @@ use Rattle.rv_map.proofs.writing.put_row.Goals as goal
 
 pub returns : goal.returns
 unfolding line_text
-returns c = simp (c.in_ok-put_decimal-2.ensures, c.in_ok-put_decimal.ensures, c.in_ok-put_hexadecimal.ensures, c.in_ok-put_statement.ensures, append_assoc) refl
+returns c = simp (c.in_ok-put_decimal-2.ensures, c.in_ok-put_decimal.ensures, c.in_ok-put_address.ensures, c.in_ok-put_statement.ensures, append_assoc) refl

@@ -1,13 +1,10 @@
 -- A number in hexadecimal with zeros in front, digit by digit.
 
 use Rattle.std.proofs.Common.{◌≡◌, ℕ, suc, zero, ◌-◌, ◌/◌, ◌%◌, ◌^◌, ◌≤◌, ◌<◌, ◌⊎◌, inl, inr, false, max, List, [], ◌∷◌, ◌++◌, length, replicate, refl, sym, ap, ◌∙◌, append_assoc, arith}
+use Rattle.std.proofs.lemmas.Bool.{cases_lt}
 use Rattle.std.specs.Fmt.{digit_glyph}
-use Rattle.rv_map.specs.Text.{hexadecimal}
+use Rattle.rv_map.specs.Text.{hexadecimal, padded}
 use Rattle.rv_map.proofs.HexadecimalLemmas.{hexadecimal_step, hexadecimal_digit}
-use Rattle.rv_disasm.specs.Numbers.{padded}
-
-small_or_not : (n : ℕ) → (n < 16) ⊎ (16 ≤ n)
-small_or_not n = grind arith
 
 length_one_more : (xs : List ℕ) (x : ℕ) → length (xs ++ x ∷ []) ≡ suc (length xs)
 length_one_more [] x = refl
@@ -22,7 +19,7 @@ zeros_more zero = refl
 zeros_more (suc k) = ap (λ xs. 48 ∷ xs) (zeros_more k)
 
 some_digit : (n : ℕ) → n < 2 ^ 64 → 1 ≤ length (hexadecimal n)
-some_digit n small = elim (small_or_not n) [
+some_digit n small = elim (cases_lt n 16) [
   | inl l ↦ let one = ap length (hexadecimal_digit n l) in omega (arith, one)
   | inr l ↦
       let more = ap length (hexadecimal_step n l small) ∙ length_one_more (hexadecimal (n / 16)) (digit_glyph false (n % 16)) in
@@ -42,7 +39,7 @@ padded_digit n l = padded_one n (omega arith) ∙ hexadecimal_digit n l
 -- all digits but the last, and the last
 pub padded_step : (w n : ℕ) → 1 ≤ w → (16 ≤ n) ⊎ (2 ≤ w) → n < 2 ^ 64 →
     padded w n ≡ padded (max (w - 1) 1) (n / 16) ++ digit_glyph false (n % 16) ∷ []
-padded_step w n wide room small = elim (small_or_not n) [
+padded_step w n wide room small = elim (cases_lt n 16) [
   | inr l ↦
       let last = digit_glyph false (n % 16) in
       let step = hexadecimal_step n l small in

@@ -1,7 +1,7 @@
 use Rattle.std.proofs.Common.{◌≡◌, ◌-◌, ◌≤◌, ◌⊎◌, inl, inr, max, arith}
-use Rattle.rv_disasm.proofs.PaddedLemmas.{padded_first, padded_grows}
-use Rattle.rv_disasm.proofs.numbers.+put_padded.Goals.{else-number-lt16-via-then-number-lt16+else-width-eq1, else-number-lt16-via-else-number-lt16}
-use Rattle.rv_disasm.proofs.numbers.+put_padded.Goals as goal
+use Rattle.rv_map.proofs.PaddedLemmas.{padded_first, padded_grows}
+use Rattle.rv_map.proofs.digits.+put_padded.Goals.{else-number-lt16-via-then-number-lt16+else-width-eq1, else-number-lt16-via-else-number-lt16}
+use Rattle.rv_map.proofs.digits.+put_padded.Goals as goal
 
 pub returns-then-width-eq1 : goal.returns-then-width-eq1
 returns-then-width-eq1 t c = rw (c.in_ok-push.ensures.items)
