@@ -17,20 +17,6 @@ use rv_isa::{
 };
 use rv_statement::{CompareOperation, Plain, UnaryOperation};
 
-/// x0, which is always 0.
-pub(crate) fn x0() -> Reg
-    ensures { result ≡ 0 }
-{
-    Reg::from_low_bits(0)
-}
-
-/// x1, where calls leave their return address.
-pub(crate) fn ra() -> Reg
-    ensures { result ≡ 1 }
-{
-    Reg::from_low_bits(1)
-}
-
 /// Whether a register is x0.
 pub(crate) fn is_x0(register: Reg) -> bool
     ensures { result ≡ (register == 0) }
@@ -87,7 +73,7 @@ fn mv(rvc: bool, rd: Reg, rs: Reg) -> Inst
     ensures { result ∷ [] ≡ row.unary rvc Mv rd rs }
 {
     if rvc && !is_x0(rd) && !is_x0(rs) {
-        Inst::Add(r_type(rd, x0(), rs))
+        Inst::Add(r_type(rd, Reg::ZERO, rs))
     } else {
         Inst::Addi(i_type(rd, rs, 0))
     }
@@ -135,8 +121,8 @@ fn unary(rvc: bool, operation: UnaryOperation, rd: Reg, rs: Reg) -> Templates
     match operation {
         UnaryOperation::Mv => one(plain(mv(rvc, rd, rs))),
         UnaryOperation::Not => one(plain(Inst::Xori(i_type(rd, rs, -1)))),
-        UnaryOperation::Neg => one(plain(Inst::Sub(r_type(rd, x0(), rs)))),
-        UnaryOperation::Negw => one(plain(Inst::Subw(r_type(rd, x0(), rs)))),
+        UnaryOperation::Neg => one(plain(Inst::Sub(r_type(rd, Reg::ZERO, rs)))),
+        UnaryOperation::Negw => one(plain(Inst::Subw(r_type(rd, Reg::ZERO, rs)))),
         UnaryOperation::SextW => one(plain(Inst::Addiw(i_type(rd, rs, 0)))),
         UnaryOperation::ZextB => one(plain(Inst::Andi(i_type(rd, rs, 255)))),
         UnaryOperation::SextB => extended(ShiftOperation::Srai, rd, rs, 56),
@@ -144,9 +130,9 @@ fn unary(rvc: bool, operation: UnaryOperation, rd: Reg, rs: Reg) -> Templates
         UnaryOperation::ZextH => extended(ShiftOperation::Srli, rd, rs, 48),
         UnaryOperation::ZextW => extended(ShiftOperation::Srli, rd, rs, 32),
         UnaryOperation::Seqz => one(plain(Inst::Sltiu(i_type(rd, rs, 1)))),
-        UnaryOperation::Snez => one(plain(Inst::Sltu(r_type(rd, x0(), rs)))),
-        UnaryOperation::Sltz => one(plain(Inst::Slt(r_type(rd, rs, x0())))),
-        UnaryOperation::Sgtz => one(plain(Inst::Slt(r_type(rd, x0(), rs)))),
+        UnaryOperation::Snez => one(plain(Inst::Sltu(r_type(rd, Reg::ZERO, rs)))),
+        UnaryOperation::Sltz => one(plain(Inst::Slt(r_type(rd, rs, Reg::ZERO)))),
+        UnaryOperation::Sgtz => one(plain(Inst::Slt(r_type(rd, Reg::ZERO, rs)))),
     }
 }
 
@@ -180,7 +166,7 @@ fn instruction(statement: Plain) -> Option<Inst>
             rs2,
         })),
         Plain::Jalr(rd, rs1) => Some(jalr(rd, rs1, 0)),
-        Plain::JalrLinked(rs1) => Some(jalr(ra(), rs1, 0)),
+        Plain::JalrLinked(rs1) => Some(jalr(Reg::RA, rs1, 0)),
         Plain::LoadReserved(form, rd, rs1) => Some(load_reserved(form, rd, rs1)),
         Plain::Atomic(operation, form, rd, rs2, rs1) => Some(atomic(operation, form, rd, rs2, rs1)),
         Plain::Fence => Some(fence(0, 15, 15)),
@@ -188,11 +174,11 @@ fn instruction(statement: Plain) -> Option<Inst>
         Plain::FenceTso => Some(fence(8, 3, 3)),
         Plain::Ecall => Some(Inst::Ecall),
         Plain::Ebreak => Some(Inst::Ebreak),
-        Plain::Nop => Some(Inst::Addi(i_type(x0(), x0(), 0))),
+        Plain::Nop => Some(Inst::Addi(i_type(Reg::ZERO, Reg::ZERO, 0))),
         Plain::Unary(..) => None,
         Plain::Compare(operation, rd, rs1, rs2) => Some(compare(operation, rd, rs1, rs2)),
-        Plain::Jr(rs) => Some(jalr(x0(), rs, 0)),
-        Plain::Ret => Some(jalr(x0(), ra(), 0)),
+        Plain::Jr(rs) => Some(jalr(Reg::ZERO, rs, 0)),
+        Plain::Ret => Some(jalr(Reg::ZERO, Reg::RA, 0)),
     }
 }
 

@@ -80,8 +80,11 @@ fn li_short(rd: Reg, value: i64) -> ArrayVec<Inst, 8>
 {
     if is_short(value) {
         let immediate = value as i32;
-        let rs1 = Reg::from_low_bits(0);
-        return alone(Inst::Addi(IType { immediate, rd, rs1 }));
+        return alone(Inst::Addi(IType {
+            immediate,
+            rd,
+            rs1: Reg::ZERO,
+        }));
     }
     let (upper, low) = halves(value);
     let immediate = upper_field(upper);

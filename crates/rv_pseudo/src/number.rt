@@ -17,7 +17,7 @@ ghost use Rattle.rv_pseudo_laws.specs.Valid.{form_takes, is_amount, is_upper_20}
 ghost use Rattle.rv_pseudo.specs.Faults as faults;
 ghost use Rattle.rv_pseudo.specs.Templates as is;
 
-use crate::bare::{jalr, ra, x0};
+use crate::bare::jalr;
 use crate::li::{halves, is_short, li_sequence};
 use crate::template::{Templates, all_plain, with_reloc};
 use arrayvec::ArrayVec;
@@ -154,8 +154,8 @@ fn instruction(operation: Operation, number: i64) -> Option<Inst>
         Operation::Store(operation, rs2, rs1) => Some(store(operation, rs2, rs1, number)),
         Operation::Jalr(rd, rs1) => Some(jump(rd, rs1, number)),
         Operation::JalrThen(rd, rs1) => Some(jump(rd, rs1, number)),
-        Operation::JalrLinked(rs1) => Some(jump(ra(), rs1, number)),
-        Operation::Jr(rs) => Some(jump(x0(), rs, number)),
+        Operation::JalrLinked(rs1) => Some(jump(Reg::RA, rs1, number)),
+        Operation::Jr(rs) => Some(jump(Reg::ZERO, rs, number)),
         _ => None,
     }
 }

@@ -15,7 +15,7 @@ ghost use Rattle.rv_pseudo_laws.specs.Li.{addi};
 ghost use Rattle.rv_pseudo.specs.Faults as faults;
 ghost use Rattle.rv_pseudo.specs.Templates as is;
 
-use crate::bare::{is_x0, jalr, ra, x0};
+use crate::bare::{is_x0, jalr};
 use crate::template::{Templates, one, plain, two, under};
 use arrayvec::ArrayVec;
 use rv_isa::{
@@ -61,7 +61,7 @@ fn branch(bytes: u8, operation: BranchOperation, rs1: Reg, rs2: Reg) -> Template
         2 => one(under(Kind::RvcBranch, branch_over(operation, rs1, rs2, 0))),
         8 => two(
             plain(branch_over(inverted(operation), rs1, rs2, 8)),
-            under(Kind::Jal, jal(x0())),
+            under(Kind::Jal, jal(Reg::ZERO)),
         ),
         _ => one(under(Kind::Branch, branch_over(operation, rs1, rs2, 0))),
     }
@@ -145,12 +145,12 @@ fn zero_branch(bytes: u8, operation: ZeroBranchOperation, rs: Reg) -> Templates
     ensures { result.items ≡ is.all_templates (row.zero_branch bytes operation rs) }
 {
     match operation {
-        ZeroBranchOperation::Beqz => branch(bytes, BranchOperation::Beq, rs, x0()),
-        ZeroBranchOperation::Bnez => branch(bytes, BranchOperation::Bne, rs, x0()),
-        ZeroBranchOperation::Bgez => branch(bytes, BranchOperation::Bge, rs, x0()),
-        ZeroBranchOperation::Bltz => branch(bytes, BranchOperation::Blt, rs, x0()),
-        ZeroBranchOperation::Blez => branch(bytes, BranchOperation::Bge, x0(), rs),
-        ZeroBranchOperation::Bgtz => branch(bytes, BranchOperation::Blt, x0(), rs),
+        ZeroBranchOperation::Beqz => branch(bytes, BranchOperation::Beq, rs, Reg::ZERO),
+        ZeroBranchOperation::Bnez => branch(bytes, BranchOperation::Bne, rs, Reg::ZERO),
+        ZeroBranchOperation::Bgez => branch(bytes, BranchOperation::Bge, rs, Reg::ZERO),
+        ZeroBranchOperation::Bltz => branch(bytes, BranchOperation::Blt, rs, Reg::ZERO),
+        ZeroBranchOperation::Blez => branch(bytes, BranchOperation::Bge, Reg::ZERO, rs),
+        ZeroBranchOperation::Bgtz => branch(bytes, BranchOperation::Blt, Reg::ZERO, rs),
     }
 }
 
@@ -201,15 +201,15 @@ pub(crate) fn targeted(bytes: u8, operation: Operation) -> Templates
         Operation::ZeroBranch(operation, rs) => zero_branch(bytes, operation, rs),
         Operation::SwappedBranch(operation, a, b) => swapped_branch(bytes, operation, a, b),
         Operation::Jal(rd) => jump(bytes, rd),
-        Operation::JalLinked => jump(bytes, ra()),
-        Operation::J => jump(bytes, x0()),
+        Operation::JalLinked => jump(bytes, Reg::RA),
+        Operation::J => jump(bytes, Reg::ZERO),
         Operation::La(rd) => address(rd),
         Operation::LoadSymbol(operation, rd) => load_symbol(operation, rd),
         Operation::StoreSymbol(operation, rs2, rt) => store_symbol(operation, rs2, rt),
         Operation::Call(rd) => far(rd, rd),
-        Operation::CallLinked => far(ra(), ra()),
-        Operation::Tail => far(x0(), Reg::from_low_bits(6)),
-        Operation::Jump(rt) => far(x0(), rt),
+        Operation::CallLinked => far(Reg::RA, Reg::RA),
+        Operation::Tail => far(Reg::ZERO, Reg::T1),
+        Operation::Jump(rt) => far(Reg::ZERO, rt),
         _ => ArrayVec::new(),
     }
 }

@@ -1,4 +1,4 @@
-use Rattle.std.proofs.Common.{ap, subst, sym, ◌∙◌, ℤ, w64, to_z, of_z}
+use Rattle.std.proofs.Common.{ap, subst, sym, ◌∙◌, ℤ, w64}
 use Rattle.std.proofs.lemmas.Int.{to_z-of_z}
 use Rattle.rv_isa.specs.Operations.{of_immediate, of_load, of_store}
 use Rattle.rv_parse_laws.specs.Syntax.{with_constant}
@@ -54,7 +54,7 @@ pub returns-in-JalrLinked : goal.returns-in-JalrLinked
 returns-in-JalrLinked c = λ reloc.
     let o = c.in-JalrLinked in
     numbered_by c.args.operation _ c.args.number reloc _ _ o.is
-    (ap (with_reloc reloc) c.jump-in-JalrLinked.ensures ∙ ap (λ rd. with_reloc reloc (jalr rd o.rs1 (to_z w64 (of_z w64 c.args.number)))) c.ra.ensures
+    (ap (with_reloc reloc) c.jump-in-JalrLinked.ensures
     ∙ ap (λ (z : ℤ). with_reloc reloc (jalr 1 o.rs1 z)) (to_z-of_z w64 c.args.number c.ranges.number))
     (jalr_linked_numbered o.rs1 c.args.number reloc)
 
@@ -62,6 +62,6 @@ pub returns-in-Jr : goal.returns-in-Jr
 returns-in-Jr c = λ reloc.
     let o = c.in-Jr in
     numbered_by c.args.operation _ c.args.number reloc _ _ o.is
-    (ap (with_reloc reloc) c.jump-in-Jr.ensures ∙ ap (λ rd. with_reloc reloc (jalr rd o.rs (to_z w64 (of_z w64 c.args.number)))) c.x0.ensures
+    (ap (with_reloc reloc) c.jump-in-Jr.ensures
     ∙ ap (λ (z : ℤ). with_reloc reloc (jalr 0 o.rs z)) (to_z-of_z w64 c.args.number c.ranges.number))
     (jr_numbered o.rs c.args.number reloc)
