@@ -9,7 +9,7 @@ use Rattle.rv_object.specs.declared.symbol.Definition.TheVariants as definitions
 use Rattle.rv_object.specs.Object.{Symbol, Object}
 use Rattle.rv_object.specs.View.{object_of}
 use Rattle.rv_object_laws.specs.Names.{is_defined, is_exported, is_global, exported, global_names}
-use Rattle.rv_object_laws.specs.Calls.{is_short_text, sites_of}
+use Rattle.rv_object_laws.specs.CallSites.{is_short_text, sites_of}
 use Rattle.rv_object_laws.specs.Shortened.{Sizes, shortened_definition, shortened_symbol, shortened_from, shortened, IsRelaxed, Relaxes}
 use Rattle.rv_object_laws.proofs.TextLineLemmas.{sites_text}
 use Rattle.rv_resolve.specs.Exports.{first_again}

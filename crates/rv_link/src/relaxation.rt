@@ -2,7 +2,7 @@
 
 ghost use Rattle.std.specs.Prelude.{◌≡◌, true, false, map, IfOk, IfErr, IfSome, IfNone};
 ghost use Rattle.rv_object.specs.View.{object_of};
-ghost use Rattle.rv_object_laws.specs.Calls.{is_short_text, sites_of};
+ghost use Rattle.rv_object_laws.specs.CallSites.{is_short_text, sites_of};
 ghost use Rattle.rv_object_laws.specs.Shortened.{Relaxes};
 ghost use Rattle.rv_shorten.specs.View.{short_object_of};
 ghost use Rattle.rv_relax.specs.Plan.{placed_sites};

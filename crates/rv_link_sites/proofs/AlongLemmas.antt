@@ -8,7 +8,7 @@ use Rattle.std.proofs.lemmas.Option.{slice_get-map}
 use Rattle.std.proofs.lemmas.Bool.{eq-eqb, ne_eqb, and_from, and_left, and_right}
 use Rattle.rv_object.specs.Object.{Section, Object, size_of}
 use Rattle.rv_object_laws.specs.Inputs.{InputSection, goes_to_text, inputs_from, inputs_of, inputs}
-use Rattle.rv_object_laws.specs.Calls.{start_padding, base_in, base, sites_from, sites_of, length_of}
+use Rattle.rv_object_laws.specs.CallSites.{start_padding, base_in, base, sites_from, sites_of, length_of}
 use Rattle.rv_link_sites.specs.Line.{end_from, ended, ended_files, firsts, firsts_files, lists_of, text_sites, input, object_sites, files_sites, base_at, base_of}
 
 -- ---- lengths

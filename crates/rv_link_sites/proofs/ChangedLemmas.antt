@@ -21,7 +21,7 @@ use Rattle.rv_object.specs.Sections.{section_of}
 use Rattle.rv_object.specs.Valid.{is_align, padding_of, is_padding, is_padding_of, fits_inside, are_all_apart}
 use Rattle.rv_object_laws.specs.Moves.{has_padding, full_padding, alignment_of}
 use Rattle.rv_object_laws.specs.Inputs.{InputSection, goes_to_text}
-use Rattle.rv_object_laws.specs.Calls.{is_call, has_relax, are_call_words, is_text_place, target_place, text_offset, is_entered, meets, is_permitted, may_change, call_site, site_of, is_compressible}
+use Rattle.rv_object_laws.specs.CallSites.{is_call, has_relax, are_call_words, is_text_place, target_place, text_offset, is_entered, meets, is_permitted, may_change, call_site, site_of, is_compressible}
 use Rattle.rv_object_laws.proofs.ChangesLemmas.{call_width, one_if}
 use Rattle.rv_link_sites.specs.Between.{is_allowed}
 use Rattle.rv_link_sites.specs.Text.{IsLying, can_shorten, call_of, text_target}

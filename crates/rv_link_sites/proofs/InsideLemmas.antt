@@ -14,7 +14,7 @@ use Rattle.rv_object.specs.declared.symbol.Definition.TheVariants as definitions
 use Rattle.rv_object.specs.declared.symbol.Symbol.{Symbol as Declared}
 use Rattle.rv_object.specs.Object.{Symbol, Object}
 use Rattle.rv_object.specs.Parts.{symbol_of}
-use Rattle.rv_object_laws.specs.Calls.{is_inside, is_entered}
+use Rattle.rv_object_laws.specs.CallSites.{is_inside, is_entered}
 use Rattle.rv_link_sites.specs.declared.entries.Entries.{Entries}
 use Rattle.rv_link_sites.specs.Entries.{offset_in, offsets_in, list_at, is_within_call, AreEntries}
 

@@ -11,7 +11,7 @@ use Rattle.rv_layout_laws.specs.Calls.{site_at}
 use Rattle.rv_object.specs.Object.{Section, Object, Relocation, size_of}
 use Rattle.rv_object_laws.specs.Moves.{alignment_of, full_padding, has_padding}
 use Rattle.rv_object_laws.specs.Inputs.{InputSection, goes_to_text, inputs_from, inputs_of, inputs, begins_at}
-use Rattle.rv_object_laws.specs.Calls.{call_site, changes, site_of, sites_from, sites_of, start_padding}
+use Rattle.rv_object_laws.specs.CallSites.{call_site, changes, site_of, sites_from, sites_of, start_padding}
 use Rattle.rv_placement.proofs.AlignmentsLemmas.{begins_some}
 use Rattle.rv_relax.specs.Placed.{is_aligning}
 use Rattle.rv_link_sites.specs.Line.{text_starts, starts_from, starts_of, section_starts, input, object_starts, files_starts}

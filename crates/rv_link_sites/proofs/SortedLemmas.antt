@@ -11,7 +11,7 @@ use Rattle.rv_object.specs.Object.{Relocation, Object}
 use Rattle.rv_object.specs.Parts.{relocation_of}
 use Rattle.rv_object.specs.Valid.{held, are_all_apart}
 use Rattle.rv_object_laws.specs.Inputs.{InputSection}
-use Rattle.rv_object_laws.specs.Calls.{inserted_change, in_order, may_change, changes}
+use Rattle.rv_object_laws.specs.CallSites.{inserted_change, in_order, may_change, changes}
 use Rattle.rv_object_laws.proofs.ChangesLemmas.{are_clear, all_ordered, AllClear, all_clear}
 use Rattle.rv_relax.proofs.StableLemmas.{same, same_true, filter_kept, filter_dropped, AreAtLeast, Rises, at_least_lower, rises_sorted, one_alone}
 use Rattle.rv_link_sites.specs.Between.{Rise}

@@ -14,7 +14,7 @@ use Rattle.rv_object.specs.Object.{Section, Relocation, Object, size_of}
 use Rattle.rv_object.specs.View.{object_of}
 use Rattle.rv_object_laws.specs.Inputs.{InputSection, goes_to_text, inputs}
 use Rattle.rv_object_laws.specs.Names.{Place, no_object, object_at, symbol_place}
-use Rattle.rv_object_laws.specs.Calls.{start_padding, is_in_section, is_text_place, target_place, base, text_offset, sites_of, length_of, is_short_text}
+use Rattle.rv_object_laws.specs.CallSites.{start_padding, is_in_section, is_text_place, target_place, base, text_offset, sites_of, length_of, is_short_text}
 use Rattle.rv_object_laws.specs.Within.{LeadsWithin, IsWithin}
 use Rattle.rv_object_laws.proofs.TextLineLemmas.{sites_text, sites_within}
 use Rattle.rv_placement.specs.Placement.{section_in, section_at}

@@ -7,7 +7,7 @@ use Rattle.rv_layout_laws.specs.Sites.{padding_site}
 use Rattle.rv_layout_laws.specs.declared.site.Site.{Site}
 use Rattle.rv_object.specs.Object.{Section, Object, size_of}
 use Rattle.rv_object_laws.specs.Inputs.{InputSection, goes_to_text, inputs, begins_at}
-use Rattle.rv_object_laws.specs.Calls.{changes, start_padding, site_of}
+use Rattle.rv_object_laws.specs.CallSites.{changes, start_padding, site_of}
 
 -- the end of the line after a section; one that does not go to the text changes nothing
 abbrev pub end_from : ℕ → Section → ℕ

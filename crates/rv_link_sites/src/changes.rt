@@ -1,7 +1,8 @@
-//! What may change of a section of text.
+//! What may change of a section of text: its alignments, and the calls that may be shortened.
 //!
-//! Where the rules are silent, a call keeps eight bytes: a symbol past its section's end lies in no section, and at an
-//! odd place no instruction begins. A relocation given twice is another one in the call's bytes.
+//! The relocations are gone over once, in the order of their places. `Before` sums up those before a call; of those after it
+//! only the next ones are looked at. Where the rules are silent, a call keeps eight bytes: a symbol past its section's end
+//! lies in no section, and at an odd place no instruction begins.
 
 ghost use Rattle.std.specs.Prelude.{◌≡◌, ◌+◌, ◌≤◌, ◌<◌, ◌^◌, ◌++◌, ◌∷◌, [], List, map, length, replicate, Some, None, false, IfOk, OnOk, if◌then◌else◌};
 ghost use Rattle.std.specs.Ordering.{nat_cmp};
@@ -11,7 +12,7 @@ ghost use Rattle.rv_isa.specs.Kinds.{width_of};
 ghost use Rattle.rv_object.specs.Object.{Relocation as SaidRelocation, size_of, stored};
 ghost use Rattle.rv_object.specs.Parts.{relocation_of};
 ghost use Rattle.rv_object.specs.Sections.{section_of};
-ghost use Rattle.rv_object_laws.specs.Calls as laws;
+ghost use Rattle.rv_object_laws.specs.CallSites as laws;
 ghost use Rattle.rv_link_sites.specs.Between.{IsBefore, Rise};
 ghost use Rattle.rv_link_sites.specs.Line.{end_from, text_sites, text_starts};
 ghost use Rattle.rv_link_sites.specs.Text.{call_of, can_shorten, input_of, objects_of, IsGiven, IsLaid, IsLying};
@@ -21,11 +22,12 @@ use crate::entries::Entries;
 use crate::line::start_padding;
 use crate::order::by_place;
 use crate::text::Text;
-use crate::words::{are_call_words, link_register};
+use crate::words::are_call_words;
 use rv_layout_laws::{Call, Padding, Site, SiteKind};
 use rv_object::{Object, Relocation, Section};
 use rv_placement::begins_at;
 use rv_relax::{asked_alignment, full_padding, has_padding};
+use rv_shorten::link_register;
 use std::alloc::{AllocError, Global};
 
 /// A section of text, by its file and its index there, both from 0.

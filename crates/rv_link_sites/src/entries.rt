@@ -7,7 +7,7 @@ ghost use Rattle.rv_object.specs.declared.symbol.Definition.TheVariants.{InSecti
 ghost use Rattle.rv_object.specs.Object.{Object as SaidObject};
 ghost use Rattle.rv_object.specs.Parts.{symbol_of};
 ghost use Rattle.rv_object.specs.View.{object_of};
-ghost use Rattle.rv_object_laws.specs.Calls as laws;
+ghost use Rattle.rv_object_laws.specs.CallSites as laws;
 ghost use Rattle.rv_link_sites.specs.Entries.{AreEntries, is_within_call, list_at, offset_in, offsets_in};
 
 use rv_object::{Definition, Object, Symbol};

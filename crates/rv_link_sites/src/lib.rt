@@ -3,7 +3,7 @@
 //! It takes objects (`rv_object`) and what their names mean (`rv_resolve`). It gives the text (`rv_relax`, `Placed`) by
 //! whose sites calls are shortened: all sections of text in one line, as long as they are before anything is taken out.
 //!
-//! Main contract: [`placed`] gives the text whose sites are `sites_of` the objects (`rv_object_laws`, specs/Calls), in which
+//! Main contract: [`placed`] gives the text whose sites are `sites_of` the objects (`rv_object_laws`, specs/CallSites), in which
 //! each offset is at most 2^62, and of which each tells whether it is the start of a section (`starts_of`, specs/Line); or
 //! nothing where the text is longer. It must not know addresses, nor which calls come to be
 //! shortened.

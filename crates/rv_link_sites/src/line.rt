@@ -3,7 +3,7 @@
 ghost use Rattle.std.specs.Prelude.{◌≡◌, ◌++◌, ◌<◌, ◌≤◌, ◌^◌, map, IfOk, IfSome, IfNone};
 ghost use Rattle.rv_object.specs.Sections.{section_of};
 ghost use Rattle.rv_object.specs.View.{object_of};
-ghost use Rattle.rv_object_laws.specs.Calls as laws;
+ghost use Rattle.rv_object_laws.specs.CallSites as laws;
 ghost use Rattle.rv_link_sites.specs.Line as walk;
 
 use rv_object::{Object, Section};

@@ -6,7 +6,7 @@ ghost use Rattle.rv_object.specs.Object.{Object as SaidObject};
 ghost use Rattle.rv_object.specs.Parts.{relocation_of};
 ghost use Rattle.rv_object.specs.View.{object_of};
 ghost use Rattle.rv_object_laws.specs.Inputs.{InputSection};
-ghost use Rattle.rv_object_laws.specs.Calls.{is_in_section, is_short_text, target_place};
+ghost use Rattle.rv_object_laws.specs.CallSites.{is_in_section, is_short_text, target_place};
 ghost use Rattle.rv_object_laws.specs.Names.{symbol_place};
 ghost use Rattle.rv_placement.specs.Placement.{section_at};
 ghost use Rattle.rv_resolve.specs.Names.{IsNames, place_of};

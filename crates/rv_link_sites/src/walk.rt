@@ -5,7 +5,7 @@ ghost use Rattle.std.specs.List.{slice_get};
 ghost use Rattle.rv_layout_laws.specs.Calls.{IsText, site_at};
 ghost use Rattle.rv_object.specs.Object.{Section};
 ghost use Rattle.rv_object.specs.View.{object_of};
-ghost use Rattle.rv_object_laws.specs.Calls.{is_short_text, sites_of};
+ghost use Rattle.rv_object_laws.specs.CallSites.{is_short_text, sites_of};
 ghost use Rattle.rv_object_laws.specs.Within.{IsWithin};
 ghost use Rattle.rv_relax.specs.Plan.{placed_sites, placed_starts};
 ghost use Rattle.rv_resolve.specs.Names.{IsNames};

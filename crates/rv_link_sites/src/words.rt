@@ -1,33 +1,45 @@
 //! The words of a call.
 
 ghost use Rattle.std.specs.Prelude.{◌≡◌, ◌+◌, ◌≤◌, length};
-ghost use Rattle.rv_object_laws.specs.Calls as laws;
+ghost use Rattle.rv_object_laws.specs.CallSites as laws;
+ghost use Rattle.rv_link_sites.specs.Spelled as spelled;
 
-/// The four bytes at a place.
-fn word_at(bytes: &[u8], place: usize) -> u32
-    requires { place + 4 ≤ length bytes.now }
-    ensures { result ≡ laws.word_at bytes.now place }
+use rv_encode::decode;
+use rv_isa::Inst;
+use rv_shorten::word_at;
+
+/// Whether an instruction is an `auipc`.
+fn is_auipc(inst: &Inst) -> bool
+    ensures { result ≡ spelled.is_auipc inst.now }
 {
-    u32::from_le_bytes([
-        bytes[place],
-        bytes[place + 1],
-        bytes[place + 2],
-        bytes[place + 3],
-    ])
+    matches!(inst, Inst::Auipc(_))
 }
 
-/// Whether a word is an `auipc`.
-fn is_auipc(word: u32) -> bool
+/// Whether an instruction is a `jalr`.
+fn is_jalr(inst: &Inst) -> bool
+    ensures { result ≡ spelled.is_jalr inst.now }
+{
+    matches!(inst, Inst::Jalr(_))
+}
+
+/// Whether a word spells an `auipc`.
+fn spells_auipc(word: u32) -> bool
     ensures { result ≡ laws.is_auipc word }
 {
-    word % 128 == 0x17
+    match decode(word) {
+        Some(inst) => is_auipc(&inst),
+        None => false,
+    }
 }
 
-/// Whether a word is a `jalr`.
-fn is_jalr(word: u32) -> bool
+/// Whether a word spells a `jalr`.
+fn spells_jalr(word: u32) -> bool
     ensures { result ≡ laws.is_jalr word }
 {
-    word % 128 == 0x67 && word / (1 << 12) % 8 == 0
+    match decode(word) {
+        Some(inst) => is_jalr(&inst),
+        None => false,
+    }
 }
 
 /// The register that a word links or writes.
@@ -51,13 +63,5 @@ pub(crate) fn are_call_words(bytes: &[u8], place: usize) -> bool
 {
     let first = word_at(bytes, place);
     let second = word_at(bytes, place + 4);
-    place % 2 == 0 && is_auipc(first) && is_jalr(second) && rs1(second) == rd(first)
-}
-
-/// The register that the call at a place links.
-pub(crate) fn link_register(bytes: &[u8], place: usize) -> u32
-    requires { place + 8 ≤ length bytes.now }
-    ensures { result ≡ laws.link_register bytes.now place }
-{
-    rd(word_at(bytes, place + 4))
+    place % 2 == 0 && spells_auipc(first) && spells_jalr(second) && rs1(second) == rd(first)
 }

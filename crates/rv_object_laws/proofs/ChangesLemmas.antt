@@ -11,7 +11,7 @@ use Rattle.rv_object.specs.Object.{Relocation, Contents, size_of, stored}
 use Rattle.rv_object.specs.Valid.{is_align, is_padding, is_padding_of, padding_of, held, fits_inside, are_apart, are_all_apart}
 use Rattle.rv_object_laws.specs.Moves.{full_padding, has_padding}
 use Rattle.rv_object_laws.specs.Inputs.{InputSection}
-use Rattle.rv_object_laws.specs.Calls.{is_call, has_relax, are_call_words, is_text_place, target_place, is_entered, meets, is_permitted, may_change, inserted_change, in_order}
+use Rattle.rv_object_laws.specs.CallSites.{is_call, has_relax, are_call_words, is_text_place, target_place, is_entered, meets, is_permitted, may_change, inserted_change, in_order}
 use Rattle.rv_object.specs.Object as objects
 
 -- ---- a permitted call

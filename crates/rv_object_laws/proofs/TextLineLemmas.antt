@@ -18,7 +18,7 @@ use Rattle.rv_object.specs.View.{object_of}
 use Rattle.rv_object_laws.specs.Moves.{full_padding, has_padding, alignment_of}
 use Rattle.rv_object_laws.specs.Inputs.{InputSection, goes_to_text, inputs_from, inputs_of, inputs}
 use Rattle.rv_object_laws.specs.Names.{Place, no_object, object_at}
-use Rattle.rv_object_laws.specs.Calls.{is_in_section, is_text_place, target_place, is_entered, may_change, changes, start_padding, base_in, base, text_offset, call_site, site_of, sites_from, sites_of, length_of}
+use Rattle.rv_object_laws.specs.CallSites.{is_in_section, is_text_place, target_place, is_entered, may_change, changes, start_padding, base_in, base, text_offset, call_site, site_of, sites_from, sites_of, length_of}
 use Rattle.rv_object_laws.specs.Within.{LeadsWithin, IsWithin}
 use Rattle.rv_object_laws.proofs.ChangesLemmas.{IsPermitted, IsChange, Stand, held_full, held_call, change, all_ordered, all_filtered, changes_stand}
 use Rattle.rv_object_laws.proofs.TextInputsLemmas.{IsTextInput, all_append, text_inputs}

@@ -9,7 +9,7 @@ use Rattle.rv_object.specs.declared.symbol.Definition.TheVariants as definitions
 use Rattle.rv_object.specs.Object.{Symbol, Object, Relocation}
 use Rattle.rv_object_laws.specs.Inputs.{InputSection}
 use Rattle.rv_object_laws.specs.Names.{is_defined, is_exported, exported, Place, place_in, global_place, symbol_place, no_object, object_at}
-use Rattle.rv_object_laws.specs.Calls.{is_inside, is_entered, target_place}
+use Rattle.rv_object_laws.specs.CallSites.{is_inside, is_entered, target_place}
 
 -- a definition names a place of a section
 abbrev pub names_at : (index offset : ℕ) → Definition → Bool

@@ -4,6 +4,6 @@ pub mod Names
 pub mod Values
 pub mod IsLinkOf
 pub mod Rising
-pub mod Calls
+pub mod CallSites
 pub mod Shortened
 pub mod Within

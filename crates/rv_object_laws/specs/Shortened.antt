@@ -1,12 +1,16 @@
 -- Objects with their calls shortened (RISC-V ELF psABI, "Linker Relaxation", function call
 -- relaxation; Unprivileged ISA, "Unconditional Jumps" and "C.J").
 
-use Rattle.std.specs.Prelude.{◌≡◌, ℕ, suc, ◌+◌, ◌-◌, ◌*◌, ◌^◌, ◌==◌, Bool, true, false, ◌&&◌, nat_lt, List, [], ◌∷◌, filter, map, Option, Some, None, if◌then◌else◌}
+use Rattle.std.specs.Prelude.{◌≡◌, ℕ, suc, pos, ◌+◌, ◌-◌, ◌==◌, Bool, true, false, ◌&&◌, nat_lt, List, [], ◌∷◌, filter, map, Option, Some, None, if◌then◌else◌}
 use Rattle.std.specs.List.{slice_get}
 use Rattle.rv_layout_laws.specs.Sites.{size_at}
 use Rattle.rv_isa.specs.declared.kind.Kind.{Kind}
 use Rattle.rv_isa.specs.declared.kind.Kind.TheVariants as kinds
+use Rattle.rv_isa.specs.declared.instruction.Inst.TheVariants as isa
 use Rattle.rv_isa_laws.specs.Bytes.{little_endian}
+use Rattle.rv_encode.specs.Word.{form, word}
+use Rattle.rv_compress.specs.declared.form.Compressed.TheVariants as compressed
+use Rattle.rv_compress.specs.Parcel.{parcel}
 use Rattle.rv_layout_laws.specs.declared.site.Site.{Site}
 use Rattle.rv_layout_laws.specs.Calls.{IsGreatestClosed, is_call as is_call_site}
 use Rattle.rv_image.specs.Linked.{Linked}
@@ -16,7 +20,7 @@ use Rattle.rv_object.specs.declared.row.Row.{Row}
 use Rattle.rv_object.specs.Object.{Contents, Progbits, Note, Nobits, Relocation, Section, Symbol, Object, stored}
 use Rattle.rv_object_laws.specs.Moves.{Move, new_offset, kept, lost}
 use Rattle.rv_object_laws.specs.Inputs.{goes_to_text}
-use Rattle.rv_object_laws.specs.Calls.{is_call, link_register, in_order, base, sites_of, is_short_text}
+use Rattle.rv_object_laws.specs.CallSites.{is_call, link_register, in_order, base, sites_of, is_short_text}
 use Rattle.rv_object_laws.specs.IsLinkOf.{IsLinkOf}
 
 -- the bytes of the call at each place of a section
@@ -30,9 +34,15 @@ sizes_by os kept file index place = size_at (sites_of os) kept (base os file ind
 -- ---- what is left of a call
 
 -- `c.j`, or `jal` that links a register, with an empty field
+abbrev pub empty_jump : ℕ
+empty_jump = parcel (compressed.J (pos 0))
+
+abbrev pub empty_jal : (link : ℕ) → ℕ
+empty_jal link = word (form (isa.Jal (record { rd = link; offset = pos 0 })))
+
 abbrev pub short_call : (bytes link : ℕ) → List ℕ
 short_call bytes link =
-    if bytes == 2 then little_endian 2 0xa001 else little_endian 4 (0x6f + link * 2 ^ 7)
+    if bytes == 2 then little_endian 2 empty_jump else little_endian 4 (empty_jal link)
 
 abbrev pub is_shortened : Sizes → Relocation → Bool
 is_shortened sizes r = is_call r.kind && nat_lt (sizes r.place) 8

@@ -6,7 +6,7 @@ ghost use Rattle.rv_object.specs.Object.{Section};
 ghost use Rattle.rv_object.specs.View.{object_of};
 ghost use Rattle.rv_object.specs.declared.object.Object.{Object as AnyObject};
 ghost use Rattle.rv_object.specs.declared.row.Row.{Row};
-ghost use Rattle.rv_object_laws.specs.Calls.{length_of, sites_of};
+ghost use Rattle.rv_object_laws.specs.CallSites.{length_of, sites_of};
 ghost use Rattle.rv_object_laws.specs.Inputs.{goes_to_text, inputs};
 ghost use Rattle.rv_object_laws.specs.IsLinkOf.{by_ordinal};
 ghost use Rattle.rv_object_laws.specs.Moves.{alignments_of, kept, moves, new_offset};

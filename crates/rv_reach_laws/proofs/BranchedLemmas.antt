@@ -21,7 +21,7 @@ use Rattle.rv_object_laws.specs.Moves.{Move, moves, new_offset}
 use Rattle.rv_object_laws.specs.Inputs.{InputSection, goes_to_text, inputs}
 use Rattle.rv_object_laws.specs.Names.{offset_address, symbol_address}
 use Rattle.rv_object_laws.specs.Values.{target}
-use Rattle.rv_object_laws.specs.Calls.{is_call, sites_of, is_short_text}
+use Rattle.rv_object_laws.specs.CallSites.{is_call, sites_of, is_short_text}
 use Rattle.rv_object_laws.specs.Shortened.{sizes_by, cuts, shortened_kind, shortened_symbol, shortened_relocation, shortened_object, shortened, IsRelaxed}
 use Rattle.rv_object_laws.proofs.TextInputsLemmas.{IsTextInput, text_inputs}
 use Rattle.rv_placement.specs.declared.placement.Placement.{Placement}

@@ -14,7 +14,7 @@ use Rattle.rv_layout_laws.specs.Calls.{Offers, bytes_of, site_at, dropped_of, In
 use Rattle.rv_object.specs.Object.{Relocation, Section, Object, size_of, stored}
 use Rattle.rv_object_laws.specs.Moves.{Move, dropped}
 use Rattle.rv_object_laws.specs.Inputs.{InputSection, begins_at}
-use Rattle.rv_object_laws.specs.Calls.{changes, site_of, sites_from, sites_of, start_padding, base, base_in, link_register}
+use Rattle.rv_object_laws.specs.CallSites.{changes, site_of, sites_from, sites_of, start_padding, base, base_in, link_register}
 use Rattle.rv_object_laws.specs.Shortened.{Sizes, sizes_by, short_call, cut, cuts}
 use Rattle.rv_object_laws.proofs.TextInputsLemmas.{IsTextInput}
 use Rattle.rv_shorten.specs.Cutting.{In, are_cuts, AreCuts}

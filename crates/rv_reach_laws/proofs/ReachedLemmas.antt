@@ -25,7 +25,7 @@ use Rattle.rv_object_laws.specs.Moves.{dropped, moves, new_offset, has_padding}
 use Rattle.rv_object_laws.specs.Inputs.{Starts, InputSection, goes_to_text, inputs, Stand}
 use Rattle.rv_object_laws.specs.Names.{Place, shown_linker_symbols}
 use Rattle.rv_object_laws.specs.Values.{target}
-use Rattle.rv_object_laws.specs.Calls.{is_call, start_padding, base, text_offset, target_place, is_text_place, is_permitted, may_change, changes, call_site, site_of, sites_of, is_short_text}
+use Rattle.rv_object_laws.specs.CallSites.{is_call, start_padding, base, text_offset, target_place, is_text_place, is_permitted, may_change, changes, call_site, site_of, sites_of, is_short_text}
 use Rattle.rv_object_laws.specs.Shortened.{Sizes, sizes_by, is_shortened, cuts, shortened_kind, shortened_relocation, shortened_text, shortened, IsRelaxed}
 use Rattle.rv_object_laws.proofs.ChangesLemmas as permitted
 use Rattle.rv_object_laws.proofs.TextInputsLemmas.{IsTextInput, text_inputs}

@@ -16,7 +16,7 @@ use Rattle.rv_object.specs.Object.{Relocation, Section, Object, size_of}
 use Rattle.rv_object.specs.Valid.{is_align}
 use Rattle.rv_object_laws.specs.Moves.{Move, dropped, new_offset, full_padding, has_padding, alignment_of, inserted, by_place, alignments_of, moves}
 use Rattle.rv_object_laws.specs.Inputs.{Starts, InputSection, goes_to_text, inputs_from, inputs_of, raised, begins_at, start_of, size, Stand}
-use Rattle.rv_object_laws.specs.Calls.{is_call, start_padding, base, sites_of}
+use Rattle.rv_object_laws.specs.CallSites.{is_call, start_padding, base, sites_of}
 use Rattle.rv_object_laws.specs.Shortened.{Sizes, sizes_by, is_shortened, cuts, shortened_kind, shortened_relocation, shortened_text, shortened_section, shortened_sections, shortened_object, shortened_from}
 use Rattle.rv_placement.proofs.WalksLemmas.{above}
 use Rattle.rv_shorten.proofs.CallKindsLemmas.{call_no_align}

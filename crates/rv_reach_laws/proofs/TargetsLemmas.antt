@@ -15,7 +15,7 @@ use Rattle.rv_object_laws.specs.Moves.{moves, new_offset}
 use Rattle.rv_object_laws.specs.Inputs.{Starts, InputSection, goes_to_text, inputs_from, inputs_of, inputs}
 use Rattle.rv_object_laws.specs.Names.{offset_address, defined_address, symbol_address, is_defined, is_global, is_exported, exported, globals_of, Place, place_in, global_place, symbol_place, no_object, object_at}
 use Rattle.rv_object_laws.specs.Values.{target}
-use Rattle.rv_object_laws.specs.Calls.{target_place, is_in_section, is_text_place}
+use Rattle.rv_object_laws.specs.CallSites.{target_place, is_in_section, is_text_place}
 use Rattle.rv_object_laws.specs.Shortened.{Sizes, sizes_by, cuts, cuts_at, cuts_in, shortened_text, shortened_section, shortened_sections, shortened_definition, shortened_symbol, shortened_object, shortened_from}
 
 -- ---- which section of the text a place is in

@@ -12,7 +12,7 @@ use Rattle.rv_object.specs.declared.object.Object.{Object as DeclaredObject}
 use Rattle.rv_object.specs.Object.{Relocation, Object}
 use Rattle.rv_object.specs.View.{object_of}
 use Rattle.rv_object_laws.specs.Inputs.{InputSection, goes_to_text, inputs}
-use Rattle.rv_object_laws.specs.Calls.{is_call}
+use Rattle.rv_object_laws.specs.CallSites.{is_call}
 use Rattle.rv_object_laws.specs.Shortened.{Relaxes}
 use Rattle.rv_placement.specs.declared.placement.Placement.{Placement}
 use Rattle.rv_placement.specs.Placement.{IsPlacement}

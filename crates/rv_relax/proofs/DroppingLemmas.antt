@@ -10,7 +10,8 @@ use Rattle.rv_layout_laws.specs.declared.site.SiteKind.TheVariants.{Call, Paddin
 use Rattle.rv_layout_laws.specs.Offsets.{offset}
 use Rattle.rv_layout_laws.specs.Calls.{bytes_of, Offers, is_call, site_at, dropped_of, dropped, calls, whole_sizes, IsFamily, InOrder, IsOutside}
 use Rattle.rv_layout_laws.proofs.ShorteningLemmas.{IsOpen, offers_most, before_all}
-use Rattle.rv_relax.specs.Passes.{IsPlace, drops, end_of, rest}
+use Rattle.rv_shorten.specs.Walk.{site_end}
+use Rattle.rv_relax.specs.Passes.{IsPlace, drops, rest}
 
 -- what the code has past the end of a text
 abbrev pub zeros_site : Site
@@ -66,7 +67,7 @@ own_low : (kind : SiteKind) (k : ℕ) → Offers kind k → 4 * (bytes_of kind -
 own_low (Call call) k h = ⊎_elim (λ a. omega arith) (λ b. ⊎_elim (λ c. omega arith) (λ d. let e : k ≡ 2 = d.0 in omega arith) b) h
 own_low (Padding padding) k h = omega arith
 
-sums_low : (from top : ℕ) (sites : List Site) (kept : List ℕ) → InOrder from sites → ((i : ℕ) → i < length sites → end_of (site_at sites i) ≤ top)
+sums_low : (from top : ℕ) (sites : List Site) (kept : List ℕ) → InOrder from sites → ((i : ℕ) → i < length sites → site_end (site_at sites i) ≤ top)
     → ((i : ℕ) → Offers (site_at sites i).kind (slice_index kept i)) → from ≤ top → 3 * from + 4 * sum (drops sites kept) ≤ 3 * top
 sums_low from top [] kept order ends offered low = omega arith
 sums_low from top (site ∷ sites) [] order ends offered low = omega arith
@@ -79,7 +80,7 @@ sums_low from top (site ∷ sites) (k ∷ kept) order ends offered low =
     omega arith
 
 -- at most three quarters of a text are dropped
-pub sum_low : (top : ℕ) (sites : List Site) (kept : List ℕ) → InOrder 0 sites → ((i : ℕ) → end_of (site_at sites i) ≤ top) → IsFamily sites kept → 4 * sum (drops sites kept) ≤ 3 * top
+pub sum_low : (top : ℕ) (sites : List Site) (kept : List ℕ) → InOrder 0 sites → ((i : ℕ) → site_end (site_at sites i) ≤ top) → IsFamily sites kept → 4 * sum (drops sites kept) ≤ 3 * top
 sum_low top sites kept order ends f = let h : 3 * 0 + 4 * sum (drops sites kept) ≤ 3 * top = sums_low 0 top sites kept order (λ i lt. ends i) f.offered (omega arith) in omega arith
 
 length_low : (sites : List Site) (kept : List ℕ) → length (drops sites kept) ≤ length sites
@@ -107,7 +108,7 @@ none_at_first sites j =
     omega arith
 
 -- each call has 8 bytes of the text
-calls_from : (from top : ℕ) (sites : List Site) → InOrder from sites → ((i : ℕ) → end_of (site_at sites i) ≤ top) → from ≤ top → from + 8 * calls sites ≤ top
+calls_from : (from top : ℕ) (sites : List Site) → InOrder from sites → ((i : ℕ) → site_end (site_at sites i) ≤ top) → from ≤ top → from + 8 * calls sites ≤ top
 calls_from from top [] order ends low = omega arith
 calls_from from top (site ∷ sites) order ends low =
     let first : from ≤ site.offset = order.0 in
@@ -120,13 +121,13 @@ calls_from from top (site ∷ sites) order ends low =
     has_eight (Call call) = omega arith
     has_eight (Padding padding) = omega arith
 
-pub calls_few : (top : ℕ) (sites : List Site) → InOrder 0 sites → ((i : ℕ) → end_of (site_at sites i) ≤ top) → 8 * calls sites ≤ top
+pub calls_few : (top : ℕ) (sites : List Site) → InOrder 0 sites → ((i : ℕ) → site_end (site_at sites i) ≤ top) → 8 * calls sites ≤ top
 calls_few top sites order ends = let h : 0 + 8 * calls sites ≤ top = calls_from 0 top sites order ends (omega arith) in omega arith
 
 -- ---- what is dropped before an offset
 
 -- a site before another ends where that begins or before
-pub later : (sites : List Site) (from : ℕ) → InOrder from sites → (i j : ℕ) → i < j → j < length sites → end_of (site_at sites i) ≤ (site_at sites j).offset
+pub later : (sites : List Site) (from : ℕ) → InOrder from sites → (i j : ℕ) → i < j → j < length sites → site_end (site_at sites i) ≤ (site_at sites j).offset
 later [] from order i j before within = absurd (omega arith)
 later (site ∷ sites) from order i zero before within = absurd (omega arith)
 later (site ∷ sites) from order zero (suc j) before within = before_all sites (site.offset + bytes_of site.kind) order.1 j (omega arith)
@@ -146,7 +147,7 @@ no_offset (suc n) = refl
 
 -- the sites that have ended drop all they can, and of the others the next alone may drop some
 pub dropped_is : (sites : List Site) (kept : List ℕ) (old n : ℕ) → length kept ≡ length sites
-    → ((j : ℕ) → j < n → j < length sites → end_of (site_at sites j) ≤ old) → ((j : ℕ) → n < j → j < length sites → old ≤ (site_at sites j).offset)
+    → ((j : ℕ) → j < n → j < length sites → site_end (site_at sites j) ≤ old) → ((j : ℕ) → n < j → j < length sites → old ≤ (site_at sites j).offset)
     → dropped sites kept old ≡ offset (drops sites kept) n + dropped_of (site_at sites n) (slice_index kept n) old
 dropped_is [] [] old n same before after = let none : offset [] n ≡ 0 = no_offset n in omega arith
 dropped_is (site ∷ sites) [] old n same before after = absurd (omega arith)
@@ -172,7 +173,7 @@ pub dropped_before_site : (sites : List Site) (kept : List ℕ) (i : ℕ) → In
 dropped_before_site sites kept i order same within =
     let is : dropped sites kept (site_at sites i).offset ≡ offset (drops sites kept) i + dropped_of (site_at sites i) (slice_index kept i) (site_at sites i).offset =
     dropped_is sites kept (site_at sites i).offset i same (λ j before there. later sites 0 order j i before within)
-    (λ j after there. let next : end_of (site_at sites i) ≤ (site_at sites j).offset = later sites 0 order i j after there in omega arith) in
+    (λ j after there. let next : site_end (site_at sites i) ≤ (site_at sites j).offset = later sites 0 order i j after there in omega arith) in
     omega arith
 
 -- before any offset
@@ -181,8 +182,8 @@ pub dropped_at : (sites : List Site) (kept : List ℕ) (old n : ℕ) → InOrder
 dropped_at sites kept old n order same place =
     dropped_is sites kept old n same (λ j before there. place.before j before)
     (λ j after there.
-    let next : end_of (site_at sites n) ≤ (site_at sites j).offset = later sites 0 order n j after there in
-    let here : old < end_of (site_at sites n) = place.after n (omega arith) (omega arith) in
+    let next : site_end (site_at sites n) ≤ (site_at sites j).offset = later sites 0 order n j after there in
+    let here : old < site_end (site_at sites n) = place.after n (omega arith) (omega arith) in
     omega arith)
 
 pub past_drops : (sites : List Site) (n k old : ℕ) → length sites ≤ n → dropped_of (site_at sites n) k old ≡ 0

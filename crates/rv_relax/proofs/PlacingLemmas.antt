@@ -1,12 +1,13 @@
 -- What `Placed` holds of its sites is what a pass asks of them.
 
 use Rattle.std.proofs.Common.{◌≡◌, ◌⊎◌, inl, inr, ⊎_elim, ℕ, ◌^◌, nat_le, Bool, true, false, not, ◌||◌, IsTrue, List, [], ◌∷◌, refl}
-use Rattle.std.proofs.lemmas.Bool.{leb-true, le-leb, and_parts, and_from}
+use Rattle.std.proofs.lemmas.Bool.{leb-true, le-leb, and_parts, and_from, or_left, or_right}
 use Rattle.rv_layout_laws.specs.declared.site.Site.{Site}
 use Rattle.rv_layout_laws.specs.declared.site.SiteKind.{SiteKind}
 use Rattle.rv_layout_laws.specs.declared.site.SiteKind.TheVariants.{Call, Padding}
 use Rattle.rv_layout_laws.specs.Calls.{is_call, site_at, InOrder, IsOutside, LeadsOutside}
-use Rattle.rv_relax.specs.Passes.{IsInput, LeadsLow, end_of}
+use Rattle.rv_shorten.specs.Walk.{site_end}
+use Rattle.rv_relax.specs.Passes.{IsInput, LeadsLow}
 use Rattle.rv_relax.specs.Placed.{ArePlaced, are_in_line, is_aligning, is_outside, leads_low, leads_outside}
 
 -- ---- what is tested stands
@@ -14,21 +15,13 @@ use Rattle.rv_relax.specs.Placed.{ArePlaced, are_in_line, is_aligning, is_outsid
 line_from : (from : ℕ) (sites : List Site) → InOrder from sites → are_in_line from sites ≡ true
 line_from from [] order = refl
 line_from from (site ∷ sites) order =
-    and_from (nat_le from site.offset) (are_in_line (end_of site) sites) (le-leb from site.offset order.0) (line_from (end_of site) sites order.1)
+    and_from (nat_le from site.offset) (are_in_line (site_end site) sites) (le-leb from site.offset order.0) (line_from (site_end site) sites order.1)
 
 order_from : (from : ℕ) (sites : List Site) → are_in_line from sites ≡ true → InOrder from sites
 order_from from [] h = tt
 order_from from (site ∷ sites) h =
-    let both = and_parts (nat_le from site.offset) (are_in_line (end_of site) sites) h in
-    (leb-true from site.offset both.0, order_from (end_of site) sites both.1)
-
-or_left : (a b : Bool) → a ≡ true → (a || b) ≡ true
-or_left true b h = refl
-or_left false b h = absurd (cc)
-
-or_right : (a b : Bool) → b ≡ true → (a || b) ≡ true
-or_right true b h = refl
-or_right false b h = h
+    let both = and_parts (nat_le from site.offset) (are_in_line (site_end site) sites) h in
+    (leb-true from site.offset both.0, order_from (site_end site) sites both.1)
 
 or_parts : (a b : Bool) → (a || b) ≡ true → (a ≡ true) ⊎ (b ≡ true)
 or_parts true b h = inl refl
@@ -39,14 +32,14 @@ told : (old : ℕ) (site : Site) (b : Bool) → (IsTrue b → IsOutside old site
 told old site false h = refl
 told old site true h =
     ⊎_elim
-    (λ before. or_left (nat_le old site.offset) (nat_le (end_of site) old) (le-leb old site.offset before))
-    (λ after. or_right (nat_le old site.offset) (nat_le (end_of site) old) (le-leb (end_of site) old after)) (h refl)
+    (λ before. or_left (nat_le old site.offset) (nat_le (site_end site) old) (le-leb old site.offset before))
+    (λ after. or_right (nat_le old site.offset) (nat_le (site_end site) old) (le-leb (site_end site) old after)) (h refl)
 
 meant : (old : ℕ) (site : Site) (b : Bool) → (not b || is_outside old site) ≡ true → IsTrue b → IsOutside old site
 meant old site false h call = absurd (cc)
 meant old site true h call =
-    ⊎_elim (λ before. inl (leb-true old site.offset before)) (λ after. inr (leb-true (end_of site) old after))
-    (or_parts (nat_le old site.offset) (nat_le (end_of site) old) h)
+    ⊎_elim (λ before. inl (leb-true old site.offset before)) (λ after. inr (leb-true (site_end site) old after))
+    (or_parts (nat_le old site.offset) (nat_le (site_end site) old) h)
 
 outside_from : (kind : SiteKind) (site : Site) → LeadsOutside kind site → leads_outside kind site ≡ true
 outside_from (Call call) site h = told call.target site (is_call site.kind) h

@@ -13,7 +13,8 @@ use Rattle.rv_layout_laws.proofs.ReachingLemmas.{offset_more}
 use Rattle.rv_layout_laws.proofs.WideningLemmas.{set_holds}
 use Rattle.rv_layout_laws.proofs.DroppingLemmas.{dropped_most}
 use Rattle.rv_layout_laws.proofs.ShorteningLemmas.{IsOpen, whole_family}
-use Rattle.rv_relax.specs.Passes.{IsInput, IsPlace, IsTable, LeadsLow, drops, end_of, rest}
+use Rattle.rv_shorten.specs.Walk.{site_end}
+use Rattle.rv_relax.specs.Passes.{IsInput, IsPlace, IsTable, LeadsLow, drops, rest}
 use Rattle.rv_relax.proofs.DroppingLemmas.{take_kept, drop_kept, drop_at, rest_more, parts, sum_low, none_at_first, dropped_before_site, dropped_outside}
 
 -- at first nothing is dropped
@@ -55,7 +56,7 @@ pub target_low : (sites : List Site) (i : ℕ) (call : CallSite) → IsInput sit
 target_low sites i call input is = subst LeadsLow is (input.targets i)
 
 pub site_low : (sites : List Site) (i : ℕ) → IsInput sites → (site_at sites i).offset ≤ 2 ^ 62
-site_low sites i input = let low : end_of (site_at sites i) ≤ 2 ^ 62 = input.ends i in omega arith
+site_low sites i input = let low : site_end (site_at sites i) ≤ 2 ^ 62 = input.ends i in omega arith
 
 -- ---- one step
 

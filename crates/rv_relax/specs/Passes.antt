@@ -8,12 +8,9 @@ use Rattle.rv_layout_laws.specs.declared.site.SiteKind.{SiteKind}
 use Rattle.rv_layout_laws.specs.declared.site.SiteKind.TheVariants.{Call, Padding}
 use Rattle.rv_layout_laws.specs.Offsets.{offset, Reaches}
 use Rattle.rv_layout_laws.specs.Calls.{bytes_of, Offers, half, site_at, IsFamily, IsText, MayShorten}
+use Rattle.rv_shorten.specs.Walk.{site_end}
 
 -- ---- sites
-
--- the offset of the byte after a site
-abbrev pub end_of : Site → ℕ
-end_of site = site.offset + bytes_of site.kind
 
 abbrev pub LeadsLow : SiteKind → Type 0
 LeadsLow (Call call) = call.target ≤ 2 ^ 62
@@ -22,14 +19,14 @@ LeadsLow (Padding padding) = ⊤
 -- the sites of a text of at most 2 ^ 62 bytes
 pub record IsInput (sites : List Site) : Type 0 where
   pub text : IsText sites
-  pub ends : (i : ℕ) → end_of (site_at sites i) ≤ 2 ^ 62
+  pub ends : (i : ℕ) → site_end (site_at sites i) ≤ 2 ^ 62
   pub targets : (i : ℕ) → LeadsLow (site_at sites i).kind
 
 -- so many sites end at an offset or before it
 pub record IsPlace (sites : List Site) (old count : ℕ) : Type 0 where
   pub within : count ≤ length sites
-  pub before : (j : ℕ) → j < count → end_of (site_at sites j) ≤ old
-  pub after : (j : ℕ) → count ≤ j → j < length sites → old < end_of (site_at sites j)
+  pub before : (j : ℕ) → j < count → site_end (site_at sites j) ≤ old
+  pub after : (j : ℕ) → count ≤ j → j < length sites → old < site_end (site_at sites j)
 
 -- and at a call's target
 abbrev pub LeadsTo : List Site → SiteKind → ℕ → Type 0
@@ -69,7 +66,7 @@ are_laid stop [] (k ∷ kept) = false
 are_laid stop (site ∷ sites) [] = false
 are_laid stop (site ∷ sites) (k ∷ kept) =
     nat_le stop site.offset
-    && (nat_le k (bytes_of site.kind) && are_laid (end_of site) sites kept)
+    && (nat_le k (bytes_of site.kind) && are_laid (site_end site) sites kept)
 
 -- ---- a pass
 

@@ -1,20 +1,20 @@
 -- The sites of a text, as `Placed` has them: what `IsInput` says, site by site, as tests.
 
 use Rattle.std.specs.Prelude.{◌≡◌, ℕ, ◌^◌, ◌≤◌, Bool, true, not, ◌&&◌, ◌||◌, nat_le, nat_lt, List, [], ◌∷◌}
+use Rattle.rv_shorten.specs.Walk.{site_end}
 use Rattle.rv_layout_laws.specs.declared.site.Site.{Site}
 use Rattle.rv_layout_laws.specs.declared.site.SiteKind.{SiteKind}
 use Rattle.rv_layout_laws.specs.declared.site.SiteKind.TheVariants.{Call, Padding}
 use Rattle.rv_layout_laws.specs.Calls.{is_call, site_at}
-use Rattle.rv_relax.specs.Passes.{end_of}
 
 -- no site begins before the end of the one before, nor the first before an offset
 abbrev pub are_in_line : ℕ → List Site → Bool
 are_in_line from [] = true
-are_in_line from (site ∷ sites) = nat_le from site.offset && are_in_line (end_of site) sites
+are_in_line from (site ∷ sites) = nat_le from site.offset && are_in_line (site_end site) sites
 
 -- an offset is at the start or the end of a site, or outside
 abbrev pub is_outside : ℕ → Site → Bool
-is_outside old site = nat_le old site.offset || nat_le (end_of site) old
+is_outside old site = nat_le old site.offset || nat_le (site_end site) old
 
 -- a call's target is not strictly inside another call
 abbrev pub leads_outside : SiteKind → Site → Bool
@@ -34,6 +34,6 @@ is_aligning (Padding padding) = nat_lt 0 padding.alignment
 pub record ArePlaced (sites : List Site) : Type 0 where
   pub in_line : are_in_line 0 sites ≡ true
   pub outside : (i j : ℕ) → leads_outside (site_at sites i).kind (site_at sites j) ≡ true
-  pub ends : (i : ℕ) → end_of (site_at sites i) ≤ 2 ^ 62
+  pub ends : (i : ℕ) → site_end (site_at sites i) ≤ 2 ^ 62
   pub targets : (i : ℕ) → leads_low (site_at sites i).kind ≡ true
   pub aligning : (i : ℕ) → is_aligning (site_at sites i).kind ≡ true

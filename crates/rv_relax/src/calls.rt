@@ -1,4 +1,7 @@
 //! How much is kept of each call and of each alignment of a text.
+//!
+//! First the passes find the sizes of calls, with each padding in full: then a shortened call reaches, whatever paddings become.
+//! After that one pass lays the text out, with the least padding of each alignment.
 
 ghost use Rattle.std.specs.Prelude.{◌≡◌, true, ◌+◌, ◌*◌, ◌<◌, ◌≤◌, ◌++◌, [], ◌∷◌, length, slice_index, IfOk, OnOk, IsTrue, if◌then◌else◌};
 ghost use Rattle.rv_layout_laws.specs.Calls.{calls, is_call as is_call_site, new_offset as offset_of, whole_sizes};

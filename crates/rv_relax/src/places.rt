@@ -2,7 +2,8 @@
 
 ghost use Rattle.std.specs.Prelude.{◌≡◌, ◌+◌, ◌-◌, nat_le, length, map, IfOk};
 ghost use Rattle.rv_layout_laws.specs.Calls.{InOrder, bytes_of, is_call as is_call_site, whole_sizes};
-ghost use Rattle.rv_relax.specs.Passes.{AreTargets, IsPlace, LeadsTo, end_of};
+ghost use Rattle.rv_shorten.specs.Walk.{site_end};
+ghost use Rattle.rv_relax.specs.Passes.{AreTargets, IsPlace, LeadsTo};
 
 use rv_layout_laws::{Site, SiteKind};
 use std::alloc::{AllocError, Global};
@@ -33,7 +34,7 @@ pub(crate) fn dropped_bytes(kind: &SiteKind, kept: u32) -> u32
 
 /// Whether a site ends at an offset or before it.
 fn ends_by(site: &Site, old: u64) -> bool
-    ensures { result ≡ nat_le (end_of site.now) old }
+    ensures { result ≡ nat_le (site_end site.now) old }
 {
     if old < site.offset {
         return false;
@@ -48,7 +49,7 @@ pub(crate) fn place_of(sites: &[Site], old: u64) -> usize
 {
     sites.partition_point(
         |site: &Site| -> bool
-            ensures { result ≡ nat_le (end_of site.now) old }
+            ensures { result ≡ nat_le (site_end site.now) old }
         { ends_by(site, old) },
     )
 }

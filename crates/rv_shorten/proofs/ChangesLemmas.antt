@@ -13,8 +13,8 @@ use Rattle.rv_object.specs.Object.{Contents, Progbits, Note, Nobits, Relocation,
 use Rattle.rv_object.specs.Valid.{fits_inside, fit_inside, is_align, padding_of, is_padding_of, is_padding, are_all_apart, are_paddings}
 use Rattle.rv_object_laws.specs.Moves.{Move, full_padding, has_padding, alignment_of}
 use Rattle.rv_object_laws.specs.Inputs.{InputSection, goes_to_text}
-use Rattle.rv_object_laws.specs.Calls.{is_call, meets, has_relax, are_call_words, is_auipc, is_jalr, rs1, rd, word_at, is_text_place, target_place, is_entered, is_permitted, may_change, call_site, site_of, link_register}
-use Rattle.rv_object_laws.specs.Shortened.{Sizes, short_call, is_shortened, cut}
+use Rattle.rv_object_laws.specs.CallSites.{is_call, meets, has_relax, are_call_words, is_auipc, is_jalr, rs1, rd, word_at, is_text_place, target_place, is_entered, is_permitted, may_change, call_site, site_of, link_register}
+use Rattle.rv_object_laws.specs.Shortened.{Sizes, empty_jump, empty_jal, short_call, is_shortened, cut}
 use Rattle.rv_shorten.specs.Cutting.{In, is_cut, are_cuts}
 use Rattle.rv_shorten.specs.Walk.{moves_of}
 use Rattle.rv_shorten.proofs.CallKindsLemmas.{call_width, call_no_align}
@@ -284,7 +284,7 @@ moves_match os i first s sizes (c ∷ cs) (k ∷ ks) h each = by (moves_match os
 two_or_four : (k link : ℕ) → ((length (short_call k link) == 2) || (length (short_call k link) == 4)) ≡ true
 two_or_four k link = by (k == 2)
   where
-    by : (b : Bool) → ((length (cond b (little_endian 2 0xa001) (little_endian 4 (0x6f + link * 2 ^ 7))) == 2) || (length (cond b (little_endian 2 0xa001) (little_endian 4 (0x6f + link * 2 ^ 7))) == 4)) ≡ true
+    by : (b : Bool) → ((length (cond b (little_endian 2 empty_jump) (little_endian 4 (empty_jal link))) == 2) || (length (cond b (little_endian 2 empty_jump) (little_endian 4 (empty_jal link))) == 4)) ≡ true
     by true = refl
     by false = refl
 

@@ -10,7 +10,7 @@ use Rattle.rv_object.specs.declared.symbol.Definition.TheVariants as definitions
 use Rattle.rv_object.specs.Object.{Section, Object, size_of, stored}
 use Rattle.rv_object_laws.specs.Moves.{Move, new_offset}
 use Rattle.rv_object_laws.specs.Inputs.{InputSection, goes_to_text, inputs_from, inputs_of}
-use Rattle.rv_object_laws.specs.Calls.{sites_from, sites_of}
+use Rattle.rv_object_laws.specs.CallSites.{sites_from, sites_of}
 use Rattle.rv_object_laws.specs.Shortened.{Sizes, sizes_by, cuts, cuts_at, cuts_in, shortened_section, shortened_text, shortened_sections, shortened_definition, shortened_symbol, shortened_row, shortened_object, shortened_from}
 use Rattle.rv_shorten.specs.Cutting.{AreCuts, AllCut, cut_section, cut_sections, moves_at, cut_definition, cut_symbol, cut_row, cut_object}
 use Rattle.rv_shorten.specs.Walk.{own_moves, passed, passed_at, object_moves, passed_all, walked, AreWalked}

@@ -14,7 +14,7 @@ use Rattle.rv_object.specs.Object.{Relocation, Section, Object, size_of, stored}
 use Rattle.rv_object.specs.Sections.{section_of}
 use Rattle.rv_object.specs.View.{object_of}
 use Rattle.rv_object_laws.specs.Inputs.{InputSection, goes_to_text, begins_at}
-use Rattle.rv_object_laws.specs.Calls.{changes, site_of, sites_from, sites_of, start_padding, base, base_in}
+use Rattle.rv_object_laws.specs.CallSites.{changes, site_of, sites_from, sites_of, start_padding, base, base_in}
 use Rattle.rv_object_laws.specs.Shortened.{Sizes, sizes_by, cut, cuts}
 use Rattle.rv_shorten.specs.Cutting.{In, AreCuts}
 use Rattle.rv_shorten.specs.Walk.{count_within, moves_of, own_moves, passed, section_moves}

@@ -6,7 +6,7 @@ use Rattle.std.proofs.lemmas.List.Sums.{sum_by-cons}
 use Rattle.std.proofs.lemmas.Bool.{leb-true, le-leb, true≢false}
 use Rattle.rv_object.specs.Object.{Relocation}
 use Rattle.rv_object.specs.Valid.{held}
-use Rattle.rv_object_laws.specs.Calls.{inserted_change, in_order}
+use Rattle.rv_object_laws.specs.CallSites.{inserted_change, in_order}
 use Rattle.rv_shorten.specs.Cutting.{In}
 
 -- ---- in a filtered list, in a mapped one, in an ordered one

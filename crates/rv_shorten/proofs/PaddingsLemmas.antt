@@ -8,7 +8,7 @@ use Rattle.rv_isa.specs.Kinds.{width_of}
 use Rattle.rv_object.specs.Object.{Contents, Relocation, Section, size_of}
 use Rattle.rv_object.specs.Valid.{is_align, padding_of, is_padding_of, is_padding, held, are_apart, are_all_apart}
 use Rattle.rv_object_laws.specs.Moves.{Move, new_offset}
-use Rattle.rv_object_laws.specs.Calls.{is_call}
+use Rattle.rv_object_laws.specs.CallSites.{is_call}
 use Rattle.rv_shorten.specs.Cutting.{In, are_cuts, AreCuts, cut_kind, cut_relocation}
 use Rattle.rv_shorten.proofs.CallKindsLemmas.{call_width, call_no_align, left_no_align}
 use Rattle.rv_shorten.proofs.ShiftsLemmas.{rising, stays, stays_even}

@@ -13,8 +13,8 @@ use Rattle.rv_layout_laws.specs.Calls.{InOrder, is_call as is_call_site}
 use Rattle.rv_object.specs.Object.{Relocation, Section, Object, size_of, stored}
 use Rattle.rv_object_laws.specs.Moves.{Move, new_offset, has_padding}
 use Rattle.rv_object_laws.specs.Inputs.{InputSection, goes_to_text}
-use Rattle.rv_object_laws.specs.Calls.{is_call, meets, link_register, is_permitted, may_change, in_order, changes, site_of}
-use Rattle.rv_object_laws.specs.Shortened.{Sizes, short_call, is_shortened, cut, cuts, shortened_kind, shortened_relocation, shortened_contents, shortened_text}
+use Rattle.rv_object_laws.specs.CallSites.{is_call, meets, link_register, is_permitted, may_change, in_order, changes, site_of}
+use Rattle.rv_object_laws.specs.Shortened.{Sizes, empty_jump, empty_jal, short_call, is_shortened, cut, cuts, shortened_kind, shortened_relocation, shortened_contents, shortened_text}
 use Rattle.rv_shorten.specs.Cutting.{In, are_cuts, AreCuts, kind_left, cut_kind, cut_relocation, cut_section}
 use Rattle.rv_shorten.specs.Walk.{count_within, moves_of}
 use Rattle.rv_shorten.proofs.CallKindsLemmas.{call_width}
@@ -91,7 +91,7 @@ cut_here sizes s r text j short =
 two_left : (k link : ℕ) → (length (short_call k link) == 2) ≡ (k == 2)
 two_left k link = by (k == 2)
   where
-    by : (b : Bool) → (length (cond b (little_endian 2 0xa001) (little_endian 4 (0x6f + link * 2 ^ 7))) == 2) ≡ b
+    by : (b : Bool) → (length (cond b (little_endian 2 empty_jump) (little_endian 4 (empty_jal link))) == 2) ≡ b
     by true = refl
     by false = refl
 

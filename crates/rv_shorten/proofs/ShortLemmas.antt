@@ -9,7 +9,7 @@ use Rattle.rv_isa.specs.Kinds.{width_of}
 use Rattle.rv_object.specs.Object.{Contents, Progbits, Note, Nobits, Relocation, Section, size_of}
 use Rattle.rv_object.specs.Valid.{keeps_name, is_even, is_loaded_alone, fits_inside, fit_inside, is_padding, are_all_apart, are_paddings}
 use Rattle.rv_object_laws.specs.Moves.{Move, new_offset, kept}
-use Rattle.rv_object_laws.specs.Calls.{is_call}
+use Rattle.rv_object_laws.specs.CallSites.{is_call}
 use Rattle.rv_object_laws.specs.Shortened.{shortened_contents}
 use Rattle.rv_shorten.specs.declared.cut.Cut.{Cut}
 use Rattle.rv_shorten.specs.Cut.{move_of}

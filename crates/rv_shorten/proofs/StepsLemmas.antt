@@ -10,8 +10,8 @@ use Rattle.rv_layout_laws.specs.declared.site.SiteKind.TheVariants.{Call}
 use Rattle.rv_object.specs.Object.{Contents, Progbits, Note, Nobits, Section, Object, size_of, stored}
 use Rattle.rv_object.specs.Valid.{fit_inside}
 use Rattle.rv_object_laws.specs.Moves.{Move, kept}
-use Rattle.rv_object_laws.specs.Calls.{link_register}
-use Rattle.rv_object_laws.specs.Shortened.{short_call, shortened_contents}
+use Rattle.rv_object_laws.specs.CallSites.{link_register}
+use Rattle.rv_object_laws.specs.Shortened.{empty_jump, empty_jal, short_call, shortened_contents}
 use Rattle.rv_shorten.specs.declared.cut.Cut.{Cut}
 use Rattle.rv_shorten.specs.Cut.{left_of, move_of, is_next, are_in_order}
 use Rattle.rv_shorten.specs.Cutting.{are_cuts, AreCuts, cut_section, cut_sections, cut_object}
@@ -23,7 +23,7 @@ use Rattle.rv_shorten.proofs.ShortLemmas.{none_in_zeros}
 short_same : (k link : ℕ) → short_call (cond (k == 2) 2 4) link ≡ short_call k link
 short_same k link = by (k == 2)
   where
-    by : (b : Bool) → cond (cond b 2 4 == 2) (little_endian 2 0xa001) (little_endian 4 (0x6f + link * 2 ^ 7)) ≡ cond b (little_endian 2 0xa001) (little_endian 4 (0x6f + link * 2 ^ 7))
+    by : (b : Bool) → cond (cond b 2 4 == 2) (little_endian 2 empty_jump) (little_endian 4 (empty_jal link)) ≡ cond b (little_endian 2 empty_jump) (little_endian 4 (empty_jal link))
     by true = refl
     by false = refl
 

@@ -10,7 +10,7 @@ use Rattle.rv_object.specs.declared.row.Row.{Row}
 use Rattle.rv_object.specs.Object.{Relocation, Section, Symbol, Object, size_of}
 use Rattle.rv_object.specs.Valid.{fit_inside, are_paddings}
 use Rattle.rv_object_laws.specs.Moves.{Move, new_offset, lost}
-use Rattle.rv_object_laws.specs.Calls.{is_call, meets}
+use Rattle.rv_object_laws.specs.CallSites.{is_call, meets}
 use Rattle.rv_object_laws.specs.Shortened.{shortened_contents}
 
 -- ---- the cuts of a section

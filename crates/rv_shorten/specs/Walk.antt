@@ -6,14 +6,14 @@ use Rattle.rv_layout_laws.specs.Calls.{is_call, bytes_of}
 use Rattle.rv_object.specs.Object.{Section, Object, size_of, stored}
 use Rattle.rv_object_laws.specs.Moves.{Move}
 use Rattle.rv_object_laws.specs.Inputs.{goes_to_text}
-use Rattle.rv_object_laws.specs.Calls.{link_register}
+use Rattle.rv_object_laws.specs.CallSites.{link_register}
 use Rattle.rv_object_laws.specs.Shortened.{short_call}
 use Rattle.rv_shorten.specs.declared.cut.Cut.{Cut}
 use Rattle.rv_shorten.specs.Cutting.{cut_object, AllCut}
 
--- where a section begins, behind the padding at its start
-abbrev pub end_of : Site → ℕ
-end_of s = s.offset + bytes_of s.kind
+-- the offset of the byte after a site: after the padding at its start, a section begins there
+abbrev pub site_end : Site → ℕ
+site_end s = s.offset + bytes_of s.kind
 
 -- the sites of a section of so many bytes, which begins at an offset
 abbrev pub count_within : (first size : ℕ) → List Site → ℕ
@@ -35,7 +35,7 @@ moves_of first stored (s ∷ ss) (k ∷ kept) =
 -- the sites that a section has, the padding at its start with them
 abbrev pub passed_at : ℕ → List Site → ℕ
 passed_at size [] = 0
-passed_at size (start ∷ sites) = suc (count_within (end_of start) size sites)
+passed_at size (start ∷ sites) = suc (count_within (site_end start) size sites)
 
 abbrev pub passed : Section → List Site → ℕ
 passed s sites = if goes_to_text s then passed_at (size_of s.contents) sites else 0
@@ -43,7 +43,7 @@ passed s sites = if goes_to_text s then passed_at (size_of s.contents) sites els
 -- the calls of a section whose sites these are
 abbrev pub own_moves : List ℕ → List Site → List ℕ → List Move
 own_moves stored [] kept = []
-own_moves stored (start ∷ sites) kept = moves_of (end_of start) stored sites (drop 1 kept)
+own_moves stored (start ∷ sites) kept = moves_of (site_end start) stored sites (drop 1 kept)
 
 -- the first sites are those of a section
 abbrev pub section_moves : Section → List Site → List ℕ → List Move

@@ -1,4 +1,7 @@
 //! The bytes that are left of a section.
+//!
+//! They are given from the front, as many as are wanted. No shortened section is ever made: each byte is copied once, from its
+//! object into the program.
 
 ghost use Rattle.std.specs.Prelude.{◌≡◌, ◌+◌, ◌^◌, ◌≤◌, ◌<◌, ◌++◌, ◌⊎◌, [], true, map, length, take, drop, IsTrue, IfNone, IfSome, OnOk};
 ghost use Rattle.rv_isa_laws.specs.Bytes.{little_endian};
@@ -8,12 +11,10 @@ ghost use Rattle.rv_shorten.specs.Cut.{left_of, move_of};
 ghost use Rattle.rv_shorten.specs.Cutting.{are_cuts};
 
 use crate::cut::Cut;
+use rv_compress::{Compressed, write};
+use rv_encode::encode;
+use rv_isa::{Inst, JType, Reg};
 use std::alloc::AllocError;
-
-/// `c.j` with an empty field.
-const C_J: u64 = 0xa001;
-/// `jal zero` with an empty field.
-const JAL: u64 = 0x6f;
 
 /// Bytes that stand together: those of a call, and those of the section behind it.
 #[derive(Drop)]
@@ -49,15 +50,19 @@ pub struct LeftBytes<'s> {
     ghost within: { IsTrue (are_cuts at (at + length rest.now) (map move_of cuts.now)) },
 }
 
-/// What is left of a call, as a number.
+/// What is left of a call, as a number: `c.j` or `jal` with an empty field.
 fn word_of(cut: &Cut) -> u64
     ensures { little_endian (left_of cut.now) result ≡ short_call (left_of cut.now) (cut.now).link }
 {
     if cut.compressed {
-        C_J
-    } else {
-        JAL + u64::from(cut.link) * 128
+        return u64::from(write(Compressed::J { offset: 0 }));
     }
+    let jal = encode(Inst::Jal(JType {
+        offset: 0,
+        rd: Reg::from_low_bits(0),
+    }));
+    // the register that it links stands from bit 7 on
+    u64::from(jal) + u64::from(cut.link) * 128
 }
 
 /// Adds the low bytes of a number.

@@ -1,6 +1,6 @@
 //! Objects with their calls shortened.
 //!
-//! It takes objects, the sites of their text (`rv_object_laws/specs/Calls`) and what a family keeps of each, and gives the
+//! It takes objects, the sites of their text (`rv_object_laws/specs/CallSites`) and what a family keeps of each, and gives the
 //! objects that are left (`rv_object_laws/specs/Shortened`): a call of which fewer than 8 bytes are kept is `jal`, or `c.j`
 //! where 2 are, with an empty field that the link fills in.
 //!
@@ -37,3 +37,4 @@ pub use object::ShortObject;
 pub use objects::shorten;
 pub use section::ShortSection;
 pub use sites::is_text;
+pub use words::{link_register, word_at};

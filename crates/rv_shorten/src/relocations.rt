@@ -2,7 +2,7 @@
 
 ghost use Rattle.std.specs.Prelude.{◌≡◌, ℕ, true, map, length};
 ghost use Rattle.rv_object.specs.Parts.{relocation_of};
-ghost use Rattle.rv_object_laws.specs.Calls.{is_call as is_call_kind};
+ghost use Rattle.rv_object_laws.specs.CallSites.{is_call as is_call_kind};
 ghost use Rattle.rv_shorten.specs.Cut.{are_in_order, move_of};
 ghost use Rattle.rv_shorten.specs.Cutting.{cut_kind, cut_relocation};
 

@@ -1,4 +1,7 @@
 //! The calls of a section that are cut short, by the sites of the text.
+//!
+//! The sites of all sections of text stand in one line. Each section has one for the padding at its start, and its own sites
+//! come after that: one walk over sections and sites finds which belong together.
 
 ghost use Rattle.std.specs.Prelude.{◌≡◌, ◌+◌, ◌-◌, ◌≤◌, ◌++◌, [], ◌∷◌, true, length, map, IfOk, OnOk};
 ghost use Rattle.rv_object.specs.Object as said;
@@ -46,7 +49,7 @@ fn bytes_of(site: &Site) -> u64
 
 /// The offset of a site in its section, which begins behind a first site.
 fn place_of(start: &Site, site: &Site) -> u64
-    ensures { result ≡ (site.now).offset - walk.end_of start.now }
+    ensures { result ≡ (site.now).offset - walk.site_end start.now }
 {
     site.offset
         .saturating_sub(start.offset)
@@ -55,7 +58,7 @@ fn place_of(start: &Site, site: &Site) -> u64
 
 /// How many sites stand in a section of so many bytes, which begins behind a first site.
 fn count_within(start: &Site, size: u64, sites: &[Site]) -> usize
-    ensures value { result ≡ walk.count_within (walk.end_of start.now) size sites.now }
+    ensures value { result ≡ walk.count_within (walk.site_end start.now) size sites.now }
     ensures low { result ≤ length sites.now }
 {
     let mut count = 0;
@@ -131,9 +134,9 @@ fn cuts(
 ) -> Result<Vec<Cut>, AllocError>
     requires many { length kept.now ≡ length sites.now }
     requires cuts { are_cuts 0 (length bytes.now)
-        (walk.moves_of (walk.end_of start.now) bytes.now sites.now kept.now) ≡ true }
+        (walk.moves_of (walk.site_end start.now) bytes.now sites.now kept.now) ≡ true }
     ensures moves { IfOk result (λ v. map move_of v.items
-        ≡ walk.moves_of (walk.end_of start.now) bytes.now sites.now kept.now) }
+        ≡ walk.moves_of (walk.site_end start.now) bytes.now sites.now kept.now) }
     ensures order { IfOk result (λ v. are_in_order 0 0 v.items ≡ true) }
 {
     let mut cuts = Vec::new(alloc);

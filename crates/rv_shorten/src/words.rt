@@ -1,10 +1,10 @@
-//! The register that a call links.
+//! The words of a call.
 
 ghost use Rattle.std.specs.Prelude.{◌≡◌, ◌+◌, ◌<◌, ◌≤◌, length};
-ghost use Rattle.rv_object_laws.specs.Calls as laws;
+ghost use Rattle.rv_object_laws.specs.CallSites as laws;
 
-/// The four bytes at a place.
-fn word_at(bytes: &[u8], place: usize) -> u32
+/// The four bytes at a place, as a word.
+pub fn word_at(bytes: &[u8], place: usize) -> u32
     requires { place + 4 ≤ length bytes.now }
     ensures { result ≡ laws.word_at bytes.now place }
 {
@@ -17,7 +17,7 @@ fn word_at(bytes: &[u8], place: usize) -> u32
 }
 
 /// The register that the call at a place links.
-pub(crate) fn link_register(bytes: &[u8], place: usize) -> u32
+pub fn link_register(bytes: &[u8], place: usize) -> u32
     requires { place + 8 ≤ length bytes.now }
     ensures value { result ≡ laws.link_register bytes.now place }
     ensures low { result < 32 }

@@ -22,7 +22,7 @@ use Rattle.rv_source_laws.specs.Shortened.{Placed, calls, Shortened, HaveBytes, 
 use Rattle.rv_source_laws.proofs.HomesLemmas.{all_filter}
 use Rattle.rv_chain_laws.specs.Contents.{IsLinked}
 use Rattle.rv_object.specs.Object.{Section, Symbol, Object, size_of, stored}
-use Rattle.rv_object_laws.specs.Calls.{base_in, start_padding, changes, site_of, sites_from, sites_of, is_entered, is_text_place, text_offset, is_short_text}
+use Rattle.rv_object_laws.specs.CallSites.{base_in, start_padding, changes, site_of, sites_from, sites_of, is_entered, is_text_place, text_offset, is_short_text}
 use Rattle.rv_object_laws.specs.Inputs.{Starts, InputSection, goes_to_text, inputs_from, inputs_of, inputs, begins_at}
 use Rattle.rv_object_laws.specs.IsLinkOf.{IsLinkOf}
 use Rattle.rv_object_laws.specs.Names.{symbol_place}

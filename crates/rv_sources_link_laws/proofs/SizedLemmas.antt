@@ -1,6 +1,7 @@
 -- The rows of a linked program have the sizes that the assembler found, but its calls and its alignments in code: those sizes are the least.
 
 use Rattle.std.proofs.Common.{◌≡◌, ℕ, suc, ◌+◌, ◌≤◌, ◌<◌, Bool, true, false, List, [], ◌∷◌, ◌++◌, map, refl, sym, ap, ◌∙◌, subst, arith, Some, None}
+use Rattle.std.proofs.lemmas.List.{append-nil}
 use Rattle.std.proofs.lemmas.Bool.{and_parts, eq-eqb, ne_eqb}
 use Rattle.std.specs.Prelude.{◌==◌, if◌then◌else◌, filter, slice_index_or}
 use Rattle.std.specs.List.{AllByRecursion}
@@ -15,7 +16,6 @@ use Rattle.rv_object_laws.specs.Inputs.{Starts}
 use Rattle.rv_object_laws.specs.Shortened.{Sizes}
 use Rattle.rv_assemble_laws.specs.Sites.{Site, form}
 use Rattle.rv_sources_link_laws.specs.Joins.{AreObjectsOf}
-use Rattle.rv_sources_link_laws.proofs.fields.PatchesLemmas.{append_nil}
 use Rattle.rv_sources_link_laws.proofs.calls.FinalsLemmas.{IsFinal, AreFinal}
 use Rattle.rv_sources_link_laws.proofs.moves.ShrunkLemmas as shrunk
 use Rattle.rv_sources_link_laws.proofs.statements.StatementsLemmas.{renumbered, row_in, statement_at, all_statements}
@@ -79,7 +79,7 @@ module _ (starts : Starts) where
         let same : tables_in p file ≡ tables ss = ap (tables_in p) (let q : file ≡ file + 0 = omega arith in q) ∙ g 0 in
         let own : statements_in p file ≡ map (statement_at starts file) (map c.final is.sites) =
         e file (omega arith) ∙ own_kept file js.sites rest
-        ∙ ap (λ l. map (statement_at starts file) js.sites ++ l) (none_before (suc file) file (omega arith) sources ws k) ∙ append_nil (map (statement_at starts file) js.sites)
+        ∙ ap (λ l. map (statement_at starts file) js.sites ++ l) (none_before (suc file) file (omega arith) sources ws k) ∙ append-nil (map (statement_at starts file) js.sites)
         ∙ ap (map (statement_at starts file)) c.sites in (
           record {
             sizes = map (λ (z : Site). z.bytes) is.sites;

@@ -7,7 +7,7 @@ use Rattle.rv_layout_laws.proofs.ShorteningLemmas.{one_greatest_closed}
 use Rattle.rv_object.specs.declared.row.Row.{Row}
 use Rattle.rv_object.specs.Object.{Section, Object}
 use Rattle.rv_object_laws.specs.Inputs.{goes_to_text}
-use Rattle.rv_object_laws.specs.Calls.{is_short_text, sites_of}
+use Rattle.rv_object_laws.specs.CallSites.{is_short_text, sites_of}
 use Rattle.rv_object_laws.specs.Shortened.{Sizes, sizes_by, shortened_text, shortened_section, shortened_sections, shortened_row, shortened_object, shortened_from, shortened, IsRelaxed, Relaxes}
 use Rattle.rv_resolve.specs.Undefined.{is_loaded_at}
 use Rattle.rv_unique_link_laws.specs.Asked.{HasPlacedRows, HavePlacedRows}

@@ -11,7 +11,7 @@ use Rattle.rv_object.specs.Valid.{is_alignment, fit_inside, are_paddings, are_ro
 use Rattle.rv_object_laws.specs.Moves.{Move, new_offset}
 use Rattle.rv_object_laws.specs.Inputs.{goes_to_text, inputs}
 use Rattle.rv_object_laws.specs.Names.{no_object, object_at}
-use Rattle.rv_object_laws.specs.Calls.{is_short_text, sites_of}
+use Rattle.rv_object_laws.specs.CallSites.{is_short_text, sites_of}
 use Rattle.rv_object_laws.specs.Shortened.{shortened, IsRelaxed, Relaxes}
 use Rattle.rv_object_laws.proofs.TextInputsLemmas.{IsTextInput}
 use Rattle.rv_object_laws.proofs.TextLineLemmas.{text}

@@ -1,6 +1,6 @@
 -- The code of calls, whole and shortened, and that no other statement has a call.
 
-use Rattle.std.proofs.Common.{◌≡◌, ℕ, ◌+◌, ◌*◌, ◌^◌, ◌<◌, Bool, true, false, List, [], ◌∷◌, length, refl, sym, ap, subst, arith, pos, Some, None, ◌⊎◌, inl, inr}
+use Rattle.std.proofs.Common.{◌≡◌, ℕ, ◌<◌, Bool, true, false, List, [], ◌∷◌, length, refl, sym, ap, subst, arith, pos, Some, None, ◌⊎◌, inl, inr}
 use Rattle.std.proofs.lemmas.Int.{ints}
 use Rattle.std.specs.Prelude.{⊤, ◌&&◌, ◌==◌, if◌then◌else◌}
 use Rattle.std.specs.List.{AllByRecursion}
@@ -8,8 +8,7 @@ use Rattle.rv_isa.specs.declared.kind.Kind.{Kind}
 use Rattle.rv_isa.specs.declared.kind.Kind.TheVariants as kind
 use Rattle.rv_isa.specs.declared.operation.BranchOperation.{BranchOperation}
 use Rattle.rv_isa.specs.Operations.{of_branch}
-use Rattle.rv_isa_laws.specs.Bytes.{little_endian}
-use Rattle.rv_encode.specs.Word.{form, word}
+use Rattle.rv_encode.specs.Word.{form}
 use Rattle.rv_compress.specs.declared.form.Compressed.TheVariants.{J as ShortJump}
 use Rattle.rv_compress.specs.Parcel.{IsShortOf}
 use Rattle.rv_statement.specs.declared.mnemonic.Mnemonic.{Mnemonic}
@@ -17,8 +16,8 @@ use Rattle.rv_statement.specs.declared.mnemonic.Mnemonic.TheVariants.{Registers,
 use Rattle.rv_statement.specs.Statement.{Operand, Register, Target, Expression}
 use Rattle.rv_pseudo_laws.specs.Code.{Part, Closed, Open, Joined, Constants, b_type, jal, inverted, branch, jump, far, code}
 use Rattle.rv_pseudo_laws.specs.Valid.{IsOpen}
-use Rattle.rv_object_laws.specs.Calls as objects
-use Rattle.rv_object_laws.specs.Shortened.{short_call}
+use Rattle.rv_object_laws.specs.CallSites as objects
+use Rattle.rv_object_laws.specs.Shortened.{empty_jump, short_call}
 use Rattle.rv_assemble_laws.specs.Coded.{IsCodedPart}
 use Rattle.rv_source_laws.specs.Lines.{other_operand}
 use Rattle.rv_source_laws.specs.Sizes.{target_in}
@@ -111,16 +110,13 @@ called v rvc b _ os ps e f = absurd (cc)
 abbrev pub IsForm : (link size : ℕ) → Type 0
 IsForm link size = (size ≡ 8) ⊎ ((size ≡ 4) ⊎ ((size ≡ 2) × (link ≡ 0)))
 
-jump_short : IsShortOf (jal 0) 0xa001
+jump_short : IsShortOf (jal 0) empty_jump
 jump_short = record {
   form = ShortJump (pos 0);
   spells = record { line = (omega (arith, ints), omega (arith, ints), refl); sum = refl };
   chosen = tt;
   same = refl;
 }
-
-jump_word : (link : ℕ) → word (form (jal link)) ≡ 0x6f + link * 2 ^ 7
-jump_word link = omega arith
 
 jump_open : (k : Kind) → (k ≡ kind.Jal) ⊎ (k ≡ kind.RvcJump) → (link : ℕ) → link < 32 → IsOpen k (jal link)
 jump_open k (inl e) link low = subst (λ k. IsOpen k (jal link)) (sym e) ((low, (omega (arith, ints), omega (arith, ints), refl)), refl)
@@ -137,12 +133,12 @@ short_coded c link size low (inl four) =
     (go (link == 0), refl)
   where
     go : (b : Bool) → IsCodedPart c (Open (if b && false then kind.RvcJump else kind.Jal) (jal link)) (short_call 4 link)
-    go true = (jump_open kind.Jal (inl refl) link low, inl (refl, ap (little_endian 4) (sym (jump_word link))))
-    go false = (jump_open kind.Jal (inl refl) link low, inl (refl, ap (little_endian 4) (sym (jump_word link))))
+    go true = (jump_open kind.Jal (inl refl) link low, inl (refl, refl))
+    go false = (jump_open kind.Jal (inl refl) link low, inl (refl, refl))
 short_coded c link size low (inr (two, none)) =
     subst (λ n. IsCodedPart c (short_part n link) (short_call n link) × (length (short_call n link) ≡ n)) (sym two)
     (subst (λ l. IsCodedPart c (short_part 2 l) (short_call 2 l) × (length (short_call 2 l) ≡ 2)) (sym none)
-    ((jump_open kind.RvcJump (inr refl) 0 (omega arith), inr (refl, (0xa001, jump_short, refl))), refl))
+    ((jump_open kind.RvcJump (inr refl) 0 (omega arith), inr (refl, (empty_jump, jump_short, refl))), refl))
 
 -- which a call of that size is
 pub short_one : (size link by : ℕ) → (size ≡ 4) ⊎ ((size ≡ 2) × (link ≡ 0)) → far size link by ≡ short_part size link ∷ []

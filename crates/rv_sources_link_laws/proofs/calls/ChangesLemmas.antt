@@ -27,8 +27,8 @@ use Rattle.rv_source_laws.specs.Shortened.{calls, link_register, Placed, aim_of,
 use Rattle.rv_object.specs.Object.{Relocation, Section, Symbol, Object, stored}
 use Rattle.rv_object.specs.Padding.{no_operations}
 use Rattle.rv_object.specs.Valid.{is_align, held}
-use Rattle.rv_object_laws.specs.Calls as objects
-use Rattle.rv_object_laws.specs.Calls.{word_at, are_call_words, link_register as linked_by, is_relax, has_relax, meets, is_entered, target_place, is_text_place, text_offset, is_permitted, may_change, inserted_change, in_order, changes, site_of}
+use Rattle.rv_object_laws.specs.CallSites as objects
+use Rattle.rv_object_laws.specs.CallSites.{word_at, are_call_words, link_register as linked_by, is_relax, has_relax, meets, is_entered, target_place, is_text_place, text_offset, is_permitted, may_change, inserted_change, in_order, changes, site_of}
 use Rattle.rv_object_laws.specs.Inputs.{Starts, InputSection}
 use Rattle.rv_object_laws.specs.Moves.{full_padding, alignment_of}
 use Rattle.rv_object_laws.specs.Names.{Place, symbol_place}

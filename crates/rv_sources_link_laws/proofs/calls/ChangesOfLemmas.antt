@@ -1,6 +1,7 @@
 -- The changes of a section of text, statement by statement, in their order.
 
 use Rattle.std.proofs.Common.{◌≡◌, ℕ, ◌+◌, ◌%◌, ◌≤◌, ◌<◌, Bool, true, false, List, [], ◌∷◌, ◌++◌, length, length-append, map, refl, sym, ap, ◌∙◌, subst, arith, Option, Some, None, option_map, ◌⊎◌, inl, inr}
+use Rattle.std.proofs.lemmas.List.{append_assoc, append-nil}
 use Rattle.std.proofs.lemmas.Bool.{and_parts, eq-eqb, ne_eqb, le-leb, le-ltb, lt-ltb}
 use Rattle.std.proofs.lemmas.List.Sums.{sum_by-cons}
 use Rattle.std.specs.Prelude.{◌&&◌, ◌||◌, ◌==◌, nat_lt, if◌then◌else◌, filter, flat_map, unwrap_or, option_and_then, cond, count_by}
@@ -20,7 +21,7 @@ use Rattle.rv_source_laws.specs.Shortened.{calls, link_register, Placed, aim_of,
 use Rattle.rv_source_laws.proofs.HeldLemmas.{IsHeld}
 use Rattle.rv_object.specs.Object.{Relocation, Section, Symbol, Object, stored}
 use Rattle.rv_object.specs.Valid.{held}
-use Rattle.rv_object_laws.specs.Calls.{link_register as linked_by, are_call_words, is_relax, has_relax, meets, is_entered, is_text_place, text_offset, inserted_change, in_order, changes, site_of}
+use Rattle.rv_object_laws.specs.CallSites.{link_register as linked_by, are_call_words, is_relax, has_relax, meets, is_entered, is_text_place, text_offset, inserted_change, in_order, changes, site_of}
 use Rattle.rv_object_laws.specs.Inputs.{Starts, InputSection}
 use Rattle.rv_object_laws.specs.Names.{symbol_place}
 use Rattle.rv_assemble_laws.specs.CodeFields.{relax_fields}
@@ -41,7 +42,6 @@ use Rattle.rv_sources_link_laws.proofs.calls.LongCallsLemmas as long
 use Rattle.rv_sources_link_laws.proofs.calls.LongCallsLemmas.{IsLongCall, long_call}
 use Rattle.rv_sources_link_laws.proofs.statements.MarkedLemmas.{part_fields}
 use Rattle.rv_sources_link_laws.proofs.statements.PadsLemmas.{power_valid, byte_valid, bare_before}
-use Rattle.rv_sources_link_laws.proofs.fields.PatchesLemmas.{append_nil, append_assoc}
 use Rattle.rv_sources_link_laws.proofs.fields.RangesLemmas.{InRange, even_bytes, in_range}
 use Rattle.rv_sources_link_laws.proofs.sections.SectionsLemmas.{split, join}
 use Rattle.rv_sources_link_laws.proofs.statements.SettledLemmas.{IsSiteIn}
@@ -275,7 +275,7 @@ module _ (p : Program) (starts : Starts) (os : List Object) (text : List Placed)
     stored_is : stored x.contents ≡ front ++ ((h.first ++ h.second) ++ rest)
     stored_is =
         stored_are ∙ ap (λ l. front ++ l) (bytes_append (parts_of t z) (parts t ys))
-        ∙ ap (λ l. front ++ (l ++ rest)) (ap (flat_map part_bytes) own_parts ∙ append_nil (h.first ++ h.second))
+        ∙ ap (λ l. front ++ (l ++ rest)) (ap (flat_map part_bytes) own_parts ∙ append-nil (h.first ++ h.second))
 
     words : HasWords (stored x.contents) q (link_register m ops) h.goes.by
     words = subst (λ n. HasWords (stored x.contents) n (link_register m ops) h.goes.by) (sym long_front)

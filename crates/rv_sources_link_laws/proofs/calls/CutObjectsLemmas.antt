@@ -1,7 +1,7 @@
 -- The object of a source whose calls are cut is that of the source, with calls of one instruction.
 
 use Rattle.std.proofs.Common.{◌≡◌, ℕ, suc, ◌+◌, ◌-◌, Bool, true, false, List, [], ◌∷◌, ◌++◌, map, refl, sym, ap, ◌∙◌, subst, arith, Some}
-use Rattle.std.proofs.lemmas.Bool.{and_parts, eqb-true}
+use Rattle.std.proofs.lemmas.Bool.{and_parts, eqb-true, and_right}
 use Rattle.std.specs.Prelude.{⊤, ◌&&◌, ◌||◌, ◌==◌, if◌then◌else◌, filter, flat_map}
 use Rattle.std.specs.List.{AllByRecursion, list_any, slice_get}
 use Rattle.rv_statement.specs.Statement.{Statement}
@@ -11,7 +11,7 @@ use Rattle.rv_source_laws.specs.Located.{has_row}
 use Rattle.rv_source_laws.specs.Compressed.{is_compressed_code}
 use Rattle.rv_object.specs.declared.row.Row.{Row}
 use Rattle.rv_object.specs.Object.{Section, Object}
-use Rattle.rv_object_laws.specs.Calls.{in_order}
+use Rattle.rv_object_laws.specs.CallSites.{in_order}
 use Rattle.rv_object_laws.specs.Inputs.{goes_to_text}
 use Rattle.rv_object_laws.specs.Names.{exported}
 use Rattle.rv_object_laws.specs.Shortened.{Sizes, is_shortened, cut, cuts, cuts_at, cuts_in, shortened_text, shortened_section, shortened_sections, shortened_definition, shortened_symbol, shortened_row, shortened_object}
@@ -35,10 +35,6 @@ use Rattle.rv_sources_link_laws.proofs.fields.WholesLemmas.{IsSound, sound}
 -- each call in a section of text has a form of its size
 abbrev pub Fitting : (ℕ → Sizes) → Site → Type 0
 Fitting sizes z = source_text z.located.home ≡ true → calls z.located.kind ≡ true → IsForm (link_of z.located.kind) (sizes z.located.section z.offset)
-
-both_false : (a b : Bool) → b ≡ false → (a && b) ≡ false
-both_false true b e = e
-both_false false b e = refl
 
 module _ (sizes : ℕ → Sizes) (o : Object) where
   -- a statement with the cuts of its section made
@@ -86,7 +82,7 @@ module _ (ss : List Statement) (o : Object) (is : IsAssembled ss o) (uncut : All
   still_one z k aside =
       let (x, there, h) = filed.section_of ss o is z.located.section z.located.home k.home in
       ap (cuts_at (sizes z.located.section)) there
-      ∙ no_cuts (sizes z.located.section) x (text_same z.located.section z.located.home x h ∙ both_false z.located.home.loaded z.located.home.executable aside)
+      ∙ no_cuts (sizes z.located.section) x (text_same z.located.section z.located.home x h ∙ and_right z.located.home.loaded z.located.home.executable aside)
 
   still : AllByRecursion (λ z. z.located.home.executable ≡ false → cuts_in sizes o z.located.section ≡ []) is.sites
   still = moved.all_map (IsSettled sections) (λ z. z.located.home.executable ≡ false → cuts_in sizes o z.located.section ≡ []) is.sites still_one all_settled

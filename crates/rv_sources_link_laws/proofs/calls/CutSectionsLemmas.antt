@@ -1,6 +1,7 @@
 -- A section of code whose calls are cut is that of its source, with calls of one instruction.
 
 use Rattle.std.proofs.Common.{◌≡◌, ℕ, ◌+◌, ◌-◌, ◌*◌, ◌^◌, ◌≤◌, ◌<◌, Bool, true, false, List, [], ◌∷◌, ◌++◌, length, length-append, map, take, drop, refl, sym, ap, ◌∙◌, subst, arith, pos, inl, inr}
+use Rattle.std.proofs.lemmas.List.{append_assoc, append-nil}
 use Rattle.std.proofs.lemmas.Bool.{and_parts, le-leb}
 use Rattle.std.specs.Prelude.{◌&&◌, nat_lt, nat_le, if◌then◌else◌, filter, flat_map}
 use Rattle.std.specs.Int.{w32, from_le_bytes}
@@ -17,7 +18,7 @@ use Rattle.rv_unit_laws.specs.Sections.{Section as SourceSection, is_nobits_type
 use Rattle.rv_unit_laws.specs.Tables.{Tables, longest_section}
 use Rattle.rv_object.specs.Object.{Progbits, Note, Nobits, Relocation, Section, Symbol, stored}
 use Rattle.rv_object.specs.Valid.{held}
-use Rattle.rv_object_laws.specs.Calls.{word_at, link_register as linked_by, inserted_change, in_order}
+use Rattle.rv_object_laws.specs.CallSites.{word_at, link_register as linked_by, inserted_change, in_order}
 use Rattle.rv_object_laws.specs.Inputs.{goes_to_text}
 use Rattle.rv_object_laws.specs.Moves.{Move, dropped, new_offset, kept, lost}
 use Rattle.rv_object_laws.specs.Shortened.{Sizes, short_call, is_shortened, cut, cuts, shortened_relocation, shortened_contents, shortened_text}
@@ -34,7 +35,6 @@ use Rattle.rv_sources_link_laws.proofs.calls.CutStepsLemmas as walk
 use Rattle.rv_sources_link_laws.proofs.calls.CutStepsLemmas.{cut_site, cut_move, cuts_from}
 use Rattle.rv_sources_link_laws.proofs.calls.LongCallsLemmas as long
 use Rattle.rv_sources_link_laws.proofs.calls.LongCallsLemmas.{IsLongCall}
-use Rattle.rv_sources_link_laws.proofs.fields.PatchesLemmas.{append_assoc, append_nil}
 use Rattle.rv_sources_link_laws.proofs.moves.WalkLemmas.{drop_past, relocations_join, From, parts_from}
 
 -- ---- the words of a call
@@ -195,7 +195,7 @@ module _ (t : Tables) (number : Numbering) (sizes : Sizes) (multiple : ℕ) wher
         let rest = flat_map part_bytes (parts t zs) in
         let more : length (front ++ own) ≡ length front + length own = length-append front own in
         let split_whole : stored x.contents ≡ front ++ (own ++ rest) = whole ∙ ap (λ l. front ++ l) (bytes_append (parts_of t z) (parts t zs)) in
-        let own_is : own ≡ h.long.first ++ h.long.second = ap (flat_map part_bytes) (walk.long_part t number sizes multiple [] z h) ∙ append_nil (h.long.first ++ h.long.second) in
+        let own_is : own ≡ h.long.first ++ h.long.second = ap (flat_map part_bytes) (walk.long_part t number sizes multiple [] z h) ∙ append-nil (h.long.first ++ h.long.second) in
         let words = has_words t z h.m h.os h.long front rest in
         let linked : linked_by (stored x.contents) o ≡ link_of z.located.kind =
         ap (λ l. linked_by l o) (split_whole ∙ ap (λ l. front ++ (l ++ rest)) own_is)

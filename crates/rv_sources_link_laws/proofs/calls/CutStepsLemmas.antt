@@ -1,6 +1,7 @@
 -- The walk over a section of code whose calls are cut.
 
 use Rattle.std.proofs.Common.{◌≡◌, ℕ, ◌+◌, ◌-◌, ◌≤◌, ◌<◌, Bool, true, false, List, [], ◌∷◌, ◌++◌, length, length-append, map, take, drop, refl, sym, ap, ◌∙◌, subst, arith, ◌⊎◌, inl, inr}
+use Rattle.std.proofs.lemmas.List.{append-nil}
 use Rattle.std.proofs.lemmas.Bool.{le-leb}
 use Rattle.std.proofs.lemmas.List.Sums.{sum_by-cons}
 use Rattle.std.specs.Prelude.{◌&&◌, ◌==◌, nat_lt, nat_le, min, if◌then◌else◌, flat_map}
@@ -23,7 +24,6 @@ use Rattle.rv_sources_link_laws.proofs.calls.CalledLemmas.{short_coded}
 use Rattle.rv_sources_link_laws.proofs.calls.CutsLemmas.{link_of, is_cut, AreCalm, IsStill, IsCutCall}
 use Rattle.rv_sources_link_laws.proofs.calls.LongCallsLemmas as long
 use Rattle.rv_sources_link_laws.proofs.statements.PadsLemmas.{at}
-use Rattle.rv_sources_link_laws.proofs.fields.PatchesLemmas.{append_nil}
 use Rattle.rv_sources_link_laws.proofs.sections.SectionsLemmas.{split, join}
 use Rattle.rv_sources_link_laws.proofs.moves.SteppedLemmas.{drop_whole}
 use Rattle.rv_sources_link_laws.proofs.moves.WalkLemmas.{Ahead, dropped_none, lost_none, lost_before, kept_front, relocations_join}
@@ -299,7 +299,7 @@ module _ (t : Tables) (number : Numbering) (sizes : Sizes) (multiple : ℕ) wher
 
     part_long : (z : Site) (h : Cut z) → length (flat_map part_bytes (short_part z h ∷ [])) ≡ sizes z.offset
     part_long z h =
-        ap length (append_nil (short_call (sizes z.offset) (link_register h.m h.os))) ∙ (short_coded false (link_register h.m h.os) (sizes z.offset) h.long.link_low h.short).1
+        ap length (append-nil (short_call (sizes z.offset) (link_register h.m h.os))) ∙ (short_coded false (link_register h.m h.os) (sizes z.offset) h.long.link_low h.short).1
 
     next_still : (o gone b : ℕ) → gone ≤ o → o + b - gone ≡ (o - gone) + b
     next_still o gone b low = omega (arith, low)
@@ -365,7 +365,7 @@ module _ (t : Tables) (number : Numbering) (sizes : Sizes) (multiple : ℕ) wher
         ∙ ap (λ l. text ++ l) (bytes_kept (o + z.bytes) (gone + (8 - sizes z.offset)) zs st)
         ∙ ap (λ l. l ++ flat_map part_bytes (parts t (map S zs)))
         (ap (λ n. short_call (sizes n) (link_of z.located.kind)) (sym off) ∙ ap (λ k. short_call (sizes z.offset) (link_of k)) s.cut.is_kind
-        ∙ sym (append_nil (short_call (sizes z.offset) (link_register s.cut.m s.cut.os))) ∙ ap (flat_map part_bytes) (sym (own_cut o gone z s)))
+        ∙ sym (append-nil (short_call (sizes z.offset) (link_register s.cut.m s.cut.os))) ∙ ap (flat_map part_bytes) (sym (own_cut o gone z s)))
         ∙ sym (bytes_append (parts_of t (S z)) (parts t (map S zs)))
       where
         none_taken : (l : List ℕ) → take 0 l ≡ []

@@ -15,7 +15,7 @@ use Rattle.rv_unit_laws.specs.Tables.{Tables, alignment_of}
 use Rattle.rv_source_laws.specs.Sized.{is_call}
 use Rattle.rv_source_laws.specs.Shortened.{calls, link_register}
 use Rattle.rv_object.specs.Object.{Relocation}
-use Rattle.rv_object_laws.specs.Calls as objects
+use Rattle.rv_object_laws.specs.CallSites as objects
 use Rattle.rv_object_laws.specs.Shortened.{Sizes, is_shortened}
 use Rattle.rv_assemble_laws.specs.CodeFields.{relax_fields}
 use Rattle.rv_assemble_laws.specs.Coded.{constants}

@@ -1,6 +1,7 @@
 -- What a family keeps of the calls of sources: each call has a form of its size.
 
 use Rattle.std.proofs.Common.{◌≡◌, ℕ, suc, ◌+◌, ◌-◌, ◌≤◌, ◌<◌, Bool, true, false, List, [], ◌∷◌, ◌++◌, length, length-append, map, refl, sym, ap, ◌∙◌, subst, arith, Some, inl, inr}
+use Rattle.std.proofs.lemmas.List.{append_assoc, append-nil}
 use Rattle.std.proofs.lemmas.Bool.{and_parts, eqb-true}
 use Rattle.std.specs.Prelude.{◌&&◌, ◌||◌, ◌==◌, IsTrue, nat_le, if◌then◌else◌, filter, flat_map, slice_index}
 use Rattle.std.specs.List.{AllByRecursion, slice_get, list_any}
@@ -17,8 +18,8 @@ use Rattle.rv_source_laws.specs.Shortened.{calls, link_register}
 use Rattle.rv_source_laws.proofs.HomesLemmas.{all_filter}
 use Rattle.rv_object.specs.Object.{Relocation, Section, Object, stored, size_of}
 use Rattle.rv_object.specs.Valid.{held}
-use Rattle.rv_object_laws.specs.Calls as objects
-use Rattle.rv_object_laws.specs.Calls.{link_register as linked_by, is_compressible, base_in, start_padding, inserted_change, in_order, changes, may_change, site_of, sites_from, sites_of}
+use Rattle.rv_object_laws.specs.CallSites as objects
+use Rattle.rv_object_laws.specs.CallSites.{link_register as linked_by, is_compressible, base_in, start_padding, inserted_change, in_order, changes, may_change, site_of, sites_from, sites_of}
 use Rattle.rv_object_laws.specs.Inputs.{InputSection, goes_to_text, inputs_from, inputs_of, inputs, begins_at}
 use Rattle.rv_object_laws.specs.Moves.{full_padding, has_padding, alignment_of}
 use Rattle.rv_object_laws.specs.Names.{object_at}
@@ -34,7 +35,6 @@ use Rattle.rv_sources_link_laws.proofs.calls.CutsLemmas.{link_of}
 use Rattle.rv_sources_link_laws.proofs.calls.CutSectionsLemmas.{has_words, links, stored_is}
 use Rattle.rv_sources_link_laws.proofs.calls.LongCallsLemmas as long
 use Rattle.rv_sources_link_laws.proofs.calls.LongCallsLemmas.{IsLongCall, long_call}
-use Rattle.rv_sources_link_laws.proofs.fields.PatchesLemmas.{append_assoc, append_nil}
 use Rattle.rv_sources_link_laws.proofs.moves.PiecesOfLemmas.{size_is}
 use Rattle.rv_sources_link_laws.proofs.fields.RangesLemmas.{InRange, in_range}
 use Rattle.rv_sources_link_laws.proofs.sections.SectionsLemmas.{join}
@@ -251,7 +251,7 @@ module _ (t : Tables) (number : Numbering) (j : ℕ) (s : SourceSection) (code :
           let rest = flat_map part_bytes (parts t zs) in
           let own_is : flat_map part_bytes (parts_of t z) ≡ w.first ++ w.second =
           ap (λ k. flat_map part_bytes (map (part_of z.located.ordinal) (templates t z k))) e
-          ∙ ap (λ l. flat_map part_bytes (map (part_of z.located.ordinal) l)) (long.was t z multiple m ops e call w) ∙ append_nil (w.first ++ w.second) in
+          ∙ ap (λ l. flat_map part_bytes (map (part_of z.located.ordinal) l)) (long.was t z multiple m ops e call w) ∙ append-nil (w.first ++ w.second) in
           let bytes_as : bytes ≡ front ++ ((w.first ++ w.second) ++ rest) =
           whole ∙ ap (λ l. front ++ l) (bytes_append (parts_of t z) (parts t zs)) ∙ ap (λ l. front ++ (l ++ rest)) own_is in
           let eight = w.bytes in

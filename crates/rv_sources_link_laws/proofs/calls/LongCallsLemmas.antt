@@ -1,6 +1,7 @@
 -- A call in an object of a source without faults, as the assembler leaves it: `auipc` and `jalr`, with the field of its target.
 
 use Rattle.std.proofs.Common.{◌≡◌, ℕ, ◌<◌, Bool, true, false, List, [], ◌∷◌, ◌++◌, length, refl, sym, ap, ◌∙◌, subst, arith, pos, Some, ◌⊎◌, inl, inr}
+use Rattle.std.proofs.lemmas.List.{append-nil}
 use Rattle.std.specs.Prelude.{◌&&◌, ◌==◌, if◌then◌else◌, unwrap_or}
 use Rattle.rv_isa.specs.declared.instruction.Inst.{Inst}
 use Rattle.rv_isa.specs.declared.kind.Kind.{Kind}
@@ -28,7 +29,6 @@ use Rattle.rv_assemble_laws.specs.Sites.{Site, form, coded_templates, HasSize}
 use Rattle.rv_sources_link_laws.proofs.sections.AssembledLemmas.{templates}
 use Rattle.rv_sources_link_laws.proofs.calls.CalledLemmas.{IsCalled, called, short_part, short_coded, short_one}
 use Rattle.rv_sources_link_laws.proofs.statements.MarkedLemmas.{is_jump, marked, part_fields}
-use Rattle.rv_sources_link_laws.proofs.fields.PatchesLemmas.{append_nil}
 use Rattle.rv_sources_link_laws.proofs.statements.OperandsLemmas.{target_symbolic, other_fault}
 use Rattle.rv_sources_link_laws.proofs.fields.UppersLemmas.{none_of_its_own}
 use Rattle.rv_sources_link_laws.proofs.fields.WholesLemmas.{IsSound}
@@ -164,4 +164,4 @@ module _ (t : Tables) (z : Site) (multiple : ℕ) (m : Mnemonic) (os : List Oper
           }
         where
           joined_one : (bytes : List ℕ) → length (joined (bytes ∷ [])) ≡ length bytes
-          joined_one bytes = ap length (append_nil bytes)
+          joined_one bytes = ap length (append-nil bytes)

@@ -10,7 +10,7 @@ use Rattle.rv_source_laws.specs.Program.{Program}
 use Rattle.rv_source_laws.specs.Fits as source
 use Rattle.rv_source_laws.specs.Shortened.{Placed}
 use Rattle.rv_object.specs.Object.{size_of}
-use Rattle.rv_object_laws.specs.Calls.{start_padding, base_in}
+use Rattle.rv_object_laws.specs.CallSites.{start_padding, base_in}
 use Rattle.rv_object_laws.specs.Inputs.{Starts, InputSection}
 use Rattle.rv_object_laws.specs.Shortened.{Sizes}
 use Rattle.rv_assemble_laws.specs.Sites.{Site, sites_in}

@@ -1,6 +1,7 @@
 -- The open fields of a statement's code take what its operands stand for.
 
 use Rattle.std.proofs.Common.{◌≡◌, ℕ, ◌+◌, ◌%◌, Bool, true, false, List, [], ◌∷◌, ◌++◌, length, map, refl, sym, ap, ◌∙◌, subst, arith, Option, Some, None, ◌⊎◌, inl, inr}
+use Rattle.std.proofs.lemmas.Bool.{and_from}
 use Rattle.std.specs.Prelude.{◌^◌, ℤ, pos, negsuc, ◌-◌, suc, nat_lt, ◌&&◌, if◌then◌else◌, flat_map, is_some, unwrap_or, option_and_then}
 use Rattle.std.specs.Int.{w64, int_wrap}
 use Rattle.std.specs.List.{AllByRecursion, slice_get, list_all, list_any}
@@ -58,9 +59,6 @@ zero_addend plus e = go (nat_lt (plus % 2 ^ 64) (2 ^ 63)) (plus % 2 ^ 64) e
     go : (b : Bool) (n : ℕ) → (if b then pos n else negsuc (2 ^ 64 - suc n)) ≡ pos 0 → n ≡ 0
     go true n f = cc
     go false n f = absurd (cc)
-
-true_and : (a b : Bool) → a ≡ true → b ≡ true → (a && b) ≡ true
-true_and a b e f = ap (λ x. x && b) e ∙ f
 
 -- ---- labels
 
@@ -232,7 +230,7 @@ module _ (p : Program) (os : List Object) (starts : Starts) (file : ℕ) (sites 
 
       valued_one : (ex : Expression) → in_maybe (other_operand os') ≡ ex ∷ [] → is_some (value_in_map p s ex) ≡ true → has_values p s ≡ true
       valued_one ex f some =
-          ap (λ es. list_all (λ ex. is_some (value_in_map p s ex)) es) (alone ∙ f) ∙ true_and (is_some (value_in_map p s ex)) true some refl
+          ap (λ es. list_all (λ ex. is_some (value_in_map p s ex)) es) (alone ∙ f) ∙ and_from (is_some (value_in_map p s ex)) true some refl
 
       known_value : (ex : Expression) → is_some (constants V ex) ≡ true → is_some (value_in_map p s ex) ≡ true
       known_value ex known = known_some (address_in p s.located) (V ex) known

@@ -19,7 +19,7 @@ use Rattle.rv_source_laws.specs.Resolves.{defined_name, global_names_of}
 use Rattle.rv_source_laws.specs.Shortened.{Placed, Aim, aim, assigned_aim, defined_aim, defines, global_aim, aim_by, aim_of, aim_offset}
 use Rattle.rv_object.specs.declared.symbol.Definition.{Definition as Defined}
 use Rattle.rv_object.specs.Object.{Section, Symbol, Object, size_of}
-use Rattle.rv_object_laws.specs.Calls.{base, is_text_place, is_in_section, text_offset}
+use Rattle.rv_object_laws.specs.CallSites.{base, is_text_place, is_in_section, text_offset}
 use Rattle.rv_object_laws.specs.Inputs.{Starts, InputSection, goes_to_text, inputs_from, inputs_of, inputs}
 use Rattle.rv_object_laws.specs.Names.{Place, is_defined, place_in, global_place, symbol_place, no_object, object_at}
 use Rattle.rv_object_laws.specs.Shortened.{Sizes}

@@ -1,6 +1,7 @@
 -- The symbols of an object of a source when the bytes of its sections move: what they stand for moves with its statement.
 
 use Rattle.std.proofs.Common.{◌≡◌, ℕ, ◌-◌, ◌≤◌, Bool, true, false, List, [], ◌∷◌, ◌++◌, map, refl, sym, ap, ◌∙◌, subst, arith, Option, Some, None, option_map, ◌⊎◌, inl, inr}
+use Rattle.std.proofs.lemmas.List.{map-append}
 use Rattle.std.specs.Prelude.{◌&&◌, ◌==◌, if◌then◌else◌, filter, flat_map, bytes_eq, nat_lt}
 use Rattle.std.specs.List.{AllByRecursion, slice_get}
 use Rattle.rv_text_laws.specs.Bytes.{value as digits_value}
@@ -18,7 +19,6 @@ use Rattle.rv_assemble_laws.specs.Sites.{Site, Part}
 use Rattle.rv_assemble_laws.specs.Symbols.{SymbolUse, references_in, site_at, after_found, assigned_definition, site_definition, global_symbol, exports_of, IsNamed, IsOwn, IsOuter, IsDefinedBy, StandsFor}
 use Rattle.rv_assemble_laws.specs.IsObjectOf.{Numbering, IsNumbered, IsInData, StandsInData}
 use Rattle.rv_sources_link_laws.proofs.names.KnownLemmas.{all_found}
-use Rattle.rv_sources_link_laws.proofs.moves.ShrunkLinkLemmas.{map_join}
 use Rattle.rv_sources_link_laws.proofs.moves.ShrinkingLemmas.{slice_map}
 
 pub all_map : {X : Type 0} (P Q : X → Type 0) (xs : List X) → ((x : X) → P x → Q x) → AllByRecursion P xs → AllByRecursion Q xs
@@ -243,7 +243,7 @@ module _ (t : Tables) (sites : List Site) (places : AllByRecursion (StandsInData
   pub exports_move : (zs : List Site) → map moved_symbol (flat_map (exports_of t sites) zs) ≡ flat_map (exports_of t sites') (map mv zs)
   exports_move [] = refl
   exports_move (z ∷ zs) =
-      map_join moved_symbol (exports_of t sites z) (flat_map (exports_of t sites) zs)
+      map-append moved_symbol (exports_of t sites z) (flat_map (exports_of t sites) zs)
       ∙ ap (λ l. l ++ map moved_symbol (flat_map (exports_of t sites) zs))
       (named_moves (site_definition t sites z z.located.kind) (site_definition t sites' (mv z) z.located.kind) (definition_moves z z.located.kind) (global_names_of t z.located))
       ∙ ap (λ l. map (λ name. global_symbol name (site_definition t sites' (mv z) l.kind)) (global_names_of t l) ++ map moved_symbol (flat_map (exports_of t sites) zs)) (sym (stays z))

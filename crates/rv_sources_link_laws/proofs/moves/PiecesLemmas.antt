@@ -14,7 +14,7 @@ use Rattle.rv_source_laws.specs.Sized.{statement_size}
 use Rattle.rv_source_laws.specs.Shortened as line
 use Rattle.rv_source_laws.specs.Shortened.{calls, Placed, full_size, full_length, placed_from, text_from, HaveBytes}
 use Rattle.rv_object.specs.Object.{size_of}
-use Rattle.rv_object_laws.specs.Calls.{start_padding, base_in}
+use Rattle.rv_object_laws.specs.CallSites.{start_padding, base_in}
 use Rattle.rv_object_laws.specs.Inputs.{Starts, InputSection, begins_at}
 use Rattle.rv_object_laws.specs.Shortened.{Sizes}
 use Rattle.rv_assemble_laws.specs.Sites.{Site, form, sites_in, end_of}

@@ -1,6 +1,7 @@
 -- Objects with the linker's moves made are linked to the same program.
 
 use Rattle.std.proofs.Common.{◌≡◌, ℕ, suc, ◌+◌, ◌-◌, ◌≤◌, Bool, true, false, List, [], ◌∷◌, ◌++◌, map, length, refl, sym, ap, ◌∙◌, subst, arith, Option, Some, None, option_map}
+use Rattle.std.proofs.lemmas.List.{map-append}
 use Rattle.std.specs.Prelude.{⊤, not, ◌&&◌, ◌||◌, nat_le, nat_lt, max, IsTrue, option_and_then, filter, flat_map, if◌then◌else◌, bytes_eq, codes}
 use Rattle.std.specs.List.{AllByRecursion, find, list_all, list_any, slice_get}
 use Rattle.rv_map.specs.Globals.{is_one_of, AreDistinct, shown, linker_symbols}
@@ -41,10 +42,6 @@ flat_join : {X Y : Type 0} (f : X → List Y) (h : X → X) (xs : List X) → ((
 flat_join f h [] e = refl
 flat_join f h (x ∷ xs) e = ap (λ l. l ++ flat_map f (map h xs)) (e x) ∙ ap (λ l. f x ++ l) (flat_join f h xs e)
 
-pub map_join : {X Y : Type 0} (f : X → Y) (xs ys : List X) → map f (xs ++ ys) ≡ map f xs ++ map f ys
-map_join f [] ys = refl
-map_join f (x ∷ xs) ys = ap (λ l. f x ∷ l) (map_join f xs ys)
-
 -- ---- regions
 
 module _ (starts : Starts) where
@@ -75,7 +72,7 @@ module _ (starts : Starts) where
     inputs_same file (o ∷ us) =
         ap (λ l. l ++ inputs_of goes (suc file) (shrunk_objects starts (suc file) us)) (from_same file o 0 o.sections)
         ∙ ap (λ l. map mv (inputs_from goes file o 0 o.sections) ++ l) (inputs_same (suc file) us)
-        ∙ sym (map_join mv (inputs_from goes file o 0 o.sections) (inputs_of goes (suc file) us))
+        ∙ sym (map-append mv (inputs_from goes file o 0 o.sections) (inputs_of goes (suc file) us))
 
   abbrev Tidy : InputSection → Type 0
   Tidy i = IsTidy (start_of starts i) i.section

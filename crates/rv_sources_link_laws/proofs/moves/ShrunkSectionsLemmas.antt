@@ -1,7 +1,7 @@
 -- A section of an object with the linker's moves made is that of its source, with the least paddings.
 
 use Rattle.std.proofs.Common.{◌≡◌, ℕ, zero, suc, ◌+◌, ◌-◌, ◌%◌, ◌≤◌, ◌<◌, Bool, true, false, List, [], ◌∷◌, ◌++◌, length, map, refl, sym, ap, ◌∙◌, subst, arith, ◌⊎◌, inl, inr}
-use Rattle.std.proofs.lemmas.Bool.{and_parts}
+use Rattle.std.proofs.lemmas.Bool.{and_parts, and_left}
 use Rattle.std.specs.Prelude.{◌&&◌, max, if◌then◌else◌, filter, flat_map}
 use Rattle.std.specs.List.{AllByRecursion}
 use Rattle.rv_layout_laws.specs.Alignment.{aligned}
@@ -132,10 +132,6 @@ none_long [] e = refl
 none_long (x ∷ xs) e = absurd (omega (arith, e))
 
 -- ---- a section
-
-both_false : (a b : Bool) → a ≡ false → (a && b) ≡ false
-both_false true b e = absurd (cc)
-both_false false b e = refl
 
 module _ (t : Tables) (sites sites' : List Site) (number : Numbering) (symbols symbols' : List Symbol) (j start : ℕ) (s : SourceSection) (x : Section)
     (h : IsSectionOf t sites number symbols j s (sites_in j sites) x) (inside : AllByRecursion (IsSiteIn j s) (sites_in j sites))
@@ -304,7 +300,7 @@ module _ (t : Tables) (sites sites' : List Site) (number : Numbering) (symbols s
 
   module _ (l : s.loaded ≡ false) where
     no_moves : ms ≡ []
-    no_moves = ap (plan start 0) (ap (λ b. if b then by_place (filter has_padding x.relocations) else []) (flags ∙ both_false s.loaded s.executable l))
+    no_moves = ap (plan start 0) (ap (λ b. if b then by_place (filter has_padding x.relocations) else []) (flags ∙ and_left s.loaded s.executable l))
 
     loaded_not : {A : Type 0} → s.loaded ≡ true → A
     loaded_not k = let e : true ≡ false = sym k ∙ l in absurd (cc)

@@ -1,6 +1,7 @@
 -- What is left of a section: its statements still follow one another, and have their bytes, sizes and relocations.
 
 use Rattle.std.proofs.Common.{◌≡◌, ℕ, zero, suc, ◌+◌, ◌-◌, ◌%◌, ◌≤◌, ◌<◌, Bool, true, false, List, [], ◌∷◌, ◌++◌, length, length-append, map, take, drop, refl, sym, ap, ◌∙◌, subst, arith, inl, inr, mod-eq_of_lt}
+use Rattle.std.proofs.lemmas.List.{append-nil}
 use Rattle.std.proofs.lemmas.Bool.{ltb-true, ltb-false}
 use Rattle.std.specs.Prelude.{not, nat_lt, max, if◌then◌else◌, filter, flat_map}
 use Rattle.std.specs.List.{AllByRecursion}
@@ -16,7 +17,6 @@ use Rattle.rv_assemble_laws.specs.Sites.{Site, Part, form, part_of, part_bytes, 
 use Rattle.rv_sources_link_laws.proofs.sections.AssembledLemmas.{parts_of, parts, templates}
 use Rattle.rv_assemble_laws.specs.IsObjectOf.{Numbering, relocation_at, relocations_from}
 use Rattle.rv_assemble_laws.proofs.FilledLemmas.{bytes_append}
-use Rattle.rv_sources_link_laws.proofs.fields.PatchesLemmas.{append_nil}
 use Rattle.rv_sources_link_laws.proofs.sections.SectionsLemmas.{split, join}
 use Rattle.rv_sources_link_laws.proofs.statements.NopsLemmas.{nops_long}
 use Rattle.rv_sources_link_laws.proofs.moves.ShrunkLemmas as shrunk
@@ -29,11 +29,11 @@ use Rattle.rv_sources_link_laws.proofs.moves.WalkLemmas.{Ahead, plan_ahead, alig
 
 padding_long : (o b : ℕ) → b % 2 ≡ 0 → b ≡ length (flat_map part_bytes (map (part_of o) (shrunk.padding_templates true b)))
 padding_long o zero even = refl
-padding_long o (suc n) even = sym (ap length (append_nil (no_operations (suc n))) ∙ nops_long (suc n) even)
+padding_long o (suc n) even = sym (ap length (append-nil (no_operations (suc n))) ∙ nops_long (suc n) even)
 
 padding_said : (o b : ℕ) → flat_map part_bytes (map (part_of o) (shrunk.padding_templates true b)) ≡ no_operations b
 padding_said o zero = refl
-padding_said o (suc n) = append_nil (no_operations (suc n))
+padding_said o (suc n) = append-nil (no_operations (suc n))
 
 pub drop_whole : (own rest : List ℕ) → drop (length own) (own ++ rest) ≡ rest
 drop_whole [] [] = refl

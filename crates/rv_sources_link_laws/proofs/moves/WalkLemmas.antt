@@ -1,6 +1,7 @@
 -- The statements of a section as the linker moves them: each stands where what is kept before it ends.
 
 use Rattle.std.proofs.Common.{◌≡◌, ℕ, suc, ◌+◌, ◌-◌, ◌%◌, ◌≤◌, ◌<◌, Bool, true, false, List, [], ◌∷◌, ◌++◌, length, length-append, map, take, drop, refl, sym, ap, ◌∙◌, subst, arith, pos, Some, None, ◌⊎◌, inl, inr}
+use Rattle.std.proofs.lemmas.List.{append_assoc}
 use Rattle.std.proofs.lemmas.Bool.{and_parts, lt-ltb, ltb-true, le-leb, lt-leb}
 use Rattle.std.proofs.lemmas.List.Sums.{sum_by-cons}
 use Rattle.std.specs.Prelude.{◌&&◌, ◌==◌, nat_lt, nat_le, min, if◌then◌else◌, filter, flat_map}
@@ -20,7 +21,6 @@ use Rattle.rv_assemble_laws.specs.Sites.{Site, Part, part_of, part_bytes}
 use Rattle.rv_sources_link_laws.proofs.sections.AssembledLemmas.{parts_of, parts, templates}
 pub use Rattle.rv_sources_link_laws.proofs.sections.AssembledLemmas.{Tile}
 use Rattle.rv_assemble_laws.specs.IsObjectOf.{Numbering, relocation_at, relocations_from}
-use Rattle.rv_sources_link_laws.proofs.fields.PatchesLemmas.{append_assoc}
 use Rattle.rv_sources_link_laws.proofs.statements.FieldedLemmas.{IsPlain}
 use Rattle.rv_sources_link_laws.proofs.statements.FittingLemmas.{padding_moves}
 use Rattle.rv_sources_link_laws.proofs.statements.NopsLemmas.{nops_long}

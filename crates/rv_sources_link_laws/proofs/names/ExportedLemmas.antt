@@ -1,6 +1,7 @@
 -- The global definitions of an object are those that its source exports.
 
 use Rattle.std.proofs.Common.{◌≡◌, ℕ, Bool, true, false, List, [], ◌∷◌, ◌++◌, refl, ap, ◌∙◌, map, Option, Some, None}
+use Rattle.std.proofs.lemmas.List.{append-nil}
 use Rattle.std.specs.Prelude.{◌&&◌, not, if◌then◌else◌, filter, flat_map}
 use Rattle.std.specs.List.{list_any}
 use Rattle.rv_text_laws.specs.Values.{Meaning, Known, InSection as InData, Open as OpenAddress, Refused}
@@ -15,7 +16,6 @@ use Rattle.rv_object_laws.specs.Names.{is_exported, exported, is_defined}
 use Rattle.rv_assemble_laws.specs.Sites.{Site}
 use Rattle.rv_assemble_laws.specs.Symbols.{site_at, after_found, assigned_definition, site_definition, local_symbol, global_symbol, references, unnamed_symbols, named_symbols, local_symbols, exports_of, exports, undefined_symbols, distinct_from, missing_name, is_absolute, is_meant, are_together}
 use Rattle.rv_assemble_laws.specs.IsObjectOf.{IsObjectOf}
-use Rattle.rv_sources_link_laws.proofs.fields.PatchesLemmas.{append_nil}
 
 filter_join : (xs ys : List Symbol) → filter is_exported (xs ++ ys) ≡ filter is_exported xs ++ filter is_exported ys
 filter_join [] ys = refl
@@ -103,4 +103,4 @@ exported_are ss o is =
     ∙ filter_join own (undefined_symbols t is.sites)
     ∙ ap (λ l. l ++ filter is_exported (undefined_symbols t is.sites)) (exports_kept t is.sites is.sites)
     ∙ ap (λ l. own ++ l) (undefined_none (distinct_from [] (flat_map (λ r. missing_name t r.ordinal r.symbol) (references t is.sites))))
-    ∙ append_nil own
+    ∙ append-nil own

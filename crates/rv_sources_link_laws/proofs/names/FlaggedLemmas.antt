@@ -9,7 +9,7 @@ use Rattle.rv_unit_laws.specs.Tables.{at_start}
 use Rattle.rv_source_laws.specs.Located.{located_from, located_of}
 use Rattle.rv_source_laws.specs.Compressed.{is_compressed_code}
 use Rattle.rv_object.specs.Object.{Object}
-use Rattle.rv_object_laws.specs.Calls.{is_short_text}
+use Rattle.rv_object_laws.specs.CallSites.{is_short_text}
 use Rattle.rv_object_laws.specs.Shortened.{Sizes, sizes_by, shortened_from, IsRelaxed, Relaxes}
 use Rattle.rv_assemble_laws.specs.Sites.{Site}
 use Rattle.rv_sources_link_laws.specs.Joins.{AreObjectsOf}

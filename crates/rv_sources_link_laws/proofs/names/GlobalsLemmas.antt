@@ -1,6 +1,7 @@
 -- The global definitions of the objects have the addresses of those of the sources.
 
 use Rattle.std.proofs.Common.{◌≡◌, ℕ, suc, ◌+◌, ◌%◌, ◌<◌, Bool, true, false, List, [], ◌∷◌, ◌++◌, refl, sym, ap, ◌∙◌, arith, map, Option, Some, None}
+use Rattle.std.proofs.lemmas.Grind.{flat_map-append}
 use Rattle.std.specs.Prelude.{◌^◌, ◌&&◌, if◌then◌else◌, filter, flat_map, option_map, option_and_then, bytes_eq}
 use Rattle.std.specs.List.{AllByRecursion}
 use Rattle.rv_map.specs.Globals.{shown}
@@ -31,7 +32,7 @@ use Rattle.rv_sources_link_laws.proofs.names.KnownLemmas.{all_found, still, own_
 use Rattle.rv_sources_link_laws.proofs.statements.OrderedLemmas.{its_section}
 use Rattle.rv_sources_link_laws.proofs.sections.SectionsLemmas.{split}
 use Rattle.rv_sources_link_laws.proofs.sections.FilesLemmas.{plain_of, IsFile, AreFiles}
-use Rattle.rv_sources_link_laws.proofs.names.NamesLemmas.{flat_join, exported_are}
+use Rattle.rv_sources_link_laws.proofs.names.NamesLemmas.{exported_are}
 use Rattle.rv_sources_link_laws.proofs.moves.ShrunkLemmas.{IsSectionOf, IsObjectOf, AreObjectsOf}
 
 same_shown : (name : List ℕ) (a : Option ℕ) → shown name a ≡ shown name a
@@ -148,7 +149,7 @@ module _ (p : Program) (starts : Starts) (file : ℕ) (ss : List Statement) (o :
       → flat_map Shown (flat_map (exports_of t is.sites) rest) ≡ flat_map (source.defined_by p) (map (statement_at starts file) rest)
   file_globals [] h l = refl
   file_globals (s ∷ rest) (h, hs) (l, ls) =
-      flat_join Shown (exports_of t is.sites s) (flat_map (exports_of t is.sites) rest)
+      flat_map-append Shown (exports_of t is.sites s) (flat_map (exports_of t is.sites) rest)
       ∙ ap (λ g. g ++ flat_map Shown (flat_map (exports_of t is.sites) rest)) (site_globals s h l)
       ∙ ap (λ g. source.defined_by p (statement_at starts file s) ++ g) (file_globals rest hs ls)
 
@@ -167,4 +168,4 @@ globals_are p starts file (ss ∷ srcs) (o ∷ os) (is, h) (f, fs) r =
     let rows = split IsRow (rows_from starts file is.sites) (all_rows starts (suc file) srcs os h) r in
     ap (λ l. l ++ objects.globals_of starts (suc file) os) (own_globals p starts file ss o is f (low_rows starts file is.sites rows.0))
     ∙ ap (λ l. flat_map (source.defined_by p) (map (statement_at starts file) is.sites) ++ l) (globals_are p starts (suc file) srcs os h fs rows.1)
-    ∙ sym (flat_join (source.defined_by p) (map (statement_at starts file) is.sites) (all_statements starts (suc file) srcs os h))
+    ∙ sym (flat_map-append (source.defined_by p) (map (statement_at starts file) is.sites) (all_statements starts (suc file) srcs os h))

@@ -1,6 +1,7 @@
 -- The names of the map are those of the sources.
 
 use Rattle.std.proofs.Common.{◌≡◌, ℕ, suc, ◌+◌, ◌-◌, List, [], ◌∷◌, ◌++◌, refl, sym, ap, ◌∙◌, arith, map}
+use Rattle.std.proofs.lemmas.Grind.{flat_map-append}
 use Rattle.std.specs.Prelude.{⊤, flat_map, slice_index_or}
 use Rattle.rv_statement.specs.Statement.{Statement}
 use Rattle.rv_unit_laws.specs.Tables.{tables}
@@ -14,16 +15,11 @@ use Rattle.rv_object_laws.specs.Names as objects
 use Rattle.rv_object_laws.specs.Names.{is_exported, exported, is_defined, defined_address, offset_address}
 use Rattle.rv_assemble_laws.specs.Sites.{Site}
 use Rattle.rv_assemble_laws.specs.Symbols.{site_definition, global_symbol, exports_of, exports}
-use Rattle.rv_sources_link_laws.proofs.fields.PatchesLemmas.{append_assoc}
 use Rattle.rv_sources_link_laws.proofs.statements.StatementsLemmas.{statement_at, all_statements}
 use Rattle.rv_sources_link_laws.proofs.sections.FilesLemmas.{AreFiles}
 use Rattle.rv_sources_link_laws.proofs.moves.ShrunkLemmas.{IsObjectOf, AreObjectsOf}
 
 -- ---- lists
-
-pub flat_join : {X Y : Type 0} (f : X → List Y) (xs ys : List X) → flat_map f (xs ++ ys) ≡ flat_map f xs ++ flat_map f ys
-flat_join f [] ys = refl
-flat_join f (x ∷ xs) ys = ap (λ l. f x ++ l) (flat_join f xs ys) ∙ sym (append_assoc (f x) (flat_map f xs) (flat_map f ys))
 
 pub exported_are : (ss : List Statement) (o : Object) (is : IsObjectOf ss o) → exported o ≡ exports (tables ss) is.sites
 exported_are ss o is = is.exported_are
@@ -80,6 +76,6 @@ module _ (sources : List (List Statement)) (m : Map) (starts : Starts) where
   names_are file [] (o ∷ os) h f = absurd h
   names_are file (ss ∷ srcs) [] h f = absurd h
   names_are file (ss ∷ srcs) (o ∷ os) (is, h) (f, fs) =
-      flat_join names_at (map (statement_at starts file) is.sites) (all_statements starts (suc file) srcs os h)
+      flat_map-append names_at (map (statement_at starts file) is.sites) (all_statements starts (suc file) srcs os h)
       ∙ ap (λ l. l ++ flat_map names_at (all_statements starts (suc file) srcs os h)) (file_names file ss f.tables is.sites is.sites ∙ ap (map (λ s. s.name)) (sym (exported_are ss o is)))
       ∙ ap (λ l. map (λ s. s.name) (exported o) ++ l) (names_are (suc file) srcs os h fs)

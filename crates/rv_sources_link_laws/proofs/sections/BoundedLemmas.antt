@@ -11,7 +11,7 @@ use Rattle.rv_unit_laws.specs.Contributions.{As_power, As_bytes, Contribution, N
 use Rattle.rv_unit_laws.specs.Sections.{Section as SourceSection, place_of_name, entered_by}
 use Rattle.rv_unit_laws.specs.Tables.{Tables, Extent, Assignment, at_start, after, after_all, tables, opened_of, here, value, contribution_alignment, changed_at, extended, entered_at, with_section, with_data, with_contribution, with_chosen, with_assignment, with_label, assigned_by, chosen, or_none, contributed, is_defined, may_set}
 use Rattle.rv_object.specs.Object.{Section, Symbol, Object, size_of}
-use Rattle.rv_object_laws.specs.Calls.{start_padding, length_of, is_short_text}
+use Rattle.rv_object_laws.specs.CallSites.{start_padding, length_of, is_short_text}
 use Rattle.rv_object_laws.specs.Inputs.{InputSection, goes_to_text, inputs_from, inputs_of, inputs, begins_at}
 use Rattle.rv_assemble_laws.specs.Sites.{Site, sites_in, end_of}
 use Rattle.rv_assemble_laws.specs.IsObjectOf.{Numbering, IsObjectOf}

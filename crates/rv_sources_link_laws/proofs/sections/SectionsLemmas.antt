@@ -1,6 +1,7 @@
 -- A section of an object in the program: its bytes, its rows, and the sizes of its statements.
 
 use Rattle.std.proofs.Common.{◌≡◌, ℕ, zero, suc, ◌+◌, ◌-◌, ◌*◌, ◌/◌, ◌%◌, ◌<◌, ◌≤◌, Bool, true, false, List, [], ◌∷◌, ◌++◌, length, length-append, refl, sym, ap, ◌∙◌, subst, arith, map, Option, Some, None}
+use Rattle.std.proofs.lemmas.List.{append-nil}
 use Rattle.std.proofs.Common.{add-zero, mod-eq_of_lt}
 use Rattle.std.proofs.Math.Nat.{add-mul-mod_self_right}
 use Rattle.std.proofs.lemmas.Nat.{div-add-mod'}
@@ -24,7 +25,7 @@ use Rattle.rv_assemble_laws.specs.Templates.{Datum, Open, IsTemplate, HasField, 
 use Rattle.rv_assemble_laws.specs.Coded.{constants}
 use Rattle.rv_assemble_laws.specs.Sites.{Site, Part, form, part_of, part_bytes, coded_templates, IsMultiple}
 use Rattle.rv_assemble_laws.specs.IsObjectOf.{Numbering, relocation_at, relocations_from}
-use Rattle.rv_sources_link_laws.proofs.fields.PatchesLemmas.{append_nil, written, written_from, filled_fields}
+use Rattle.rv_sources_link_laws.proofs.fields.PatchesLemmas.{written, written_from, filled_fields}
 use Rattle.rv_sources_link_laws.proofs.statements.CodingLemmas.{coded_bytes}
 use Rattle.rv_sources_link_laws.proofs.statements.StatementsLemmas.{mapped_at}
 use Rattle.rv_sources_link_laws.proofs.statements.SettledLemmas.{IsPlacedKind}
@@ -216,13 +217,13 @@ module _ (p : Program) (file : ℕ) where
     spelled_by starts s multiple (Numbered number) held aside size = refl
     spelled_by starts s multiple (Instruction mnemonic operands) held aside size = let e : true ≡ false = sym held.0 ∙ aside in absurd (cc)
     spelled_by starts s multiple (Directs (Values width es)) held aside size = values_spelled (worth s.located.section) s.offset s.located.ordinal width (form (tables_in p file) s.located) es
-    spelled_by starts s multiple (Directs (Strings ended strings)) held aside size = sym (append_nil (string_bytes ended strings))
+    spelled_by starts s multiple (Directs (Strings ended strings)) held aside size = sym (append-nil (string_bytes ended strings))
     spelled_by starts s multiple (Directs (Zeros count)) held aside (x, y) =
-        ap (λ v. zeros (unwrap_or (resolved (meant_in s.located.ordinal) v) 0)) y ∙ sym (append_nil (zeros s.bytes))
+        ap (λ v. zeros (unwrap_or (resolved (meant_in s.located.ordinal) v) 0)) y ∙ sym (append-nil (zeros s.bytes))
     spelled_by starts s multiple (Directs (Aligns_to_power e)) held aside size =
-        sym (append_nil (zeros s.bytes)) ∙ ap (λ b. written_from (written meant_in (worth s.located.section)) s.offset (map (part_of s.located.ordinal) (padding_templates b s.bytes))) (sym aside)
+        sym (append-nil (zeros s.bytes)) ∙ ap (λ b. written_from (written meant_in (worth s.located.section)) s.offset (map (part_of s.located.ordinal) (padding_templates b s.bytes))) (sym aside)
     spelled_by starts s multiple (Directs (Aligns_to_bytes e)) held aside size =
-        sym (append_nil (zeros s.bytes)) ∙ ap (λ b. written_from (written meant_in (worth s.located.section)) s.offset (map (part_of s.located.ordinal) (padding_templates b s.bytes))) (sym aside)
+        sym (append-nil (zeros s.bytes)) ∙ ap (λ b. written_from (written meant_in (worth s.located.section)) s.offset (map (part_of s.located.ordinal) (padding_templates b s.bytes))) (sym aside)
     spelled_by starts s multiple (Directs (Enters section)) held aside size = refl
     spelled_by starts s multiple (Directs (Opens name flags kind)) held aside size = refl
     spelled_by starts s multiple (Directs (Globl names)) held aside size = refl
@@ -241,7 +242,7 @@ module _ (p : Program) (file : ℕ) where
 
     padding_coded : (w : ℕ → Open → ℤ) (offset ordinal bytes : ℕ) → no_operations bytes ≡ written_from (written meant_in w) offset (map (part_of ordinal) (padding_templates true bytes))
     padding_coded w offset ordinal zero = refl
-    padding_coded w offset ordinal (suc n) = sym (append_nil (no_operations (suc n)))
+    padding_coded w offset ordinal (suc n) = sym (append-nil (no_operations (suc n)))
 
     -- in code its parts are its code
     pub coded_by : (s : Site) (multiple : ℕ) (kind : StatementKind) → IsHeld s.located.home kind → s.located.home.executable ≡ true

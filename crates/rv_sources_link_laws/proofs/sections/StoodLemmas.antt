@@ -13,7 +13,7 @@ use Rattle.rv_source_laws.specs.Resolves.{defined_name, global_names_of}
 use Rattle.rv_object.specs.declared.symbol.Definition.{Definition as Defined}
 use Rattle.rv_object.specs.declared.symbol.Definition.TheVariants.{Undefined, Absolute, InSection, Skipped}
 use Rattle.rv_object.specs.Object.{Symbol, Object}
-use Rattle.rv_object_laws.specs.Calls.{is_inside, is_entered}
+use Rattle.rv_object_laws.specs.CallSites.{is_inside, is_entered}
 use Rattle.rv_assemble_laws.specs.Sites.{Site, sites_in}
 use Rattle.rv_assemble_laws.specs.Symbols.{site_at, after_found, assigned_definition, site_definition, local_symbol, global_symbol, references, unnamed_symbols, named_symbols, local_symbols, exports_of, exports, undefined_symbols, is_absolute, is_meant, are_together, distinct_from, missing_name}
 use Rattle.rv_assemble_laws.specs.IsObjectOf.{IsInData, StandsInData, IsObjectOf}

@@ -1,6 +1,7 @@
 -- The code of a statement, part by part: its lines, and their bytes, once each open field holds what its operand stands for.
 
 use Rattle.std.proofs.Common.{◌≡◌, ℕ, suc, ◌+◌, ◌*◌, ◌%◌, ◌≤◌, Bool, true, false, List, [], ◌∷◌, ◌++◌, length, map, refl, sym, ap, ◌∙◌, subst, arith, ◌⊎◌, inl, inr, length-append}
+use Rattle.std.proofs.lemmas.List.{append_assoc, append-nil}
 use Rattle.std.proofs.lemmas.List.Sums.{sum_by-cons}
 use Rattle.std.specs.Prelude.{⊤, ℤ}
 use Rattle.std.specs.List.{AllByRecursion}
@@ -25,7 +26,7 @@ use Rattle.rv_assemble_laws.specs.Coded.{IsCodedPart, AreCodedParts, joined, par
 use Rattle.rv_assemble_laws.specs.Templates.{Open as OpenField}
 use Rattle.rv_filling_laws.specs.Parts.{is_call}
 use Rattle.rv_filling_laws.proofs.OneLemmas.{open_filled, call_filled, call_width}
-use Rattle.rv_sources_link_laws.proofs.fields.PatchesLemmas.{append_nil, append_assoc, little_long, patched_here, filled_fields}
+use Rattle.rv_sources_link_laws.proofs.fields.PatchesLemmas.{little_long, patched_here, filled_fields}
 
 -- ---- the bytes of an instruction
 
@@ -147,8 +148,8 @@ module _ (v : ℕ → OpenField → ℤ) (fields : Part → List OpenField) (val
       ∙ relaxed (v offset) h.others (patched_at 0 h.field.kind (v offset h.field) bytes) h.relaxes
       ∙ ap (λ q. patched_at 0 q (v offset h.field) bytes) h.kind
       ∙ ap (λ z. patched_at 0 k z bytes) h.worth
-      ∙ ap (patched_at 0 k (value k a)) (sym (append_nil bytes)) ∙ patched_here [] bytes [] k (value k a) long
-      ∙ append_nil (patched k (value k a) bytes)
+      ∙ ap (patched_at 0 k (value k a)) (sym (append-nil bytes)) ∙ patched_here [] bytes [] k (value k a) long
+      ∙ append-nil (patched k (value k a) bytes)
 
   -- ---- lines
 

@@ -1,6 +1,7 @@
 -- A row that suits its statement fits it.
 
 use Rattle.std.proofs.Common.{◌≡◌, ℕ, zero, suc, ◌+◌, ◌-◌, ◌*◌, ◌/◌, ◌%◌, ◌<◌, Bool, true, false, List, [], ◌∷◌, length, refl, sym, ap, ◌∙◌, subst, arith, Option, Some, None, ◌⊎◌, inl, inr, length-append}
+use Rattle.std.proofs.lemmas.Bool.{and_from}
 use Rattle.std.proofs.Common.{add-zero}
 use Rattle.std.proofs.Math.Nat.{mul-add-div_right, add-mul}
 use Rattle.std.proofs.lemmas.Nat.{div-add-mod'}
@@ -39,9 +40,6 @@ constant_some a (Constant n) e = refl
 constant_some a (Symbolic p at k) e = absurd (cc)
 constant_some a (Difference p q k) e = absurd (cc)
 constant_some a (Faulty c) e = absurd (cc)
-
-true_and : (a b : Bool) → a ≡ true → b ≡ true → (a && b) ≡ true
-true_and a b e f = ap (λ x. x && b) e ∙ f
 
 -- ---- rows of instructions
 
@@ -218,7 +216,7 @@ module _ (p : Program) (file ordinal section offset line : ℕ) (options : Optio
 
   valued_alone : (e : Expression) (says : StatementKind) → expressions says ≡ e ∷ [] → is_constant (f e) ≡ true → has_values p (at says) ≡ true
   valued_alone e says is constant =
-      ap (λ es. list_all (λ e. is_some (resolved a (f e))) es) is ∙ true_and (is_some (resolved a (f e))) true (constant_some a (f e) constant) refl
+      ap (λ es. list_all (λ e. is_some (resolved a (f e))) es) is ∙ and_from (is_some (resolved a (f e))) true (constant_some a (f e) constant) refl
 
   -- the row of a padding
   alignment_fits : (d : Directive) → has_values p (at (Directs d)) ≡ true → parts p (at (Directs d)) ≡ Some (padding_parts row.bytes)

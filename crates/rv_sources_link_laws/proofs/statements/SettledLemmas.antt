@@ -1,6 +1,7 @@
 -- The statements of a section: where their rows stand, and that those without a row have no bytes.
 
 use Rattle.std.proofs.Common.{◌≡◌, ℕ, suc, ◌+◌, Bool, true, false, List, [], ◌∷◌, ◌++◌, length, length-append, refl, sym, ap, ◌∙◌, subst, arith, map, Some, None}
+use Rattle.std.proofs.lemmas.List.{append_assoc}
 use Rattle.std.proofs.lemmas.Bool.{eqb-true, eq-eqb}
 use Rattle.std.proofs.lemmas.List.Sums.{sum_by-cons}
 use Rattle.std.specs.Prelude.{⊤, ◌&&◌, ◌==◌, if◌then◌else◌, flat_map}
@@ -19,7 +20,7 @@ use Rattle.rv_assemble_laws.specs.Refusals.{statements_fault}
 use Rattle.rv_assemble_laws.specs.Sites.{Site, Part, part_bytes, sites_in, end_of}
 use Rattle.rv_assemble_laws.proofs.FaultlessLemmas.{no_first_fault}
 use Rattle.rv_object_laws.specs.Inputs.{Starts}
-use Rattle.rv_sources_link_laws.proofs.fields.PatchesLemmas.{append_assoc, written_from}
+use Rattle.rv_sources_link_laws.proofs.fields.PatchesLemmas.{written_from}
 use Rattle.rv_sources_link_laws.proofs.statements.StatementsLemmas.{row_in, mapped_at, mapped_from}
 use Rattle.rv_sources_link_laws.proofs.moves.ShrunkLemmas.{templates, parts_of, parts, Tile}
 

@@ -1,6 +1,7 @@
 -- The statements of the sources with the rows that linking their objects gives.
 
 use Rattle.std.proofs.Common.{◌≡◌, ℕ, zero, suc, ◌+◌, ◌<◌, Bool, true, false, List, [], ◌∷◌, ◌++◌, refl, sym, ap, ◌∙◌, subst, arith, map, Option, Some, None, drop, ◌⊎◌, inl, inr}
+use Rattle.std.proofs.lemmas.List.{append-nil}
 use Rattle.std.proofs.lemmas.Bool.{eq-eqb, ne_eqb}
 use Rattle.std.specs.Prelude.{◌&&◌, ◌==◌, if◌then◌else◌, option_map, option_and_then}
 use Rattle.std.specs.List.{find}
@@ -13,7 +14,6 @@ use Rattle.rv_source_laws.specs.Fits.{mapped_in}
 use Rattle.rv_object.specs.Object.{Object}
 use Rattle.rv_object_laws.specs.Inputs.{Starts}
 pub use Rattle.rv_sources_link_laws.proofs.moves.ShrunkLemmas.{AreObjectsOf}
-use Rattle.rv_sources_link_laws.proofs.fields.PatchesLemmas.{append_nil}
 use Rattle.rv_assemble_laws.specs.Sites.{Site, sites_in}
 use Rattle.rv_assemble_laws.specs.Symbols.{site_at}
 
@@ -194,7 +194,7 @@ module _ (starts : Starts) where
       let none : mapped_in rest file j ≡ [] = none_before (suc file) file j (omega arith) sources os h in
       ap (λ l. mapped_in l (file + 0) j) (mapped_are file is.sites (all_statements (suc file) sources os h))
       ∙ subst (λ f. mapped_in (mapped_from file is.sites ++ rest) f j ≡ mapped_from f (sites_in j is.sites)) (sym here)
-      (in_own file j is.sites rest ∙ ap (λ l. mapped_from file (sites_in j is.sites) ++ l) none ∙ append_nil (mapped_from file (sites_in j is.sites)))
+      (in_own file j is.sites rest ∙ ap (λ l. mapped_from file (sites_in j is.sites) ++ l) none ∙ append-nil (mapped_from file (sites_in j is.sites)))
   mapped_by file (suc i) j (ss ∷ sources) (o ∷ os) (is, h) =
       let rest = mapped_of (all_statements (suc file) sources os h) in
       let there : suc file + i ≡ file + suc i = omega arith in

@@ -1,6 +1,6 @@
 use Rattle.std.proofs.Common.{map, drop}
 use Rattle.rv_object.specs.Parts.{relocation_of}
-use Rattle.rv_object_laws.specs.Calls as laws
+use Rattle.rv_object_laws.specs.CallSites as laws
 use Rattle.rv_link_sites.specs.Between.{Rise}
 use Rattle.rv_link_sites.proofs.LoopsLemmas.{IsLeft}
 use Rattle.rv_link_sites.proofs.between.begin_with_relax.Given as goal

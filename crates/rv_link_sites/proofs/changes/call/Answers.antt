@@ -7,7 +7,7 @@ use Rattle.rv_object.specs.Object.{stored}
 use Rattle.rv_object.specs.Parts.{relocation_of}
 use Rattle.rv_object.specs.Sections.{section_of}
 use Rattle.rv_object.specs.View.{object_of}
-use Rattle.rv_object_laws.specs.Calls as laws
+use Rattle.rv_object_laws.specs.CallSites as laws
 use Rattle.rv_link_sites.specs.Text.{objects_of, input_of}
 use Rattle.rv_link_sites.proofs.ChangedLemmas.{one_call}
 use Rattle.rv_link_sites.proofs.changes.call.Goals as goal
@@ -22,7 +22,7 @@ returns-then-input c =
     let target = c.in_ok-target.ensures i c.requires.laid refl c.requires.given.at in
     let inside = slice_get_within (object_of c.args.input.now.object.now).sections c.args.input.now.index (section_of c.args.input.now.section.now) c.requires.given.there in
     let entered = sym (c.is_entered.ensures (object_of c.args.input.now.object.now) c.requires.given.entries inside) ∙ c.if-is_entered.false in
-    let link = c.link_register.ensures ∙ ap (λ l. laws.link_register l r.place) c.stored-bytes.ensures in
+    let link = c.link_register.ensures.value ∙ ap (λ l. laws.link_register l r.place) c.stored-bytes.ensures in
     let short = ap (λ n. n == 0) link ∙ sym (ap (λ b. b && (laws.link_register (stored i.section.contents) r.place == 0)) c.if-input.true) in
     ap (λ a. Some (record { target = c.in_ok-target.target; addend = a; compressed = c.link_register.result == 0 })) (to_z-of_z w64 c.args.relocation.now.addend (search rules))
     ∙ one_call os i r c.in_ok-target.target (c.link_register.result == 0) words target entered short

@@ -1,5 +1,5 @@
 use Rattle.std.proofs.Common.{◌≡◌, ◌+◌, ◌-◌, length, arith}
-use Rattle.rv_object_laws.specs.Calls as laws
+use Rattle.rv_object_laws.specs.CallSites as laws
 use Rattle.rv_link_sites.specs.Text.{objects_of, input_of}
 use Rattle.rv_link_sites.proofs.MarksLemmas.{marks_put}
 use Rattle.rv_link_sites.proofs.changes.put_section.Goals as goal

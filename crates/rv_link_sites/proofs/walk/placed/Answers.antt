@@ -5,7 +5,7 @@ use Rattle.rv_layout_laws.specs.declared.site.SiteKind.TheVariants.{Call, Paddin
 use Rattle.rv_layout_laws.specs.Calls.{IsText, site_at}
 use Rattle.rv_object.specs.Object.{Object}
 use Rattle.rv_object.specs.View.{object_of}
-use Rattle.rv_object_laws.specs.Calls.{sites_of}
+use Rattle.rv_object_laws.specs.CallSites.{sites_of}
 use Rattle.rv_object_laws.specs.Within.{IsWithin, LeadsWithin}
 use Rattle.rv_relax.specs.Passes.{IsInput, LeadsLow}
 use Rattle.rv_relax.specs.Placed.{is_aligning}

@@ -1,5 +1,5 @@
 use Rattle.std.proofs.Common.{◌<◌, ◌≢◌, inr, cond, length, map, slice_index_or, sym, ap, ◌∙◌, arith}
-use Rattle.rv_object_laws.specs.Calls.{is_call}
+use Rattle.rv_object_laws.specs.CallSites.{is_call}
 use Rattle.rv_isa.specs.declared.kind.Kind.TheVariants as kinds
 use Rattle.rv_shorten.specs.Cut.{move_of}
 use Rattle.rv_shorten.specs.Cutting.{cut_at}

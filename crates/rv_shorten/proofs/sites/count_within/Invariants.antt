@@ -1,9 +1,9 @@
 use Rattle.std.proofs.Common.{◌≡◌, ◌+◌, ◌≤◌, drop}
-use Rattle.rv_shorten.specs.Walk.{count_within, end_of}
+use Rattle.rv_shorten.specs.Walk.{count_within, site_end}
 use Rattle.rv_shorten.proofs.sites.count_within.Given as goal
 
 abbrev pub invariant-loop-site : goal.invariant-loop-site
 invariant-loop-site l = record {
-  counted : l.count + count_within (end_of l.start) l.size (drop l.site-index l.sites) ≡ count_within (end_of l.start) l.size l.sites;
+  counted : l.count + count_within (site_end l.start) l.size (drop l.site-index l.sites) ≡ count_within (site_end l.start) l.size l.sites;
   low : l.count ≤ l.site-index;
 }

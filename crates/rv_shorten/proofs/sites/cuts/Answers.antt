@@ -2,20 +2,20 @@ use Rattle.std.proofs.Common.{◌≡◌, ℕ, ◌∷◌, ◌+◌, ◌-◌, ◌^�
 use Rattle.rv_object_laws.specs.Moves.{Move}
 use Rattle.rv_shorten.specs.declared.cut.Cut.{Cut}
 use Rattle.rv_shorten.specs.Cut.{move_of}
-use Rattle.rv_shorten.specs.Walk.{moves_of, end_of, cuts_of}
+use Rattle.rv_shorten.specs.Walk.{moves_of, site_end, cuts_of}
 use Rattle.rv_shorten.proofs.StepsLemmas.{Behind, past, moves_here, one_site, inside, next_behind, all_in_order}
 use Rattle.rv_shorten.proofs.sites.cuts.Goals as goal
 
 pub returns-clause-order : goal.returns-clause-order
 returns-clause-order c =
     let i = c.loop-i.i in
-    all_in_order (length c.args.bytes.now) c.loop-i.gone (moves_of (end_of c.args.start.now) c.args.bytes.now (drop i c.args.sites.now) (drop i c.args.kept.now)) c.loop-i.cuts.items c.loop-i.invariant.behind
+    all_in_order (length c.args.bytes.now) c.loop-i.gone (moves_of (site_end c.args.start.now) c.args.bytes.now (drop i c.args.sites.now) (drop i c.args.kept.now)) c.loop-i.cuts.items c.loop-i.invariant.behind
 
 pub put_site-requires : goal.put_site-requires
 put_site-requires c =
     let i = c.loop-i.i in
     let bytes = c.args.bytes.now in
-    let first = end_of c.args.start.now in
+    let first = site_end c.args.start.now in
     let gone = c.loop-i.gone in
     let cs = c.loop-i.cuts.items in
     let s = slice_index_or c.args.sites.now i past in
@@ -30,7 +30,7 @@ pub loop-i-preserved : goal.loop-i-preserved
 loop-i-preserved c =
     let i = c.loop-i.i in
     let bytes = c.args.bytes.now in
-    let first = end_of c.args.start.now in
+    let first = site_end c.args.start.now in
     let gone = c.loop-i.gone in
     let cs = c.loop-i.cuts.items in
     let s = slice_index_or c.args.sites.now i past in

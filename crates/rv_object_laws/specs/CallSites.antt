@@ -1,13 +1,15 @@
 -- Which calls of objects may be shortened, and what lies between them and their targets (RISC-V ELF
 -- psABI, "Linker Relaxation", function call relaxation; this project's limits of it).
 
-use Rattle.std.specs.Prelude.{ℕ, ◌+◌, ◌-◌, ◌/◌, ◌%◌, ◌^◌, ◌==◌, Bool, true, false, not, ◌&&◌, ◌||◌, nat_le, nat_lt, List, [], ◌∷◌, ◌++◌, take, drop, filter, map, count_by, Option, Some, None, option_and_then, if◌then◌else◌}
+use Rattle.std.specs.Prelude.{ℕ, pos, ◌+◌, ◌-◌, ◌/◌, ◌%◌, ◌^◌, ◌==◌, Bool, true, false, not, ◌&&◌, ◌||◌, nat_le, nat_lt, List, [], ◌∷◌, ◌++◌, take, drop, filter, map, count_by, Option, Some, None, option_and_then, if◌then◌else◌}
 use Rattle.std.specs.Int.{w32, from_le_bytes}
 use Rattle.std.specs.List.{list_any, slice_get}
 use Rattle.rv_layout_laws.specs.Sites.{padding_site}
 use Rattle.rv_isa.specs.declared.kind.Kind.{Kind}
 use Rattle.rv_isa.specs.declared.kind.Kind.TheVariants as kinds
 use Rattle.rv_isa.specs.Kinds.{width_of}
+use Rattle.rv_isa.specs.declared.instruction.Inst.TheVariants as isa
+use Rattle.rv_encode.specs.Word.{form, word as word_of}
 use Rattle.rv_layout_laws.specs.declared.site.Site.{Site}
 use Rattle.rv_layout_laws.specs.declared.site.SiteKind.TheVariants as sites
 use Rattle.rv_object.specs.declared.symbol.Definition.{Definition}
@@ -27,17 +29,28 @@ bits word from count = word / 2 ^ from % 2 ^ count
 abbrev pub opcode : ℕ → ℕ
 opcode word = bits word 0 7
 
+abbrev pub funct3 : ℕ → ℕ
+funct3 word = bits word 12 3
+
 abbrev pub rd : ℕ → ℕ
 rd word = bits word 7 5
 
 abbrev pub rs1 : ℕ → ℕ
 rs1 word = bits word 15 5
 
+-- the words of `auipc` and `jalr` whose operands are zeros: they have opcode and funct3 alone
+abbrev pub auipc_word : ℕ
+auipc_word = word_of (form (isa.Auipc (record { rd = 0; immediate = 0 })))
+
+abbrev pub jalr_word : ℕ
+jalr_word = word_of (form (isa.Jalr (record { rd = 0; rs1 = 0; immediate = pos 0 })))
+
+-- a word that spells an `auipc`, a `jalr` (`Spells`), whatever its operands are
 abbrev pub is_auipc : ℕ → Bool
-is_auipc word = opcode word == 0x17
+is_auipc word = opcode word == opcode auipc_word
 
 abbrev pub is_jalr : ℕ → Bool
-is_jalr word = (opcode word == 0x67) && (bits word 12 3 == 0)
+is_jalr word = (opcode word == opcode jalr_word) && (funct3 word == funct3 jalr_word)
 
 abbrev pub word_at : List ℕ → ℕ → ℕ
 word_at bytes place = from_le_bytes w32 (take 4 (drop place bytes))
