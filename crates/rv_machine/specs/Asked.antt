@@ -14,7 +14,7 @@ use Rattle.rv_machine.specs.declared.hart.Hart.{Hart}
 use Rattle.rv_machine.specs.Action.{effect_of, HasWidth}
 use Rattle.rv_machine.specs.Hart.{hart_of}
 
--- the action is what this instruction of so many bytes asks
+-- the action is what this instruction of this length in bytes asks
 abbrev pub IsAsked : Inst → ℕ → Hart → Action → Type 0
 IsAsked i bytes hart action =
     HasWidth action

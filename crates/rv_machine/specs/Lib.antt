@@ -8,5 +8,4 @@ pub mod Flow
 pub mod Streams
 pub mod StreamSteps
 pub mod Outcome
-pub mod Selectors
 pub mod Asked

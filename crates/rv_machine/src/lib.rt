@@ -36,7 +36,6 @@ mod hart;
 mod io;
 mod laws;
 mod machine;
-mod operands;
 mod outcome;
 mod parcel;
 mod quick;

@@ -84,8 +84,16 @@ fn branch(operation: BranchOperation, rs1: Reg, offset: i32, hart: &Hart) -> Act
     ensures { IsAsked (inst.of_branch operation (record { offset = offset; rs1 = rs1; rs2 = 0 })) 2
         hart.now result }
 {
-    let rs2 = Reg::from_low_bits(0);
-    formats::branch(operation, BType { offset, rs1, rs2 }, 2, hart)
+    formats::branch(
+        operation,
+        BType {
+            offset,
+            rs1,
+            rs2: Reg::ZERO,
+        },
+        2,
+        hart,
+    )
 }
 
 #[inline(always)]
@@ -114,8 +122,13 @@ fn upper(rd: Reg, immediate: u32, hart: &Hart) -> Action
 fn jump(offset: i32, hart: &Hart) -> Action
     ensures { IsAsked (isa.Jal (record { offset = offset; rd = 0 })) 2 hart.now result }
 {
-    let rd = Reg::from_low_bits(0);
-    formats::jump(JType { offset, rd }, hart)
+    formats::jump(
+        JType {
+            offset,
+            rd: Reg::ZERO,
+        },
+        hart,
+    )
 }
 
 /// What a form asks.
@@ -124,22 +137,19 @@ fn asked_by_form(form: Compressed, hart: &Hart) -> Action
     requires { IsLine form }
     ensures { IsAsked (expansion form) 2 hart.now result }
 {
-    let zero = Reg::from_low_bits(0);
-    let ra = Reg::from_low_bits(1);
-    let sp = Reg::from_low_bits(2);
     match form {
         Compressed::Addi4spn {
             rd,
             immediate: step,
-        } => immediate(ImmediateOperation::Addi, rd, sp, step as i32, hart),
+        } => immediate(ImmediateOperation::Addi, rd, Reg::SP, step as i32, hart),
         Compressed::Lw { rd, rs1, offset } => load(LoadOperation::Lw, rd, rs1, offset, hart),
         Compressed::Ld { rd, rs1, offset } => load(LoadOperation::Ld, rd, rs1, offset, hart),
         Compressed::Sw { rs1, rs2, offset } => store(StoreOperation::Sw, rs1, rs2, offset, hart),
         Compressed::Sd { rs1, rs2, offset } => store(StoreOperation::Sd, rs1, rs2, offset, hart),
         Compressed::Nop { immediate: step } => immediate(
             ImmediateOperation::Addi,
-            zero,
-            zero,
+            Reg::ZERO,
+            Reg::ZERO,
             step,
             hart,
         ),
@@ -154,11 +164,11 @@ fn asked_by_form(form: Compressed, hart: &Hart) -> Action
         Compressed::Li {
             rd,
             immediate: step,
-        } => immediate(ImmediateOperation::Addi, rd, zero, step, hart),
+        } => immediate(ImmediateOperation::Addi, rd, Reg::ZERO, step, hart),
         Compressed::Addi16sp { immediate: step } => immediate(
             ImmediateOperation::Addi,
-            sp,
-            sp,
+            Reg::SP,
+            Reg::SP,
             step,
             hart,
         ),
@@ -182,15 +192,15 @@ fn asked_by_form(form: Compressed, hart: &Hart) -> Action
         Compressed::Beqz { rs1, offset } => branch(BranchOperation::Beq, rs1, offset, hart),
         Compressed::Bnez { rs1, offset } => branch(BranchOperation::Bne, rs1, offset, hart),
         Compressed::Slli { rd, amount } => shift(ShiftOperation::Slli, rd, amount, hart),
-        Compressed::Lwsp { rd, offset } => load(LoadOperation::Lw, rd, sp, offset, hart),
-        Compressed::Ldsp { rd, offset } => load(LoadOperation::Ld, rd, sp, offset, hart),
-        Compressed::Jr { rs1 } => jump_register(zero, rs1, hart),
-        Compressed::Mv { rd, rs2 } => registers(RegisterOperation::Add, rd, zero, rs2, hart),
+        Compressed::Lwsp { rd, offset } => load(LoadOperation::Lw, rd, Reg::SP, offset, hart),
+        Compressed::Ldsp { rd, offset } => load(LoadOperation::Ld, rd, Reg::SP, offset, hart),
+        Compressed::Jr { rs1 } => jump_register(Reg::ZERO, rs1, hart),
+        Compressed::Mv { rd, rs2 } => registers(RegisterOperation::Add, rd, Reg::ZERO, rs2, hart),
         Compressed::Ebreak => Action::Break,
-        Compressed::Jalr { rs1 } => jump_register(ra, rs1, hart),
+        Compressed::Jalr { rs1 } => jump_register(Reg::RA, rs1, hart),
         Compressed::Add { rd, rs2 } => registers(RegisterOperation::Add, rd, rd, rs2, hart),
-        Compressed::Swsp { rs2, offset } => store(StoreOperation::Sw, sp, rs2, offset, hart),
-        Compressed::Sdsp { rs2, offset } => store(StoreOperation::Sd, sp, rs2, offset, hart),
+        Compressed::Swsp { rs2, offset } => store(StoreOperation::Sw, Reg::SP, rs2, offset, hart),
+        Compressed::Sdsp { rs2, offset } => store(StoreOperation::Sd, Reg::SP, rs2, offset, hart),
     }
 }
 

@@ -136,7 +136,7 @@ pub fn step<M: Memory>(hart: &mut Hart, memory: &mut M) -> bool
     }
 }
 
-/// Does such steps, at most so many, until one is none of them; how many.
+/// Does such steps, at most `most`, until one is none of them; answers how many it did.
 #[inline(never)]
 pub fn steps<M: Memory>(hart: &mut Hart, memory: &mut M, most: u64) -> u64
     ensures bound { result ≤ most }

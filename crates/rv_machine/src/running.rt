@@ -40,16 +40,29 @@ use crate::streams::{GuestIn, GuestOut, IoFailed};
 use crate::transfers::{put_all, take_all};
 use rv_image::Image;
 use rv_memory::{Memory, Paged};
-use std::alloc::Global;
+use std::alloc::{AllocError, Global};
+use thiserror::Error;
 
 /// Why a run over streams came to no end.
-#[derive(Clone, Copy, Debug, PartialEq, Eq, Drop)]
+#[derive(Clone, Copy, Debug, PartialEq, Eq, Drop, Error)]
 pub enum RunFault {
     /// A take of the guest's input failed.
+    #[error("the input cannot be read")]
     InputFault,
     /// A put of the guest's console failed.
+    #[error("the console cannot be written")]
     OutputFault,
+    /// Memory ran out before the first instruction.
+    #[error("out of memory")]
     OutOfMemory,
+}
+
+impl From<AllocError> for RunFault {
+    ghost from_gives = { λ _ fault. fault ≡ OutOfMemory };
+
+    fn from(_: AllocError) -> Self {
+        RunFault::OutOfMemory
+    }
 }
 
 /// What a run keeps of its input: whether a take gave nothing, and room for bytes on their way into memory.
@@ -241,8 +254,6 @@ pub fn run_io<R: GuestIn, W: GuestOut>(
         → (reader.new ≡ reader.old) × (writer.new ≡ writer.old) }
 {
     let entry = image.entry;
-    match Paged::new(alloc, image) {
-        Ok(memory) => run_over(memory, entry, reader, writer, limit),
-        Err(_) => Err(RunFault::OutOfMemory),
-    }
+    let memory = Paged::new(alloc, image)?;
+    run_over(memory, entry, reader, writer, limit)
 }

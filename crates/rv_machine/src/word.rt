@@ -4,40 +4,29 @@
 //!
 //! Source: RISC-V Unprivileged ISA 20191213, section 2.2 and chapter 24.
 
-ghost use Rattle.std.specs.Prelude.{◌≡◌, ◌/◌, ◌%◌, ◌^◌, true, false, IfSome};
+ghost use Rattle.std.specs.Prelude.{◌≡◌, ◌/◌, ◌%◌, ◌^◌, IfSome};
+ghost use Rattle.rv_isa.specs.declared.instruction.Inst.TheVariants as isa;
+ghost use Rattle.rv_isa.specs.Operations as inst;
+ghost use Rattle.rv_isa.specs.Ranges.{shift_limit};
+ghost use Rattle.rv_encode.specs.Selectors.{HasOpcode, HasSelector, IsUpperFunct};
 ghost use Rattle.rv_machine.specs.Asked.{AsksByWord};
-ghost use Rattle.rv_machine.specs.Selectors as selectors;
-ghost use Rattle.rv_machine.specs.Selectors.{selector};
 
 use crate::action::Action;
+use crate::formats;
 use crate::hart::Hart;
-use crate::{formats, operands};
+use rv_encode::operands;
+use rv_encode::operands::{funct6, funct7};
 use rv_isa::{
     BranchOperation, ImmediateOperation, LoadOperation, RegisterOperation, ShiftOperation,
     StoreOperation, UpperOperation,
 };
 
-/// The opcode's bits 6:2 and funct3, each as octal digits; bits 1:0 are those of any word.
-#[inline(always)]
-fn selector_of(bits: u32) -> u32
-    ensures { result ≡ selector bits }
-{
-    bits >> 12 & 7 | (bits >> 2 & 0x1f) << 3
-}
-
-#[inline(always)]
-fn funct7(bits: u32) -> u32
-    ensures { result ≡ bits / 2 ^ 25 }
-{
-    bits >> 25
-}
-
 /// R-type.
 #[inline(always)]
 fn register(operation: RegisterOperation, bits: u32, hart: &Hart) -> Option<Action>
     requires word { bits % 4 ≡ 3 }
-    requires selector { selector bits ≡ selectors.of_registers operation }
-    requires funct7 { bits / 2 ^ 25 ≡ selectors.funct7_of_registers operation }
+    requires selector { HasSelector bits (inst.of_registers operation) }
+    requires funct7 { IsUpperFunct (bits / 2 ^ 25) (inst.of_registers operation) }
     ensures { IfSome result (AsksByWord bits hart.now) }
 {
     Some(formats::by_registers(operation, operands::r_type(bits), hart))
@@ -47,7 +36,7 @@ fn register(operation: RegisterOperation, bits: u32, hart: &Hart) -> Option<Acti
 #[inline(always)]
 fn immediate(operation: ImmediateOperation, bits: u32, hart: &Hart) -> Option<Action>
     requires word { bits % 4 ≡ 3 }
-    requires selector { selector bits ≡ selectors.of_immediate operation }
+    requires selector { HasSelector bits (inst.of_immediate operation) }
     ensures { IfSome result (AsksByWord bits hart.now) }
 {
     Some(formats::by_immediate(operation, operands::i_type(bits), hart))
@@ -57,9 +46,9 @@ fn immediate(operation: ImmediateOperation, bits: u32, hart: &Hart) -> Option<Ac
 #[inline(always)]
 fn shift(operation: ShiftOperation, bits: u32, hart: &Hart) -> Option<Action>
     requires word { bits % 4 ≡ 3 }
-    requires selector { selector bits ≡ selectors.of_shift operation }
-    requires full { selectors.is_word operation ≡ false }
-    requires above { bits / 2 ^ 26 ≡ selectors.above_amount operation }
+    requires selector { HasSelector bits (inst.of_shift operation) }
+    requires width { shift_limit operation ≡ 64 }
+    requires above { IsUpperFunct (bits / 2 ^ 26) (inst.of_shift operation) }
     ensures { IfSome result (AsksByWord bits hart.now) }
 {
     Some(formats::by_amount(operation, operands::shift_by(bits), hart))
@@ -69,9 +58,9 @@ fn shift(operation: ShiftOperation, bits: u32, hart: &Hart) -> Option<Action>
 #[inline(always)]
 fn word_shift(operation: ShiftOperation, bits: u32, hart: &Hart) -> Option<Action>
     requires word { bits % 4 ≡ 3 }
-    requires selector { selector bits ≡ selectors.of_shift operation }
-    requires word_shift { selectors.is_word operation ≡ true }
-    requires above { bits / 2 ^ 25 ≡ selectors.above_amount operation }
+    requires selector { HasSelector bits (inst.of_shift operation) }
+    requires width { shift_limit operation ≡ 32 }
+    requires above { IsUpperFunct (bits / 2 ^ 25) (inst.of_shift operation) }
     ensures { IfSome result (AsksByWord bits hart.now) }
 {
     Some(formats::by_amount(operation, operands::word_shift(bits), hart))
@@ -81,7 +70,7 @@ fn word_shift(operation: ShiftOperation, bits: u32, hart: &Hart) -> Option<Actio
 #[inline(always)]
 fn load(operation: LoadOperation, bits: u32, hart: &Hart) -> Option<Action>
     requires word { bits % 4 ≡ 3 }
-    requires selector { selector bits ≡ selectors.of_load operation }
+    requires selector { HasSelector bits (inst.of_load operation) }
     ensures { IfSome result (AsksByWord bits hart.now) }
 {
     Some(formats::load(operation, operands::i_type(bits), hart))
@@ -91,7 +80,7 @@ fn load(operation: LoadOperation, bits: u32, hart: &Hart) -> Option<Action>
 #[inline(always)]
 fn store(operation: StoreOperation, bits: u32, hart: &Hart) -> Option<Action>
     requires word { bits % 4 ≡ 3 }
-    requires selector { selector bits ≡ selectors.of_store operation }
+    requires selector { HasSelector bits (inst.of_store operation) }
     ensures { IfSome result (AsksByWord bits hart.now) }
 {
     Some(formats::store(operation, operands::s_type(bits), hart))
@@ -101,7 +90,7 @@ fn store(operation: StoreOperation, bits: u32, hart: &Hart) -> Option<Action>
 #[inline(always)]
 fn branch(operation: BranchOperation, bits: u32, hart: &Hart) -> Option<Action>
     requires word { bits % 4 ≡ 3 }
-    requires selector { selector bits ≡ selectors.of_branch operation }
+    requires selector { HasSelector bits (inst.of_branch operation) }
     ensures { IfSome result (AsksByWord bits hart.now) }
 {
     Some(formats::branch(operation, operands::b_type(bits), 4, hart))
@@ -111,7 +100,7 @@ fn branch(operation: BranchOperation, bits: u32, hart: &Hart) -> Option<Action>
 #[inline(always)]
 fn upper(operation: UpperOperation, bits: u32, hart: &Hart) -> Option<Action>
     requires word { bits % 4 ≡ 3 }
-    requires opcode { bits % 128 ≡ selectors.opcode_of_upper operation }
+    requires opcode { HasOpcode bits (inst.of_upper operation) }
     ensures { IfSome result (AsksByWord bits hart.now) }
 {
     Some(formats::upper(operation, operands::u_type(bits), hart))
@@ -121,7 +110,7 @@ fn upper(operation: UpperOperation, bits: u32, hart: &Hart) -> Option<Action>
 #[inline(always)]
 fn jump(bits: u32, hart: &Hart) -> Option<Action>
     requires word { bits % 4 ≡ 3 }
-    requires opcode { bits % 128 ≡ 0x6f }
+    requires opcode { HasOpcode bits isa.Jal }
     ensures { IfSome result (AsksByWord bits hart.now) }
 {
     Some(formats::jump(operands::j_type(bits), hart))
@@ -131,7 +120,7 @@ fn jump(bits: u32, hart: &Hart) -> Option<Action>
 #[inline(always)]
 fn jump_register(bits: u32, hart: &Hart) -> Option<Action>
     requires word { bits % 4 ≡ 3 }
-    requires selector { selector bits ≡ 200 }
+    requires selector { HasSelector bits isa.Jalr }
     ensures { IfSome result (AsksByWord bits hart.now) }
 {
     Some(formats::jump_register(operands::i_type(bits), hart))
@@ -143,7 +132,7 @@ fn by_opcode(bits: u32, hart: &Hart) -> Option<Action>
     requires { bits % 4 ≡ 3 }
     ensures { IfSome result (AsksByWord bits hart.now) }
 {
-    match bits & 0x7f {
+    match operands::opcode(bits) {
         0x17 => upper(UpperOperation::Auipc, bits, hart),
         0x37 => upper(UpperOperation::Lui, bits, hart),
         0x6f => jump(bits, hart),
@@ -155,10 +144,10 @@ fn by_opcode(bits: u32, hart: &Hart) -> Option<Action>
 #[inline(always)]
 fn left_shift(bits: u32, hart: &Hart) -> Option<Action>
     requires word { bits % 4 ≡ 3 }
-    requires selector { selector bits ≡ 33 }
+    requires selector { HasSelector bits isa.Slli }
     ensures { IfSome result (AsksByWord bits hart.now) }
 {
-    match bits >> 26 {
+    match funct6(bits) {
         0x00 => shift(ShiftOperation::Slli, bits, hart),
         _ => None,
     }
@@ -168,10 +157,10 @@ fn left_shift(bits: u32, hart: &Hart) -> Option<Action>
 #[inline(always)]
 fn right_shift(bits: u32, hart: &Hart) -> Option<Action>
     requires word { bits % 4 ≡ 3 }
-    requires selector { selector bits ≡ 37 }
+    requires selector { HasSelector bits isa.Srli }
     ensures { IfSome result (AsksByWord bits hart.now) }
 {
-    match bits >> 26 {
+    match funct6(bits) {
         0x00 => shift(ShiftOperation::Srli, bits, hart),
         0x10 => shift(ShiftOperation::Srai, bits, hart),
         _ => None,
@@ -182,7 +171,7 @@ fn right_shift(bits: u32, hart: &Hart) -> Option<Action>
 #[inline(always)]
 fn left_word_shift(bits: u32, hart: &Hart) -> Option<Action>
     requires word { bits % 4 ≡ 3 }
-    requires selector { selector bits ≡ 49 }
+    requires selector { HasSelector bits isa.Slliw }
     ensures { IfSome result (AsksByWord bits hart.now) }
 {
     match funct7(bits) {
@@ -195,7 +184,7 @@ fn left_word_shift(bits: u32, hart: &Hart) -> Option<Action>
 #[inline(always)]
 fn right_word_shift(bits: u32, hart: &Hart) -> Option<Action>
     requires word { bits % 4 ≡ 3 }
-    requires selector { selector bits ≡ 53 }
+    requires selector { HasSelector bits isa.Srliw }
     ensures { IfSome result (AsksByWord bits hart.now) }
 {
     match funct7(bits) {
@@ -209,8 +198,8 @@ fn right_word_shift(bits: u32, hart: &Hart) -> Option<Action>
 #[inline(always)]
 fn one(operation: RegisterOperation, by: u32, bits: u32, hart: &Hart) -> Option<Action>
     requires word { bits % 4 ≡ 3 }
-    requires selector { selector bits ≡ selectors.of_registers operation }
-    requires funct7 { by ≡ selectors.funct7_of_registers operation }
+    requires selector { HasSelector bits (inst.of_registers operation) }
+    requires funct7 { IsUpperFunct by (inst.of_registers operation) }
     ensures { IfSome result (AsksByWord bits hart.now) }
 {
     if funct7(bits) == by {
@@ -224,10 +213,10 @@ fn one(operation: RegisterOperation, by: u32, bits: u32, hart: &Hart) -> Option<
 #[inline(always)]
 fn two(base: RegisterOperation, of_m: RegisterOperation, bits: u32, hart: &Hart) -> Option<Action>
     requires word { bits % 4 ≡ 3 }
-    requires base { selector bits ≡ selectors.of_registers base }
-    requires base_funct7 { selectors.funct7_of_registers base ≡ 0 }
-    requires of_m { selector bits ≡ selectors.of_registers of_m }
-    requires of_m_funct7 { selectors.funct7_of_registers of_m ≡ 1 }
+    requires base { HasSelector bits (inst.of_registers base) }
+    requires base_funct7 { IsUpperFunct 0 (inst.of_registers base) }
+    requires of_m { HasSelector bits (inst.of_registers of_m) }
+    requires of_m_funct7 { IsUpperFunct 1 (inst.of_registers of_m) }
     ensures { IfSome result (AsksByWord bits hart.now) }
 {
     match funct7(bits) {
@@ -247,12 +236,12 @@ fn three(
     hart: &Hart,
 ) -> Option<Action>
     requires word { bits % 4 ≡ 3 }
-    requires base { selector bits ≡ selectors.of_registers base }
-    requires base_funct7 { selectors.funct7_of_registers base ≡ 0 }
-    requires of_m { selector bits ≡ selectors.of_registers of_m }
-    requires of_m_funct7 { selectors.funct7_of_registers of_m ≡ 1 }
-    requires other { selector bits ≡ selectors.of_registers other }
-    requires other_funct7 { selectors.funct7_of_registers other ≡ 0x20 }
+    requires base { HasSelector bits (inst.of_registers base) }
+    requires base_funct7 { IsUpperFunct 0 (inst.of_registers base) }
+    requires of_m { HasSelector bits (inst.of_registers of_m) }
+    requires of_m_funct7 { IsUpperFunct 1 (inst.of_registers of_m) }
+    requires other { HasSelector bits (inst.of_registers other) }
+    requires other_funct7 { IsUpperFunct 0x20 (inst.of_registers other) }
     ensures { IfSome result (AsksByWord bits hart.now) }
 {
     match funct7(bits) {
@@ -269,7 +258,7 @@ pub fn asked_by_word(bits: u32, hart: &Hart) -> Option<Action>
     requires { bits % 4 ≡ 3 }
     ensures { IfSome result (AsksByWord bits hart.now) }
 {
-    match selector_of(bits) {
+    match operands::selector(bits) {
         0o000 => load(LoadOperation::Lb, bits, hart),
         0o001 => load(LoadOperation::Lh, bits, hart),
         0o002 => load(LoadOperation::Lw, bits, hart),

@@ -1,4 +1,4 @@
-use Rattle.std.proofs.Common.{ℕ, ℤ, subst, w32, rules}
+use Rattle.std.proofs.Common.{ℤ, subst, w32, rules}
 use Rattle.std.proofs.lemmas.Int.{to_z-of_z}
 use Rattle.rv_isa.specs.declared.instruction.Inst.TheVariants as isa
 use Rattle.rv_machine.specs.Asked.{IsAsked}
@@ -6,5 +6,4 @@ use Rattle.rv_machine.proofs.parcel.jump.Goals as goal
 
 pub returns : goal.returns
 returns c =
-    let zero = subst (λ (z : ℤ). IsAsked (isa.Jal (record { offset = z; rd = c.from_low_bits-rd.result })) 2 c.args.hart.now c.jump.result) (to_z-of_z w32 c.args.offset (search rules)) (c.jump.ensures 2) in
-    subst (λ (r : ℕ). IsAsked (isa.Jal (record { offset = c.args.offset; rd = r })) 2 c.args.hart.now c.jump.result) c.from_low_bits-rd.ensures zero
+    subst (λ (z : ℤ). IsAsked (isa.Jal (record { offset = z; rd = 0 })) 2 c.args.hart.now c.jump.result) (to_z-of_z w32 c.args.offset (search rules)) (c.jump.ensures 2)

@@ -1,7 +1,10 @@
 use Rattle.std.proofs.Common.{[], refl}
+use Rattle.std.proofs.lemmas.Result.{err_from_is_err_and}
 use Rattle.rv_machine.proofs.KnownLemmas.{appends_kept, consumes_kept, keeps_self}
 use Rattle.rv_machine.proofs.running.run_io.Goals as goal
 
-pub returns-in-Err-clause-runs : goal.returns-in-Err-clause-runs
-returns-in-Err-clause-runs g c =
+pub returns-in_err-memory-clause-runs : goal.returns-in_err-memory-clause-runs
+returns-in_err-memory-clause-runs g c =
+    let found = err_from_is_err_and c.from_residual.result c.from_residual.ensures.1 in
+    rw found.1
     ([], [], consumes_kept _ _ (keeps_self _), appends_kept _ _ (keeps_self _), λ r rest may. record { rest = _; joined = refl })
