@@ -3,7 +3,7 @@
 use Rattle.std.proofs.Common.{◌≡◌, ◌<◌, ◌≤◌, ◌+◌, ℕ, Bool, true, false, List, [], ◌∷◌, length, drop, get_or, map, nat_le, refl, sym, ap, ◌∙◌, arith, inl, inr}
 use Rattle.std.specs.Prelude.{◌&&◌, ◌||◌, ◌⊎◌, not}
 use Rattle.std.specs.List.{list_all}
-use Rattle.std.proofs.lemmas.Bool.{le-leb, leb-true, leb-false}
+use Rattle.std.proofs.lemmas.Bool.{le-leb, leb-true, leb-false, or_right}
 use Rattle.rv_object.specs.Object.{Section, Object}
 use Rattle.rv_object_laws.specs.Moves.{moves, has_room}
 use Rattle.rv_object_laws.specs.Inputs.{goes_to_text, begins_at}
@@ -25,15 +25,11 @@ text_roomy stop start s e is = ap (λ b. not b || is_roomy_from (start_behind st
 from_far : (start : ℕ) (s : Section) → farthest ≤ start → is_roomy_from start s ≡ true
 from_far start s far = ap (λ b. b || list_all has_room (moves start s)) (le-leb farthest start far)
 
-roomy_so : (a b : Bool) → b ≡ true → a || b ≡ true
-roomy_so true b h = refl
-roomy_so false b h = h
-
 pub behind_roomy : (stop start end : ℕ) (s : Section) → goes_to_text s ≡ true → start ≡ start_behind stop s → list_all has_room (moves start s) ≡ true → end ≡ capped (end_from start s)
     → (end ≡ capped (next goes_to_text stop s)) × (is_roomy_behind stop s ≡ true)
 behind_roomy stop start end s e is roomy ends = (
   ends ∙ ap capped (ap (λ n. end_from n s) is ∙ next_text stop s e),
-  text_roomy stop start s e is ∙ roomy_so (nat_le farthest start) (list_all has_room (moves start s)) roomy,
+  text_roomy stop start s e is ∙ or_right (nat_le farthest start) (list_all has_room (moves start s)) roomy,
 )
 
 -- ---- far ends make no difference
@@ -41,7 +37,7 @@ behind_roomy stop start end s e is roomy ends = (
 one_far : (stop : ℕ) (s : Section) → farthest ≤ stop → is_roomy_behind stop s ≡ true
 one_far stop s far =
     let up = above (begins_at s) stop (begins_some s) in
-    roomy_so (not (goes_to_text s)) (is_roomy_from (start_behind stop s) s) (from_far (start_behind stop s) s (omega arith))
+    or_right (not (goes_to_text s)) (is_roomy_from (start_behind stop s) s) (from_far (start_behind stop s) s (omega arith))
 
 all_far : (stop : ℕ) (ss : List Section) → farthest ≤ stop → are_roomy_behind stop ss ≡ true
 all_far stop [] far = refl

@@ -3,15 +3,19 @@
 ghost use Rattle.std.specs.Prelude.{◌≡◌};
 
 use std::alloc::AllocError;
+use thiserror::Error;
 
 /// Why sections cannot be placed.
-#[derive(Clone, Copy, Debug, PartialEq, Eq, Drop)]
+#[derive(Clone, Copy, Debug, PartialEq, Eq, Drop, Error)]
 pub enum PlacementFault {
     /// They pass the end of memory, or need too much of it; as far as addresses are looked at, each
     /// padding of the text has room.
+    #[error("the sections need too much memory")]
     TooLarge,
     /// They are too large, and a padding of the text has no room.
+    #[error("a padding of the text has no room")]
     Short,
+    #[error("out of memory")]
     OutOfMemory,
 }
 

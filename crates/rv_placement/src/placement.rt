@@ -74,12 +74,7 @@ pub(crate) fn section_at<'s, 'o>(
 fn are_roomy(sections: &[PlacedSection]) -> bool
     ensures { result ≡ are_roomy_in sections.now }
 {
-    for section in sections {
-        if !section.plan.is_roomy() {
-            return false;
-        }
-    }
-    true
+    sections.iter().all(|section| section.plan.is_roomy())
 }
 
 impl Placement {
@@ -155,12 +150,7 @@ impl Placement {
     fn has_rooms(&self) -> bool
         ensures { result ≡ are_roomy self.now }
     {
-        for file in &self.files {
-            if !are_roomy(file.as_slice()) {
-                return false;
-            }
-        }
-        true
+        self.files.iter().all(|file| are_roomy(file.as_slice()))
     }
 
     /// Whether each padding of the sections has room for what is kept of it.

@@ -1,4 +1,7 @@
-//! The sections behind the text.
+//! The sections after the text: constants, variables, and variables that begin as zeros.
+//!
+//! Constants and variables begin at pages of their own, since their rights differ. No byte of these sections is dropped: a
+//! section is as long as in its object.
 
 ghost use Rattle.std.specs.Prelude.{◌≡◌, ◌+◌, ◌<◌, ◌≤◌, map, length, IfSome, IfNone};
 ghost use Rattle.rv_isa_laws.specs.Platform.{stack_start};

@@ -1,4 +1,7 @@
 //! The sections of the text.
+//!
+//! Each padding has its least size, which the address of its section decides. So sections are placed one after another, and
+//! where one ends is known only when it has its start.
 
 ghost use Rattle.std.specs.Prelude.{◌≡◌, ◌+◌, ◌++◌, ◌<◌, ◌≤◌, [], map, IfOk, IfSome, IfNone};
 ghost use Rattle.std.specs.List.{AllZip};

@@ -1,16 +1,13 @@
 -- A name that stands twice, and names of which none does.
 
 use Rattle.std.proofs.Common.{◌≡◌, ℕ, Bool, true, false, Some, None, List, [], ◌∷◌, ◌++◌, refl, sym, ap, ◌∙◌}
+use Rattle.std.proofs.lemmas.Bool.{false_from_ne_true}
 use Rattle.std.specs.Prelude.{◌||◌, if◌then◌else◌, bytes_eq}
 use Rattle.std.proofs.lemmas.List.Folds.{list_any-append}
 use Rattle.std.proofs.lemmas.Slice.Eq.{bytes_eq-Decides}
 use Rattle.rv_map.specs.Globals.{is_one_of, AreDistinct}
 use Rattle.rv_resolve.specs.Exports.{first_again}
 use Rattle.rv_resolve.proofs.TableLemmas.{same_bytes}
-
-is_no : (b : Bool) → (b ≡ true → ⊥) → b ≡ false
-is_no true f = absurd (f refl)
-is_no false f = refl
 
 -- where none stands before it, none of the others is among them
 others_apart : (others names : List (List ℕ)) → first_again others names ≡ None → (other : List ℕ) → is_one_of others other ≡ true → is_one_of names other ≡ false
@@ -25,7 +22,7 @@ others_apart others (name ∷ names) e other there =
     by true f h rest = absurd (cc)
     by false f h rest =
         ap (λ b. b || is_one_of names other)
-        (is_no (bytes_eq name other) (λ same. let t : is_one_of others name ≡ true = ap (is_one_of others) (same_bytes name other same) ∙ there in let u : true ≡ false = sym t ∙ f in cc))
+        (false_from_ne_true (bytes_eq name other) (λ same. let t : is_one_of others name ≡ true = ap (is_one_of others) (same_bytes name other same) ∙ there in let u : true ≡ false = sym t ∙ f in cc))
         ∙ rest h
 
 -- and none stands twice

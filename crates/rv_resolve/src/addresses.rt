@@ -1,4 +1,7 @@
 //! What symbols mean: their addresses and their places.
+//!
+//! `Names` knows by file and symbol which definition a symbol means. So no name is compared here, but for the few that the
+//! linker gives: many references to one long name cost no more than those to a short one.
 
 ghost use Rattle.std.specs.Prelude.{◌≡◌, ◌+◌, ℕ, List, Some, map, option_map, option_and_then};
 ghost use Rattle.std.specs.List.{slice_get};

@@ -3,12 +3,15 @@
 ghost use Rattle.std.specs.Prelude.{◌≡◌};
 
 use std::alloc::{AllocError, AllocFailed};
+use thiserror::Error;
 
 /// Why the names of objects can't be resolved.
-#[derive(Clone, Copy, Debug, PartialEq, Eq, Drop)]
+#[derive(Clone, Copy, Debug, PartialEq, Eq, Drop, Error)]
 pub enum ResolveFault<'o> {
     /// A name has a second global definition.
+    #[error("a second global definition of a name")]
     Duplicate(&'o [u8]),
+    #[error("out of memory")]
     OutOfMemory,
 }
 

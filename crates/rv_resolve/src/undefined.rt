@@ -1,4 +1,7 @@
 //! References without a meaning.
+//!
+//! The first of them is told, by file, section and place. Sections that are not loaded are passed over, as nothing of them
+//! comes into the program.
 
 ghost use Rattle.std.specs.Prelude.{◌≡◌, ◌++◌, Some, List, map, option_map, IfNone};
 ghost use Rattle.std.specs.List.{slice_get};

@@ -5,15 +5,18 @@ ghost use Rattle.std.specs.Io.KnownBytes.{Consumes, IsAtEnd};
 
 use std::alloc::{AllocError, AllocFailed, Global};
 use std::io::Read;
+use thiserror::Error;
 
 /// The bytes of one read.
 const PIECE: usize = 1 << 16;
 
 /// Why bytes were not read.
-#[derive(Drop)]
+#[derive(Debug, Drop, Error)]
 pub enum ReadFault {
     /// The system refused, or there are too many.
+    #[error("cannot read")]
     Failed,
+    #[error("out of memory")]
     Memory,
 }
 
