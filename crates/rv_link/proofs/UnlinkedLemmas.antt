@@ -4,13 +4,17 @@ use Rattle.std.proofs.Common.{◌≡◌, ℕ, List, [], ◌∷◌, true, inl, in
 use Rattle.rv_object.specs.Object.{Relocation, Object}
 use Rattle.rv_object_laws.specs.Inputs.{InputSection, inputs}
 use Rattle.rv_object_laws.specs.IsLinkOf.{is_loaded}
+use Rattle.rv_placement.specs.declared.fault.PlacementFault.{PlacementFault}
+use Rattle.rv_placement.specs.declared.fault.PlacementFault.TheVariants as placements
 use Rattle.rv_placement.specs.declared.placement.Placement.{Placement}
-use Rattle.rv_placement.specs.Placement.{are_roomy, IsPlacement}
+use Rattle.rv_placement.specs.Placement.{are_roomy, IsPlacement, IsUnplaced}
+use Rattle.rv_placement.proofs.LayoutsLemmas.{has_layout}
 use Rattle.rv_link.specs.declared.fault.LinkFault.{LinkFault}
 use Rattle.rv_link.specs.declared.fault.LinkFault.TheVariants.{Overflow, OddTarget, DanglingPcrel, AlignmentShort, Undefined, Duplicate, EntryMissing, ImageTooLarge, BadTextStart, TooManyFiles, OutOfMemory}
+use Rattle.rv_link.specs.Fault.{of_placement}
 use Rattle.rv_link.specs.Filled.{IsTaken}
 use Rattle.rv_link.specs.Untaken.{IsFirst, IsUntaken, AreTaken, AreUntaken, IsFirstUntaken, AreUnfilled}
-use Rattle.rv_link.specs.Refusals.{AreDoubled, AreUnnamed, ComesToPlaces, IsUnlinked}
+use Rattle.rv_link.specs.Refusals.{AreDoubled, AreUnnamed, AreUnplaced, ComesToPlaces, IsUnlinked}
 
 -- a name with two definitions is a fault of names
 pub doubled_unnamed : (os : List Object) (fault : LinkFault) → AreDoubled os fault → AreUnnamed os fault
@@ -25,6 +29,12 @@ doubled_unnamed os ImageTooLarge h = absurd h
 doubled_unnamed os Overflow h = absurd h
 doubled_unnamed os OddTarget h = absurd h
 doubled_unnamed os DanglingPcrel h = absurd h
+
+-- why sections cannot be placed
+pub unplaced : (os : List Object) (start : ℕ) (fault : PlacementFault) → IsUnplaced os start fault → AreUnplaced os start (of_placement fault)
+unplaced os start placements.Short h = let layout = has_layout os start in (layout.0, layout.5.1, h.1 layout.0 layout.5.1)
+unplaced os start placements.TooLarge h = h
+unplaced os start placements.OutOfMemory h = tt
 
 -- what nothing can be, is first of no list
 none_first : {X : Type 0} (Passes Fails : X → Type 0) → ((x : X) → Fails x → ⊥) → (xs : List X) → IsFirst Passes Fails xs → ⊥

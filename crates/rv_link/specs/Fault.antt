@@ -5,6 +5,8 @@ use Rattle.rv_isa.specs.declared.kind.Kind.{Kind}
 use Rattle.rv_reloc.specs.declared.fault.PatchFault.{PatchFault}
 use Rattle.rv_reloc.specs.declared.fault.PatchFault.TheVariants as patches
 use Rattle.rv_reloc.specs.Ranges.{Refuses}
+use Rattle.rv_placement.specs.declared.fault.PlacementFault.{PlacementFault}
+use Rattle.rv_placement.specs.declared.fault.PlacementFault.TheVariants as placements
 use Rattle.rv_link.specs.declared.fault.LinkFault.{LinkFault}
 use Rattle.rv_link.specs.declared.fault.LinkFault.TheVariants.{Overflow, OddTarget, DanglingPcrel, AlignmentShort, Undefined, Duplicate, EntryMissing, ImageTooLarge, BadTextStart, TooManyFiles, OutOfMemory}
 
@@ -38,6 +40,11 @@ name_of OutOfMemory = codes "out of memory"
 abbrev pub of_patch : PatchFault → LinkFault
 of_patch patches.Overflow = Overflow
 of_patch patches.OddTarget = OddTarget
+
+abbrev pub of_placement : PlacementFault → LinkFault
+of_placement placements.Short = AlignmentShort
+of_placement placements.TooLarge = ImageTooLarge
+of_placement placements.OutOfMemory = OutOfMemory
 
 -- why a field does not take a value
 abbrev pub IsOfPatch : Kind → ℤ → LinkFault → Type 0

@@ -3,32 +3,46 @@
 ghost use Rattle.std.specs.Prelude.{◌≡◌};
 ghost use Rattle.rv_link.specs.Fault.{number_of, name_of};
 
+use rv_link_values::ValueFault;
+use rv_placement::PlacementFault;
 use rv_reloc::PatchFault;
 use std::alloc::{AllocError, AllocFailed};
+use thiserror::Error;
 
 /// Why objects cannot be linked.
-#[derive(Debug, PartialEq, Eq, Drop)]
+#[derive(Debug, PartialEq, Eq, Drop, Error)]
 pub enum LinkFault {
     /// A field cannot hold its value.
+    #[error("a field cannot hold its value")]
     Overflow,
     /// A jump would go to an odd address.
+    #[error("a jump to an odd address")]
     OddTarget,
     /// The low part of a distance has no high part, or an addend of its own.
+    #[error("the low part of a distance has no high part")]
     DanglingPcrel,
     /// An alignment has no room for the padding that it needs.
+    #[error("an alignment has no room for its padding")]
     AlignmentShort,
     /// A reference to this name, which nobody defines.
+    #[error("a name without a definition")]
     Undefined(Vec<u8>),
     /// A second definition of this name for all files.
+    #[error("a second global definition of a name")]
     Duplicate(Vec<u8>),
     /// No global `_start` stands at an even place of a text section.
+    #[error("no entry")]
     EntryMissing,
     /// The memory that the program needs is too large, or meets the stack.
+    #[error("the program needs too much memory")]
     ImageTooLarge,
     /// The text start is no multiple of 4096 below 3FF00000h.
+    #[error("the text cannot start there")]
     BadTextStart,
     /// There are more files than can be linked.
+    #[error("too many files")]
     TooManyFiles,
+    #[error("out of memory")]
     OutOfMemory,
 }
 
@@ -101,6 +115,32 @@ impl From<PatchFault> for LinkFault {
         match fault {
             PatchFault::Overflow => LinkFault::Overflow,
             PatchFault::OddTarget => LinkFault::OddTarget,
+        }
+    }
+}
+
+impl From<ValueFault> for LinkFault {
+    ghost use Rattle.rv_link.specs.declared.fault.LinkFault.TheVariants.{DanglingPcrel};
+
+    ghost from_gives = { λ _ e. e ≡ DanglingPcrel };
+
+    fn from(fault: ValueFault) -> Self {
+        match fault {
+            ValueFault::Dangling => LinkFault::DanglingPcrel,
+        }
+    }
+}
+
+impl From<PlacementFault> for LinkFault {
+    ghost use Rattle.rv_link.specs.Fault.{of_placement};
+
+    ghost from_gives = { λ fault e. e ≡ of_placement fault };
+
+    fn from(fault: PlacementFault) -> Self {
+        match fault {
+            PlacementFault::Short => LinkFault::AlignmentShort,
+            PlacementFault::TooLarge => LinkFault::ImageTooLarge,
+            PlacementFault::OutOfMemory => LinkFault::OutOfMemory,
         }
     }
 }

@@ -1,4 +1,7 @@
 //! Objects whose addresses are fixed.
+//!
+//! Each section can now be written by itself: its bytes without those that relaxation drops, and then the value of each
+//! relocation to the place to which its field has moved.
 
 ghost use Rattle.std.specs.Prelude.{◌≡◌, ◌+◌, ◌-◌, ◌++◌, ◌<◌, ◌≤◌, IfOk, IfErr, OnOk, Some, pos, true, length};
 ghost use Rattle.std.specs.List.{AllByRecursion};
@@ -26,7 +29,7 @@ ghost use Rattle.rv_link.specs.Filled.{
 
 use crate::fault::LinkFault;
 use crate::fields::apply;
-use rv_link_values::{ValueFault, Values};
+use rv_link_values::Values;
 use rv_object::{Contents, Relocation};
 use rv_placement::{PlacedSection, Placement};
 use rv_relax::SectionPlan;
@@ -82,10 +85,8 @@ impl<'p, 'o> Fixed<'p, 'o> {
             (self.now).placement.now (input_of self.now input.now) fault
             (relocation_of relocation.now)) }
     {
-        match self.values.value(input.file, input.index, relocation) {
-            Ok(value) => Ok(value),
-            Err(ValueFault::Dangling) => Err(LinkFault::DanglingPcrel),
-        }
+        let value = self.values.value(input.file, input.index, relocation)?;
+        Ok(value)
     }
 
     /// Writes the values of a section's relocations to their fields in what is kept of it.

@@ -1,7 +1,7 @@
 //! The passes of a link of objects whose calls are as long as they will be.
 //!
-//! What costs nothing to see comes first, and what names mean is fixed before any address. Whether there is an entry is
-//! known before anything is placed, because `_start` is asked for its offset in the object.
+//! Each pass fixes one thing: first what names mean, then addresses, then bytes. The order of the faults is that of the passes,
+//! so what costs least to see is told first.
 
 ghost use Rattle.std.specs.Prelude.{◌≡◌, ◌%◌, ◌<◌, [], List, Some, map, IfOk, IfErr, OnOk};
 ghost use Rattle.std.specs.List.{list_any};
@@ -29,7 +29,7 @@ use crate::regions::Regions;
 use rv_image::{Linked, STACK_START};
 use rv_link_values::Values;
 use rv_map::{Map, known};
-use rv_placement::{Placement, PlacementFault};
+use rv_placement::Placement;
 use rv_resolve::{Names, ResolveFault};
 use rv_shorten::ShortObject;
 use std::alloc::Global;
@@ -127,12 +127,8 @@ fn place(alloc: Global, objects: &[ShortObject<'_>], start: u64) -> Result<Place
     ensures placed { IfOk result (IsPlacement (map short_object_of objects.now) start) }
     ensures refuses { IfErr result (AreUnplaced (map short_object_of objects.now) start) }
 {
-    match Placement::of(alloc, objects, start) {
-        Ok(placement) => Ok(placement),
-        Err(PlacementFault::Short) => Err(LinkFault::AlignmentShort),
-        Err(PlacementFault::TooLarge) => Err(LinkFault::ImageTooLarge),
-        Err(PlacementFault::OutOfMemory) => Err(LinkFault::OutOfMemory),
-    }
+    let placement = Placement::of(alloc, objects, start)?;
+    Ok(placement)
 }
 
 /// Where a run begins: at an even address, as that of each even place of code is.

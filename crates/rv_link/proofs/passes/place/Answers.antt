@@ -1,12 +1,11 @@
-use Rattle.std.proofs.Common.{map, subst}
+use Rattle.std.proofs.Common.{map}
+use Rattle.std.proofs.lemmas.Result.{err_from_is_err_and}
 use Rattle.rv_shorten.specs.View.{short_object_of}
-use Rattle.rv_placement.specs.Placement.{IsUnplaced}
-use Rattle.rv_placement.proofs.LayoutsLemmas.{has_layout}
+use Rattle.rv_link.proofs.UnlinkedLemmas.{unplaced}
 use Rattle.rv_link.proofs.passes.place.Goals as goal
 
-pub returns-in-Err-Short-clause-refuses : goal.returns-in-Err-Short-clause-refuses
-returns-in-Err-Short-clause-refuses c =
+pub returns-in_err-placement-clause-refuses : goal.returns-in_err-placement-clause-refuses
+returns-in_err-placement-clause-refuses c =
     let os = map short_object_of c.args.objects.now in
-    let layout = has_layout os c.args.start in
-    let short = subst (IsUnplaced os c.args.start) c.in-Err-Short.field-0-is c.in-Err-Short.ensures.refuses in
-    (layout.0, layout.5.1, short.1 layout.0 layout.5.1)
+    let found = err_from_is_err_and c.from_residual.result c.from_residual.ensures.1 in
+    rw (found.1, found.2) (unplaced os c.args.start c.in_err-placement.field-0.0 c.in_err-placement.ensures.refuses)
