@@ -44,6 +44,7 @@ fn records(alloc: Global, rows: &[[u64; 3]]) -> Result<Vec<u8>, AllocError> {
 }
 
 /// What stands behind the header of a file, and the headers of its sections.
+#[derive(Drop)]
 struct Parts {
     body: Vec<u8>,
     headers: Vec<u8>,
