@@ -54,5 +54,6 @@ links = [(page, link) for page, link in links if link and not ELSEWHERE.match(li
 faults = [(page, link, why) for page, link in links if (why := fault(page, link))]
 for page, link, why in faults:
     print(f"{page.relative_to(TOP)}: {link}: {why}")
-print(f"{len(links)} links in {len(pages)} documents, {len(faults)} lead nowhere")
+print(f"links in {len(pages)} documents")
+print(f"{len(links) - len(faults)} passed, {len(faults)} failed")
 sys.exit(1 if faults else 0)
