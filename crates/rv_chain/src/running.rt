@@ -23,8 +23,6 @@ pub fn run_exec(alloc: Global, file: &[u8], input: &[u8], limit: u64) -> Result<
         Err(FileFault::OutOfMemory) => return Err(Fault::Memory),
         Err(fault) => return Err(Fault::File(1, fault)),
     };
-    match run(alloc, image, input, limit) {
-        Ok(outcome) => Ok(outcome),
-        Err(_) => Err(Fault::Memory),
-    }
+    let outcome = run(alloc, image, input, limit)?;
+    Ok(outcome)
 }
