@@ -64,12 +64,12 @@ name_in (Duplicate name) = Some name.items
 name_in _ = None
 
 -- a byte as its number, `\x1b`
-abbrev pub number_of : ℕ → List ℕ
-number_of byte = codes "\\x" ++ encode_lower (byte ∷ [])
+abbrev pub escape_of : ℕ → List ℕ
+escape_of byte = codes "\\x" ++ encode_lower (byte ∷ [])
 
 -- a byte of a name that a map does not show stands as its number
 abbrev pub shown_byte : ℕ → List ℕ
-shown_byte byte = if is_name_byte byte then byte ∷ [] else number_of byte
+shown_byte byte = if is_name_byte byte then byte ∷ [] else escape_of byte
 
 abbrev pub shown_name : List ℕ → List ℕ
 shown_name = flat_map shown_byte

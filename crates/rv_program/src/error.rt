@@ -2,16 +2,21 @@
 
 use clap::error::ErrorKind;
 use std::alloc::{AllocError, AllocFailed};
+use thiserror::Error;
 
 /// Why a job was not done.
-#[derive(Drop)]
+#[derive(Debug, Drop, Error)]
 pub enum CliError {
     /// The words are none that the program takes, or ask for help.
+    #[error("{0}")]
     Usage(clap::Error),
     /// A word is no text.
+    #[error("a word of the command line is not text")]
     NotText,
     /// The line that says it.
+    #[error("{0}")]
     Line(String),
+    #[error("out of memory")]
     Memory,
 }
 

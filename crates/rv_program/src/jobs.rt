@@ -1,4 +1,7 @@
 //! What the program does: runs, builds, assembles, links, prints a map, a listing or a dump.
+//!
+//! Files and streams are reached through [`System`] alone, so that a test sees each exit status and each line without starting
+//! a process. A job writes no file before all that it writes is made.
 
 ghost use Rattle.std.specs.Prelude.{◌≡◌, IfOk};
 ghost use Rattle.rv_program.specs.Status.{run_status};

@@ -1,7 +1,7 @@
 //! Names as messages show them.
 
 ghost use Rattle.std.specs.Prelude.{◌≡◌, ◌++◌, IfOk, OnOk, flat_map, string_bytes};
-ghost use Rattle.rv_program.specs.Messages.{number_of, shown_byte, shown_name};
+ghost use Rattle.rv_program.specs.Messages.{escape_of, shown_byte, shown_name};
 
 use std::alloc::{AllocError, Global};
 
@@ -28,7 +28,7 @@ fn put_byte(alloc: Global, shown: &mut String, byte: u8) -> Result<(), AllocErro
 
 /// Adds a byte as its number.
 fn put_number(alloc: Global, shown: &mut String, byte: u8) -> Result<(), AllocError>
-    ensures { OnOk result (string_bytes shown.new ≡ string_bytes shown.old ++ number_of byte) }
+    ensures { OnOk result (string_bytes shown.new ≡ string_bytes shown.old ++ escape_of byte) }
 {
     let number = hex::encode(alloc, [byte])?;
     shown.push_str("\\x")?;

@@ -1,4 +1,7 @@
 //! The command line: which words mean which job.
+//!
+//! `clap` takes the words apart and writes the help. Numbers are read here, since their bounds and digits are promised
+//! (`decimal`, `text_start`). Each command has a function of its own: one function for all of them takes minutes to prove.
 
 ghost use Rattle.std.specs.Prelude.{◌≡◌, ◌≤◌, ℕ, true, IfSome, IfNone};
 ghost use Rattle.rv_program.specs.Numbers.{IsNumber, IsStart};
