@@ -1,5 +1,5 @@
 #!/usr/bin/env python3
-"""Writes tests/link/gnu-*.s: programs that GNU's linker makes of objects that GNU's assembler wrote.
+"""Writes tests/link/gnu_*.s: programs that GNU's linker makes of objects that GNU's assembler wrote.
 
 usage: link_cases.py, with riscv64-unknown-elf-as and -ld 2.40
 
@@ -32,7 +32,7 @@ SECTIONS {
 
 # the case's name, what it shows, the assembler's options, and the sources
 PROGRAMS = [
-    ("gnu-calls-and-addresses", "A call, branches and jumps, and the halves of addresses, in two files.", ["-march=rv64ima", "-mno-relax"], ["""
+    ("gnu_calls_and_addresses", "A call, branches and jumps, and the halves of addresses, in two files.", ["-march=rv64ima", "-mno-relax"], ["""
 .globl _start
 _start:
  call f
@@ -75,7 +75,7 @@ here: .word 5f - 4f, _start
 .bss
  .zero 9
 """]),
-    ("gnu-paddings", "Paddings of 6 bytes that keep 4 and 2.", ["-march=rv64imac", "-mrelax"], ["""
+    ("gnu_paddings", "Paddings of 6 bytes that keep 4 and 2.", ["-march=rv64imac", "-mrelax"], ["""
 .globl _start
 _start: c.nop
  c.nop
@@ -90,7 +90,7 @@ b: beq a0, a1, _start
  .dword a, b
  .word b - a
 """]),
-    ("gnu-paddings-behind-a-call", "Sections of text one behind the other: paddings by where each begins, with what refers to what is behind them.",
+    ("gnu_paddings_behind_a_call", "Sections of text one behind the other: paddings by where each begins, with what refers to what is behind them.",
      ["-march=rv64imac", "-mrelax"], ["""
 .globl _start
 _start: c.nop
@@ -114,7 +114,7 @@ h: ret
 far: .half h - g
  .byte h - g
 """]),
-    ("gnu-gaps", "Sections of text with alignments and one of constants: zeros between them.", ["-march=rv64ima", "-mno-relax"], ["""
+    ("gnu_gaps", "Sections of text with alignments and one of constants: zeros between them.", ["-march=rv64ima", "-mno-relax"], ["""
 .globl _start
 _start: j f
 .section .rodata
@@ -138,7 +138,7 @@ f: ret
  .balign 64
  .dword f
 """]),
-    ("gnu-names", "The linker's names, numbers for all files, and local names of two files.", ["-march=rv64ima", "-mno-relax"], ["""
+    ("gnu_names", "The linker's names, numbers for all files, and local names of two files.", ["-march=rv64ima", "-mno-relax"], ["""
 .globl _start, number
 number = 0x12345678
 _start: lui a0, %hi(number)

@@ -1,5 +1,5 @@
 # Four hundred calls of an object's file, each with four bytes: so f is at 10000h + 4 * 400 + 8.
-# rv: as -o a.o many-calls-of-an-object.s
+# rv: as -o a.o many_calls_of_an_object.s
 # status: 0
 # rv: ld -o exe --map map a.o
 # map: global f 10648

@@ -1,5 +1,5 @@
 # A limit counts instructions, of two bytes or four: these are four, two of them parcels.
-# rv: build -o exe limit-counts-instructions.s
+# rv: build -o exe limit_counts_instructions.s
 # status: 0
 # rv: run --limit 3 exe
 # end: Limit
