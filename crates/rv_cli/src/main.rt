@@ -1,11 +1,12 @@
 //! The program `rv`: builds bare RISC-V programs from assembly sources and runs them.
 //!
-//! All but the start of the process stands in `rv_program`.
+//! All but the start of the process is in `rv_program`.
 #![tactic(auto)]
 
 use rv_program::{CliError, Host, exit_status, report};
 use std::alloc::Global;
 use std::env;
+use std::io::ErrorKind;
 use std::process::ExitCode;
 
 fn main(rt: HostRuntime) -> ExitCode {
@@ -20,8 +21,11 @@ fn main(rt: HostRuntime) -> ExitCode {
 /// The words of the command line, the program's own name before them.
 fn words_given(rt: &HostRuntime) -> Result<Vec<String>, CliError> {
     let alloc: Global = rt.alloc();
-    let Ok(args) = env::args(rt) else {
-        return Err(CliError::NotText);
-    };
-    Ok(args.collect(alloc)?)
+    match env::args(rt) {
+        Ok(args) => Ok(args.collect(alloc)?),
+        Err(error) => Err(match error.kind() {
+            ErrorKind::OutOfMemory => CliError::Memory,
+            _ => CliError::NotText,
+        }),
+    }
 }
