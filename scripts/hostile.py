@@ -334,7 +334,9 @@ def with_made_lines(pick, text, _):
 
 def with_large_rows(pick, text, _):
     """Many rows of a map, all over one stretch of the text."""
-    size, step = pick.choice([0, 2, 4, 64, 1024, 4096, some_number(pick)]), pick.choice([0, 0, 2])
+    text_of = re.search(rb"text ([0-9a-f]{1,16}) ([0-9a-f]{1,16})\n", text)
+    whole = int(text_of[2], 16) - int(text_of[1], 16) if text_of else 4
+    size, step = pick.choice([0, 4, 64, whole, whole, whole // 2, some_number(pick)]), pick.choice([0, 0, 2])
     rows = (b"row 1 %d %d %x %d 1\n" % (it, it, 0x10000 + step * it, size % (1 << 64)) for it in range(many(pick, 5000)))
     return text + b"".join(rows)
 
@@ -376,16 +378,17 @@ def corpus_of(pick):
         corpus["source"] += 9 * [(path.read_bytes(), None)]
     with tempfile.TemporaryDirectory() as folder:
         at = Path(folder)
-        for text, _ in pick.sample(corpus["source"], 400):
+        long = b".globl _start\n_start: nop\n" + b"nop\n" * 10_000
+        for text in [it for it, _ in pick.sample(corpus["source"], 200)] + 5 * [long]:
             (at / "a.s").write_bytes(text)
             if subprocess.run([RV, "as", "-o", "obj", "a.s"], cwd=at, stderr=subprocess.DEVNULL).returncode == 0:
                 corpus["object"].append(((at / "obj").read_bytes(), None))
             words = ["build", "-o", "exe", "--map", "map", "a.s"]
             if subprocess.run([RV, *words], cwd=at, stderr=subprocess.DEVNULL).returncode == 0:
-                exe, text = (at / "exe").read_bytes(), (at / "map").read_bytes()
-                if len(exe) + len(text) <= LARGEST:
-                    corpus["exe"].append((exe, text))
-                    corpus["map"].append((text, exe))
+                exe, map_ = (at / "exe").read_bytes(), (at / "map").read_bytes()
+                if len(exe) + len(map_) <= LARGEST or text is long:
+                    corpus["exe"].append((exe, map_))
+                    corpus["map"].append((map_ if len(map_) <= LARGEST else map_[: map_.index(b"row")], exe))
     corpus["tokens"] = sorted({it for text, _ in corpus["source"] for it in TOKEN.findall(text[:4096])})
     return corpus
 
@@ -553,14 +556,17 @@ def main():
     SEED, LEAST = given.seed, least()
     CORPUS, KEPT = corpus_of(random.Random(SEED)), Path(tempfile.mkdtemp(prefix="hostile-"))
     numbers = range(given.count) if given.only is None else [given.only]
-    finds, ends = 0, Counter()
-    with multiprocessing.get_context("fork").Pool(given.jobs) as pool:
-        for found, ended in pool.imap_unordered(attack, numbers, chunksize=20):
-            finds, ends = finds + len(found), ends + ended
-            for line in found:
-                print(line, flush=True)
+    finds, done, ends = 0, 0, Counter()
+    with multiprocessing.get_context("fork").Pool(given.jobs, signal.signal, (signal.SIGINT, signal.SIG_IGN)) as pool:
+        try:
+            for found, ended in pool.imap_unordered(attack, numbers, chunksize=20):
+                finds, done, ends = finds + len(found), done + 1, ends + ended
+                for line in found:
+                    print(line, flush=True)
+        except KeyboardInterrupt:
+            print("stopped")
     print(", ".join(f"{end} {count}" for end, count in sorted(ends.items())))
-    print(f"{len(numbers)} files of seed {SEED}, {sum(ends.values())} calls, {finds} finds in {KEPT}")
+    print(f"{done} files of seed {SEED}, {sum(ends.values())} calls, {finds} finds in {KEPT}")
     if not finds:
         KEPT.rmdir()
     return 1 if finds else 0
