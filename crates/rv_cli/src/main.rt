@@ -21,11 +21,22 @@ fn main(rt: HostRuntime) -> ExitCode {
 /// The words of the command line, the program's own name before them.
 fn words_given(rt: &HostRuntime) -> Result<Vec<String>, CliError> {
     let alloc: Global = rt.alloc();
-    match env::args(rt) {
-        Ok(args) => Ok(args.collect(alloc)?),
-        Err(error) => Err(match error.kind() {
-            ErrorKind::OutOfMemory => CliError::Memory,
-            _ => CliError::NotText,
-        }),
+    let args = match env::args(rt) {
+        Ok(args) => args,
+        Err(error) => return Err(unread(error.kind())),
+    };
+    let mut words = Vec::new(alloc);
+    // (`collect` asks again for less where its first request is refused)
+    for word in args {
+        words.push(word)?;
+    }
+    Ok(words)
+}
+
+/// Why the words can't be read.
+fn unread(kind: ErrorKind) -> CliError {
+    match kind {
+        ErrorKind::OutOfMemory => CliError::Memory,
+        _ => CliError::NotText,
     }
 }
