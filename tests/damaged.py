@@ -3,7 +3,7 @@
 
 usage: damaged.py [--all]
 
-Makes the object and the executable of two programs with ./rv. Each front part of a file is refused as truncated, and
+Makes objects and executables with ./rv. Each front part of a file is refused as truncated, and
 with any one of its bytes set to 0, or to FFh, it is answered: no signal ends rv, and what it says is a fault or an end.
 Of the zeros up to an executable's first page one in 64 is changed, and the file cut there; all of them with --all.
 Standard library alone; the last line is 'N passed, M failed', where a file counts once for each of the three.
@@ -38,11 +38,31 @@ ecall
 .section .rodata
 msg: .ascii "hello"
 """
+# Sections of every kind, names of every kind, a padding in code, constants and differences.
+KINDS = """.globl _start, size, place, open
+.set size, 0x123456789
+_start: li a7, 93
+.balign 8
+here: ecall
+call open
+.data
+place: .dword here, size, there - place, open + 4
+.balign 16
+there: .byte 1
+.bss
+.zero 5
+.section .note.x, "a", @note
+.word 1
+.section notes
+inside: .word 2
+"""
 # What rv may say of a file: its fault, the link's or, where it is no longer an executable, that of a source; or the
 # end of a run.
 SAID = re.compile(r"rv: ((\S+: F\d+|L\d+|\S+:\d+: E\d+) \w+( \S*)?|[A-Z][A-Za-z]+( [0-9a-f]+)?)")
 # How each file is used, and which statuses rv may give: a link does or does not; a guest's status is any.
 USES = {"object": ["ld", "-o", "out"], "executable": ["run", "--limit", "1000"]}
+# The last source names what no file defines.
+FILES = [(EXIT7, "object"), (EXIT7, "executable"), (HELLO, "object"), (HELLO, "executable"), (KINDS, "object")]
 
 
 def answer(use, held, folder):
@@ -97,18 +117,17 @@ def main(words):
         sys.exit("no ./rv: run make first")
     passed = failed = answers = 0
     with tempfile.TemporaryDirectory() as folder, multiprocessing.Pool(len(os.sched_getaffinity(0))) as pool:
-        for source in (EXIT7, HELLO):
-            for use in USES:
-                held = made(source, use)
-                tried = places(held, use, 1 if words == ["--all"] else 64)
-                tests = [(wrong_cut, [(folder, use, held, at) for at in tried])]
-                for byte in (0, 0xFF):
-                    changed = [(folder, use, held, at, byte) for at in tried if held[at] != byte]
-                    tests.append((wrong_byte, changed))
-                for test, jobs in tests:
-                    wrong = [it for it in pool.map(test, jobs, chunksize=16) if it]
-                    print("\n".join(wrong[:5]), end="\n" if wrong else "")
-                    passed, failed, answers = passed + (not wrong), failed + bool(wrong), answers + len(jobs)
+        for source, use in FILES:
+            held = made(source, use)
+            tried = places(held, use, 1 if words == ["--all"] else 64)
+            tests = [(wrong_cut, [(folder, use, held, at) for at in tried])]
+            for byte in (0, 0xFF):
+                changed = [(folder, use, held, at, byte) for at in tried if held[at] != byte]
+                tests.append((wrong_byte, changed))
+            for test, jobs in tests:
+                wrong = [it for it in pool.map(test, jobs, chunksize=16) if it]
+                print("\n".join(wrong[:5]), end="\n" if wrong else "")
+                passed, failed, answers = passed + (not wrong), failed + bool(wrong), answers + len(jobs)
     print(f"damaged files: {answers} answers")
     print(f"{passed} passed, {failed} failed")
     return 1 if failed else 0
