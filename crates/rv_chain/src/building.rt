@@ -91,7 +91,7 @@ fn linked(alloc: Global, sources: &[&[u8]], options: LinkOptions) -> Result<Link
 }
 
 /// The objects of sources, in their order.
-fn objects(alloc: Global, sources: &[&[u8]]) -> Result<Vec<Object>, Fault>
+fn objects<'a>(alloc: Global, sources: &[&'a [u8]]) -> Result<Vec<Object<'a>>, Fault>
     requires few { length sources.now ≤ most_files }
     ensures objects { IfOk result
         (λ os. AreObjectsFrom (map now_of sources.now) (map object_of os.items)) }
@@ -105,7 +105,7 @@ fn objects(alloc: Global, sources: &[&[u8]]) -> Result<Vec<Object>, Fault>
 }
 
 /// The object of the source at this index, from 0.
-pub(crate) fn object(alloc: Global, index: usize, source: &[u8]) -> Result<Object, Fault>
+pub(crate) fn object(alloc: Global, index: usize, source: &[u8]) -> Result<Object<'_>, Fault>
     requires few { index < most_files }
     ensures object { IfOk result (λ o. IsObjectFrom source.now (object_of o)) }
     ensures refuses { IfErr result (IsRefusedAt (index + 1) source.now) }

@@ -33,7 +33,7 @@ pub fn link_objects(alloc: Global, objects: &[&[u8]], options: LinkOptions) -> R
 }
 
 /// The objects in files, in their order.
-fn read_objects(alloc: Global, files: &[&[u8]]) -> Result<Vec<Object>, Fault>
+fn read_objects<'a>(alloc: Global, files: &[&'a [u8]]) -> Result<Vec<Object<'a>>, Fault>
     requires few { length files.now ≤ most_files }
     ensures objects { IfOk result
         (λ os. AreObjectsIn (map now_of files.now) (map object_of os.items)) }
@@ -47,7 +47,7 @@ fn read_objects(alloc: Global, files: &[&[u8]]) -> Result<Vec<Object>, Fault>
 }
 
 /// The object in the file at this index, from 0.
-fn read_object(alloc: Global, index: usize, file: &[u8]) -> Result<Object, Fault>
+fn read_object(alloc: Global, index: usize, file: &[u8]) -> Result<Object<'_>, Fault>
     requires few { index < most_files }
     ensures object { IfOk result (λ o. IsObjectIn file.now (object_of o)) }
     ensures refuses { IfErr result (IsUnreadAt (index + 1) file.now) }

@@ -21,7 +21,11 @@ use std::alloc::Global;
 /// The first fault of the objects that relaxation leaves, in the order of the passes: too many of them, a bad start of the text,
 /// names that are defined twice or not at all, a missing entry, paddings without room, too much memory, and then fields that
 /// cannot hold their values, by file, section and relocation.
-pub fn link(alloc: Global, objects: &[Object], options: LinkOptions) -> Result<Linked, LinkFault>
+pub fn link(
+    alloc: Global,
+    objects: &[Object<'_>],
+    options: LinkOptions,
+) -> Result<Linked, LinkFault>
     ensures links { IfOk result (λ l. IsProgramOf (map object_of objects.now)
         options.text_start options.relax (linked_of l)) }
     ensures refuses { IfErr result

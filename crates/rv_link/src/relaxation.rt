@@ -20,7 +20,7 @@ use std::alloc::Global;
 /// The text of objects, of which these are lent and none is cut; nothing where it is too long for memory.
 fn text(
     alloc: Global,
-    objects: &[Object],
+    objects: &[Object<'_>],
     lent: &[ShortObject<'_>],
 ) -> Result<Option<Placed>, LinkFault>
     requires { map short_object_of lent.now ≡ map object_of objects.now }
@@ -42,7 +42,7 @@ fn text(
 /// What relaxation, where it is on, leaves of objects. They are lent: no byte of them moves before the program.
 pub(crate) fn relaxed<'o>(
     alloc: Global,
-    objects: &'o [Object],
+    objects: &'o [Object<'o>],
     relax: bool,
 ) -> Result<Vec<ShortObject<'o>>, LinkFault>
     ensures relaxes { IfOk result

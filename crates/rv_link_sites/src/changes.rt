@@ -34,9 +34,9 @@ use std::alloc::{AllocError, Global};
 #[derive(Clone, Copy, Drop)]
 pub(crate) struct Input<'i> {
     pub(crate) file: usize,
-    pub(crate) object: &'i Object,
+    pub(crate) object: &'i Object<'i>,
     pub(crate) index: usize,
-    pub(crate) section: &'i Section,
+    pub(crate) section: &'i Section<'i>,
     /// What the symbols of its object name.
     pub(crate) entries: &'i Entries,
 }

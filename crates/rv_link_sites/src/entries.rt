@@ -21,7 +21,7 @@ pub(crate) struct Entries {
 
 impl Entries {
     /// Those of an object.
-    pub(crate) fn of(alloc: Global, object: &Object) -> Result<Entries, AllocError>
+    pub(crate) fn of(alloc: Global, object: &Object<'_>) -> Result<Entries, AllocError>
         ensures { IfOk result (AreEntries (object_of object.now)) }
     {
         let mut offsets = empty_lists(alloc, object.sections.len())?;
@@ -88,7 +88,7 @@ fn put_at(lists: &mut [Vec<u64>], section: usize, offset: u64) -> Result<(), All
 }
 
 /// Adds the offsets of symbols to those of their sections.
-fn put_all(lists: &mut [Vec<u64>], symbols: &[Symbol]) -> Result<(), AllocError>
+fn put_all(lists: &mut [Vec<u64>], symbols: &[Symbol<'_>]) -> Result<(), AllocError>
     ensures many { length lists.new ≡ length lists.old }
     ensures added { OnOk result ((index : ℕ) → index < length lists.old
         → list_at lists.new index

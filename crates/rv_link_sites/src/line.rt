@@ -15,7 +15,7 @@ use std::alloc::{AllocError, Global};
 const LIMIT: u64 = 1 << 62;
 
 /// The bytes of padding that a section may need before its start.
-pub(crate) fn start_padding(section: &Section) -> u64
+pub(crate) fn start_padding(section: &Section<'_>) -> u64
     ensures value { result ≡ laws.start_padding (section_of section.now) }
     ensures small { result ≤ 4094 }
 {
@@ -23,7 +23,7 @@ pub(crate) fn start_padding(section: &Section) -> u64
 }
 
 /// Where a section's first byte stands behind an end of the line, and the end after it; `None` where that is past the limit.
-fn stand(section: &Section, stop: u64) -> Option<(u64, u64)>
+fn stand(section: &Section<'_>, stop: u64) -> Option<(u64, u64)>
     requires { stop ≤ 2 ^ 62 }
     ensures found { IfSome result (λ found.
         (found.0 ≡ walk.first_behind stop (section_of section.now))
@@ -45,7 +45,7 @@ fn stand(section: &Section, stop: u64) -> Option<(u64, u64)>
 /// the limit.
 fn put_file(
     bases: &mut Vec<u64>,
-    sections: &[Section],
+    sections: &[Section<'_>],
     first: u64,
 ) -> Result<Option<u64>, AllocError>
     requires { first ≤ 2 ^ 62 }
@@ -71,7 +71,10 @@ fn put_file(
 
 /// The offset of the first byte of each section, by its file and its index there, both from 0; `None` where the line is past
 /// the limit.
-pub(crate) fn bases(alloc: Global, objects: &[Object]) -> Result<Option<Vec<Vec<u64>>>, AllocError>
+pub(crate) fn bases(
+    alloc: Global,
+    objects: &[Object<'_>],
+) -> Result<Option<Vec<Vec<u64>>>, AllocError>
     ensures found { IfOk result (λ found. IfSome found (λ files.
         (walk.lists_of files.items ≡ walk.firsts_files 0 (map object_of objects.now))
         × (walk.ended_files 0 (map object_of objects.now) ≤ 2 ^ 62))) }

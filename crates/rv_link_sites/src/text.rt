@@ -22,14 +22,14 @@ use std::alloc::{AllocError, Global};
 /// The text of objects in one line.
 #[derive(Drop)]
 pub(crate) struct Text<'t, 'o> {
-    pub(crate) objects: &'t [Object],
+    pub(crate) objects: &'t [Object<'t>],
     pub(crate) names: &'t Names<'o>,
     /// Where the first byte of each section stands, by its file and its index there, both from 0.
     pub(crate) bases: Vec<Vec<u64>>,
 }
 
 /// Whether an offset of a section, by its file and its index there, both from 0, is in text or at its end.
-fn is_in_text(objects: &[Object], file: usize, section: usize, offset: u64) -> bool
+fn is_in_text(objects: &[Object<'_>], file: usize, section: usize, offset: u64) -> bool
     ensures { result
         ≡ is_in_section (section_at (map object_of objects.now) file section) offset }
 {
@@ -59,7 +59,7 @@ impl<'t, 'o> Text<'t, 'o> {
     /// That of objects, whose names mean this; `None` where it is too long.
     pub(crate) fn of(
         alloc: Global,
-        objects: &'t [Object],
+        objects: &'t [Object<'t>],
         names: &'t Names<'o>,
     ) -> Result<Option<Text<'t, 'o>>, AllocError>
         requires { IsNames (map object_of objects.now) names.now }

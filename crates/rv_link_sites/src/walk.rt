@@ -26,7 +26,7 @@ use std::alloc::{AllocError, Global};
 /// memory, whatever is taken out of it.
 pub fn placed(
     alloc: Global,
-    objects: &[Object],
+    objects: &[Object<'_>],
     names: &Names<'_>,
 ) -> Result<Option<Placed>, AllocError>
     requires { IsNames (map object_of objects.now) names.now }
@@ -77,7 +77,7 @@ fn put_object(
     marked: &mut Marked,
     text: &Text<'_, '_>,
     file: usize,
-    object: &Object,
+    object: &Object<'_>,
     first: u64,
 ) -> Result<u64, AllocError>
     requires laid { IsLaid text.now }
@@ -105,7 +105,7 @@ fn put_at(
     marked: &mut Marked,
     text: &Text<'_, '_>,
     file: usize,
-    object: &Object,
+    object: &Object<'_>,
     entries: &Entries,
     index: usize,
     stop: u64,

@@ -80,7 +80,7 @@ pub(crate) fn object(
     alloc: Global,
     sections: &[(&[u8], u64, &[[u64; 3]])],
     symbols: &[[u64; 3]],
-) -> Result<Object, Fail> {
+) -> Result<Object<'_>, Fail> {
     let mut parts = Parts {
         body: Vec::new(alloc),
         headers: Vec::new(alloc),
@@ -103,7 +103,7 @@ pub(crate) fn object(
 }
 
 /// The object of the file with these parts, whose names are in the last section, with this number.
-fn file_of(alloc: Global, parts: &Parts, names: u64) -> Result<Object, Fail> {
+fn file_of(alloc: Global, parts: &Parts, names: u64) -> Result<Object<'_>, Fail> {
     let counts = names << 48 | names.wrapping_add(1) << 32 | 64 << 16;
     let mut file = Vec::new(alloc);
     // the magic number, 64 bits; type 1 for machine 243; the flag of compressed code

@@ -41,7 +41,7 @@ fn a_program(rt: HostRuntime) -> Result<(), Fail> {
 
 /// The number of the fault of a link of no object.
 fn fault_of_nothing(alloc: Global, text_start: u64) -> Option<u8> {
-    let objects: Vec<Object> = Vec::new(alloc);
+    let objects: Vec<Object<'_>> = Vec::new(alloc);
     let options = LinkOptions {
         text_start,
         relax: false,

@@ -44,7 +44,7 @@ const SHORT: &[u8] = b"\x82\x80\x13\0\0\0";
 const SHORT_PADDING: [[u64; 3]; 1] = [[2, ALIGN, 4]];
 
 /// The text of objects; none where a name has two definitions, or where it is too long.
-pub(crate) fn text(alloc: Global, objects: &[Object]) -> Result<Option<Placed>, AllocError> {
+pub(crate) fn text(alloc: Global, objects: &[Object<'_>]) -> Result<Option<Placed>, AllocError> {
     let lent = whole(alloc, objects)?;
     let Ok(names) = Names::of(alloc, &lent) else {
         return Ok(None);
@@ -74,7 +74,7 @@ fn pads(alloc: Global, plan: &Plan<'_>) -> Result<Vec<u32>, AllocError> {
 /// one afterwards.
 fn tells(
     alloc: Global,
-    object: Object,
+    object: Object<'_>,
     calls: &[u32],
     alignments: &[u32],
     is_roomy: bool,

@@ -20,7 +20,7 @@ const COUNT: u64 = 100;
 const CALL: [u8; 8] = [0x97, 0, 0, 0, 0xe7, 0x80, 0, 0];
 
 /// How many passes there are over the sites of an object, and whether all of its calls are short then.
-fn passes(alloc: Global, object: Object) -> Result<Option<(usize, bool)>, AllocError> {
+fn passes(alloc: Global, object: Object<'_>) -> Result<Option<(usize, bool)>, AllocError> {
     let objects = vec![in alloc; object]?;
     let Some(text) = text(alloc, &objects)? else {
         return Ok(None);
@@ -31,7 +31,7 @@ fn passes(alloc: Global, object: Object) -> Result<Option<(usize, bool)>, AllocE
 }
 
 /// An object of zeros in which calls stand from an offset on, eight bytes each, and their targets four bytes apart.
-fn chain(alloc: Global, calls: u64, targets: u64, size: u64) -> Result<Object, Fail> {
+fn chain(alloc: Global, calls: u64, targets: u64, size: u64) -> Result<Object<'_>, Fail> {
     let mut bytes = vec![in alloc; 0; calls as usize]?;
     let mut relocations = Vec::new(alloc);
     let mut symbols = Vec::new(alloc);

@@ -1,5 +1,6 @@
 -- What the parts of an object stand for.
 
+use Rattle.std.specs.Cow.{cow_slice_items}
 use Rattle.rv_object.specs.declared.contents.Contents.{Contents as DeclaredContents}
 use Rattle.rv_object.specs.declared.contents.Contents.TheVariants as contents
 use Rattle.rv_object.specs.declared.symbol.Symbol.{Symbol as DeclaredSymbol}
@@ -7,12 +8,12 @@ use Rattle.rv_object.specs.declared.relocation.Relocation.{Relocation as Declare
 use Rattle.rv_object.specs.Object.{Contents, Progbits, Note, Nobits, Relocation, Symbol}
 
 abbrev pub contents_of : DeclaredContents → Contents
-contents_of (contents.Progbits bytes) = Progbits bytes.items
-contents_of (contents.Note bytes) = Note bytes.items
+contents_of (contents.Progbits bytes) = Progbits (cow_slice_items bytes)
+contents_of (contents.Note bytes) = Note (cow_slice_items bytes)
 contents_of (contents.Nobits size) = Nobits size
 
 abbrev pub relocation_of : DeclaredRelocation → Relocation
 relocation_of r = record { place = r.place; kind = r.kind; symbol = r.symbol; addend = r.addend }
 
 abbrev pub symbol_of : DeclaredSymbol → Symbol
-symbol_of s = record { name = s.name.items; binding = s.binding; definition = s.definition }
+symbol_of s = record { name = s.name.now; binding = s.binding; definition = s.definition }

@@ -7,7 +7,7 @@ use Rattle.rv_object.specs.Parts.{contents_of, relocation_of}
 
 abbrev pub section_of : DeclaredSection → Section
 section_of s = record {
-  name = s.name.items;
+  name = s.name.now;
   loaded = s.loaded;
   executable = s.executable;
   writable = s.writable;

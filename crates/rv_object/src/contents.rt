@@ -1,21 +1,25 @@
 //! What sections have in a file.
+//!
+//! Their bytes are lent by the file that a reader has, or are the assembler's own.
 
 ghost use Rattle.std.specs.Prelude.{◌≡◌};
 ghost use Rattle.rv_object.specs.Object as said;
 ghost use Rattle.rv_object.specs.Parts.{contents_of};
 
+use std::borrow::CowSlice;
+
 /// What a section has in the file (gABI, "Sections", sh_type).
 #[derive(Debug, PartialEq, Eq, Drop)]
-pub enum Contents {
+pub enum Contents<'a> {
     /// Bytes of the program (SHT_PROGBITS).
-    Progbits(Vec<u8>),
+    Progbits(CowSlice<'a, u8>),
     /// Bytes that tell something of it (SHT_NOTE).
-    Note(Vec<u8>),
+    Note(CowSlice<'a, u8>),
     /// No bytes in the file (SHT_NOBITS): the size of the zeros in memory.
     Nobits(u64),
 }
 
-impl Contents {
+impl Contents<'_> {
     /// How many bytes of memory they take.
     pub fn size(&self) -> u64
         ensures { result ≡ said.size_of (contents_of self.now) }

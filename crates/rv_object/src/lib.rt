@@ -9,7 +9,7 @@
 //! It knows neither statements nor addresses.
 //!
 //! ```text
-//! let text = Section { name, loaded: true, executable: true, writable: false, contents, alignment: 2, relocations };
+//! let text = Section { name: b".text", loaded: true, executable: true, writable: false, contents, alignment: 2, relocations };
 //! let object = Object { sections, symbols, rows, rvc: false };
 //! ```
 //!

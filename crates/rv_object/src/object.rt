@@ -9,13 +9,13 @@ use crate::row::Row;
 use crate::section::Section;
 use crate::symbol::Symbol;
 
-/// What the assembler makes of one source, and what the linker takes.
+/// What the assembler makes of one source, and what the linker takes. It lends names and bytes from the source or the file.
 #[derive(Debug, PartialEq, Eq, Drop)]
-pub struct Object {
+pub struct Object<'a> {
     /// Its sections, in the order of the source.
-    pub sections: Vec<Section>,
+    pub sections: Vec<Section<'a>>,
     /// Its symbols: those of its own, and then those that others may name.
-    pub symbols: Vec<Symbol>,
+    pub symbols: Vec<Symbol<'a>>,
     /// Where the statements of its source stand, in any order.
     pub rows: Vec<Row>,
     /// It has compressed code (psABI, EF_RISCV_RVC).

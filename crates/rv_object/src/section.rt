@@ -9,9 +9,9 @@ use crate::relocation::Relocation;
 
 /// A section (gABI, "Sections").
 #[derive(Debug, PartialEq, Eq, Drop)]
-pub struct Section {
+pub struct Section<'a> {
     /// The bytes of its name.
-    pub name: Vec<u8>,
+    pub name: &'a [u8],
     /// It has a place in memory (SHF_ALLOC).
     pub loaded: bool,
     /// It has instructions (SHF_EXECINSTR).
@@ -19,15 +19,15 @@ pub struct Section {
     /// A program may write to it (SHF_WRITE).
     pub writable: bool,
     /// Its bytes.
-    pub contents: Contents,
+    pub contents: Contents<'a>,
     /// It begins at a multiple of this many bytes.
     pub alignment: u64,
     /// The fields of its bytes that the linker fills in, in the order in which it does.
     pub relocations: Vec<Relocation>,
     /// Its name has no zero byte.
-    pub ghost named: { IsTrue (is_string name.items) },
+    pub ghost named: { IsTrue (is_string name.now) },
     /// Bytes of the program have another name than the rows.
-    pub ghost kept: { IsTrue (keeps_name (contents_of contents) name.items) },
+    pub ghost kept: { IsTrue (keeps_name (contents_of contents) name.now) },
     /// A power of two, from 1 to 4096.
     pub ghost aligned: { IsTrue (is_alignment alignment) },
     /// Code ends at an even offset.

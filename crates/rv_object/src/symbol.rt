@@ -27,13 +27,13 @@ pub enum Definition {
 
 /// A name of an object, or a place without a name (gABI, "Symbol Table").
 #[derive(Debug, PartialEq, Eq, Drop)]
-pub struct Symbol {
+pub struct Symbol<'a> {
     /// The bytes of its name; none where it has no name.
-    pub name: Vec<u8>,
+    pub name: &'a [u8],
     /// Who may name it.
     pub binding: Binding,
     /// What it is.
     pub definition: Definition,
     /// A name that every object may use is one that a map can show; no other has a zero byte.
-    pub ghost shown: { IsTrue (is_shown binding name.items) },
+    pub ghost shown: { IsTrue (is_shown binding name.now) },
 }

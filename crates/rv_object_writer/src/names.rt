@@ -18,14 +18,14 @@ pub(crate) const SECTION_NAMES: &[u8] = b".shstrtab";
 /// The names of symbols.
 pub(crate) fn symbol_names<'o>(
     alloc: Global,
-    symbols: &'o [Symbol],
+    symbols: &'o [Symbol<'o>],
 ) -> Result<StringTable<'o>, AllocError>
     ensures { IfOk result (λ t. IsTable
         (strings_of (map (λ (s : SaidSymbol). s.name) (map symbol_of symbols.now))) t) }
 {
     let mut names = StringTable::new(alloc)?;
     for symbol in symbols {
-        names.put(symbol.name.as_slice())?;
+        names.put(symbol.name)?;
     }
     Ok(names)
 }

@@ -31,12 +31,12 @@ impl<'p> Piece<'p> {
     ghost use Rattle.rv_object_writer.specs.Pieces.{piece_of};
 
     /// A section of the object.
-    pub(crate) fn of(section: &'p Section) -> Self
+    pub(crate) fn of(section: &'p Section<'p>) -> Self
         ensures is { piece_of result ≡ section_piece (section_of section.now) }
         ensures size { size_of (section_of section.now).contents < 2 ^ 64 }
     {
         Piece {
-            name: section.name.as_slice(),
+            name: section.name,
             kind: kind(&section.contents),
             flags: flags(section),
             bytes: section.contents.stored(),
@@ -74,7 +74,7 @@ impl<'p> Piece<'p> {
 }
 
 /// The type of a section with these contents (`sh_type`).
-fn kind(contents: &Contents) -> u32
+fn kind(contents: &Contents<'_>) -> u32
     ensures { result ≡ kind_of (contents_of contents.now) }
 {
     match contents {
@@ -85,7 +85,7 @@ fn kind(contents: &Contents) -> u32
 }
 
 /// How the section is used (`sh_flags`).
-fn flags(section: &Section) -> u64
+fn flags(section: &Section<'_>) -> u64
     ensures { result ≡ flags_of (section_of section.now) }
 {
     let write = if section.writable { SHF_WRITE } else { 0 };

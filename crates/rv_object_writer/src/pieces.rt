@@ -33,7 +33,7 @@ pub(crate) struct Tables {
 }
 
 /// The index of the section of symbols.
-fn symtab_index(object: &Object, relocations: &[RelaTable]) -> Result<u64, AllocError>
+fn symtab_index(object: &Object<'_>, relocations: &[RelaTable]) -> Result<u64, AllocError>
     requires { map (rela_piece 0) relocations.now
         ≡ rela_pieces 0 1 (object_of object.now).sections }
     ensures at { IfOk result (λ n. n ≡ symtab_index (object_of object.now)) }
@@ -50,7 +50,7 @@ fn symtab_index(object: &Object, relocations: &[RelaTable]) -> Result<u64, Alloc
 
 impl Tables {
     /// Those of an object.
-    pub(crate) fn of(alloc: Global, object: &Object) -> Result<Self, AllocError>
+    pub(crate) fn of(alloc: Global, object: &Object<'_>) -> Result<Self, AllocError>
         ensures tables { IfOk result (λ tables. AreTables (object_of object.now) tables) }
         ensures room { IfOk result (λ tables. tables.symtab + 2 < 2 ^ 64) }
         ensures known { IfOk result (λ tables. HaveKnownNumbers (object_of object.now)) }
@@ -71,7 +71,10 @@ impl Tables {
 }
 
 /// Adds the sections of the object.
-fn put_sections<'p>(pieces: &mut Vec<Piece<'p>>, sections: &'p [Section]) -> Result<(), AllocError>
+fn put_sections<'p>(
+    pieces: &mut Vec<Piece<'p>>,
+    sections: &'p [Section<'p>],
+) -> Result<(), AllocError>
     ensures added { OnOk result (map piece_of pieces.new.items ≡ map piece_of pieces.old.items
         ++ map section_piece (map section_of sections.now)) }
     ensures sizes { OnOk result
@@ -118,7 +121,7 @@ fn put_relocations<'p>(
 /// Adds the section of rows, if there are some.
 fn put_rows<'p>(
     pieces: &mut Vec<Piece<'p>>,
-    object: &Object,
+    object: &Object<'_>,
     rows: &'p [u8],
 ) -> Result<(), AllocError>
     requires { rows.now ≡ flat_map (λ row. row_bytes (row_record row)) (object.now).rows.items }
@@ -155,7 +158,7 @@ fn symbols_section<'p>(symtab: u64, locals: u64, bytes: &'p [u8]) -> Piece<'p>
 /// The sections of an object's file, but for that of their names.
 pub(crate) fn first_pieces<'p>(
     alloc: Global,
-    object: &'p Object,
+    object: &'p Object<'p>,
     tables: &'p Tables,
 ) -> Result<Vec<Piece<'p>>, AllocError>
     requires tables { AreTables (object_of object.now) tables.now }
@@ -178,7 +181,7 @@ pub(crate) fn first_pieces<'p>(
 /// The same, and the section of their names.
 pub(crate) fn all_pieces<'p>(
     alloc: Global,
-    object: &'p Object,
+    object: &'p Object<'p>,
     tables: &'p Tables,
     names: &'p [u8],
 ) -> Result<Vec<Piece<'p>>, AllocError>

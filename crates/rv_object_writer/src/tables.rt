@@ -76,8 +76,8 @@ pub(crate) struct RelaTable {
 }
 
 /// The table of a section's relocations, by the section's index in the file.
-fn rela_table(alloc: Global, index: u64, section: &Section) -> Result<RelaTable, AllocError>
-    ensures name { IfOk result (λ t. t.name.items ≡ codes ".rela" ++ (section.now).name.items) }
+fn rela_table(alloc: Global, index: u64, section: &Section<'_>) -> Result<RelaTable, AllocError>
+    ensures name { IfOk result (λ t. t.name.items ≡ codes ".rela" ++ (section.now).name.now) }
     ensures bytes { IfOk result (λ t. t.bytes.items
         ≡ relocations_bytes (map relocation_of (section.now).relocations.items)) }
     ensures section { IfOk result (λ t. t.section ≡ index) }
@@ -86,7 +86,7 @@ fn rela_table(alloc: Global, index: u64, section: &Section) -> Result<RelaTable,
 {
     let mut name = Vec::new(alloc);
     name.extend_from_slice(b".rela")?;
-    name.extend_from_slice(section.name.as_slice())?;
+    name.extend_from_slice(section.name)?;
     let bytes = relocations_table(alloc, section.relocations.as_slice())?;
     Ok(RelaTable {
         name,
@@ -100,7 +100,7 @@ fn put_rela_table(
     alloc: Global,
     tables: &mut Vec<RelaTable>,
     index: u64,
-    section: &Section,
+    section: &Section<'_>,
 ) -> Result<(), AllocError>
     ensures added { OnOk result ((symtab : ℕ) → map (rela_piece symtab) tables.new.items
         ≡ map (rela_piece symtab) tables.old.items
@@ -116,7 +116,10 @@ fn put_rela_table(
 }
 
 /// The tables of the relocations of sections.
-pub(crate) fn rela_tables(alloc: Global, sections: &[Section]) -> Result<Vec<RelaTable>, AllocError>
+pub(crate) fn rela_tables(
+    alloc: Global,
+    sections: &[Section<'_>],
+) -> Result<Vec<RelaTable>, AllocError>
     ensures tables { IfOk result (λ tables. (symtab : ℕ) → map (rela_piece symtab) tables.items
         ≡ rela_pieces symtab 1 (map section_of sections.now)) }
     ensures known { IfOk result (λ tables. AllByRecursion
@@ -253,13 +256,13 @@ fn put_symbol(
     out: &mut ElfWriter,
     names: &StringTable<'_>,
     last: u64,
-    symbol: &Symbol,
+    symbol: &Symbol<'_>,
 ) -> Result<(), AllocError>
     ensures written { OnOk result ((ns : List (List ℕ)) → IsTable (strings_of ns) names.now
         → out.new ≡ out.old ++ symbol_bytes (symbol_record ns last (symbol_of symbol.now))) }
     ensures known { OnOk result (IsSymbol (symbol_of symbol.now)) }
 {
-    let name = names.offset(symbol.name.as_slice());
+    let name = names.offset(symbol.name);
     out.symbol(&SymbolRecord {
         st_name: (name % 0x1_0000_0000) as u32,
         st_info: binding(symbol.binding) * 16,
@@ -276,7 +279,7 @@ pub(crate) fn symbols_table(
     alloc: Global,
     names: &StringTable<'_>,
     last: u64,
-    symbols: &[Symbol],
+    symbols: &[Symbol<'_>],
 ) -> Result<Vec<u8>, AllocError>
     ensures written { IfOk result (λ bytes. (ns : List (List ℕ)) → IsTable (strings_of ns) names.now
         → bytes.items ≡ replicate symbol_size 0
@@ -292,7 +295,7 @@ pub(crate) fn symbols_table(
 }
 
 /// Whether only its own object may name it.
-fn is_local(symbol: &Symbol) -> bool
+fn is_local(symbol: &Symbol<'_>) -> bool
     ensures { result ≡ is_local (symbol_of symbol.now) }
 {
     match symbol.binding {
@@ -302,7 +305,7 @@ fn is_local(symbol: &Symbol) -> bool
 }
 
 /// How many symbols stand before the first that other objects may name.
-pub(crate) fn locals(symbols: &[Symbol]) -> u64
+pub(crate) fn locals(symbols: &[Symbol<'_>]) -> u64
     ensures count { result ≡ locals (map symbol_of symbols.now) }
     ensures room { result + 1 < 2 ^ 64 }
 {

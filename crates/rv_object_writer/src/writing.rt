@@ -27,7 +27,7 @@ use rv_object_file_laws::written_object_is_read;
 use std::alloc::{AllocError, Global};
 
 /// The file of an object.
-pub fn write(alloc: Global, object: &Object) -> Result<Vec<u8>, AllocError>
+pub fn write(alloc: Global, object: &Object<'_>) -> Result<Vec<u8>, AllocError>
     ensures written { IfOk result (λ file. file.items ≡ file_of (object_of object.now)) }
     // Where the fields of a file can hold what the object has, the file has no fault and is a file of this object.
     ensures read { IfOk result (λ file. HasFile (object_of object.now)
@@ -42,7 +42,7 @@ pub fn write(alloc: Global, object: &Object) -> Result<Vec<u8>, AllocError>
 }
 
 /// The file of an object with these tables.
-fn write_tables(alloc: Global, object: &Object, tables: &Tables) -> Result<Vec<u8>, AllocError>
+fn write_tables(alloc: Global, object: &Object<'_>, tables: &Tables) -> Result<Vec<u8>, AllocError>
     requires tables { AreTables (object_of object.now) tables.now }
     requires room { (tables.now).symtab + 2 < 2 ^ 64 }
     ensures written { IfOk result (λ file. file.items ≡ file_of (object_of object.now)) }
@@ -57,7 +57,7 @@ fn write_tables(alloc: Global, object: &Object, tables: &Tables) -> Result<Vec<u
 /// The file of an object with these tables and these names of its sections.
 fn write_named(
     alloc: Global,
-    object: &Object,
+    object: &Object<'_>,
     tables: &Tables,
     names: &StringTable<'_>,
 ) -> Result<Vec<u8>, AllocError>

@@ -53,7 +53,7 @@ fn raised(alignment: u64, relocations: &[Relocation]) -> u64
 }
 
 /// The multiple at which a section begins.
-pub fn begins_at(section: &Section) -> u64
+pub fn begins_at(section: &Section<'_>) -> u64
     ensures value { result ≡ inputs.begins_at (section_of section.now) }
     ensures some { 0 < result }
     ensures small { result ≤ 4096 }

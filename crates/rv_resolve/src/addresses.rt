@@ -44,7 +44,7 @@ impl<'o> Names<'o> {
             Some(exported) => {
                 defined_address(objects, placement, exported.file, exported.definition)
             }
-            None => linker_address(placement, symbol.name.as_slice()),
+            None => linker_address(placement, symbol.name),
         }
     }
 
@@ -119,7 +119,7 @@ fn symbol_at<'o>(
     objects: &[ShortObject<'o>],
     file: usize,
     index: u32,
-) -> Option<(&'o Symbol, Definition)>
+) -> Option<(&'o Symbol<'o>, Definition)>
     ensures { (o : SaidObject) → slice_get (map short_object_of objects.now) file ≡ Some o
         → option_map with_definition result ≡ slice_get o.symbols index }
 {

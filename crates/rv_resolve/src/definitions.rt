@@ -71,7 +71,7 @@ impl<'o> Definitions<'o> {
         &mut self,
         file: usize,
         object: &ShortObject<'o>,
-        symbol: &'o Symbol,
+        symbol: &'o Symbol<'o>,
     ) -> Result<(), ResolveFault<'o>>
         ensures added { OnOk result ((o : SaidObject) (es : List Export) → Answers es self.old
             → AreAdded es (exports_in file o (moved_in object.now symbol.now ∷ [])) self.new) }
@@ -86,8 +86,8 @@ impl<'o> Definitions<'o> {
             file,
             definition: object.definition(symbol.definition),
         };
-        match self.by_name.insert(symbol.name.as_slice(), exported)? {
-            Some(_) => Err(ResolveFault::Duplicate(symbol.name.as_slice())),
+        match self.by_name.insert(symbol.name, exported)? {
+            Some(_) => Err(ResolveFault::Duplicate(symbol.name)),
             None => Ok(()),
         }
     }

@@ -128,7 +128,7 @@ fn put_global(
     placement: &Placement,
     file: usize,
     object: &ShortObject<'_>,
-    symbol: &Symbol,
+    symbol: &Symbol<'_>,
 ) -> Result<(), AllocError>
     ensures { OnOk result ((start : ℕ) (o : SaidObject)
         → IsPlacement (map short_object_of objects.now) start placement.now
@@ -143,7 +143,7 @@ fn put_global(
     let definition = object.definition(symbol.definition);
     match defined_address(objects, placement, file, definition) {
         Some(address) => {
-            let name = Vec::from_slice(alloc, symbol.name.as_slice())?;
+            let name = Vec::from_slice(alloc, symbol.name)?;
             globals.push(Global { name, address })?;
             Ok(())
         }

@@ -62,7 +62,7 @@ fn file_numbers(
     alloc: Global,
     meant: &mut Vec<Exported>,
     definitions: &Definitions<'_>,
-    symbols: &[Symbol],
+    symbols: &[Symbol<'_>],
 ) -> Result<Vec<Option<u32>>, AllocError>
     ensures grows { OnOk result (Grows meant.old.items meant.new.items) }
     ensures numbers { IfOk result (λ numbers. (os : List SaidObject)
@@ -79,12 +79,12 @@ fn file_numbers(
 }
 
 /// What a symbol means that its own object does not define.
-fn meaning(definitions: &Definitions<'_>, symbol: &Symbol) -> Option<Exported>
+fn meaning(definitions: &Definitions<'_>, symbol: &Symbol<'_>) -> Option<Exported>
     ensures { (os : List SaidObject) → Answers (exports_from 0 os) definitions.now
         → result ≡ outside os (symbol_of symbol.now) }
 {
     match symbol.definition {
-        Definition::Undefined => definitions.by_name.get(symbol.name.as_slice()).copied(),
+        Definition::Undefined => definitions.by_name.get(symbol.name).copied(),
         _ => None,
     }
 }

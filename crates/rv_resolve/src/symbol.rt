@@ -9,7 +9,7 @@ ghost use Rattle.rv_shorten.specs.Cutting.{cut_definition, cut_symbol};
 use rv_object::{Binding, Definition, Symbol};
 
 /// Whether a symbol is a definition for all files, whatever is cut of its object.
-pub(crate) fn is_exported(symbol: &Symbol) -> bool
+pub(crate) fn is_exported(symbol: &Symbol<'_>) -> bool
     ensures { (cuts : List (List Move))
         → result ≡ laws.is_exported (cut_symbol cuts (symbol_of symbol.now)) }
 {

@@ -116,7 +116,7 @@ impl<'o> Names<'o> {
                 if self.is_resolved(objects, file, index, symbol) {
                     None
                 } else {
-                    Some(symbol.name.as_slice())
+                    Some(symbol.name)
                 }
             }
             None => Some(b"".as_slice()),
@@ -129,7 +129,7 @@ impl<'o> Names<'o> {
         objects: &[ShortObject<'_>],
         file: usize,
         index: u32,
-        symbol: &Symbol,
+        symbol: &Symbol<'_>,
     ) -> bool
         ensures { (o : SaidObject) (cuts : List (List Move))
             → IsNames (map short_object_of objects.now) self.now
@@ -139,7 +139,7 @@ impl<'o> Names<'o> {
             (cut_symbol cuts (symbol_of symbol.now)) }
     {
         match symbol.definition {
-            Definition::Undefined => self.is_known(objects, file, index, symbol.name.as_slice()),
+            Definition::Undefined => self.is_known(objects, file, index, symbol.name),
             definition => has_address(objects, file, definition),
         }
     }

@@ -14,7 +14,7 @@ use std::alloc::{AllocError, Global};
 /// Sections of which nothing is cut.
 fn whole_sections<'o>(
     alloc: Global,
-    sections: &'o [Section],
+    sections: &'o [Section<'o>],
 ) -> Result<Vec<ShortSection<'o>>, AllocError>
     ensures same { IfOk result
         (λ left. map short_section_of left.items ≡ map section_of sections.now) }
@@ -33,7 +33,10 @@ fn whole_sections<'o>(
 /// # Errors
 ///
 /// Want of memory.
-pub fn whole<'o>(alloc: Global, objects: &'o [Object]) -> Result<Vec<ShortObject<'o>>, AllocError>
+pub fn whole<'o>(
+    alloc: Global,
+    objects: &'o [Object<'o>],
+) -> Result<Vec<ShortObject<'o>>, AllocError>
     ensures { IfOk result
         (λ left. map short_object_of left.items ≡ map object_of objects.now) }
 {

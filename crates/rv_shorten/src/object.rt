@@ -20,7 +20,7 @@ use rv_object::{Definition, Object, Row};
 #[derive(Drop)]
 pub struct ShortObject<'o> {
     /// The object as it was. The names and bindings of its symbols stay, and whether it has compressed code.
-    pub whole: &'o Object,
+    pub whole: &'o Object<'o>,
     /// Its sections, less what is cut of them.
     pub sections: Vec<ShortSection<'o>>,
     /// Each row lies in a section that has a place in memory.
@@ -62,7 +62,7 @@ impl<'o> ShortObject<'o> {
     ghost use Rattle.rv_shorten.specs.View.{short_object_of};
 
     /// An object of which these sections are left.
-    pub(crate) fn of(whole: &'o Object, sections: Vec<ShortSection<'o>>) -> ShortObject<'o>
+    pub(crate) fn of(whole: &'o Object<'o>, sections: Vec<ShortSection<'o>>) -> ShortObject<'o>
         requires cuts { cutting.AllCut (object_of whole.now).sections
             (moves_in_all sections.items) }
         requires left { map short_section_of sections.items

@@ -17,7 +17,7 @@ use std::alloc::{AllocError, Global};
 /// The objects that are left, as the sites of the text go by.
 fn shorten_all<'o>(
     alloc: Global,
-    objects: &'o [Object],
+    objects: &'o [Object<'o>],
     sites: &[Site],
     kept: &[u32],
 ) -> Result<Vec<ShortObject<'o>>, AllocError>
@@ -44,7 +44,7 @@ fn shorten_all<'o>(
 /// Want of memory.
 pub fn shorten<'o>(
     alloc: Global,
-    objects: &'o [Object],
+    objects: &'o [Object<'o>],
     sites: &[Site],
     kept: &[u32],
 ) -> Result<Vec<ShortObject<'o>>, AllocError>

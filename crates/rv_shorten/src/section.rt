@@ -19,7 +19,7 @@ use rv_object::{Contents, Relocation, Section};
 #[derive(Drop)]
 pub struct ShortSection<'o> {
     /// The section as it was. Its name, its flags and its alignment stay.
-    pub whole: &'o Section,
+    pub whole: &'o Section<'o>,
     /// Its calls that are cut short.
     pub(crate) cuts: Vec<Cut>,
     /// They stand one behind the other.
@@ -43,7 +43,7 @@ impl<'o> ShortSection<'o> {
     ghost use Rattle.rv_shorten.specs.Sections.{moves_in, short_section_of};
 
     /// A section of which these calls are cut short.
-    pub(crate) fn of(whole: &'o Section, cuts: Vec<Cut>) -> ShortSection<'o>
+    pub(crate) fn of(whole: &'o Section<'o>, cuts: Vec<Cut>) -> ShortSection<'o>
         requires order { are_in_order 0 0 cuts.items ≡ true }
         requires cuts { AreCuts (section_of whole.now) (map move_of cuts.items) }
         ensures cuts { moves_in result ≡ map move_of cuts.items }

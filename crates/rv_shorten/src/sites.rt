@@ -21,7 +21,7 @@ use rv_object::Section;
 use std::alloc::{AllocError, Global};
 
 /// Whether a section goes to the text.
-pub fn is_text(section: &Section) -> bool
+pub fn is_text(section: &Section<'_>) -> bool
     ensures { result ≡ goes_to_text (section_of section.now) }
 {
     section.loaded && section.executable
@@ -72,7 +72,7 @@ fn count_within(start: &Site, size: u64, sites: &[Site]) -> usize
 }
 
 /// How many of the first sites are a section's.
-fn passed(section: &Section, sites: &[Site]) -> usize
+fn passed(section: &Section<'_>, sites: &[Site]) -> usize
     ensures value { result ≡ walk.passed (section_of section.now) sites.now }
     ensures low { result ≤ length sites.now }
 {
@@ -158,7 +158,7 @@ fn cuts(
 /// The cuts of a section whose sites these are.
 fn section_cuts(
     alloc: Global,
-    section: &Section,
+    section: &Section<'_>,
     sites: &[Site],
     kept: &[u32],
 ) -> Result<Vec<Cut>, AllocError>
@@ -179,7 +179,7 @@ fn section_cuts(
 /// The sections of an object that are left, to whose text the first sites belong, and how many these are.
 pub(crate) fn short_sections<'o>(
     alloc: Global,
-    sections: &'o [Section],
+    sections: &'o [Section<'o>],
     sites: &[Site],
     kept: &[u32],
 ) -> Result<(Vec<ShortSection<'o>>, usize), AllocError>

@@ -16,4 +16,4 @@ returns-in-Undefined c = λ o cuts h at there.
 pub returns-in_default : goal.returns-in_default
 returns-in_default c = λ o cuts h at there.
     c.has_address.ensures o at
-    ∙ own_resolved (map short_object_of c.args.objects.now) o cuts c.args.symbol.now.name.items c.args.symbol.now.definition c.in_default.not-Undefined
+    ∙ own_resolved (map short_object_of c.args.objects.now) o cuts c.args.symbol.now.name.now c.args.symbol.now.definition c.in_default.not-Undefined
