@@ -86,7 +86,8 @@ impl ElfWriter {
         ensures ok { OnOk result (self.new ≡ self.old ++ replicate count 0) }
         ensures err { OnErr result (self.new ≡ self.old) }
     {
-        let length = self.bytes.len().checked_add(count).ok_or(AllocError)?;
+        self.bytes.reserve(count)?;
+        let length = self.bytes.len() + count;
         self.bytes.resize(length, 0)
     }
 
