@@ -1,6 +1,7 @@
 //! Writes a file, record after record.
 
-ghost use Rattle.std.specs.Prelude.{◌≡◌, List, ℕ, [], ◌++◌, length, replicate, OnOk, OnErr};
+ghost use Rattle.std.specs.Prelude.{◌≡◌, ◌≤◌, List, ℕ, [], ◌++◌, length, drop, replicate, OnOk, OnErr};
+ghost use Rattle.rv_elf.specs.Fields.{file_header_size};
 ghost use Rattle.rv_elf.specs.Records.{file_header_bytes, program_header_bytes, section_header_bytes, symbol_bytes, rela_bytes};
 
 use crate::file_header::FileHeader;
@@ -23,6 +24,14 @@ impl Model for ElfWriter {
     ghost view = { λ writer. writer.bytes.items };
 }
 
+/// Puts bytes over the first ones.
+fn put_over(bytes: &mut [u8], by: &[u8])
+    requires { length by.now ≤ length bytes.old }
+    ensures { bytes.new ≡ by.now ++ drop (length by.now) bytes.old }
+{
+    bytes[..by.len()].copy_from_slice(by);
+}
+
 impl ElfWriter {
     /// A file without bytes.
     pub fn new(alloc: Global) -> Self
@@ -39,6 +48,14 @@ impl ElfWriter {
         ensures err { OnErr result (self.new ≡ self.old) }
     {
         self.raw(&header.bytes())
+    }
+
+    /// Writes the header of the file over its first 64 bytes, where it is known only in the end what the header says.
+    pub fn set_header(&mut self, header: &FileHeader)
+        requires { file_header_size ≤ length self.old }
+        ensures { self.new ≡ file_header_bytes header.now ++ drop file_header_size self.old }
+    {
+        put_over(&mut self.bytes, &header.bytes());
     }
 
     /// Writes a program header.
