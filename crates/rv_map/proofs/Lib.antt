@@ -5,3 +5,4 @@ pub mod DigitsLemmas
 pub mod NumbersLemmas
 pub mod LinesLemmas
 pub mod WholeLemmas
+pub mod StepsLemmas

@@ -21,6 +21,9 @@ IsRow r =
     IsNumber r.file × IsNumber r.line × IsNumber r.ordinal × IsNumber r.address × IsNumber r.bytes
     × IsNumber r.instructions
 
+abbrev pub AreRegions : Map → Type 0
+AreRegions m = IsRegion m.text × IsRegion m.rodata × IsRegion m.data × IsRegion m.bss
+
 -- numbers below 2 ^ 64, names of one byte or more, each 21h to 7Eh; no order is asked for
 pub record IsMap (m : Map) : Type 0 where
   pub text : IsRegion m.text

@@ -25,7 +25,7 @@ mod reading;
 mod writing;
 
 pub use digits::{put_hexadecimal, put_padded};
-pub use law::{known, one_map, reread};
+pub use law::{one_map, reread};
 pub use lookup::row_at;
 pub use map::{Global, Map, Region, Row};
 pub use reading::read;

@@ -2,11 +2,11 @@
 
 ghost use Rattle.std.specs.Prelude.{◌≡◌, ◌++◌, ◌∷◌, [], IfOk, OnOk, map, flat_map, codes, decimal};
 ghost use Rattle.rv_map.specs.Map.{map_of, global_of};
-ghost use Rattle.rv_map.specs.Limits.{IsMap};
+ghost use Rattle.std.specs.List.{AllByRecursion};
+ghost use Rattle.rv_map.specs.Limits.{IsNumber, IsRegion, IsGlobal, IsRow, IsMap, AreRegions};
 ghost use Rattle.rv_map.specs.Text.{hexadecimal, line_text, region_line, gap_line, global_line, row_line, region_lines, head_lines, map_text};
 
 use crate::digits::put_hexadecimal;
-use crate::law::known;
 use crate::map::{Global, Map, Region, Row};
 use itoa::Buffer;
 use std::alloc::{AllocError, Global as Allocator};
@@ -17,7 +17,6 @@ pub fn write(alloc: Allocator, map: &Map) -> Result<Vec<u8>, AllocError>
     // Its numbers and names are those that a text can show: reading the text gives this map.
     ensures readable { IfOk result (λ _. IsMap (map_of map.now)) }
 {
-    known(map);
     let mut text = Vec::new(alloc);
     put_head(&mut text, map)?;
     put_gaps(&mut text, &map.gaps)?;
@@ -28,8 +27,10 @@ pub fn write(alloc: Allocator, map: &Map) -> Result<Vec<u8>, AllocError>
 
 #[tactic(auto, unfolding(crate::specs::Text::line_text, crate::specs::Text::head_lines))]
 fn put_head(text: &mut Vec<u8>, map: &Map) -> Result<(), AllocError>
-    ensures { OnOk result
+    ensures written { OnOk result
         (text.new.items ≡ text.old.items ++ flat_map line_text (head_lines (map_of map.now))) }
+    ensures known { OnOk result
+        (AreRegions (map_of map.now) × IsNumber (map_of map.now).entry) }
 {
     text.extend_from_slice(b"rvmap 1\n")?;
     put_regions(text, map)?;
@@ -38,8 +39,9 @@ fn put_head(text: &mut Vec<u8>, map: &Map) -> Result<(), AllocError>
 }
 
 fn put_regions(text: &mut Vec<u8>, map: &Map) -> Result<(), AllocError>
-    ensures { OnOk result
+    ensures written { OnOk result
         (text.new.items ≡ text.old.items ++ flat_map line_text (region_lines (map_of map.now))) }
+    ensures known { OnOk result (AreRegions (map_of map.now)) }
 {
     put_region(text, b"text", map.text)?;
     put_region(text, b"rodata", map.rodata)?;
@@ -50,8 +52,9 @@ fn put_regions(text: &mut Vec<u8>, map: &Map) -> Result<(), AllocError>
 
 #[tactic(auto, unfolding(crate::specs::Text::line_text))]
 fn put_entry(text: &mut Vec<u8>, entry: u64) -> Result<(), AllocError>
-    ensures { OnOk result
+    ensures written { OnOk result
         (text.new.items ≡ text.old.items ++ line_text (codes "entry" ∷ hexadecimal entry ∷ [])) }
+    ensures known { IsNumber entry }
 {
     text.extend_from_slice(b"entry ")?;
     put_address(text, entry, b'\n')?;
@@ -59,8 +62,9 @@ fn put_entry(text: &mut Vec<u8>, entry: u64) -> Result<(), AllocError>
 }
 
 fn put_gaps(text: &mut Vec<u8>, gaps: &[Region]) -> Result<(), AllocError>
-    ensures { OnOk result
+    ensures written { OnOk result
         (text.new.items ≡ text.old.items ++ flat_map line_text (map gap_line gaps.now)) }
+    ensures known { OnOk result (AllByRecursion IsRegion gaps.now) }
 {
     for gap in gaps {
         put_region(text, b"gap", *gap)?;
@@ -69,9 +73,10 @@ fn put_gaps(text: &mut Vec<u8>, gaps: &[Region]) -> Result<(), AllocError>
 }
 
 fn put_globals(text: &mut Vec<u8>, globals: &[Global]) -> Result<(), AllocError>
-    ensures { OnOk result
+    ensures written { OnOk result
         (text.new.items ≡ text.old.items
         ++ flat_map line_text (map global_line (map global_of globals.now))) }
+    ensures known { OnOk result (AllByRecursion IsGlobal (map global_of globals.now)) }
 {
     for global in globals {
         put_global(text, global)?;
@@ -80,8 +85,9 @@ fn put_globals(text: &mut Vec<u8>, globals: &[Global]) -> Result<(), AllocError>
 }
 
 fn put_rows(text: &mut Vec<u8>, rows: &[Row]) -> Result<(), AllocError>
-    ensures { OnOk result
+    ensures written { OnOk result
         (text.new.items ≡ text.old.items ++ flat_map line_text (map row_line rows.now)) }
+    ensures known { OnOk result (AllByRecursion IsRow rows.now) }
 {
     for row in rows {
         put_row(text, *row)?;
@@ -91,8 +97,9 @@ fn put_rows(text: &mut Vec<u8>, rows: &[Row]) -> Result<(), AllocError>
 
 #[tactic(auto, unfolding(crate::specs::Text::line_text))]
 fn put_region(text: &mut Vec<u8>, name: &[u8], region: Region) -> Result<(), AllocError>
-    ensures { OnOk result
+    ensures written { OnOk result
         (text.new.items ≡ text.old.items ++ line_text (region_line name.now region)) }
+    ensures known { IsRegion region }
 {
     text.extend_from_slice(name)?;
     text.push(b' ')?;
@@ -103,8 +110,9 @@ fn put_region(text: &mut Vec<u8>, name: &[u8], region: Region) -> Result<(), All
 
 #[tactic(auto, unfolding(crate::specs::Text::line_text))]
 fn put_global(text: &mut Vec<u8>, global: &Global) -> Result<(), AllocError>
-    ensures { OnOk result
+    ensures written { OnOk result
         (text.new.items ≡ text.old.items ++ line_text (global_line (global_of global.now))) }
+    ensures known { OnOk result (IsGlobal (global_of global.now)) }
 {
     text.extend_from_slice(b"global ")?;
     text.extend_from_slice(&global.name)?;
@@ -115,7 +123,9 @@ fn put_global(text: &mut Vec<u8>, global: &Global) -> Result<(), AllocError>
 
 #[tactic(auto, unfolding(crate::specs::Text::line_text))]
 fn put_row(text: &mut Vec<u8>, row: Row) -> Result<(), AllocError>
-    ensures { OnOk result (text.new.items ≡ text.old.items ++ line_text (row_line row)) }
+    ensures written { OnOk result
+        (text.new.items ≡ text.old.items ++ line_text (row_line row)) }
+    ensures known { IsRow row }
 {
     put_statement(text, row)?;
     put_address(text, row.address, b' ')?;

@@ -2,6 +2,6 @@ use Rattle.std.proofs.Common.{append_assoc, refl}
 use Rattle.rv_map.specs.Text.{line_text, head_lines}
 use Rattle.rv_map.proofs.writing.put_head.Goals as goal
 
-pub returns : goal.returns
+pub returns-clause-written : goal.returns-clause-written
 unfolding line_text head_lines
-returns c = simp (c.in_ok-put_entry.ensures, c.in_ok-put_regions.ensures, c.in_ok-extend_from_slice.ensures.items, append_assoc) refl
+returns-clause-written c = simp (c.in_ok-put_entry.ensures.written, c.in_ok-put_regions.ensures.written, c.in_ok-extend_from_slice.ensures.items, append_assoc) refl
