@@ -17,7 +17,6 @@ use crate::fault::Fault;
 use rv_assemble::assemble;
 use rv_image::{Linked, write_exec};
 use rv_link::{LinkOptions, link, within_limits};
-use rv_map::known;
 use rv_object::Object;
 use rv_sources_link_laws::{linked_objects_are_flagged, objects_of_sources_link};
 use rv_text::SourceFault;
@@ -47,8 +46,6 @@ pub fn build(alloc: Global, sources: &[&[u8]], options: LinkOptions) -> Result<B
         (IsRefusedFor (map now_of sources.now) options.text_start options.relax) }
 {
     let linked = linked(alloc, sources, options)?;
-    // what the types of a map keep
-    known(&linked.map);
     let built = Built::of(alloc, &linked)?;
     Ok(built)
 }
@@ -63,8 +60,6 @@ pub fn build_exe(alloc: Global, sources: &[&[u8]], options: LinkOptions) -> Resu
         (IsRefusedFor (map now_of sources.now) options.text_start options.relax) }
 {
     let linked = linked(alloc, sources, options)?;
-    // what the types of a map keep
-    known(&linked.map);
     let exe = write_exec(alloc, &linked)?;
     Ok(exe)
 }

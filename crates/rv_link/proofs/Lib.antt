@@ -7,3 +7,4 @@ pub mod StepsLemmas
 pub mod TurnsLemmas
 pub mod UnlinkedLemmas
 pub mod LeftLemmas
+pub mod KnownLemmas

@@ -28,11 +28,11 @@ use crate::fixed::Fixed;
 use crate::regions::Regions;
 use rv_image::{Linked, STACK_START};
 use rv_link_values::Values;
-use rv_map::{Map, known};
+use rv_map::Map;
 use rv_placement::Placement;
 use rv_resolve::{Names, ResolveFault};
 use rv_shorten::ShortObject;
-use std::alloc::Global;
+use std::alloc::{AllocError, Global};
 
 /// The most files that are linked at once.
 pub const MOST_FILES: usize = 1024;
@@ -87,37 +87,35 @@ fn resolve<'o>(alloc: Global, objects: &[ShortObject<'o>]) -> Result<Names<'o>, 
 {
     let names = match Names::of(alloc, objects) {
         Ok(names) => names,
-        Err(fault) => return Err(of_names(alloc, fault)),
+        Err(fault) => return Err(of_names(alloc, fault)?),
     };
     match names.undefined(objects) {
-        Some(name) => Err(undefined(alloc, name)),
+        Some(name) => Err(undefined(alloc, name)?),
         None => Ok(names),
     }
 }
 
 /// The fault of names.
-pub(crate) fn of_names(alloc: Global, fault: ResolveFault<'_>) -> LinkFault
+pub(crate) fn of_names(alloc: Global, fault: ResolveFault<'_>) -> Result<LinkFault, AllocError>
     ensures { (os : List SaidObject) → IsDuplicate fault.entry (first_duplicate os)
-        → AreDoubled os result }
+        → IfOk result (AreDoubled os) }
 {
     match fault {
-        ResolveFault::Duplicate(name) => match Vec::from_slice(alloc, name) {
-            Ok(name) => LinkFault::Duplicate(name),
-            Err(_) => LinkFault::OutOfMemory,
-        },
-        ResolveFault::OutOfMemory => LinkFault::OutOfMemory,
+        ResolveFault::Duplicate(name) => {
+            let name = Vec::from_slice(alloc, name)?;
+            Ok(LinkFault::Duplicate(name))
+        }
+        ResolveFault::OutOfMemory => Ok(LinkFault::OutOfMemory),
     }
 }
 
 /// The fault of a name that nobody defines.
-fn undefined(alloc: Global, name: &[u8]) -> LinkFault
+fn undefined(alloc: Global, name: &[u8]) -> Result<LinkFault, AllocError>
     ensures { (os : List SaidObject) → AreDistinct (global_names os)
-        → first_undefined os ≡ Some name.now → AreUnnamed os result }
+        → first_undefined os ≡ Some name.now → IfOk result (AreUnnamed os) }
 {
-    match Vec::from_slice(alloc, name) {
-        Ok(name) => LinkFault::Undefined(name),
-        Err(_) => LinkFault::OutOfMemory,
-    }
+    let name = Vec::from_slice(alloc, name)?;
+    Ok(LinkFault::Undefined(name))
 }
 
 /// Where the sections of objects stand.
@@ -206,7 +204,6 @@ fn finish(
         globals,
         rows,
     };
-    known(&map);
     Ok(Linked {
         text: regions.text,
         rodata: regions.rodata,

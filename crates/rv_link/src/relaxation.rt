@@ -34,7 +34,7 @@ fn text(
 {
     let names = match Names::of(alloc, lent) {
         Ok(names) => names,
-        Err(fault) => return Err(of_names(alloc, fault)),
+        Err(fault) => return Err(of_names(alloc, fault)?),
     };
     Ok(placed(alloc, objects, &names)?)
 }

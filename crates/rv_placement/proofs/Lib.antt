@@ -1,7 +1,6 @@
 pub mod AlignmentsLemmas
 pub mod FoundLemmas
 pub mod WalksLemmas
-pub mod HugeLemmas
 pub mod TextsLemmas
 pub mod LayoutsLemmas
 pub mod MapRowsLemmas

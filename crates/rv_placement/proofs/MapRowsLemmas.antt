@@ -9,9 +9,11 @@ use Rattle.rv_object.specs.declared.row.Row.{Row}
 use Rattle.rv_object.specs.Object.{Section, Object, size_of}
 use Rattle.rv_object.specs.Valid.{is_row_in, are_rows}
 use Rattle.rv_object_laws.specs.IsLinkOf.{by_ordinal, map_row, moves_at, row_in, rows_of}
+use Rattle.rv_object_laws.specs.Moves.{new_offset, moves}
 use Rattle.rv_shorten.specs.declared.object.ShortObject.{ShortObject}
 use Rattle.rv_shorten.specs.View.{short_object_of}
 use Rattle.rv_relax.specs.Plan.{moves_of}
+use Rattle.rv_relax.proofs.RisingLemmas.{plan_rises}
 use Rattle.rv_placement.specs.declared.placement.PlacedSection.{PlacedSection}
 use Rattle.rv_placement.specs.declared.placement.Placement.{Placement}
 use Rattle.rv_placement.specs.Moved.{moved_row, moved_rows}
@@ -49,11 +51,17 @@ module _ (os : List Object) (start : ℕ) (p : Placement) (is : IsPlacement os s
   pub row_placed : None ≡ placed_at p file r.section → ⊥
   row_placed none = not_placed os start p is file r.section stands.0 there (sym none)
 
-  row_low : (q : PlacedSection) → Some q ≡ placed_at p file r.section → q.start + (moved.offset + moved.bytes) < 2 ^ 64
+  abbrev IsLow : PlacedSection → Row → Type 0
+  IsLow q row = (row.offset + row.bytes < 2 ^ 64) × (q.start + new_offset (moves_of q.plan) row.offset < 2 ^ 64)
+
+  row_low : (q : PlacedSection) → Some q ≡ placed_at p file r.section → IsLow q moved
   row_low q found =
-      let low = is.low file r.section stands.0 q there (sym found) in
+      let s = stands.0 in
+      let low = is.low file r.section s q there (sym found) in
       let within = stands.2 in
-      omega arith
+      let before = plan_rises q.plan moved.offset (size_of s.contents) (omega (arith, within)) in
+      let same : new_offset (moves_of q.plan) (size_of s.contents) ≡ new_offset (moves q.start s) (size_of s.contents) = ap (λ ms. new_offset ms (size_of s.contents)) (is.planned file r.section s q there (sym found)) in
+      (omega (arith, low.0, within), omega (arith, low.1, before, same))
 
   row_is : (q : PlacedSection) → Some q ≡ placed_at p file r.section → map_row (file + 1) q.start (moves_of q.plan) moved ≡ row_in (starts_of p) (file + 1) (short_object_of o) moved
   row_is q found =
@@ -63,13 +71,13 @@ module _ (os : List Object) (start : ℕ) (p : Placement) (is : IsPlacement os s
 
   -- one row more
   pub row_more : (q : PlacedSection) (row : Row) (m : MapRow) (old new all : List MapRow) → Some q ≡ placed_at p file r.section → row ≡ moved
-      → (q.start + (row.offset + row.bytes) < 2 ^ 64 → m ≡ map_row (file + 1) q.start (moves_of q.plan) row) → new ≡ old ++ (m ∷ [])
+      → (row.offset + row.bytes < 2 ^ 64 → q.start + new_offset (moves_of q.plan) row.offset < 2 ^ 64 → m ≡ map_row (file + 1) q.start (moves_of q.plan) row) → new ≡ old ++ (m ∷ [])
       → old ++ map (row_in (starts_of p) (file + 1) (short_object_of o)) (moved_rows o (drop i rows)) ≡ all
       → new ++ map (row_in (starts_of p) (file + 1) (short_object_of o)) (moved_rows o (drop (i + 1) rows)) ≡ all
   row_more q row m old new all found same made pushed h =
       let rest = map (row_in (starts_of p) (file + 1) (short_object_of o)) (moved_rows o (drop (i + 1) rows)) in
-      let low : q.start + (row.offset + row.bytes) < 2 ^ 64 = subst (λ (x : Row). q.start + (x.offset + x.bytes) < 2 ^ 64) (sym same) (row_low q found) in
-      let one : m ≡ row_in (starts_of p) (file + 1) (short_object_of o) moved = made low ∙ ap (map_row (file + 1) q.start (moves_of q.plan)) same ∙ row_is q found in
+      let low : IsLow q row = subst (IsLow q) (sym same) (row_low q found) in
+      let one : m ≡ row_in (starts_of p) (file + 1) (short_object_of o) moved = made low.0 low.1 ∙ ap (map_row (file + 1) q.start (moves_of q.plan)) same ∙ row_is q found in
       ap (λ l. l ++ rest) pushed ∙ append_assoc old (m ∷ []) rest ∙ ap (λ x. old ++ (x ∷ rest)) one
       ∙ ap (λ l. old ++ map (row_in (starts_of p) (file + 1) (short_object_of o)) (moved_rows o l)) (sym (left rows i r inside here)) ∙ h
 

@@ -192,7 +192,7 @@ module _ (os : List Object) (start : ℕ) (p : Placement) (fs : List (List Place
   is_placement = record {
     each = each_kept p.files.items os all_kept;
     planned = λ file index s q at there. (kept_at p.files.items os all_kept file index s q at there).0;
-    low = λ file index s q at there. (kept_at p.files.items os all_kept file index s q at there).1;
+    low = λ file index s q at there. let kept = kept_at p.files.items os all_kept file index s q at there in (kept.1, kept.2);
     text = (begins, stand goes_to_text start chosen_text, ends ∙ sym (stand_ends goes_to_text (starts_of p) start os (stand goes_to_text start chosen_text)));
     gaps = gaps ∙ sym (stand_gaps (starts_of p) start os (stand goes_to_text start chosen_text));
     rodata = holds (starts_of p) (goes Rodata) p.rodata (aligned 4096 p.text.end) os behind.rodata_start (stand (goes Rodata) p.rodata.start chosen_rodata) behind.rodata_end;

@@ -9,7 +9,7 @@ use Rattle.rv_object_laws.specs.Moves.{has_padding, plan, by_place, moves, new_o
 use Rattle.rv_object_laws.specs.Inputs.{Starts, InputSection, goes_to_text, begins_at, inputs_from, inputs_of, start_of, size, Stand, end_of, gaps_of, greatest}
 use Rattle.rv_placement.specs.declared.placement.PlacedSection.{PlacedSection}
 use Rattle.rv_placement.specs.Placement.{start_in}
-use Rattle.rv_placement.specs.Walk.{start_behind, end_behind, next, ended, ended_files, start_from, started, started_files, text_starts, text_files, gap_between, gapped, gapped_files, greatest_in, greatest_of, IsKept, AreKept}
+use Rattle.rv_placement.specs.Walk.{start_behind, end_from, end_behind, next, ended, ended_files, start_from, started, started_files, text_starts, text_files, gap_between, gapped, gapped_files, greatest_in, greatest_of, IsKept, AreKept}
 use Rattle.rv_placement.proofs.WalksLemmas.{grows, grows_files}
 
 -- ---- those of a file
@@ -65,8 +65,8 @@ kept_started to stop limit (q ∷ qs) (s ∷ ss) apart few low k =
         let none = apart s e in
         let more : next to stop s ≤ ended to (next to stop s) ss = grows to (next to stop s) ss in
         let here : next to stop s ≡ start_behind stop s + size_of s.contents = ap (λ b. if b then end_behind stop s else stop) e ∙ ap (λ n. start_behind stop s + n) (whole_other s (start_behind stop s) (size_of s.contents) none) in
-        let fits : start_behind stop s + size_of s.contents < 2 ^ 64 = omega arith in
-        (k.0.0 ∙ moves_other s q.start none ∙ sym (moves_other s (start_behind stop s) none), fits)
+        let fits : end_from (start_behind stop s) s < 2 ^ 64 = let w = whole_other s (start_behind stop s) (size_of s.contents) none in omega arith in
+        (k.0.0 ∙ moves_other s q.start none ∙ sym (moves_other s (start_behind stop s) none), k.0.1, fits)
     go false e = k.0
 
 -- ---- those of all files

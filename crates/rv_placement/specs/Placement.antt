@@ -7,7 +7,7 @@ use Rattle.rv_layout_laws.specs.Alignment.{aligned}
 use Rattle.rv_isa_laws.specs.Platform.{stack_start, memory_limit}
 use Rattle.rv_map.specs.declared.map.Region.{Region}
 use Rattle.rv_object.specs.Object.{Section, Object, size_of}
-use Rattle.rv_object_laws.specs.Moves.{moves, has_room}
+use Rattle.rv_object_laws.specs.Moves.{moves, has_room, new_offset}
 use Rattle.rv_object_laws.specs.Inputs.{Starts, goes_to_text, goes_to_rodata, goes_to_data, goes_to_bss, inputs, start_of, Stand, Holds, gaps_of, greatest}
 use Rattle.rv_relax.specs.Plan.{moves_of}
 use Rattle.rv_placement.specs.declared.fault.PlacementFault.{PlacementFault}
@@ -47,13 +47,15 @@ section_at os file index = section_in (slice_get os file) index
 pub record IsPlacement (os : List Object) (text_start : ℕ) (p : Placement) : Type 0 where
   -- a place for each section of each object
   pub each : map (λ f. length f.items) p.files.items ≡ map (λ o. length o.sections) os
-  -- with what is kept where it starts, and so low that each of its bytes has an address
+  -- with what is kept where it starts
   pub planned : (file index : ℕ) (s : Section) (q : PlacedSection)
       → section_at os file index ≡ Some s → placed_at p file index ≡ Some q
       → moves_of q.plan ≡ moves q.start s
+  -- each of its bytes has an offset, and each that is kept an address
   pub low : (file index : ℕ) (s : Section) (q : PlacedSection)
       → section_at os file index ≡ Some s → placed_at p file index ≡ Some q
-      → q.start + size_of s.contents < 2 ^ 64
+      → (size_of s.contents < 2 ^ 64)
+      × (q.start + new_offset (moves q.start s) (size_of s.contents) < 2 ^ 64)
   -- text from the text's start, rodata and data at the next pages, bss after data
   pub text : Holds (starts_of p) p.text text_start (inputs goes_to_text os)
   pub gaps : p.gaps.items ≡ gaps_of (starts_of p) text_start (inputs goes_to_text os)

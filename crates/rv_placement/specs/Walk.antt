@@ -127,10 +127,12 @@ abbrev pub greatest_of : (Section → Bool) → List Object → ℕ
 greatest_of to [] = 1
 greatest_of to (o ∷ os) = max (greatest_in to o.sections) (greatest_of to os)
 
--- the plan is that of the section where it starts, and each of its bytes has an address
+-- the plan is that of the section where it starts; each of its bytes has an offset, and each that
+-- is kept an address
 abbrev pub IsKept : Section → PlacedSection → Type 0
 IsKept s q =
-    (moves_of q.plan ≡ moves q.start s) × (q.start + size_of s.contents < 2 ^ 64)
+    (moves_of q.plan ≡ moves q.start s) × (size_of s.contents < 2 ^ 64)
+    × (end_from q.start s < 2 ^ 64)
 
 abbrev pub AreKept : Object → List PlacedSection → Type 0
 AreKept o qs = AllZip IsKept o.sections qs

@@ -10,17 +10,12 @@ ghost use Rattle.rv_placement.specs.Walk.{next, ended, capped, is_roomy_behind, 
 
 use crate::alignment::{multiple_of, next_multiple};
 use crate::fault::PlacementFault;
-use crate::text::MANY;
 use rv_relax::SectionPlan;
 use rv_shorten::{ShortObject, ShortSection, is_text};
 use std::alloc::{AllocError, Global};
 
 /// Sections are looked at that start below this.
 const FARTHEST: u64 = 1 << 62;
-
-/// A section with more bytes than this ends past `FARTHEST` whatever is dropped of it, unless it
-/// has more relocations than `MANY`.
-const HUGE: u64 = 1 << 63;
 
 /// The end after a section that comes after an end, `FARTHEST` at most; `None` where a padding of
 /// it has no room.
@@ -48,13 +43,8 @@ fn room_behind(
     if !plan.is_roomy() {
         return Ok(None);
     }
-    if size <= HUGE {
-        return Ok(Some((start + plan.new_offset(size)).min(FARTHEST)));
-    }
-    if section.whole.relocations.len() as u64 > MANY {
-        return Err(AllocError);
-    }
-    Ok(Some(FARTHEST))
+    let end = start.saturating_add(plan.new_offset(size));
+    Ok(Some(end.min(FARTHEST)))
 }
 
 /// The end after the sections of a file that come after an end, `FARTHEST` at most; `None` where a
@@ -106,19 +96,15 @@ pub(crate) fn unplaced(
     alloc: Global,
     objects: &[ShortObject<'_>],
     text_start: u64,
-) -> PlacementFault
+) -> Result<PlacementFault, AllocError>
     requires { text_start < stack_start }
     ensures { IsTooLarge (map short_object_of objects.now) text_start
-        → IsUnplaced (map short_object_of objects.now) text_start result }
+        → IfOk result (IsUnplaced (map short_object_of objects.now) text_start) }
 {
-    match is_roomy_below(alloc, objects, text_start) {
-        Ok(roomy) => {
-            if roomy {
-                PlacementFault::TooLarge
-            } else {
-                PlacementFault::Short
-            }
-        }
-        Err(_) => PlacementFault::OutOfMemory,
+    let roomy = is_roomy_below(alloc, objects, text_start)?;
+    if roomy {
+        Ok(PlacementFault::TooLarge)
+    } else {
+        Ok(PlacementFault::Short)
     }
 }

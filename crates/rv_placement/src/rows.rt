@@ -3,12 +3,14 @@
 //! A map has the rows of a file by their ordinals, and a reader of objects tests no order: rows that do not rise are
 //! sorted, and those of one ordinal keep their order.
 
-ghost use Rattle.std.specs.Prelude.{◌≡◌, ◌+◌, ◌<◌, ◌++◌, ◌^◌, ℕ, Some, List, IfOk, IsTrue, map};
+ghost use Rattle.std.specs.Prelude.{◌≡◌, ◌+◌, ◌<◌, ◌++◌, ◌^◌, ℕ, Some, List, All, IfOk, OnOk, IsTrue, map};
 ghost use Rattle.std.specs.Bool.{OnTrue};
 ghost use Rattle.std.specs.List.{slice_get};
+ghost use Rattle.rv_map.specs.Limits.{IsRow};
 ghost use Rattle.rv_object.specs.Object.{Object as PlainObject};
 ghost use Rattle.rv_object.specs.Valid.{are_rows};
 ghost use Rattle.rv_object_laws.specs.IsLinkOf as laws;
+ghost use Rattle.rv_object_laws.specs.Moves.{new_offset};
 ghost use Rattle.rv_shorten.specs.View.{short_object_of};
 ghost use Rattle.rv_relax.specs.Plan.{moves_of};
 ghost use Rattle.rv_placement.specs.Moved.{moved_rows};
@@ -23,7 +25,9 @@ use std::alloc::{AllocError, Global};
 /// The row of a map for a row of an object: it moves with the bytes that are kept, and loses the
 /// instructions that go.
 fn map_row(file: u64, place: &PlacedSection, row: &Row) -> MapRow
-    ensures { (place.now).start + ((row.now).offset + (row.now).bytes) < 2 ^ 64
+    ensures known { IsRow result }
+    ensures moved { (row.now).offset + (row.now).bytes < 2 ^ 64
+        → (place.now).start + new_offset (moves_of (place.now).plan) (row.now).offset < 2 ^ 64
         → result ≡ laws.map_row file (place.now).start (moves_of (place.now).plan) row.now }
 {
     let offset = place.plan.new_offset(row.offset);
@@ -74,7 +78,8 @@ impl Placement {
         requires file { file + 1 < 2 ^ 64 }
         requires own { IsTrue
             (are_rows (short_object_of object.now).sections (moved_rows object.now own.now)) }
-        ensures { (os : List PlainObject) (start : ℕ) → IsPlacement os start self.now
+        ensures known { OnOk result (All IsRow rows.old.items → All IsRow rows.new.items) }
+        ensures added { (os : List PlainObject) (start : ℕ) → IsPlacement os start self.now
             → slice_get os file ≡ Some (short_object_of object.now)
             → IfOk result (λ _. rows.new.items ≡ rows.old.items
             ++ map (laws.row_in (starts_of self.now) (file + 1) (short_object_of object.now))
@@ -100,7 +105,8 @@ impl Placement {
         file: usize,
     ) -> Result<(), AllocError>
         requires { file + 1 < 2 ^ 64 }
-        ensures { (os : List PlainObject) (start : ℕ) → IsPlacement os start self.now
+        ensures known { OnOk result (All IsRow rows.old.items → All IsRow rows.new.items) }
+        ensures added { (os : List PlainObject) (start : ℕ) → IsPlacement os start self.now
             → slice_get os file ≡ Some (short_object_of object.now)
             → IfOk result (λ _. rows.new.items ≡ rows.old.items
             ++ map (laws.row_in (starts_of self.now) (file + 1) (short_object_of object.now))
@@ -120,7 +126,8 @@ impl Placement {
         alloc: Global,
         objects: &[ShortObject<'_>],
     ) -> Result<Vec<MapRow>, AllocError>
-        ensures { (start : ℕ) → IsPlacement (map short_object_of objects.now) start self.now
+        ensures known { IfOk result (λ rows. All IsRow rows.items) }
+        ensures rows { (start : ℕ) → IsPlacement (map short_object_of objects.now) start self.now
             → IfOk result (λ rows. rows.items
             ≡ laws.rows_of (starts_of self.now) 1 (map short_object_of objects.now)) }
     {

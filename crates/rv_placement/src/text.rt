@@ -19,13 +19,6 @@ use rv_relax::SectionPlan;
 use rv_shorten::{ShortObject, ShortSection, is_text};
 use std::alloc::{AllocError, Global};
 
-/// A section with more bytes than this passes the end of memory whatever is dropped of it, unless
-/// it has more relocations than `MANY`.
-const HUGE: u64 = 1 << 62;
-
-/// More relocations than any memory holds.
-pub(crate) const MANY: u64 = 1 << 40;
-
 /// Adds the place of a section that has none in the text.
 fn put_other(
     alloc: Global,
@@ -57,14 +50,8 @@ fn put_code(
         (stack_start < end_from start (short_section_of section.now))) }
 {
     let size = section.size();
-    if size > HUGE {
-        if section.whole.relocations.len() as u64 > MANY {
-            return Err(AllocError);
-        }
-        return Ok(None);
-    }
     let plan = SectionPlan::of(alloc, section, start)?;
-    let end = start + plan.new_offset(size);
+    let end = start.saturating_add(plan.new_offset(size));
     if end > STACK_START {
         return Ok(None);
     }

@@ -44,10 +44,10 @@ use Rattle.rv_sources_link_laws.proofs.calls.UncutLemmas.{IsUncut, uncut}
 use Rattle.rv_shorten.specs.Cutting.{In}
 use Rattle.rv_unique_link_laws.proofs.FoundLemmas.{EachOf, all_of}
 use Rattle.rv_reach_laws.specs.Reach.{is_short_branch, ForEachLeft, ShortBranchesReach}
-use Rattle.rv_reach_laws.proofs.MovingLemmas.{IsPaddedText}
+use Rattle.rv_reach_laws.proofs.MovingLemmas.{IsPaddedText, rises}
 use Rattle.rv_reach_laws.proofs.SpansLemmas.{left_input, lefts, IsPlain, address}
 use Rattle.rv_reach_laws.proofs.TargetsLemmas.{defined_at}
-use Rattle.rv_reach_laws.proofs.ShorterLemmas.{all_at, lows}
+use Rattle.rv_reach_laws.proofs.ShorterLemmas.{all_at, IsLow, lows}
 use Rattle.rv_reach_laws.proofs.ReachedLemmas.{HasFrame, frame_at, all_frames, plains, address_low}
 use Rattle.rv_reach_laws.proofs.FieldingLemmas.{IsFine, IsBranchOf, branches}
 use Rattle.rv_reach_laws.proofs.NearsLemmas.{half_of, IsNear, near}
@@ -309,17 +309,20 @@ whole_one ds start p placed k i there q it short =
     input : IsTextInput (map object_of ds) i
     input = all_at (IsTextInput (map object_of ds)) (inputs goes_to_text (map object_of ds)) k i (text_inputs ds) there
 
-    room : starts_of p i.file i.index + size_of i.section.contents < 2 ^ 64
-    room = all_at (λ i. starts_of p i.file i.index + size_of i.section.contents < 2 ^ 64) (inputs goes_to_text (map object_of ds)) k i (lows (map object_of ds) start p placed) there
+    room : IsLow p i
+    room = all_at (IsLow p) (inputs goes_to_text (map object_of ds)) k i (lows (map object_of ds) start p placed) there
 
     padded : IsPaddedText i.section
-    padded = record { text = input.text; low = omega (arith, room); paddings = input.paddings }
+    padded = record { text = input.text; low = room.0; paddings = input.paddings }
 
     plain : (n : ℕ) → s0 + new_offset (moves s0 i.section) (new_offset [] n) ≡ stands n
     plain n = ap (λ m. s0 + new_offset (moves s0 i.section) m) (let e : new_offset [] n ≡ n = omega arith in e)
 
     low_to : stands it.to < 2 ^ 64
-    low_to = let a = it.low_to in omega (arith, room, a)
+    low_to =
+        let most = room.1 in
+        let before = rises s0 it.to (size_of i.section.contents) i.section padded it.low_to in
+        omega (arith, most, before)
 
     target_is : target (shown_globals os p) (starts_of p i.file) i.object q.symbol ≡ Some (stands it.to % 2 ^ 64)
     target_is =

@@ -18,6 +18,7 @@ use Rattle.rv_object.specs.Sections.{section_of}
 use Rattle.rv_object.specs.Valid.{is_even, is_alignment, are_paddings, fit_inside}
 use Rattle.rv_object.specs.View.{object_of}
 use Rattle.rv_object_laws.specs.Inputs.{InputSection, goes_to_text, inputs_from, inputs_of, inputs}
+use Rattle.rv_object_laws.specs.Moves.{moves, new_offset}
 use Rattle.rv_placement.specs.declared.placement.PlacedSection.{PlacedSection}
 use Rattle.rv_placement.specs.declared.placement.Placement.{Placement}
 use Rattle.rv_placement.specs.Placement.{placed_in, start_in, starts_of, section_in, section_at, IsPlacement}
@@ -174,24 +175,27 @@ place_of (f ∷ fs) (o ∷ us) each zero index s e = same_long f.items o.section
 place_of (f ∷ fs) (o ∷ us) each (suc file) index s e =
     place_of fs us (let rest : map (λ (f : Vec PlacedSection). length f.items) fs ≡ map (λ (o : Object). length o.sections) us = cc in rest) file index s e
 
-module _ (left : List Object) (start : ℕ) (p : Placement) (placed : IsPlacement left start p) where
-  abbrev IsLow : InputSection → Type 0
-  IsLow i = starts_of p i.file i.index + size_of i.section.contents < 2 ^ 64
+abbrev IsLowAt : ℕ → Section → Type 0
+IsLowAt start s = (size_of s.contents < 2 ^ 64) × (start + new_offset (moves start s) (size_of s.contents) < 2 ^ 64)
 
-  low_at : (file index : ℕ) (s : Section) → section_at left file index ≡ Some s → starts_of p (suc file) index + size_of s.contents < 2 ^ 64
+abbrev pub IsLow : Placement → InputSection → Type 0
+IsLow p i = IsLowAt (starts_of p i.file i.index) i.section
+
+module _ (left : List Object) (start : ℕ) (p : Placement) (placed : IsPlacement left start p) where
+  low_at : (file index : ℕ) (s : Section) → section_at left file index ≡ Some s → IsLowAt (starts_of p (suc file) index) s
   low_at file index s there =
       let found = place_of p.files.items left placed.each file index s there in
       let low = placed.low file index s found.0 there found.1 in
       let same : suc file - 1 ≡ file = omega arith in
-      subst (λ n. n + size_of s.contents < 2 ^ 64)
+      subst (λ n. IsLowAt n s)
       (sym (ap (λ k. start_in (placed_in (slice_get p.files.items k) index)) same ∙ ap start_in found.1)) low
 
-  lows_from : (file : ℕ) (us : List Object) → ((k : ℕ) → slice_get left (file + k) ≡ slice_get us k) → EachOf goes_to_text IsLow (suc file) us
+  lows_from : (file : ℕ) (us : List Object) → ((k : ℕ) → slice_get left (file + k) ≡ slice_get us k) → EachOf goes_to_text (IsLow p) (suc file) us
   lows_from file [] there = tt
   lows_from file (o ∷ us) there = (
     λ index s at text. low_at file index s (ap (λ x. section_in x index) (ap (slice_get left) (let e : file ≡ file + 0 = omega arith in e) ∙ there 0) ∙ at),
     lows_from (suc file) us (λ k. ap (slice_get left) (let e : suc file + k ≡ file + suc k = omega arith in e) ∙ there (suc k)),
   )
 
-  pub lows : AllByRecursion IsLow (inputs goes_to_text left)
-  lows = all_of goes_to_text IsLow 1 left (lows_from 0 left (λ k. ap (slice_get left) (let e : 0 + k ≡ k = omega arith in e)))
+  pub lows : AllByRecursion (IsLow p) (inputs goes_to_text left)
+  lows = all_of goes_to_text (IsLow p) 1 left (lows_from 0 left (λ k. ap (slice_get left) (let e : 0 + k ≡ k = omega arith in e)))

@@ -17,3 +17,4 @@ pub mod PiecedLemmas
 pub mod OrderLemmas
 pub mod LosingLemmas
 pub mod SpreadLemmas
+pub mod RisingLemmas

@@ -4,6 +4,7 @@ mod DistinctLemmas
 pub mod EntryLemmas
 pub mod FirstSomeLemmas
 pub mod FoundLemmas
+mod KnownLemmas
 pub mod LinkerNamesLemmas
 mod MeantLemmas
 mod NumbersLemmas

@@ -1,8 +1,9 @@
 //! The names that a map shows.
 
-ghost use Rattle.std.specs.Prelude.{◌≡◌, ◌++◌, ◌+◌, ℕ, IsTrue, List, [], ◌∷◌, Some, map, not, filter, IfOk, OnOk};
+ghost use Rattle.std.specs.Prelude.{◌≡◌, ◌++◌, ◌+◌, ℕ, IsTrue, List, [], ◌∷◌, Some, All, map, not, filter, IfOk, OnOk};
 ghost use Rattle.std.specs.List.{slice_get};
 ghost use Rattle.rv_map.specs.Globals.{global, is_one_of};
+ghost use Rattle.rv_map.specs.Limits.{IsGlobal};
 ghost use Rattle.rv_map.specs.Map.{global_of};
 ghost use Rattle.rv_map.specs.Name.{is_name};
 ghost use Rattle.rv_object.specs.Object.{Object as SaidObject};
@@ -31,7 +32,8 @@ impl<'o> Names<'o> {
         objects: &[ShortObject<'_>],
         placement: &Placement,
     ) -> Result<Vec<Global>, AllocError>
-        ensures { (start : ℕ) → IsNames (map short_object_of objects.now) self.now
+        ensures known { IfOk result (λ globals. All (λ g. IsGlobal (global_of g)) globals.items) }
+        ensures shown { (start : ℕ) → IsNames (map short_object_of objects.now) self.now
             → IsPlacement (map short_object_of objects.now) start placement.now
             → IfOk result (λ globals. map global_of globals.items
             ≡ shown_globals (map short_object_of objects.now) placement.now) }
@@ -58,7 +60,9 @@ impl<'o> Names<'o> {
         globals: &mut Vec<Global>,
         placement: &Placement,
     ) -> Result<(), AllocError>
-        ensures { OnOk result ((os : List SaidObject) (start : ℕ) → IsNames os self.now
+        ensures known { OnOk result (All (λ g. IsGlobal (global_of g)) globals.old.items
+            → All (λ g. IsGlobal (global_of g)) globals.new.items) }
+        ensures added { OnOk result ((os : List SaidObject) (start : ℕ) → IsNames os self.now
             → IsPlacement os start placement.now
             → map global_of globals.new.items ≡ map global_of globals.old.items
             ++ laws.shown_linker_symbols os (regions_of placement.now)) }
@@ -85,7 +89,9 @@ impl<'o> Names<'o> {
         address: u64,
     ) -> Result<(), AllocError>
         requires { IsTrue (is_name name.now) }
-        ensures { OnOk result ((os : List SaidObject) → IsNames os self.now
+        ensures known { OnOk result (All (λ g. IsGlobal (global_of g)) globals.old.items
+            → All (λ g. IsGlobal (global_of g)) globals.new.items) }
+        ensures added { OnOk result ((os : List SaidObject) → IsNames os self.now
             → map global_of globals.new.items ≡ map global_of globals.old.items
             ++ filter (λ g. not (is_one_of (laws.global_names os) g.name))
             (global name.now address ∷ [])) }
@@ -108,7 +114,9 @@ fn put_globals(
     file: usize,
     object: &ShortObject<'_>,
 ) -> Result<(), AllocError>
-    ensures { OnOk result ((start : ℕ) (o : SaidObject)
+    ensures known { OnOk result (All (λ g. IsGlobal (global_of g)) globals.old.items
+        → All (λ g. IsGlobal (global_of g)) globals.new.items) }
+    ensures added { OnOk result ((start : ℕ) (o : SaidObject)
         → IsPlacement (map short_object_of objects.now) start placement.now
         → slice_get (map short_object_of objects.now) file ≡ Some o
         → map global_of globals.new.items ≡ map global_of globals.old.items
@@ -130,7 +138,9 @@ fn put_global(
     object: &ShortObject<'_>,
     symbol: &Symbol<'_>,
 ) -> Result<(), AllocError>
-    ensures { OnOk result ((start : ℕ) (o : SaidObject)
+    ensures known { OnOk result (All (λ g. IsGlobal (global_of g)) globals.old.items
+        → All (λ g. IsGlobal (global_of g)) globals.new.items) }
+    ensures added { OnOk result ((start : ℕ) (o : SaidObject)
         → IsPlacement (map short_object_of objects.now) start placement.now
         → slice_get (map short_object_of objects.now) file ≡ Some o
         → map global_of globals.new.items ≡ map global_of globals.old.items

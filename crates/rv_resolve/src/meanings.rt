@@ -1,6 +1,6 @@
 //! What symbols mean that their own objects do not define.
 //!
-//! The name of each symbol that its object does not define is looked up once, when all names are known; 8 bytes a symbol
+//! The name of each symbol that its object does not define is looked up once, when all names are known; 16 bytes a symbol
 //! keep what it means. Looked up for each relocation, references to one long name cost their number times its length.
 
 ghost use Rattle.std.specs.Prelude.{◌≡◌, ◌++◌, List, map, IfOk, OnOk};
@@ -24,7 +24,7 @@ pub(crate) struct Meanings {
     pub(crate) meant: Vec<Exported>,
     /// Which of them a symbol means, by its file and its index there, both from 0; none where its own object defines it,
     /// or no object does.
-    pub(crate) numbers: Vec<Vec<Option<u32>>>,
+    pub(crate) numbers: Vec<Vec<Option<usize>>>,
 }
 
 impl Meanings {
@@ -53,7 +53,7 @@ impl Meanings {
     {
         let numbers = self.numbers.get(file)?;
         let number = *numbers.get(index as usize)?;
-        self.meant.get(number? as usize).copied()
+        self.meant.get(number?).copied()
     }
 }
 
@@ -63,7 +63,7 @@ fn file_numbers(
     meant: &mut Vec<Exported>,
     definitions: &Definitions<'_>,
     symbols: &[Symbol<'_>],
-) -> Result<Vec<Option<u32>>, AllocError>
+) -> Result<Vec<Option<usize>>, AllocError>
     ensures grows { OnOk result (Grows meant.old.items meant.new.items) }
     ensures numbers { IfOk result (λ numbers. (os : List SaidObject)
         → Answers (exports_from 0 os) definitions.now
@@ -93,16 +93,14 @@ fn meaning(definitions: &Definitions<'_>, symbol: &Symbol<'_>) -> Option<Exporte
 fn put_meaning(
     meant: &mut Vec<Exported>,
     exported: Option<Exported>,
-) -> Result<Option<u32>, AllocError>
+) -> Result<Option<usize>, AllocError>
     ensures grows { OnOk result (Grows meant.old.items meant.new.items) }
     ensures number { IfOk result (λ number. (more : List Kept)
         → numbered (meant.new.items ++ more) number ≡ exported) }
 {
     match exported {
         Some(exported) => {
-            let Ok(number) = u32::try_from(meant.len()) else {
-                return Err(AllocError);
-            };
+            let number = meant.len();
             meant.push(exported)?;
             Ok(Some(number))
         }

@@ -12,11 +12,11 @@ returns-clause-headline c =
     let start = c.args.options.text_start in
     let relax = c.args.options.relax in
     subst (λ text. TheHeadline texts start relax c.in_ok-built.built.exe.items text) (sym c.in_ok-built.ensures.map)
-    (headlined texts start relax c.in_ok-linked.linked c.in_ok-built.built.exe.items c.known.ensures c.in_ok-linked.ensures.program c.in_ok-built.ensures.exe)
+    (headlined texts start relax c.in_ok-linked.linked c.in_ok-built.built.exe.items c.in_ok-linked.ensures.links.2.linked.readable c.in_ok-linked.ensures.program c.in_ok-built.ensures.exe)
 
 pub returns-clause-listed : goal.returns-clause-listed
 returns-clause-listed c =
-    listed_as (map now_of c.args.sources.now) c.args.options.text_start c.args.options.relax c.in_ok-linked.linked c.in_ok-built.built.exe.items c.in_ok-built.built.map.items c.known.ensures
+    listed_as (map now_of c.args.sources.now) c.args.options.text_start c.args.options.relax c.in_ok-linked.linked c.in_ok-built.built.exe.items c.in_ok-built.built.map.items c.in_ok-linked.ensures.links.2.linked.readable
     c.in_ok-linked.ensures.program c.in_ok-built.ensures.exe c.in_ok-built.ensures.map
 
 pub returns-clause-links : goal.returns-clause-links

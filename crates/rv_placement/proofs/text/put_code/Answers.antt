@@ -1,26 +1,28 @@
-use Rattle.std.proofs.Common.{rules, arith, refl, subst, length, ◌≤◌, ◌<◌, ◌+◌, ◌^◌}
+use Rattle.std.proofs.Common.{rules, arith, ◌≡◌, ◌≤◌, ◌<◌, ◌+◌, ◌^◌, refl}
+use Rattle.rv_isa_laws.specs.Platform.{stack_start}
 use Rattle.rv_object.specs.Object.{size_of}
 use Rattle.rv_object_laws.specs.Moves.{moves}
 use Rattle.rv_shorten.specs.Sections.{short_section_of}
 use Rattle.rv_relax.specs.Plan.{moves_of}
+use Rattle.rv_placement.specs.Walk.{end_from}
 use Rattle.rv_placement.proofs.TextsLemmas.{shrunk}
-use Rattle.rv_placement.proofs.HugeLemmas.{huge, many_left}
 use Rattle.rv_placement.proofs.text.put_code.Goals as goal
 
-pub returns-then-size-gt-HUGE-clause-far : goal.returns-then-size-gt-HUGE-clause-far
-returns-then-size-gt-HUGE-clause-far c =
-    let section = c.args.section.now in
-    let s = short_section_of section in
-    let few : length s.relocations ≤ 2 ^ 40 = omega (arith, many_left section, c.len.ensures, section.whole.now.relocations.ok.0) in
-    let large : 2 ^ 62 < size_of s.contents = subst (λ n. 2 ^ 62 < n) c.size-size.ensures c.if-size-gt-HUGE.true in
-    huge s c.args.start section.paddings few large
+pub returns-then-end-gt-STACK_START-clause-far : goal.returns-then-end-gt-STACK_START-clause-far
+returns-then-end-gt-STACK_START-clause-far c =
+    let s = short_section_of c.args.section.now in
+    let whole =
+    shrunk c.args.start c.new_offset.result c.size-size.result (size_of s.contents) (moves_of c.in_ok-plan.plan) (moves c.args.start s) c.new_offset.ensures c.size-size.ensures c.in_ok-plan.ensures in
+    omega (arith, whole, c.saturating_add-end.ensures, c.if-end-gt-STACK_START.true)
 
 pub returns-clause-placed : goal.returns-clause-placed
 returns-clause-placed c =
     let s = short_section_of c.args.section.now in
-    let size = size_of s.contents in
-    let low : c.args.start + size < 2 ^ 64 = search rules in (
-      shrunk c.args.start c.new_offset.result c.size-size.result size (moves_of c.in_ok-plan.plan) (moves c.args.start s) c.new_offset.ensures c.size-size.ensures c.in_ok-plan.ensures,
-      c.if-end-gt-STACK_START.false,
-      (record { start = c.args.start; plan = c.in_ok-plan.plan }, c.in_ok-push.ensures.items, refl, (c.in_ok-plan.ensures, low)),
-    )
+    let end = c.saturating_add-end.result in
+    let whole =
+    shrunk c.args.start c.new_offset.result c.size-size.result (size_of s.contents) (moves_of c.in_ok-plan.plan) (moves c.args.start s) c.new_offset.ensures c.size-size.ensures c.in_ok-plan.ensures in
+    let low : end ≤ stack_start = c.if-end-gt-STACK_START.false in
+    let is : end ≡ end_from c.args.start s = omega (arith, whole, c.saturating_add-end.ensures, low) in
+    let sized : size_of s.contents < 2 ^ 64 = search rules in
+    let below : end_from c.args.start s < 2 ^ 64 = omega (arith, is, low) in
+    (is, low, (record { start = c.args.start; plan = c.in_ok-plan.plan }, c.in_ok-push.ensures.items, refl, (c.in_ok-plan.ensures, sized, below)))

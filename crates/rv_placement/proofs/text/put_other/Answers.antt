@@ -1,9 +1,12 @@
-use Rattle.std.proofs.Common.{rules, refl, ◌<◌, ◌+◌, ◌^◌}
+use Rattle.std.proofs.Common.{rules, arith, refl, ◌<◌, ◌+◌, ◌^◌}
 use Rattle.rv_object.specs.Object.{size_of}
 use Rattle.rv_shorten.specs.Sections.{short_section_of}
+use Rattle.rv_placement.specs.Walk.{end_from}
 use Rattle.rv_placement.proofs.text.put_other.Goals as goal
 
 pub returns : goal.returns
 returns c =
-    let low : 0 + size_of (short_section_of c.args.section.now).contents < 2 ^ 64 = search rules in
-    (record { start = 0; plan = c.in_ok-plan.plan }, c.in_ok-push.ensures.items, refl, (c.in_ok-plan.ensures, low))
+    let s = short_section_of c.args.section.now in
+    let sized : size_of s.contents < 2 ^ 64 = search rules in
+    let below : end_from 0 s < 2 ^ 64 = omega (arith, sized) in
+    (record { start = 0; plan = c.in_ok-plan.plan }, c.in_ok-push.ensures.items, refl, (c.in_ok-plan.ensures, sized, below))

@@ -1,4 +1,5 @@
-use Rattle.std.proofs.Common.{◌≡◌, ◌++◌, ◌+◌, ℕ, map, drop}
+use Rattle.std.proofs.Common.{◌≡◌, ◌++◌, ◌+◌, ℕ, All, map, drop}
+use Rattle.rv_map.specs.Limits.{IsRow}
 use Rattle.rv_object_laws.specs.IsLinkOf.{rows_of}
 use Rattle.rv_shorten.specs.View.{short_object_of}
 use Rattle.rv_placement.specs.Placement.{starts_of, IsPlacement}
@@ -6,6 +7,8 @@ use Rattle.rv_placement.proofs.placement.Placement.rows.Given as goal
 
 -- the rows so far, and those of the files that are left, make up the whole
 abbrev pub invariant-loop-i : goal.invariant-loop-i
-invariant-loop-i l =
-    (start : ℕ) → IsPlacement (map short_object_of l.objects) start l.self
-    → l.rows.items ++ rows_of (starts_of l.self) (l.i + 1) (map short_object_of (drop l.i l.objects)) ≡ rows_of (starts_of l.self) 1 (map short_object_of l.objects)
+invariant-loop-i l = record {
+  known : All IsRow l.rows.items;
+  rows : (start : ℕ) → IsPlacement (map short_object_of l.objects) start l.self
+      → l.rows.items ++ rows_of (starts_of l.self) (l.i + 1) (map short_object_of (drop l.i l.objects)) ≡ rows_of (starts_of l.self) 1 (map short_object_of l.objects);
+}

@@ -1,20 +1,25 @@
-use Rattle.std.proofs.Common.{◌∙◌, ◌∷◌, ◌++◌, [], map, ap, sym, append-nil}
+use Rattle.std.proofs.Common.{◌∙◌, ◌∷◌, ◌++◌, [], map, ap, sym, append-nil, arith}
 use Rattle.std.specs.Prelude.{cond, not}
 use Rattle.std.proofs.lemmas.List.{map-append}
 use Rattle.rv_map.specs.Map.{global_of}
 use Rattle.rv_map.specs.Globals.{global}
 use Rattle.rv_resolve.proofs.AddingLemmas.{is_taken}
+use Rattle.rv_resolve.proofs.KnownLemmas.{one_known}
 use Rattle.rv_resolve.proofs.names.Names.put_linker_symbol.Goals as goal
 
-pub returns-then-is_some : goal.returns-then-is_some
-returns-then-is_some c = λ os h.
+pub returns-then-is_some-clause-added : goal.returns-then-is_some-clause-added
+returns-then-is_some-clause-added c = λ os h.
     let old = map global_of c.args.globals.now.items in
     let g = global c.args.name.now c.args.address in
     let taken = is_taken os c.args.self.now c.args.name.now c.get.result _ h c.get.ensures.value (sym c.is_some.ensures ∙ c.if-is_some.true) in
     sym (append-nil old) ∙ ap (λ b. old ++ cond (not b) (g ∷ []) []) (sym taken)
 
-pub returns : goal.returns
-returns c = λ os h.
+pub returns-clause-known : goal.returns-clause-known
+returns-clause-known c = λ before.
+    one_known c.args.globals.now.items c.push.new.self.items _ before (omega arith) c.in_ok-push.ensures.items
+
+pub returns-clause-added : goal.returns-clause-added
+returns-clause-added c = λ os h.
     let items = c.args.globals.now.items in
     let old = map global_of items in
     let g = global c.args.name.now c.args.address in

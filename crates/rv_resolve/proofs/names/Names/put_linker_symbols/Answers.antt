@@ -7,8 +7,13 @@ use Rattle.rv_object_laws.specs.Names.{global_names}
 use Rattle.rv_resolve.proofs.AddingLemmas.{filtered_more}
 use Rattle.rv_resolve.proofs.names.Names.put_linker_symbols.Goals as goal
 
-pub returns : goal.returns
-returns c = λ os start h stands.
+pub returns-clause-known : goal.returns-clause-known
+returns-clause-known c = λ before.
+    c.in_ok-put_linker_symbol-5.ensures.known (c.in_ok-put_linker_symbol-4.ensures.known (c.in_ok-put_linker_symbol-3.ensures.known
+    (c.in_ok-put_linker_symbol-2.ensures.known (c.in_ok-put_linker_symbol.ensures.known before))))
+
+pub returns-clause-added : goal.returns-clause-added
+returns-clause-added c = λ os start h stands.
     let p : Global → Bool = λ g. not (is_one_of (global_names os) g.name) in
     let l = c.args.placement.now in
     let old = map global_of c.args.globals.now.items in
@@ -17,10 +22,10 @@ returns c = λ os start h stands.
     let d = global (codes "_edata") l.data.end in
     let e = global (codes "_end") l.bss.end in
     let f = global (codes "__global_pointer$") (l.data.start + 0x800) in
-    let first = c.in_ok-put_linker_symbol.ensures os h in
-    let second = filtered_more p old _ (map global_of c.put_linker_symbol-2.new.globals.items) (a ∷ []) b first (c.in_ok-put_linker_symbol-2.ensures os h) in
-    let third = filtered_more p old _ (map global_of c.put_linker_symbol-3.new.globals.items) (a ∷ b ∷ []) d second (c.in_ok-put_linker_symbol-3.ensures os h) in
+    let first = c.in_ok-put_linker_symbol.ensures.added os h in
+    let second = filtered_more p old _ (map global_of c.put_linker_symbol-2.new.globals.items) (a ∷ []) b first (c.in_ok-put_linker_symbol-2.ensures.added os h) in
+    let third = filtered_more p old _ (map global_of c.put_linker_symbol-3.new.globals.items) (a ∷ b ∷ []) d second (c.in_ok-put_linker_symbol-3.ensures.added os h) in
     let before = map global_of c.put_linker_symbol-4.new.globals.items in
-    let fourth = filtered_more p old _ before (a ∷ b ∷ d ∷ []) e third (c.in_ok-put_linker_symbol-4.ensures os h) in
+    let fourth = filtered_more p old _ before (a ∷ b ∷ d ∷ []) e third (c.in_ok-put_linker_symbol-4.ensures.added os h) in
     filtered_more p old _ (map global_of c.put_linker_symbol-5.new.globals.items) (a ∷ b ∷ d ∷ e ∷ []) f fourth
-    (c.in_ok-put_linker_symbol-5.ensures os h ∙ ap (λ n. before ++ filter p (global (codes "__global_pointer$") n ∷ [])) (c.global_pointer.ensures os start stands))
+    (c.in_ok-put_linker_symbol-5.ensures.added os h ∙ ap (λ n. before ++ filter p (global (codes "__global_pointer$") n ∷ [])) (c.global_pointer.ensures os start stands))

@@ -1,0 +1,53 @@
+-- The regions and the gaps of placed objects have addresses.
+
+use Rattle.std.proofs.Common.{◌≡◌, ◌≤◌, ◌<◌, ◌+◌, ◌^◌, ℕ, Bool, true, false, List, [], ◌∷◌, nat_lt, sym, subst, arith}
+use Rattle.std.specs.Prelude.{if◌then◌else◌}
+use Rattle.std.specs.List.{AllByRecursion}
+use Rattle.rv_map.specs.declared.map.Region.{Region}
+use Rattle.rv_map.specs.Limits.{IsRegion}
+use Rattle.rv_object.specs.Object.{Object}
+use Rattle.rv_object_laws.specs.Inputs.{Starts, InputSection, goes_to_text, inputs, start_of, size, Stand, end_of, gaps_of}
+use Rattle.rv_placement.specs.declared.placement.Placement.{Placement}
+use Rattle.rv_placement.specs.Placement.{starts_of, IsPlacement}
+use Rattle.rv_link.proofs.GrowingLemmas.{later}
+
+ends_up : (starts : Starts) (stop : ℕ) (is : List InputSection) → Stand starts stop is → stop ≤ end_of starts stop is
+ends_up starts stop [] h = omega arith
+ends_up starts stop (i ∷ is) h =
+    let here = later starts stop i is h in
+    let more = ends_up starts (start_of starts i + size starts i) is h.1 in
+    omega (arith, here, more)
+
+gaps_low : (starts : Starts) (stop : ℕ) (is : List InputSection) → Stand starts stop is → end_of starts stop is < 2 ^ 64 → AllByRecursion IsRegion (gaps_of starts stop is)
+gaps_low starts stop [] h low = tt
+gaps_low starts stop (i ∷ is) h low =
+    let here = later starts stop i is h in
+    let more = ends_up starts (start_of starts i + size starts i) is h.1 in
+    let start_low : start_of starts i < 2 ^ 64 = omega (arith, more, low) in
+    go (nat_lt stop (start_of starts i)) (omega (arith, here, start_low)) start_low (gaps_low starts (start_of starts i + size starts i) is h.1 low)
+  where
+    rest : List Region
+    rest = gaps_of starts (start_of starts i + size starts i) is
+
+    go : (b : Bool) → stop < 2 ^ 64 → start_of starts i < 2 ^ 64 → AllByRecursion IsRegion rest
+        → AllByRecursion IsRegion (if b then record { start = stop; end = start_of starts i } ∷ rest else rest)
+    go true first last more = ((first, last), more)
+    go false first last more = more
+
+module _ (os : List Object) (start : ℕ) (p : Placement) (placed : IsPlacement os start p) where
+  pub regions_known : IsRegion p.text × IsRegion p.rodata × IsRegion p.data × IsRegion p.bss
+  regions_known =
+      let (a, b, c, d, e, f, g) = placed.ordered in
+      let low : p.bss.end ≤ 0x3ff0_0000 = placed.below in (
+        (omega (arith, a, b, c, d, e, f, g, low), omega (arith, a, b, c, d, e, f, g, low)),
+        (omega (arith, a, b, c, d, e, f, g, low), omega (arith, a, b, c, d, e, f, g, low)),
+        (omega (arith, a, b, c, d, e, f, g, low), omega (arith, a, b, c, d, e, f, g, low)),
+        (omega (arith, a, b, c, d, e, f, g, low), omega (arith, low)),
+      )
+
+  pub gaps_known : AllByRecursion IsRegion p.gaps.items
+  gaps_known =
+      let low = regions_known.0.1 in
+      let end = placed.text.2 in
+      subst (AllByRecursion IsRegion) (sym placed.gaps)
+      (gaps_low (starts_of p) start (inputs goes_to_text os) placed.text.1 (subst (λ n. n < 2 ^ 64) end low))

@@ -1,0 +1,38 @@
+-- A byte that stands before another one stands before it afterwards.
+
+use Rattle.std.proofs.Common.{◌≡◌, ℕ, ◌+◌, ◌-◌, ◌≤◌, min, max, true, List, [], ◌∷◌, length, map, refl, arith}
+use Rattle.rv_object.specs.Padding.{no_operations}
+use Rattle.rv_object_laws.specs.Moves.{Move, dropped, new_offset}
+use Rattle.rv_relax.specs.declared.piece.Piece.{Piece}
+use Rattle.rv_relax.specs.declared.section_plan.SectionPlan.{SectionPlan}
+use Rattle.rv_relax.specs.Paddings.{move_of, are_in_order}
+use Rattle.rv_relax.specs.Plan.{moves_of}
+use Rattle.rv_relax.proofs.OrderLemmas.{first, rest}
+
+none_before : (ms : List Move) → dropped ms 0 ≡ 0
+none_before [] = refl
+none_before (m ∷ ms) = let later = none_before ms in omega (arith, later)
+
+span : (place full left a b stop : ℕ) → stop ≤ place → a ≤ b → (p q end : ℕ) → end ≡ place + full → p ≤ q + (b - max a end)
+    → min (full - left) (b - (place + left)) + p ≤ min (full - left) (a - (place + left)) + q + (b - max a stop)
+span place full left a b stop from le p q end is later = omega arith
+
+-- no more is dropped between two offsets than lies between them
+slow : (stop past a b : ℕ) (ps : List Piece) → are_in_order stop past ps ≡ true → a ≤ b → dropped (map move_of ps) b ≤ dropped (map move_of ps) a + (b - max a stop)
+slow stop past a b [] h le = omega arith
+slow stop past a b (p ∷ ps) h le =
+    let one = first stop past p ps h in
+    let later = slow (p.place + p.full) (past + (p.full - p.left)) a b ps (rest stop past p ps h) le in
+    let all =
+    span p.place p.full (length (no_operations p.left)) a b stop one.from le
+    (dropped (map move_of ps) b) (dropped (map move_of ps) a) (p.place + p.full) refl later in
+    all
+
+pub plan_rises : (p : SectionPlan) (a b : ℕ) → a ≤ b → new_offset (moves_of p) a ≤ new_offset (moves_of p) b
+unfolding moves_of
+plan_rises p a b le =
+    let ms = map move_of p.paddings.items in
+    let few = slow 0 0 a b p.paddings.items p.order le in
+    let none = none_before ms in
+    let within = slow 0 0 0 a p.paddings.items p.order (omega arith) in
+    omega (arith, few, none, within, le)
