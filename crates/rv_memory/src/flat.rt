@@ -84,10 +84,8 @@ pub(crate) fn with_stack(alloc: Global, image: Image) -> Result<Vec<Segment>, Al
         flags: 6,
     };
     let mut segments = image.segments;
-    match segments.push(stack) {
-        Ok(()) => Ok(segments),
-        Err(_) => Err(AllocError),
-    }
+    segments.push(stack)?;
+    Ok(segments)
 }
 
 /// Whether the address lies in the segment.

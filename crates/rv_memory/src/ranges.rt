@@ -39,18 +39,13 @@ pub fn append_bytes<M: Memory>(
 {
     let piece = memory.piece(address);
     if count <= piece.len() as u64 {
-        return match out.extend_from_slice(piece.split_at(count as usize).0) {
-            Ok(()) => Ok(()),
-            Err(_) => Err(AllocError),
-        };
+        out.extend_from_slice(piece.split_at(count as usize).0)?;
+        return Ok(());
     }
-    let before = out.len();
+    out.reserve(count as usize)?;
     for k in 0..count {
         let byte = memory.load(address.wrapping_add(k), 1) as u8;
-        if out.push(byte).is_err() {
-            out.truncate(before);
-            return Err(AllocError);
-        }
+        out.push_reserved(byte);
     }
     Ok(())
 }

@@ -4,14 +4,14 @@ use Rattle.rv_isa_laws.specs.Memory.{Mem, Read, bytes_at, number_at}
 use Rattle.rv_memory.proofs.MemoryLemmas.{may-at, bytes-more, bytes-take, loaded-byte}
 use Rattle.rv_memory.proofs.ranges.append_bytes.Goals as goal
 
-pub returns-in-Ok : goal.returns-in-Ok
-returns-in-Ok g c =
+pub returns-then-count-piece : goal.returns-then-count-piece
+returns-then-count-piece g c =
     let m : Mem = g.M.Memory.mem c.args.memory.now in
     let within : c.args.count ≤ length c.piece-piece.result.now = omega (arith, c.if-count-piece.true) in
     let bytes : c.split_at.result.0.now ≡ bytes_at m c.args.address c.args.count =
     c.split_at.ensures.front ∙ ap (λ (bs : List ℕ). take c.args.count bs) (sym c.piece-piece.ensures)
     ∙ sym (bytes-take m c.args.address (length c.piece-piece.result.now) c.args.count within) in
-    let items : c.extend_from_slice.new.self.items ≡ c.args.out.now.items ++ c.split_at.result.0.now = grind (arith, common_steps, c.in-Ok.ensures.items) in
+    let items : c.extend_from_slice.new.self.items ≡ c.args.out.now.items ++ c.split_at.result.0.now = grind (arith, common_steps, c.in_ok-extend_from_slice.ensures.items) in
     items ∙ ap (λ (bs : List ℕ). c.args.out.now.items ++ bs) bytes
 
 pub load-byte-requires-clause-may : goal.load-byte-requires-clause-may
@@ -37,9 +37,12 @@ loop-k-preserved g c =
     let m : Mem = g.M.Memory.mem c.args.memory.now in
     let b = (c.args.address + c.loop-k.k) % 2 ^ 64 in
     let byte : c.load-byte.result ≡ m.byte b = loaded-byte m b c.load-byte.result (omega arith) c.load-byte.ensures.number in
-    let items : c.push.new.self.items ≡ c.loop-k.out.items ++ (c.load-byte.result ∷ []) = grind (arith, common_steps, c.push.ensures.items, c.is_err.ensures.value, c.if-is_err.false) in
-    items
-    ∙ ap (λ (xs : List ℕ). xs ++ (c.load-byte.result ∷ [])) c.loop-k.invariant
-    ∙ ap (λ (v : ℕ). (c.args.out.now.items ++ bytes_at m c.args.address c.loop-k.k) ++ (v ∷ [])) byte
-    ∙ append_assoc c.args.out.now.items (bytes_at m c.args.address c.loop-k.k) (m.byte b ∷ [])
-    ∙ ap (λ (xs : List ℕ). c.args.out.now.items ++ xs) (sym (bytes-more m c.args.address c.loop-k.k))
+    record {
+      items =
+          c.push_reserved.ensures.items
+          ∙ ap (λ (xs : List ℕ). xs ++ (c.load-byte.result ∷ [])) c.loop-k.invariant.items
+          ∙ ap (λ (v : ℕ). (c.args.out.now.items ++ bytes_at m c.args.address c.loop-k.k) ++ (v ∷ [])) byte
+          ∙ append_assoc c.args.out.now.items (bytes_at m c.args.address c.loop-k.k) (m.byte b ∷ [])
+          ∙ ap (λ (xs : List ℕ). c.args.out.now.items ++ xs) (sym (bytes-more m c.args.address c.loop-k.k));
+      room = omega (arith, c.loop-k.invariant.room, c.push_reserved.ensures.len, c.push_reserved.ensures.capacity, c.loop-k-test.true);
+    }
