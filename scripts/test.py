@@ -2,8 +2,9 @@
 """The whole gate: make test.
 
 First `rt ci`, with what each crate cost (gate_times.py): every proof from nothing, the wrong bodies that must be
-refused, the tests of the library. Then, over the program that it built, the cases of tests/ and the links of the
-documents. The last line sums both up as 'N passed, M failed'; the exit status is 0 if nothing failed.
+refused, the tests of the library. Then, over the programs that it built, the cases of tests/ and each request for
+memory refused; and the links of the documents, and where want of memory is made. The last line sums all up as
+'N passed, M failed'; the exit status is 0 if nothing failed.
 """
 
 import re
@@ -15,8 +16,9 @@ from pathlib import Path
 import gate_times
 
 ROOT = Path(__file__).resolve().parent.parent
-BUILT = ROOT / "crates" / "rv_cli" / "out" / "rv_cli"
-AFTER = [["tests/run.py"], ["tests/damaged.py", "--all"], ["scripts/links.py"]]
+PROGRAMS = {"rv_cli": "rv", "rv_refused": "rv_refused"}
+OF_PROGRAMS = [["tests/run.py"], ["tests/damaged.py", "--all"], ["tests/refused.py"]]
+OF_FILES = [["scripts/links.py"], ["scripts/want_of_memory.py"]]
 
 
 def counts(line):
@@ -37,9 +39,12 @@ def main():
     status, lines = gate_times.measured(["rt", "ci"])
     passed, failed = counts(lines[-1].strip() if lines else "")
     sums = [(passed, failed or int(status != 0))]
-    if BUILT.exists():
-        shutil.copy(BUILT, ROOT / "rv")
-        sums += [said(words) for words in AFTER]
+    built = {ROOT / "crates" / crate / "out" / crate: ROOT / name for crate, name in PROGRAMS.items()}
+    if all(it.exists() for it in built):
+        for program, copy in built.items():
+            shutil.copy(program, copy)
+        sums += [said(words) for words in OF_PROGRAMS]
+    sums += [said(words) for words in OF_FILES]
     passed, failed = map(sum, zip(*sums))
     print(f"\n{passed} passed, {failed} failed", flush=True)
     return 1 if failed else 0
