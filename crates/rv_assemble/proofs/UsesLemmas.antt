@@ -1,6 +1,6 @@
 -- The fields of a draft as the symbols that its source's relocations name.
 
-use Rattle.std.proofs.Common.{◌≡◌, ℕ, suc, ◌+◌, ◌<◌, List, [], ◌∷◌, ◌++◌, length, map, refl, sym, ap, ◌∙◌, subst, None, drop, get_or, append_assoc}
+use Rattle.std.proofs.Common.{◌≡◌, ℕ, suc, ◌+◌, ◌*◌, ◌^◌, ◌<◌, ◌≤◌, List, [], ◌∷◌, ◌++◌, length, map, refl, sym, ap, ◌∙◌, subst, arith, None, drop, get_or, append_assoc}
 use Rattle.std.proofs.lemmas.List.{length-map, drop_more}
 use Rattle.std.specs.List.{AllByRecursion}
 use Rattle.std.specs.Prelude.{Bool, true, false, flat_map, if◌then◌else◌}
@@ -14,7 +14,9 @@ use Rattle.rv_assemble_laws.specs.Templates.{Open, template_fields}
 use Rattle.rv_assemble_laws.specs.Sites.{Site, Part, part_bytes, parts_of}
 use Rattle.rv_assemble_laws.specs.Symbols.{references}
 use Rattle.rv_assemble_laws.specs.Fields.{Field, field_at, fields_from, fields_at, fields}
-use Rattle.rv_assemble_laws.specs.ShownNames.{HasNames, AreShown}
+use Rattle.rv_assemble_laws.specs.ShownNames.{used_names, HasNames, AreShown}
+use Rattle.rv_assemble_laws.specs.Small.{all_said, AreSmall}
+use Rattle.rv_assemble_laws.proofs.UseWeightsLemmas.{references_light, sites_said, used_light}
 use Rattle.rv_draft.specs.declared.item.Item.{Item}
 use Rattle.rv_draft.specs.declared.field.OpenField.{OpenField}
 use Rattle.rv_draft.specs.declared.draft.Draft.{Draft}
@@ -85,6 +87,18 @@ module _ (ss : List Statement) (d : Draft) (h : IsDraft ss d) where
 
   pub uses_shown : HasNames ss → AreShown (uses_in d)
   uses_shown names = subst AreShown (sym uses_named) (are_shown_uses ss h.sites names h.located)
+
+  -- relocations can hold the index of each symbol
+  pub few_symbols : AreSmall ss → 3 * length (offsets_of d.items.items) + length (used_names (uses_in d)) < 2 ^ 32
+  few_symbols small =
+      let count = offsets_count in
+      let few : length ss ≤ 4194304 = small.few in
+      let names : all_said ss ≤ 33554432 = small.names in
+      let used = used_light (references (tables ss) h.sites) in
+      let light = references_light (tables ss) h.sites in
+      let said = (sites_said 1 at_start ss h.sites h.located).0 in
+      let is = ap (λ l. length (used_names l)) uses_named in
+      omega (arith, count, few, names, used, light, said, is)
 
   pub uses_meant : HasNames ss → AreMeant (tables ss) (uses_in d)
   uses_meant names = subst (AreMeant (tables ss)) (sym uses_named) (are_meant_uses ss h.sites names h.located)

@@ -9,13 +9,14 @@ ghost use Rattle.rv_object.specs.View.{object_of};
 ghost use Rattle.rv_assemble_laws.specs.IsObjectOf.{IsObjectOf};
 ghost use Rattle.rv_assemble_laws.specs.Refusals.{statements_fault};
 ghost use Rattle.rv_assemble_laws.specs.ShownNames.{HasNames};
+ghost use Rattle.rv_assemble_laws.specs.Small.{AreSmall};
 ghost use Rattle.rv_draft.specs.Draft.{IsRefused};
 ghost use Rattle.rv_assemble.specs.FirstFault.{IsFirstFault};
 ghost use Rattle.rv_assemble.specs.KeptNames.{OpenKept};
 
 use crate::object::object;
 use crate::symbols::table;
-use rv_assemble_laws::names_are_shown;
+use rv_assemble_laws::{names_are_shown, statements_are_small};
 use rv_draft::Draft;
 use rv_object::Object;
 use rv_parse::parse;
@@ -33,8 +34,9 @@ pub fn assemble(alloc: Global, source: &[u8]) -> Result<Object, SourceFault>
 {
     let statements = parse(alloc, source)?;
     let unit = Unit::build(alloc, statements)?;
-    // its names can be shown
+    // its names can be shown, and are few
     names_are_shown();
+    statements_are_small();
     assembled(alloc, unit)
 }
 
@@ -43,6 +45,7 @@ fn assembled(alloc: Global, unit: Unit<'_>) -> Result<Object, SourceFault>
     requires filled { IsFilled unit }
     requires good { first_fault (said unit) ≡ None }
     requires names { HasNames (said unit) }
+    requires small { AreSmall (said unit) }
     requires kept { OpenKept (said unit) }
     ensures sound { IfOk result (λ o. statements_fault (said unit.entry) ≡ None) }
     ensures object { IfOk result (λ o. IsObjectOf (said unit.entry) (object_of o)) }

@@ -4,6 +4,7 @@ ghost use Rattle.std.specs.Prelude.{◌≡◌, ◌++◌, None, IfOk, OnOk, flat_
 ghost use Rattle.rv_unit_laws.specs.Faults.{first_fault};
 ghost use Rattle.rv_unit.specs.Unit.{said, IsFilled};
 ghost use Rattle.rv_assemble_laws.specs.ShownNames.{HasNames};
+ghost use Rattle.rv_assemble_laws.specs.Small.{AreSmall};
 ghost use Rattle.rv_draft.specs.Draft.{IsDraft};
 ghost use Rattle.rv_symbols.specs.SymbolUse.{uses_of};
 ghost use Rattle.rv_assemble.specs.Tabled.{use_of, offsets_of, HasTable};
@@ -22,6 +23,7 @@ pub(crate) fn table<'a>(
     requires filled { IsFilled unit.now }
     requires good { first_fault (said unit.now) ≡ None }
     requires names { HasNames (said unit.now) }
+    requires small { AreSmall (said unit.now) }
     requires draft { IsDraft (said unit.now) draft.now }
     ensures { IfOk result (λ table. HasTable (said unit.now) draft.now table) }
 {

@@ -8,3 +8,4 @@ pub mod IsObjectOf
 pub mod InstructionFaults
 pub mod Refusals
 pub mod Fields
+pub mod Small

@@ -39,7 +39,11 @@ are_shown names = list_all is_name names
 abbrev pub HasNames : List Statement → Type 0
 HasNames ss = list_all (λ s. are_shown (said_names s.kind)) ss ≡ true
 
--- and each name that relocations name
+-- the names that relocations name
+abbrev pub used_names : List SymbolUse → List (List ℕ)
+used_names rs = flat_map (λ r. primary_names r.symbol) rs
+
+-- a map can show each of these too
 abbrev pub is_shown_use : SymbolUse → Bool
 is_shown_use r = are_shown (primary_names r.symbol)
 

@@ -9,6 +9,7 @@ ghost use Rattle.rv_unit_laws.specs.Sections.{Section};
 ghost use Rattle.rv_unit_laws.specs.Tables.{Tables, opened_of, tables};
 ghost use Rattle.rv_assemble_laws.specs.Sites.{Site, Tile, end_of, part_bytes, parts};
 ghost use Rattle.rv_assemble_laws.specs.ShownNames.{HasNames};
+ghost use Rattle.rv_assemble_laws.specs.Small.{AreSmall};
 
 /// The statements of a section end where its bytes end.
 pub fn statements_fill_sections()
@@ -27,4 +28,10 @@ pub fn sections_are_named()
     ensures { (statements : List Statement) (index : ℕ) (section : Section) → HasNames statements →
         slice_get (opened_of (tables statements)).sections index ≡ Some section →
         is_name section.name ≡ true }
+{}
+
+/// The statements of a source are few, and so are their names: each stands in the text as a token of its own.
+pub fn statements_are_small()
+    ensures { (text : List ℕ) (statements : List Statement) → Reads text statements →
+        AreSmall statements }
 {}

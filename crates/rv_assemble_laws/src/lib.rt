@@ -12,4 +12,6 @@
 
 mod law;
 
-pub use law::{names_are_shown, sections_are_named, statements_fill_sections};
+pub use law::{
+    names_are_shown, sections_are_named, statements_are_small, statements_fill_sections,
+};

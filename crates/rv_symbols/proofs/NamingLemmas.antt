@@ -1,6 +1,6 @@
 -- The names that statements define.
 
-use Rattle.std.proofs.Common.{◌≡◌, ℕ, zero, suc, ◌+◌, ◌<◌, Bool, true, false, List, [], ◌∷◌, ◌++◌, length, map, take, drop, refl, sym, ap, ◌∙◌, arith, append_assoc, Some}
+use Rattle.std.proofs.Common.{◌≡◌, ℕ, zero, suc, ◌+◌, ◌*◌, ◌<◌, ◌≤◌, Bool, true, false, List, [], ◌∷◌, ◌++◌, length, map, take, drop, refl, sym, ap, ◌∙◌, arith, append_assoc, Some}
 use Rattle.std.specs.Prelude.{◌&&◌, ◌||◌, ◌==◌, nat_lt, not, filter, slice_get, if◌then◌else◌}
 use Rattle.std.specs.List.{list_all}
 use Rattle.std.proofs.lemmas.Bool.{and_parts, and_from}
@@ -186,3 +186,11 @@ drop_next xs i x e = drop_got xs i x e ∙ ap (λ n. x ∷ drop n xs) (next i)
 
 pub take_next : {X : Type 0} (xs : List X) (i : ℕ) (x : X) → slice_get xs i ≡ Some x → take (i + 1) xs ≡ take i xs ++ x ∷ []
 take_next xs i x e = ap (λ n. take n xs) (sym (next i)) ∙ take_got xs i x e
+
+-- ---- how many
+
+pub one_more : (old now new i : ℕ) → now ≤ old + i → new ≤ now + 1 → new ≤ old + (i + 1)
+one_more old now new i h k = omega (arith, h, k)
+
+pub two_more : (now new i : ℕ) → now ≤ 2 * i → new ≤ now + 2 → new ≤ 2 * (i + 1)
+two_more now new i h k = omega (arith, h, k)

@@ -1,6 +1,6 @@
 -- What uses of symbols mean, use by use.
 
-use Rattle.std.proofs.Common.{◌≡◌, ℕ, ◌+◌, ◌<◌, ◌≤◌, Bool, true, false, List, [], ◌∷◌, ◌++◌, length, map, take, drop, refl, sym, ap, ◌∙◌, append_assoc, append-nil, arith, Option, Some, None}
+use Rattle.std.proofs.Common.{◌≡◌, ℕ, ◌+◌, ◌<◌, ◌≤◌, Bool, true, false, List, [], ◌∷◌, ◌++◌, length, length-append, map, take, drop, refl, sym, ap, ◌∙◌, subst, append_assoc, append-nil, arith, Option, Some, None}
 use Rattle.std.proofs.lemmas.Bool.{and_from}
 use Rattle.std.specs.Prelude.{is_some, ◌||◌, flat_map, slice_get, slice_index_or, option_map, if◌then◌else◌}
 use Rattle.std.specs.Borrow.{Bor}
@@ -9,7 +9,7 @@ use Rattle.std.specs.Str.{bytes_eq}
 use Rattle.std.proofs.lemmas.List.Folds.{list_any-append, list_all-append}
 use Rattle.rv_map.specs.Globals.{is_one_of}
 use Rattle.rv_map.specs.Name.{is_name}
-use Rattle.rv_assemble_laws.specs.ShownNames.{are_shown}
+use Rattle.rv_assemble_laws.specs.ShownNames.{primary_names, used_names, are_shown}
 use Rattle.rv_text_laws.specs.Expression.{Primary, Literal, Symbol as Named, Here, Reference}
 use Rattle.rv_statement.specs.View.{now_of}
 use Rattle.rv_unit_laws.specs.Tables as laws
@@ -176,3 +176,21 @@ put_shown name ks new e named old = ap (λ l. are_shown (map now_of l)) e ∙ go
     go false =
         ap are_shown (map_join ks name) ∙ list_all-append is_name (map now_of ks) (name.now ∷ [])
         ∙ and_from (are_shown (map now_of ks)) (are_shown (name.now ∷ [])) old named
+
+-- one more at most
+pub put_few : (name : Bor (List ℕ)) (ks new : List (Bor (List ℕ))) → new ≡ (if list_any (λ k. bytes_eq name.now k.now) ks then ks else ks ++ name ∷ []) → length new ≤ length ks + 1
+put_few name ks new e = subst (λ (l : List (Bor (List ℕ))). length l ≤ length ks + 1) (sym e) (go (list_any (λ k. bytes_eq name.now k.now) ks))
+  where
+    go : (b : Bool) → length (if b then ks else ks ++ name ∷ []) ≤ length ks + 1
+    go true = omega arith
+    go false = let l = length-append ks (name ∷ []) in omega (arith, l)
+
+-- the names so far, with those of the uses that are left, are no more than those of all uses
+pub few_more : (rs : List SymbolUse) (i : ℕ) (r : SymbolUse) (q : Primary) (old new : ℕ) → slice_get rs i ≡ Some r → q ≡ r.symbol → new ≤ old + length (primary_names q)
+    → old + length (used_names (drop i rs)) ≤ length (used_names rs) → new + length (used_names (drop (i + 1) rs)) ≤ length (used_names rs)
+few_more rs i r q old new at s n h =
+    let rest = used_names (drop (i + 1) rs) in
+    let own = ap (λ p. length (primary_names p)) s in
+    let next = ap (λ l. length (used_names l)) (drop_next rs i r at) in
+    let both = length-append (primary_names r.symbol) rest in
+    omega (arith, n, own, next, both, h)

@@ -1,6 +1,6 @@
 -- The indices of a source's symbols.
 
-use Rattle.std.specs.Prelude.{◌≡◌, ℕ, List, length, map}
+use Rattle.std.specs.Prelude.{◌≡◌, ◌+◌, ◌^◌, ◌<◌, ℕ, List, length, map}
 use Rattle.rv_statement.specs.View.{now_of}
 use Rattle.rv_object.specs.Object.{Symbol}
 use Rattle.rv_symbols.specs.Indices.{AreNameIndices, ArePlaceIndices}
@@ -12,3 +12,7 @@ pub record AreIndices (x : Indices) (own : List Symbol) (after : List (List ℕ)
   pub named : AreNameIndices x.names own
   pub placed : ArePlaceIndices x.places own
   pub later : map now_of x.missing.now.keys ≡ after
+
+-- a relocation can hold the index of each
+abbrev pub AreFew : Indices → Type 0
+AreFew x = x.count + length x.missing.now.keys < 2 ^ 32

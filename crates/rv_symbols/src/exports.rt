@@ -1,6 +1,6 @@
 //! The symbols that a file defines for all files, and those that it leaves undefined.
 
-ghost use Rattle.std.specs.Prelude.{◌≡◌, ◌<◌, ◌++◌, ℕ, List, Some, true, length, map, slice_get, IfOk, OnOk, IfSome};
+ghost use Rattle.std.specs.Prelude.{◌≡◌, ◌<◌, ◌≤◌, ◌+◌, ◌++◌, ℕ, List, Some, true, length, map, slice_get, IfOk, OnOk, IfSome};
 ghost use Rattle.rv_statement.specs.View.{statement_of, now_of};
 ghost use Rattle.rv_unit.specs.Unit.{said};
 ghost use Rattle.rv_map.specs.Name.{is_name};
@@ -52,10 +52,11 @@ fn put_export(
 ) -> Result<(), AllocError>
     requires inside { index < length (source.now).offsets.now }
     requires shown { are_shown (said_names (statement_of statement.now).kind) ≡ true }
-    ensures { OnOk result ((sites : List Site) (s : Site) → IsSource source.now sites
+    ensures symbols { OnOk result ((sites : List Site) (s : Site) → IsSource source.now sites
         → slice_get sites index ≡ Some s → (statement_of statement.now).kind ≡ s.located.kind
         → map symbol_of symbols.new.items ≡ map symbol_of symbols.old.items
         ++ exports_of (tables_of source.now) sites s) }
+    ensures few { OnOk result (length symbols.new.items ≤ length symbols.old.items + 1) }
 {
     let Some((name, definition)) = export(source, index, statement) else {
         return Ok(());
@@ -73,9 +74,11 @@ pub(crate) fn put_exports(
 ) -> Result<(), AllocError>
     requires each { length (source.now).offsets.now ≡ length (said (source.now).unit.now) }
     requires names { HasNames (said (source.now).unit.now) }
-    ensures { OnOk result ((sites : List Site) → IsSource source.now sites
+    ensures symbols { OnOk result ((sites : List Site) → IsSource source.now sites
         → map symbol_of symbols.new.items
         ≡ map symbol_of symbols.old.items ++ exports (tables_of source.now) sites) }
+    ensures few { OnOk result (length symbols.new.items
+        ≤ length symbols.old.items + length (source.now).offsets.now) }
 {
     let statements = source.unit.statements();
     for i in 0..statements.len() {

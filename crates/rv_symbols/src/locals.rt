@@ -1,6 +1,6 @@
 //! The symbols of the file alone.
 
-ghost use Rattle.std.specs.Prelude.{◌≡◌, ◌<◌, ◌+◌, ◌++◌, ◌&&◌, ◌||◌, ℕ, List, [], ◌∷◌, Some, true, not, length, map, slice_get, if◌then◌else◌, IfOk, OnOk, IfSome};
+ghost use Rattle.std.specs.Prelude.{◌≡◌, ◌<◌, ◌≤◌, ◌+◌, ◌*◌, ◌++◌, ◌&&◌, ◌||◌, ℕ, List, [], ◌∷◌, Some, true, not, length, map, slice_get, if◌then◌else◌, IfOk, OnOk, IfSome};
 ghost use Rattle.std.specs.HashSet.{contains};
 ghost use Rattle.rv_statement.specs.View.{statement_of};
 ghost use Rattle.rv_unit.specs.Unit.{said};
@@ -68,6 +68,7 @@ fn put_unnamed(
     ensures symbols { OnOk result (map symbol_of symbols.new.items ≡ map symbol_of symbols.old.items
         ++ (if meant && not (contains same_place seen.old place)
         then local_symbol [] (InSection place.0 place.1) ∷ [] else [])) }
+    ensures few { OnOk result (length symbols.new.items ≤ length symbols.old.items + 1) }
     ensures seen { OnOk result ((q : ℕ × ℕ) → contains same_place seen.new q
         ≡ (contains same_place seen.old q || meant && same_place place q)) }
 {
@@ -131,10 +132,11 @@ fn put_local(
 ) -> Result<(), AllocError>
     requires inside { index < length (source.now).offsets.now }
     requires shown { are_shown (said_names (statement_of statement.now).kind) ≡ true }
-    ensures { OnOk result ((sites : List Site) (s : Site) → IsSource source.now sites
+    ensures symbols { OnOk result ((sites : List Site) (s : Site) → IsSource source.now sites
         → slice_get sites index ≡ Some s → (statement_of statement.now).kind ≡ s.located.kind
         → map symbol_of symbols.new.items ≡ map symbol_of symbols.old.items
         ++ named_symbols (tables_of source.now) sites s) }
+    ensures few { OnOk result (length symbols.new.items ≤ length symbols.old.items + 1) }
 {
     let Some((name, definition)) = local(source, index, statement) else {
         return Ok(());
@@ -163,6 +165,7 @@ fn put_both(
         ++ ((if meant && not (contains same_place seen.old (place_in s))
         then local_symbol [] (InSection s.located.section s.offset) ∷ [] else [])
         ++ named_symbols (tables_of source.now) sites s)) }
+    ensures few { OnOk result (length symbols.new.items ≤ length symbols.old.items + 2) }
     ensures seen { OnOk result ((sites : List Site) (s : Site) → IsSource source.now sites
         → slice_get sites index ≡ Some s → (q : ℕ × ℕ) → contains same_place seen.new q
         ≡ (contains same_place seen.old q || meant && same_place (place_in s) q)) }
@@ -181,7 +184,8 @@ pub(crate) fn locals(
     requires each { length (source.now).offsets.now ≡ length (said (source.now).unit.now) }
     requires marks { length meant.now ≡ length (said (source.now).unit.now) }
     requires names { HasNames (said (source.now).unit.now) }
-    ensures { IfOk result (λ x. (sites : List Site) → IsSource source.now sites
+    ensures few { IfOk result (λ x. length x.items ≤ 2 * length meant.now) }
+    ensures symbols { IfOk result (λ x. (sites : List Site) → IsSource source.now sites
         → AreMarks (tables_of source.now) (references (tables_of source.now) sites) meant.now
         (length meant.now)
         → map symbol_of x.items ≡ local_symbols (tables_of source.now) sites [] sites) }

@@ -3,7 +3,7 @@
 //! Maps by name and by place are made once for all uses, so that a use costs one look-up and no search through the
 //! symbols.
 
-ghost use Rattle.std.specs.Prelude.{◌≡◌, ◌+◌, ◌++◌, ℕ, List, [], ◌∷◌, length, map, option_map, IfOk, OnOk};
+ghost use Rattle.std.specs.Prelude.{◌≡◌, ◌+◌, ◌^◌, ◌<◌, ◌++◌, ℕ, List, [], ◌∷◌, length, map, option_map, IfOk, OnOk};
 ghost use Rattle.rv_text.specs.Nodes.{symbol_of};
 ghost use Rattle.rv_statement.specs.View.{now_of};
 ghost use Rattle.rv_unit_laws.specs.Tables.{Tables};
@@ -27,16 +27,6 @@ use rv_unit::Definition;
 use std::alloc::{AllocError, Global};
 use std::collections::HashMap;
 
-/// An index that relocations can hold.
-fn index(i: usize) -> Result<u32, AllocError>
-    ensures { IfOk result (λ n. n ≡ i) }
-{
-    if i > 0xffff_ffff {
-        return Err(AllocError);
-    }
-    Ok(i as u32)
-}
-
 /// Adds the name of the next symbol.
 fn put_name<'o>(
     names: &mut HashMap<&'o [u8], u32>,
@@ -55,11 +45,12 @@ fn name_indices<'o>(
     alloc: Global,
     symbols: &'o [Symbol],
 ) -> Result<HashMap<&'o [u8], u32>, AllocError>
+    requires { length symbols.now < 2 ^ 32 }
     ensures { IfOk result (λ x. AreNameIndices x (map object_symbol symbols.now)) }
 {
     let mut names = HashMap::new(alloc);
     for i in 0..symbols.len() {
-        put_name(&mut names, index(i)?, &symbols[i])?;
+        put_name(&mut names, i as u32, &symbols[i])?;
     }
     Ok(names)
 }
@@ -85,11 +76,12 @@ fn put_place(
 
 /// The indices of the symbols without names, by their places.
 fn place_indices(alloc: Global, symbols: &[Symbol]) -> Result<HashMap<(u32, u64), u32>, AllocError>
+    requires { length symbols.now < 2 ^ 32 }
     ensures { IfOk result (λ x. ArePlaceIndices x (map object_symbol symbols.now)) }
 {
     let mut places = HashMap::new(alloc);
     for i in 0..symbols.len() {
-        put_place(&mut places, index(i)?, &symbols[i])?;
+        put_place(&mut places, i as u32, &symbols[i])?;
     }
     Ok(places)
 }
@@ -106,7 +98,7 @@ struct Indices<'i, 'u, 'a> {
 }
 
 impl<'i, 'u, 'a> Indices<'i, 'u, 'a> {
-    ghost use Rattle.rv_symbols.specs.Indexed.{AreIndices};
+    ghost use Rattle.rv_symbols.specs.Indexed.{AreIndices, AreFew};
 
     /// Those of these symbols.
     fn of(
@@ -115,6 +107,7 @@ impl<'i, 'u, 'a> Indices<'i, 'u, 'a> {
         own: &'i [Symbol],
         missing: &'i IndexSet<&'a [u8]>,
     ) -> Result<Self, AllocError>
+        requires { length own.now < 2 ^ 32 }
         ensures source { IfOk result (λ x. x.source.now ≡ source.now) }
         ensures indices { IfOk result (λ x. AreIndices x (map object_symbol own.now)
             (map now_of (missing.now).keys)) }
@@ -160,40 +153,33 @@ impl<'i, 'u, 'a> Indices<'i, 'u, 'a> {
     }
 
     /// The index of a symbol that the file leaves undefined.
-    fn outer_number(&self, symbol: Named<'_>) -> Result<u32, AllocError>
-        ensures { IfOk result (λ n. (own : List SaidSymbol) (names : List (List ℕ))
-            → AreIndices self.now own names
-            → n ≡ outer_number (length own) names (symbol_of symbol.entry)) }
+    fn outer_number(&self, symbol: Named<'_>) -> u32
+        requires { AreFew self.now }
+        ensures { (own : List SaidSymbol) (names : List (List ℕ)) → AreIndices self.now own names
+            → result ≡ outer_number (length own) names (symbol_of symbol.entry) }
     {
         match symbol {
             Named::Name(name) => {
                 let after = self.missing.get_index_of(&name).unwrap_or(0);
-                let Some(place) = self.count.checked_add(after) else {
-                    return Err(AllocError);
-                };
-                let number = index(place)?;
-                Ok(number)
+                (self.count + after) as u32
             }
-            Named::Here => Ok(0),
-            Named::Backward(_) => Ok(0),
-            Named::Forward(_) => Ok(0),
+            Named::Here => 0,
+            Named::Backward(_) => 0,
+            Named::Forward(_) => 0,
         }
     }
 
     /// The index of the symbol that a use names.
-    fn number(&self, symbol: Named<'_>, definition: Option<Definition>) -> Result<u32, AllocError>
-        ensures { IfOk result (λ n. (sites : List Site) (own : List SaidSymbol)
-            (names : List (List ℕ)) → IsSource (self.now).source.now sites
-            → AreIndices self.now own names
-            → n ≡ number_by own names sites (symbol_of symbol.entry)
-            (option_map definition_of definition)) }
+    fn number(&self, symbol: Named<'_>, definition: Option<Definition>) -> u32
+        requires { AreFew self.now }
+        ensures { (sites : List Site) (own : List SaidSymbol) (names : List (List ℕ))
+            → IsSource (self.now).source.now sites → AreIndices self.now own names
+            → result ≡ number_by own names sites (symbol_of symbol.entry)
+            (option_map definition_of definition) }
     {
         match definition {
-            Some(definition) => Ok(self.own_number(symbol, definition)),
-            None => {
-                let number = self.outer_number(symbol)?;
-                Ok(number)
-            }
+            Some(definition) => self.own_number(symbol, definition),
+            None => self.outer_number(symbol),
         }
     }
 }
@@ -207,7 +193,8 @@ pub(crate) fn numbers<'a>(
     uses: &[SymbolUse<'a>],
     definitions: &[Option<Definition>],
 ) -> Result<Vec<u32>, AllocError>
-    requires { length definitions.now ≡ length uses.now }
+    requires each { length definitions.now ≡ length uses.now }
+    requires few { length own.now + length (missing.now).keys < 2 ^ 32 }
     ensures { IfOk result (λ x. (sites : List Site) (t : Tables) → IsSource source.now sites
         → map (option_map definition_of) definitions.now
         ≡ map (definition_in t) (uses_of uses.now)
@@ -218,7 +205,7 @@ pub(crate) fn numbers<'a>(
     let indices = Indices::of(alloc, source, own, missing)?;
     let mut numbers = Vec::with_capacity(alloc, uses.len())?;
     for i in 0..uses.len() {
-        numbers.push(indices.number(uses[i].symbol, definitions[i])?)?;
+        numbers.push(indices.number(uses[i].symbol, definitions[i]))?;
     }
     Ok(numbers)
 }

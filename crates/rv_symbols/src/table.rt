@@ -1,11 +1,11 @@
 //! The symbols of an object and their indices.
 
-ghost use Rattle.std.specs.Prelude.{◌≡◌, None, List, length, IfOk};
+ghost use Rattle.std.specs.Prelude.{◌≡◌, ◌+◌, ◌*◌, ◌^◌, ◌<◌, None, List, length, IfOk};
 ghost use Rattle.rv_unit_laws.specs.Tables.{tables};
 ghost use Rattle.rv_unit_laws.specs.Faults.{first_fault};
 ghost use Rattle.rv_unit.specs.Unit.{said, IsFilled};
 ghost use Rattle.rv_assemble_laws.specs.Sites.{Site};
-ghost use Rattle.rv_assemble_laws.specs.ShownNames.{HasNames, AreShown};
+ghost use Rattle.rv_assemble_laws.specs.ShownNames.{used_names, HasNames, AreShown};
 ghost use Rattle.rv_symbols.specs.SymbolUse.{uses_of, AreMeant};
 ghost use Rattle.rv_symbols.specs.HasSymbols.{AreSites, HasSymbols};
 
@@ -42,6 +42,7 @@ pub fn symbols<'a>(
     requires shown { AreShown (uses_of uses.now) }
     requires meant { AreMeant (tables (said unit.now)) (uses_of uses.now) }
     requires each { length offsets.now ≡ length (said unit.now) }
+    requires few { 3 * length offsets.now + length (used_names (uses_of uses.now)) < 2 ^ 32 }
     ensures { IfOk result (λ r. (sites : List Site)
         → AreSites (said unit.now) offsets.now (uses_of uses.now) sites
         → HasSymbols (tables (said unit.now)) sites (uses_of uses.now) r) }

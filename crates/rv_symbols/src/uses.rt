@@ -6,7 +6,7 @@ ghost use Rattle.rv_statement.specs.View.{now_of};
 ghost use Rattle.rv_unit_laws.specs.Tables.{Tables, tables};
 ghost use Rattle.rv_unit.specs.Unit.{said, definition_of, IsFilled, IsScope};
 ghost use Rattle.rv_assemble_laws.specs.Symbols.{is_unnamed};
-ghost use Rattle.rv_assemble_laws.specs.ShownNames.{primary_names, are_shown, AreShown};
+ghost use Rattle.rv_assemble_laws.specs.ShownNames.{primary_names, are_shown, used_names, AreShown};
 ghost use Rattle.rv_symbols.specs.SymbolUse.{use_of, uses_of};
 ghost use Rattle.rv_symbols.specs.Numbers.{missing_names};
 ghost use Rattle.rv_symbols.specs.Found.{definition_in, is_here, next_ordinal, means, missing_by, with_names, Rises, AreMarks};
@@ -155,6 +155,8 @@ fn put_missing<'a>(
     ensures names { OnOk result (map now_of names.new.keys
         ≡ with_names (map now_of names.old.keys)
         (missing_by (option_map definition_of definition) (symbol_of symbol.entry))) }
+    ensures few { OnOk result (length names.new.keys
+        ≤ length names.old.keys + length (primary_names (symbol_of symbol.entry))) }
     ensures shown { OnOk result (are_shown (primary_names (symbol_of symbol.entry)) ≡ true
         → are_shown (map now_of names.old.keys) ≡ true
         → are_shown (map now_of names.new.keys) ≡ true) }
@@ -180,6 +182,7 @@ pub(crate) fn missing<'a>(
         → map (option_map definition_of) definitions.now
         ≡ map (definition_in t) (uses_of uses.now)
         → map now_of x.keys ≡ missing_names t (uses_of uses.now)) }
+    ensures few { IfOk result (λ x. length x.keys ≤ length (used_names (uses_of uses.now))) }
     ensures shown { IfOk result (λ x. AreShown (uses_of uses.now)
         → are_shown (map now_of x.keys) ≡ true) }
 {

@@ -21,9 +21,10 @@ use Rattle.rv_assemble_laws.specs.ShownNames.{said_names}
 use Rattle.rv_assemble_laws.specs.Sites.{Site}
 use Rattle.rv_assemble_laws.specs.IsObjectOf.{Numbering, AreSectionsOf, IsObjectOf}
 use Rattle.rv_unique_object_laws.proofs.SmallLemmas.{few_sections}
-use Rattle.rv_unique_object_laws.proofs.WeightsLemmas.{weight, weight_append, all_said, light_names}
-use Rattle.rv_unique_object_laws.proofs.UseWeightsLemmas.{site_said}
-use Rattle.rv_unique_object_laws.proofs.SymbolWeightsLemmas.{symbol_weight, symbols_names, symbols_count, symbols_light, sites_said}
+use Rattle.rv_assemble_laws.specs.Small.{weight, all_said}
+use Rattle.rv_assemble_laws.proofs.WeightsLemmas.{weight_append, light_names}
+use Rattle.rv_assemble_laws.proofs.UseWeightsLemmas.{site_said, sites_said}
+use Rattle.rv_unique_object_laws.proofs.SymbolWeightsLemmas.{symbol_weight, symbols_names, symbols_count, symbols_light}
 
 -- ---- tables of strings
 

@@ -13,8 +13,5 @@ mod OneNumberLemmas
 mod OneObjectLemmas
 mod SmallLemmas
 mod NotTooLongLemmas
-mod WeightsLemmas
-mod ValueWeightsLemmas
-mod UseWeightsLemmas
 mod SymbolWeightsLemmas
 mod FileRoomLemmas

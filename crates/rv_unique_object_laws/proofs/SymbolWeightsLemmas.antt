@@ -1,14 +1,12 @@
 -- The names of an object's symbols weigh no more than the source's statements and what they say.
 
-use Rattle.std.proofs.Common.{◌≡◌, ℕ, suc, ◌+◌, ◌*◌, ◌≤◌, Bool, true, false, List, [], ◌∷◌, ◌++◌, flat_map, map, length, Option, Some, None, refl, ap, arith}
-use Rattle.rv_unique_object_laws.proofs.PairsLemmas.{cons_parts}
+use Rattle.std.proofs.Common.{◌≡◌, ℕ, ◌+◌, ◌*◌, ◌≤◌, Bool, true, false, List, [], ◌∷◌, ◌++◌, flat_map, map, length, Option, Some, None, refl, ap, arith}
 use Rattle.std.specs.Prelude.{not, filter, if◌then◌else◌}
 use Rattle.rv_map.specs.Globals.{is_one_of}
 use Rattle.rv_text_laws.specs.Expression.{Primary, Symbol as Named, Literal, Here, Reference}
-use Rattle.rv_statement.specs.Statement.{StatementKind, Label, Directs, Statement, Sets}
+use Rattle.rv_statement.specs.Statement.{StatementKind, Label, Directs, Sets}
 use Rattle.rv_unit_laws.specs.Bindings.{is_global}
-use Rattle.rv_unit_laws.specs.Tables.{Tables, Definition, definition, after}
-use Rattle.rv_source_laws.specs.Located.{Located, located_from}
+use Rattle.rv_unit_laws.specs.Tables.{Tables, Definition, definition}
 use Rattle.rv_source_laws.specs.Resolves.{sets_first, defined_name}
 use Rattle.rv_object.specs.declared.symbol.Definition.{Definition as Defined}
 use Rattle.rv_object.specs.declared.symbol.Definition.TheVariants.{Undefined, InSection}
@@ -17,9 +15,10 @@ use Rattle.rv_assemble_laws.specs.ShownNames.{said_names}
 use Rattle.rv_assemble_laws.specs.Sites.{Site}
 use Rattle.rv_assemble_laws.specs.Symbols.{SymbolUse, site_definition, local_symbol, global_symbol, references, unnamed_symbols, is_absolute, named_symbols, local_symbols, exports_of, exports, missing_name, distinct_from, undefined_symbols, symbols_of}
 use Rattle.rv_unique_object_laws.proofs.LoneSymbolsLemmas.{names_of}
-use Rattle.rv_unique_object_laws.proofs.WeightsLemmas.{weight, weight_append, all_said}
-use Rattle.rv_unique_object_laws.proofs.ValueWeightsLemmas.{symbol_heft}
-use Rattle.rv_unique_object_laws.proofs.UseWeightsLemmas.{use_heft, site_said, references_light}
+use Rattle.rv_assemble_laws.specs.Small.{weight}
+use Rattle.rv_assemble_laws.proofs.WeightsLemmas.{weight_append}
+use Rattle.rv_assemble_laws.proofs.ValueWeightsLemmas.{symbol_heft}
+use Rattle.rv_assemble_laws.proofs.UseWeightsLemmas.{use_heft, site_said, references_light}
 
 -- ---- names and symbols
 
@@ -165,16 +164,3 @@ module _ (t : Tables) (sites : List Site) where
       let d = exports_light sites in
       let e = undefined_light in
       omega (arith, a, b, c, d, e)
-
--- ---- the statements of a source
-
-pub sites_said : (k : ℕ) (u : Tables) (ss : List Statement) (sites : List Site) → map (λ s. s.located) sites ≡ located_from 1 k u ss → (site_said sites ≡ all_said ss) × (length sites ≡ length ss)
-sites_said k u [] [] e = (refl, refl)
-sites_said k u [] (s ∷ sites) e = absurd (cc)
-sites_said k u (x ∷ ss) [] e = absurd (cc)
-sites_said k u (x ∷ ss) (s ∷ sites) e =
-    let both = cons_parts _ _ _ _ e in
-    let rest = sites_said (suc k) (after u k x.kind) ss sites both.1 in
-    let kind : weight (said_names s.located.kind) ≡ weight (said_names x.kind) = ap (λ (l : Located). weight (said_names l.kind)) both.0 in
-    let said = rest.0 in
-    (omega (arith, kind, said), ap suc rest.1)

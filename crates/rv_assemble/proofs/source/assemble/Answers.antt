@@ -10,6 +10,10 @@ pub assembled-requires-clause-names : goal.assembled-requires-clause-names
 assembled-requires-clause-names c =
     c.names_are_shown.ensures c.args.source.now (said c.in_ok-unit.unit) (subst (λ v. Reads c.args.source.now (map statement_of v.items)) (sym c.in_ok-unit.ensures.same) c.in_ok-statements.ensures.reads)
 
+pub assembled-requires-clause-small : goal.assembled-requires-clause-small
+assembled-requires-clause-small c =
+    c.statements_are_small.ensures c.args.source.now (said c.in_ok-unit.unit) (subst (λ v. Reads c.args.source.now (map statement_of v.items)) (sym c.in_ok-unit.ensures.same) c.in_ok-statements.ensures.reads)
+
 pub assembled-requires-clause-kept : goal.assembled-requires-clause-kept
 assembled-requires-clause-kept c =
     let reads = subst (λ v. Reads c.args.source.now (map statement_of v.items)) (sym c.in_ok-unit.ensures.same) c.in_ok-statements.ensures.reads in

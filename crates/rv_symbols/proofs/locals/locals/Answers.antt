@@ -11,7 +11,7 @@ use Rattle.rv_assemble_laws.specs.Symbols.{references, is_meant, local_symbols}
 use Rattle.rv_symbols.specs.Source.{tables_of, place_in}
 use Rattle.rv_symbols.specs.Found.{same_place, is_seen, any_means}
 use Rattle.rv_symbols.proofs.StandsLemmas.{ordinal_is, kind_at, sites_inside, sites_past, said_at}
-use Rattle.rv_symbols.proofs.NamingLemmas.{all_got, there_is, drop_next, take_next, locals_more, seen_more}
+use Rattle.rv_symbols.proofs.NamingLemmas.{all_got, there_is, drop_next, take_next, locals_more, seen_more, two_more}
 use Rattle.rv_symbols.proofs.locals.locals.Goals as goal
 
 pub put_both-requires-clause-shown : goal.put_both-requires-clause-shown
@@ -35,6 +35,7 @@ loop-i-preserved c =
     let within : i < length meant = subst (λ n. i < n) (sym (length-map items statement_of) ∙ sym c.requires.marks) inside in
     let is : y ≡ get_or items i y = c.index-statements-i.is ∙ ap (λ l. get_or l i y) c.statements-statements.ensures in
     record {
+      few = two_more (length c.loop-i.symbols.items) (length c.put_both.new.symbols.items) i c.loop-i.invariant.few c.in_ok-put_both.ensures.few;
       symbols = λ sites h marks.
           let rs = references t sites in
           let found = there_is sites i (sites_inside x sites h i inside) in
@@ -54,8 +55,8 @@ loop-i-preserved c =
           ∙ ap (λ l. is_seen t rs l q) (sym (take_next sites i s found.1));
     }
 
-pub returns : goal.returns
-returns c = λ sites h marks.
+pub returns-clause-symbols : goal.returns-clause-symbols
+returns-clause-symbols c = λ sites h marks.
     let i = c.loop-i.i in
     let x = c.args.source.now in
     let t = tables_of x in

@@ -1,4 +1,4 @@
-use Rattle.std.proofs.Common.{◌≡◌, ℕ, List, [], ◌++◌, length, map, take, drop}
+use Rattle.std.proofs.Common.{◌≡◌, ◌≤◌, ◌*◌, ℕ, List, [], ◌++◌, length, map, take, drop}
 use Rattle.std.specs.HashSet.{contains}
 use Rattle.rv_object.specs.Parts.{symbol_of}
 use Rattle.rv_assemble_laws.specs.Sites.{Site}
@@ -7,9 +7,10 @@ use Rattle.rv_symbols.specs.Source.{tables_of, IsSource}
 use Rattle.rv_symbols.specs.Found.{same_place, is_seen, AreMarks}
 use Rattle.rv_symbols.proofs.locals.locals.Given as goal
 
--- the symbols so far, and those of the statements that are left, are all of them; the places that have one are seen
+-- two a statement at most; the symbols so far, and those of the statements that are left, are all of them; the places that have one are seen
 abbrev pub invariant-loop-i : goal.invariant-loop-i
 invariant-loop-i l = record {
+  few : length l.symbols.items ≤ 2 * l.i;
   symbols : (sites : List Site) → IsSource l.source sites → AreMarks (tables_of l.source) (references (tables_of l.source) sites) l.meant (length l.meant)
       → map symbol_of l.symbols.items ++ local_symbols (tables_of l.source) sites (take l.i sites) (drop l.i sites)
       ≡ local_symbols (tables_of l.source) sites [] sites;

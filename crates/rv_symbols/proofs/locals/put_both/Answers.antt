@@ -15,7 +15,7 @@ returns-clause-symbols c = λ sites s h at kind.
     let old = map symbol_of c.args.symbols.now.items in
     let named = named_symbols (tables_of x) sites s in
     let one : ℕ × ℕ → List Symbol = λ p. if c.args.meant && not (contains same_place c.args.seen.now p) then local_symbol [] (InSection p.0 p.1) ∷ [] else [] in
-    c.in_ok-put_local.ensures sites s h at kind
+    c.in_ok-put_local.ensures.symbols sites s h at kind
     ∙ ap (λ l. l ++ named) c.in_ok-put_unnamed.ensures.symbols
     ∙ append_assoc old (one c.here.result) named
     ∙ ap (λ p. old ++ (one p ++ named)) (c.here.ensures sites s h at)

@@ -14,7 +14,7 @@ loop-i-preserved c =
     let within : i ≤ length xs = omega (arith, inside) in
     let next : map symbol_of (take (i + 1) xs) ≡ map symbol_of (take i xs) ++ symbol_of x ∷ [] =
     symbols_next xs i x inside ∙ ap (λ y. map symbol_of (take i xs) ++ symbol_of y ∷ []) (sym c.index-symbols-i.is) in
-    subst (AreNameIndices c.put_name.new.names) (sym next) (c.in_ok-put_name.ensures (map symbol_of (take i xs)) (c.in_ok-index.ensures ∙ symbols_count xs i within) c.loop-i.invariant)
+    subst (AreNameIndices c.put_name.new.names) (sym next) (c.in_ok-put_name.ensures (map symbol_of (take i xs)) (symbols_count xs i within) c.loop-i.invariant)
 
 pub returns : goal.returns
 returns c =

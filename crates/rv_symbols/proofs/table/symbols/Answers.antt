@@ -21,6 +21,17 @@ use Rattle.rv_symbols.specs.Source.{tables_of, IsSource}
 use Rattle.rv_symbols.specs.Numbers.{own_symbols, missing_names, number_by, number_in}
 use Rattle.rv_symbols.specs.Found.{definition_in, Rises, AreMarks}
 
+pub numbers-requires-clause-few : goal.numbers-requires-clause-few
+numbers-requires-clause-few c =
+    let marked : length c.as_slice-2.result.now ≡ length c.args.offsets.now = ap length c.as_slice-2.ensures.value ∙ c.in_ok-meant.ensures.len in
+    let stand : length c.in_ok-source.source.offsets.now ≡ length c.args.offsets.now = ap length c.in_ok-source.ensures.offsets in
+    let own = ap length c.as_slice-4.ensures.value in
+    let locals = c.in_ok-symbols.ensures.few in
+    let exported = c.in_ok-put_exports.ensures.few in
+    let missing = c.in_ok-missing.ensures.few in
+    let few = c.requires.few in
+    omega (arith, marked, stand, own, locals, exported, missing, few)
+
 pub returns : goal.returns
 returns c = λ sites w.
     let u = c.args.unit.now in
@@ -46,7 +57,7 @@ returns c = λ sites w.
     subst (λ (v : Tables). AreMarks v (references v sites) c.as_slice-2.result.now (length c.as_slice-2.result.now)) (sym same)
     (subst (λ l. AreMarks t (references t sites) l (length l)) (sym c.as_slice-2.ensures.value) marked) in
     let own : map symbol_of c.put_exports.new.symbols.items ≡ own_symbols t sites =
-    c.in_ok-put_exports.ensures sites h ∙ ap (λ l. l ++ exports (tables_of x) sites) (c.in_ok-symbols.ensures sites h those) ∙ ap (λ (v : Tables). own_symbols v sites) same in
+    c.in_ok-put_exports.ensures.symbols sites h ∙ ap (λ l. l ++ exports (tables_of x) sites) (c.in_ok-symbols.ensures.symbols sites h those) ∙ ap (λ (v : Tables). own_symbols v sites) same in
     let names : map now_of c.in_ok-missing.missing.keys ≡ missing_names t rs = c.in_ok-missing.ensures.names t (ap (map (option_map definition_of)) c.as_slice-3.ensures.value ∙ defs) in
     let undefined : List (List ℕ) → List Symbol = λ ns. map (λ name. global_symbol name Undefined) ns in
     record {

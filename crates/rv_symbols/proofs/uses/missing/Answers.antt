@@ -11,7 +11,7 @@ use Rattle.rv_symbols.proofs.NamingLemmas.{all_got}
 use Rattle.rv_symbols.specs.declared.symbol_use.SymbolUse.{SymbolUse}
 use Rattle.rv_symbols.specs.SymbolUse.{use_of, uses_of}
 use Rattle.rv_symbols.specs.Found.{with_names}
-use Rattle.rv_symbols.proofs.UsingLemmas.{use_at, found_at, missing_more, missing_are}
+use Rattle.rv_symbols.proofs.UsingLemmas.{use_at, found_at, missing_more, few_more, missing_are}
 use Rattle.rv_symbols.proofs.uses.missing.Goals as goal
 
 abbrev no_use : SymbolUse
@@ -28,6 +28,9 @@ loop-i-preserved c =
       names = λ t defs.
           missing_more t (uses_of us) i (use_of (get_or us i no_use)) (symbol_of (get_or us i no_use).symbol) (option_map definition_of (get_or ds i None)) (map now_of c.loop-i.names.keys) _ _
           (use_at us i no_use inside) refl (found_at t us ds defs i no_use None inside within) c.in_ok-put_missing.ensures.names (c.loop-i.invariant.names t defs);
+      few =
+          few_more (uses_of us) i (use_of (get_or us i no_use)) (symbol_of (get_or us i no_use).symbol) (length c.loop-i.names.keys) (length c.put_missing.new.names.keys)
+          (use_at us i no_use inside) refl c.in_ok-put_missing.ensures.few c.loop-i.invariant.few;
       shown = λ h.
           c.in_ok-put_missing.ensures.shown (all_got is_shown_use (uses_of us) i (use_of (get_or us i no_use)) (use_at us i no_use inside) h) (c.loop-i.invariant.shown h);
     }

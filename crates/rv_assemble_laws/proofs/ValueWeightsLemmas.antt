@@ -9,7 +9,8 @@ use Rattle.rv_text_laws.specs.declared.operator.BinaryOperator.TheVariants.{Mult
 use Rattle.rv_text_laws.specs.Expression.{Primary, Literal, Symbol, Here, Reference, Tree, Leaf, Unary, Paren, Binary}
 use Rattle.rv_text_laws.specs.Values.{Meaning, Known, InSection, Open, Refused, Value, Constant, Symbolic, Difference, Faulty, arithmetic, refused, apart, sum, difference, constants, both, alone, meant, primary_value, value_of}
 use Rattle.rv_assemble_laws.specs.ShownNames.{primary_names, tree_names}
-use Rattle.rv_unique_object_laws.proofs.WeightsLemmas.{weight, weight_append}
+use Rattle.rv_assemble_laws.specs.Small.{weight}
+use Rattle.rv_assemble_laws.proofs.WeightsLemmas.{weight_append}
 
 abbrev pub symbol_heft : Primary → ℕ
 symbol_heft p = weight (primary_names p)

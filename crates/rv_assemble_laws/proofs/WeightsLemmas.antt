@@ -30,13 +30,9 @@ use Rattle.rv_parse_laws.specs.Syntax.{Slot, A_register, A_zero, Some_accesses, 
 use Rattle.rv_parse_laws.specs.Reading.{told, said, longest_source, Reads}
 use Rattle.rv_source_laws.specs.Program.{in_operand}
 use Rattle.rv_assemble_laws.specs.ShownNames.{primary_names, tree_names, said_names}
+use Rattle.rv_assemble_laws.specs.Small.{weight, all_said, AreSmall}
 
 -- ---- weights
-
--- the bytes of names, and one more for each
-abbrev pub weight : List (List ℕ) → ℕ
-weight [] = 0
-weight (n ∷ ns) = 1 + (length n + weight ns)
 
 pub weight_append : (xs ys : List (List ℕ)) → weight (xs ++ ys) ≡ weight xs + weight ys
 weight_append [] ys = let n = weight ys in let e : n ≡ 0 + n = omega arith in e
@@ -470,10 +466,6 @@ statement_light ts (Directs directive) (t, rest, word, operands, is, colon, begu
 
 -- ---- the whole
 
-abbrev pub all_said : List Statement → ℕ
-all_said [] = 0
-all_said (s ∷ ss) = weight (said_names s.kind) + all_said ss
-
 said_append : (xs ys : List Statement) → all_said (xs ++ ys) ≡ all_said xs + all_said ys
 said_append [] ys = let n = all_said ys in let e : n ≡ 0 + n = omega arith in e
 said_append (x ∷ xs) ys = let rest = said_append xs ys in omega (arith, rest)
@@ -499,3 +491,6 @@ light_names bytes ss (short, lines, few, ts, ps, lexes, cuts, says, opens) =
     let c = ap total cuts.whole ∙ total_append (texts ps) [] in
     let d = lexed_total bytes ts lexes in
     omega (arith, a, b, c, d, short)
+
+pub small : (bytes : List ℕ) (ss : List Statement) → Reads bytes ss → AreSmall ss
+small bytes ss reads = record { few = reads.2; names = light_names bytes ss reads }

@@ -1,6 +1,6 @@
--- What relocations name weighs at most twice what the source's statements say.
+-- What relocations name weighs at most twice what the source's statements say, so it has no more names than that.
 
-use Rattle.std.proofs.Common.{◌≡◌, ℕ, zero, suc, ◌+◌, ◌*◌, ◌≤◌, Bool, true, false, List, [], ◌∷◌, ◌++◌, flat_map, map, Option, Some, None, refl, ap, arith}
+use Rattle.std.proofs.Common.{◌≡◌, ℕ, zero, suc, ◌+◌, ◌*◌, ◌≤◌, Bool, true, false, List, [], ◌∷◌, ◌++◌, flat_map, map, length, length-append, Option, Some, None, refl, ap, arith}
 use Rattle.std.specs.Prelude.{ℤ, pos, ◌==◌, unwrap_or, option_map, if◌then◌else◌}
 use Rattle.rv_isa.specs.declared.instruction.Inst.{Inst}
 use Rattle.rv_isa.specs.declared.kind.Kind.{Kind}
@@ -17,23 +17,24 @@ use Rattle.rv_statement.specs.declared.pseudo.ZeroBranchOperation.{ZeroBranchOpe
 use Rattle.rv_statement.specs.declared.pseudo.ZeroBranchOperation.TheVariants.{Beqz, Bnez, Bgez, Bltz, Blez, Bgtz}
 use Rattle.rv_statement.specs.declared.pseudo.SwappedBranchOperation.{SwappedBranchOperation}
 use Rattle.rv_statement.specs.declared.pseudo.SwappedBranchOperation.TheVariants.{Bgt, Ble, Bgtu, Bleu}
-use Rattle.rv_statement.specs.Statement.{StatementKind, Label, Numbered, Instruction, Directs, Operand, Register, Value as Of_value, Applied, Target, Accesses, Word, Quoted, Expression}
+use Rattle.rv_statement.specs.Statement.{StatementKind, Label, Numbered, Instruction, Directs, Statement, Operand, Register, Value as Of_value, Applied, Target, Accesses, Word, Quoted, Expression}
 use Rattle.rv_parse_laws.specs.Syntax.{with_constant}
 use Rattle.rv_pseudo_laws.specs.Code.{Part as CodePart, Closed, Open as OpenPart, Joined, Constants, by_number, by_part, signed_12, upper_20, number_of, by_constant, i_type, s_type, u_type, shift_by, jalr, unary, branch, near, far, through, zero_branch, swapped_branch, code}
 use Rattle.rv_pseudo_laws.specs.Li.{li}
 use Rattle.rv_unit_laws.specs.Contributions.{Contribution, Nothing, Bytes, Zero_bytes, Alignment, Numbers, Texts, contribution}
-use Rattle.rv_unit_laws.specs.Tables.{Tables, Definition, definition, meaning}
-use Rattle.rv_source_laws.specs.Located.{Located}
+use Rattle.rv_unit_laws.specs.Tables.{Tables, Definition, definition, meaning, after}
+use Rattle.rv_source_laws.specs.Located.{Located, located_from}
 use Rattle.rv_source_laws.specs.Lines.{other_operand, operand_of, is_low_part}
 use Rattle.rv_source_laws.specs.Program.{place_of, in_operand, in_contribution, expressions}
 use Rattle.rv_assemble_laws.specs.CodeFields.{symbol_field, low_field, low_field_at, label_field, field_of, relax_fields, part_fields}
 use Rattle.rv_assemble_laws.specs.Coded.{constants}
-use Rattle.rv_assemble_laws.specs.ShownNames.{tree_names, own_names, said_names}
+use Rattle.rv_assemble_laws.specs.ShownNames.{primary_names, tree_names, own_names, said_names, used_names}
 use Rattle.rv_assemble_laws.specs.Sites.{Site, form, part_of, coded_templates, templates, parts_of}
 use Rattle.rv_assemble_laws.specs.Symbols.{SymbolUse, use_of, references_in, references_of, references}
 use Rattle.rv_assemble_laws.specs.Templates.{Open, Template, value_fields, padding_templates, contents_templates, contribution_templates}
-use Rattle.rv_unique_object_laws.proofs.WeightsLemmas.{weight, weight_append}
-use Rattle.rv_unique_object_laws.proofs.ValueWeightsLemmas.{symbol_heft, value_heft, by_value}
+use Rattle.rv_assemble_laws.specs.Small.{weight, all_said}
+use Rattle.rv_assemble_laws.proofs.WeightsLemmas.{weight_append}
+use Rattle.rv_assemble_laws.proofs.ValueWeightsLemmas.{symbol_heft, value_heft, by_value}
 
 -- ---- uses and fields
 
@@ -349,4 +350,34 @@ references_light t (s ∷ sites) =
     let a = use_append (references_of t s) (references t sites) in
     let b = site_light t s in
     let c = references_light t sites in
+    omega (arith, a, b, c)
+
+-- ---- the statements of a source
+
+cons_parts : {A : Type 0} (x y : A) (xs ys : List A) → x ∷ xs ≡ y ∷ ys → (x ≡ y) × (xs ≡ ys)
+cons_parts x y xs ys e = (cc, cc)
+
+pub sites_said : (k : ℕ) (u : Tables) (ss : List Statement) (sites : List Site) → map (λ s. s.located) sites ≡ located_from 1 k u ss → (site_said sites ≡ all_said ss) × (length sites ≡ length ss)
+sites_said k u [] [] e = (refl, refl)
+sites_said k u [] (s ∷ sites) e = absurd (cc)
+sites_said k u (x ∷ ss) [] e = absurd (cc)
+sites_said k u (x ∷ ss) (s ∷ sites) e =
+    let both = cons_parts _ _ _ _ e in
+    let rest = sites_said (suc k) (after u k x.kind) ss sites both.1 in
+    let kind : weight (said_names s.located.kind) ≡ weight (said_names x.kind) = ap (λ (l : Located). weight (said_names l.kind)) both.0 in
+    let said = rest.0 in
+    (omega (arith, kind, said), ap suc rest.1)
+
+-- ---- the names of uses
+
+count_light : (ns : List (List ℕ)) → length ns ≤ weight ns
+count_light [] = omega arith
+count_light (n ∷ ns) = let rest = count_light ns in omega (arith, rest)
+
+pub used_light : (rs : List SymbolUse) → length (used_names rs) ≤ use_heft rs
+used_light [] = omega arith
+used_light (r ∷ rs) =
+    let a = length-append (primary_names r.symbol) (used_names rs) in
+    let b = count_light (primary_names r.symbol) in
+    let c = used_light rs in
     omega (arith, a, b, c)
