@@ -12,7 +12,8 @@ use Rattle.rv_text_laws.specs.Codes.{limit}
 use Rattle.rv_parse_laws.specs.Opening.{is_opened}
 use Rattle.rv_parse_laws.specs.Parsing as parsing
 use Rattle.rv_text_laws.specs.SyntaxError as wrongs
-use Rattle.rv_parse_laws.specs.Reading.{said, longest_source, most_statements}
+use Rattle.rv_parse_laws.specs.Reading.{said, longest_source}
+use Rattle.rv_statement.specs.Limits.{most_statements}
 use Rattle.rv_parse_laws.specs.Refusals.{SaysUpTo, Refuses}
 use Rattle.rv_parse_laws.proofs.FirstFaultLemmas.{FirstInTokens, wrong_first, past_first, all_good, line_refused, before_tokens, token_refused}
 use Rattle.rv_lexer.specs.declared.syntax_error.SyntaxError.{SyntaxError}

@@ -10,7 +10,7 @@ use Rattle.rv_statement.specs.declared.statement.StatementKind.{StatementKind}
 use Rattle.rv_parse_laws.specs.Syntax.{is_end, slots, places, directed}
 use Rattle.rv_lexer.specs.declared.cursor.Cursor.{Cursor}
 use Rattle.rv_text_laws.specs.Codes.{limit}
-use Rattle.rv_parse_laws.specs.Reading.{most_statements}
+use Rattle.rv_statement.specs.Limits.{most_statements}
 use Rattle.rv_parse_laws.specs.Refusals.{SaysUpTo}
 use Rattle.rv_parse_laws.specs.Refusals.{Refuses}
 use Rattle.rv_lexer.specs.declared.fault.SourceFault.{SourceFault}

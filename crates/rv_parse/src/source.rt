@@ -12,7 +12,8 @@ ghost use Rattle.rv_statement.specs.Statement.{Statement as SpecStatement};
 ghost use Rattle.rv_parse_laws.specs.Opening.{is_opened};
 ghost use Rattle.rv_parse_laws.specs.Parsing.{checked_at};
 ghost use Rattle.rv_parse.specs.Opened.{Knows};
-ghost use Rattle.rv_parse_laws.specs.Reading.{Reads, most_statements};
+ghost use Rattle.rv_parse_laws.specs.Reading.{Reads};
+ghost use Rattle.rv_statement.specs.Limits.{most_statements};
 ghost use Rattle.rv_parse_laws.specs.Refusals.{SaysUpTo};
 ghost use Rattle.rv_parse.specs.Lines.{past_line};
 ghost use Rattle.rv_lexer.specs.Left.{tokens_left};
@@ -24,7 +25,7 @@ use crate::opening::{Opened, wrong_opening};
 use crate::statement::statement;
 use memchr::memrchr;
 use rv_parse_words::kinds;
-use rv_statement::{Statement, StatementKind};
+use rv_statement::{MOST_STATEMENTS, Statement, StatementKind};
 use rv_text::{Cursor, Lexer, ReadError, SourceCode, SourceFault, SyntaxError, Token};
 use std::alloc::Global;
 
@@ -33,9 +34,6 @@ const LONGEST_SOURCE: usize = 1 << 24;
 
 /// The longest line without its line feed, in bytes.
 const LONGEST_LINE: usize = 65535;
-
-/// The most statements of a source.
-const MOST_STATEMENTS: usize = 1 << 22;
 
 /// The offset of the first byte past the limit of its line. Of the bytes that a line with its line feed may have, the
 /// last line feed alone is looked for: the lines before it are short enough.

@@ -12,7 +12,8 @@ use Rattle.rv_parse_laws.specs.WrongOpening.{IsWrongOpening}
 use Rattle.rv_parse_laws.specs.Parsing.{part_at, opening_at, checked_at}
 use Rattle.rv_text_laws.specs.Codes.{limit}
 use Rattle.rv_text_laws.specs.SyntaxError.{SyntaxError, wrong, offset_of}
-use Rattle.rv_parse_laws.specs.Reading.{AreParts, Reads, said, IsPastLine, longest_source, most_statements}
+use Rattle.rv_parse_laws.specs.Reading.{AreParts, Reads, said, IsPastLine, longest_source}
+use Rattle.rv_statement.specs.Limits.{most_statements}
 use Rattle.rv_parse_laws.specs.Opening.{OpenWell}
 use Rattle.rv_parse_laws.proofs.OpenedWellLemmas.{all_open_well}
 use Rattle.rv_parse_laws.specs.Refusals.{OpensWell, AllOpenWell, CanGoOn, WrongToken, WrongOpening, PastStatements, Stands, Fault, Refuses}

@@ -9,7 +9,8 @@ use Rattle.rv_parse_laws.specs.Syntax.{Part, IsPart, StopsPart}
 use Rattle.rv_parse_laws.specs.Parsing.{part_at}
 use Rattle.rv_text_laws.specs.SyntaxError.{SyntaxError, Read}
 use Rattle.rv_text_laws.proofs.TokensLemmas.{one_list, given}
-use Rattle.rv_parse_laws.specs.Reading.{AreParts, Reads, said, IsPastLine, longest_source, most_statements}
+use Rattle.rv_parse_laws.specs.Reading.{AreParts, Reads, said, IsPastLine, longest_source}
+use Rattle.rv_statement.specs.Limits.{most_statements}
 use Rattle.rv_parse_laws.specs.Refusals.{SaysUpTo}
 use Rattle.rv_text_laws.specs.Front.{tokens_from}
 use Rattle.rv_parse_laws.specs.Opening.{OpenWell}

@@ -5,19 +5,17 @@ use Rattle.std.specs.List.{list_all}
 use Rattle.rv_text_laws.specs.Bytes.{in_line}
 use Rattle.rv_text_laws.specs.Cut.{Piece, texts, Cuts}
 use Rattle.rv_text_laws.specs.Lexing.{Token, Lexes}
+use Rattle.rv_statement.specs.Limits.{most_statements}
 use Rattle.rv_statement.specs.Statement.{Statement}
 use Rattle.rv_parse_laws.specs.Syntax.{Part, Ends, Says, IsPart, StopsPart}
 use Rattle.rv_parse_laws.specs.Opening.{OpenWell}
 
--- the longest source and the longest line without its line feed, in bytes, and the most statements
+-- the longest source and the longest line without its line feed, in bytes
 abbrev pub longest_source : ℕ
 longest_source = 2 ^ 24
 
 abbrev pub longest_line : ℕ
 longest_line = 65535
-
-abbrev pub most_statements : ℕ
-most_statements = 2 ^ 22
 
 -- the byte at this place is past its line's limit: it is no line feed, and as many bytes as the
 -- longest line has stand before it on its line

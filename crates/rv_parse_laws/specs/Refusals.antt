@@ -9,7 +9,8 @@ use Rattle.rv_statement.specs.Statement.{Label, Numbered, Statement}
 use Rattle.rv_parse_laws.specs.Syntax.{Part, Says, IsPart, StopsPart, is_end, colon_next}
 use Rattle.rv_parse_laws.specs.WrongOpening.{IsWrongOpening}
 use Rattle.rv_parse_laws.specs.Wrong.{IsWrongStatement}
-use Rattle.rv_parse_laws.specs.Reading.{longest_source, most_statements, IsPastLine, told, said, AreParts}
+use Rattle.rv_parse_laws.specs.Reading.{longest_source, IsPastLine, told, said, AreParts}
+use Rattle.rv_statement.specs.Limits.{most_statements}
 
 -- at the front of the tokens, after these statements, no opening of a section is wrong
 abbrev pub OpensWell : List Statement → List Token → Type 0

@@ -1,3 +1,4 @@
 pub mod Sections
 pub mod Statement
 pub mod View
+pub mod Limits

@@ -26,4 +26,6 @@ pub use mnemonic::Mnemonic;
 pub use pseudo::{
     CompareOperation, Function, SwappedBranchOperation, UnaryOperation, ZeroBranchOperation,
 };
-pub use statement::{Opening, Operation, Plain, Setting, Statement, StatementKind};
+pub use statement::{
+    MOST_STATEMENTS, Opening, Operation, Plain, Setting, Statement, StatementKind,
+};

@@ -13,6 +13,9 @@ use rv_isa::{
 };
 use rv_text::Expr;
 
+/// The most statements of a source.
+pub const MOST_STATEMENTS: usize = 1 << 22;
+
 /// An instruction without an expression.
 #[derive(Clone, Copy, Debug, PartialEq, Eq, Drop)]
 pub enum Plain {

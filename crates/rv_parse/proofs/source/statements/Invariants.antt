@@ -1,5 +1,5 @@
 use Rattle.std.proofs.Common.{◌≡◌, ◌≤◌, map, length}
-use Rattle.rv_parse_laws.specs.Reading.{most_statements}
+use Rattle.rv_statement.specs.Limits.{most_statements}
 use Rattle.rv_parse_laws.specs.Refusals.{SaysUpTo}
 use Rattle.rv_lexer.specs.Left.{tokens_left}
 use Rattle.rv_statement.specs.View.{statement_of}
