@@ -153,7 +153,7 @@ changed_ends (suc i) bytes alignment (e ∷ es) = ap (λ l. e.bytes ∷ l) (chan
 pub data_alignments : (t : Tables) (bytes : ℕ) (alignment : Option ℕ) → alignments_of (with_data t bytes alignment) ≡ changed_at t.current (λ n. max n (least alignment)) (alignments_of t)
 data_alignments t bytes alignment = changed_alignments t.current bytes alignment t.extents
 
-data_ends : (t : Tables) (bytes : ℕ) (alignment : Option ℕ) → ends_of (with_data t bytes alignment) ≡ changed_at t.current (λ n. n + counted_in (current_section (opened_of t)) bytes) (ends_of t)
+pub data_ends : (t : Tables) (bytes : ℕ) (alignment : Option ℕ) → ends_of (with_data t bytes alignment) ≡ changed_at t.current (λ n. n + counted_in (current_section (opened_of t)) bytes) (ends_of t)
 data_ends t bytes alignment = changed_ends t.current bytes alignment t.extents
 
 -- there are as many of both as sections
@@ -194,7 +194,7 @@ grows_set t None = grows_same t t refl
 grows_set t (Some s) = grows_if (may_set t s.ordinal s.name s.meaning) t (record t { assignments = s ∷ t.assignments }) t (grows_same t (record t { assignments = s ∷ t.assignments }) refl) (grows_same t t refl)
 
 -- a new section has no bytes and the least alignment, as one that isn't open
-end_new : (t : Tables) (s : Section) (j : ℕ) → slice_index_or (ends_of (with_new t s)) j 0 ≡ slice_index_or (ends_of t) j 0
+pub end_new : (t : Tables) (s : Section) (j : ℕ) → slice_index_or (ends_of (with_new t s)) j 0 ≡ slice_index_or (ends_of t) j 0
 end_new t s j = ap (λ l. slice_index_or l j 0) (map-append (λ (e : Extent). e.bytes) t.extents (empty_extent s ∷ [])) ∙ one_more (ends_of t) 0 j
 
 pub alignment_new : (t : Tables) (s : Section) (j : ℕ) → slice_index_or (alignments_of (with_new t s)) j 1 ≡ slice_index_or (alignments_of t) j 1

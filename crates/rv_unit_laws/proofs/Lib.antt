@@ -8,3 +8,5 @@ pub mod OpenedLemmas
 pub mod SettledLemmas
 pub mod GrownLemmas
 pub mod AskedLemmas
+pub mod FewLemmas
+pub mod ShortLemmas

@@ -1,9 +1,10 @@
 -- The faults of labels and directives, and of instructions outside code; the first of them (GNU as,
 -- "Pseudo Ops", for what directives take).
 
-use Rattle.std.specs.Prelude.{ℕ, suc, ◌+◌, ◌^◌, Bool, true, false, not, ◌&&◌, ◌||◌, ◌==◌, nat_lt, nat_le, min, List, [], ◌∷◌, ◌++◌, length, flat_map, Option, Some, None, is_some, if◌then◌else◌}
+use Rattle.std.specs.Prelude.{ℕ, suc, ◌+◌, ◌^◌, Bool, true, false, not, ◌&&◌, ◌||◌, ◌==◌, nat_lt, nat_le, min, List, [], ◌∷◌, ◌++◌, length, drop, flat_map, Option, Some, None, is_some, if◌then◌else◌}
 use Rattle.rv_text_laws.specs.Codes.{duplicate_label, not_constant, immediate_range, wrong_section, option_stack, limit}
 use Rattle.rv_text_laws.specs.Values.{Value, Constant, Symbolic, Difference, Faulty}
+use Rattle.rv_statement.specs.Limits.{most_statements}
 use Rattle.rv_statement.specs.Statement.{StatementKind, Label, Numbered, Instruction, Directs, Statement, Expression, Directive, Enters, Opens, Sets, Chooses}
 use Rattle.rv_statement.specs.declared.directive.Choice.{Choice}
 use Rattle.rv_statement.specs.declared.directive.Choice.TheVariants.{Pop}
@@ -162,6 +163,12 @@ first_fault_from all t ordinal (s ∷ ss) =
     at_line s.line (lowest (faults all t ordinal s.kind))
     (first_fault_from all (after t ordinal s.kind) (suc ordinal) ss)
 
--- the first fault of a source's labels and directives
+-- statements that are too many: the first of them has the fault of the source
+abbrev pub past_most : List Statement → Option Fault → Option Fault
+past_most [] others = others
+past_most (s ∷ ss) others = Some (record { code = limit; line = s.line })
+
+-- the first fault of a source's labels and directives; before them all, that it has too many
+-- statements
 abbrev pub first_fault : List Statement → Option Fault
-first_fault ss = first_fault_from (tables ss) at_start 1 ss
+first_fault ss = past_most (drop most_statements ss) (first_fault_from (tables ss) at_start 1 ss)

@@ -303,11 +303,11 @@ abbrev pub padding : Option ℕ → ℕ → ℕ
 padding None offset = 0
 padding (Some alignment) offset = aligned alignment offset - offset
 
--- the bytes that a contribution has at an offset of data: contents have all theirs; a count or an
--- alignment that is faulty, or does not fit, has none
+-- the bytes that a contribution has at an offset of data: none where they would pass the longest
+-- section, or where a count or an alignment is faulty
 abbrev pub contributed : (Expression → Value) → ℕ → Contribution → ℕ
 contributed v offset Nothing = 0
-contributed v offset (Bytes contents) = contents_size contents
+contributed v offset (Bytes contents) = within offset (contents_size contents)
 contributed v offset (Zero_bytes count) = within offset (or_none (counted (v count)))
 contributed v offset (Alignment form number) =
     within offset (padding (alignment_as form (v number)) offset)
