@@ -3,7 +3,8 @@
 
 use Rattle.std.specs.Prelude.{ℕ, ◌+◌, ◌*◌, ◌≤◌, List, [], ◌∷◌, length}
 use Rattle.rv_statement.specs.Statement.{Statement}
-use Rattle.rv_parse_laws.specs.Reading.{longest_source, most_statements}
+use Rattle.rv_statement.specs.Limits.{most_statements}
+use Rattle.rv_parse_laws.specs.Reading.{longest_source}
 use Rattle.rv_assemble_laws.specs.ShownNames.{said_names}
 
 -- the bytes of names, and one more for each, as a table of strings has them (gABI, "String Table")
