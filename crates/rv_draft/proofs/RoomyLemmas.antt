@@ -158,8 +158,9 @@ module _ (all t : Tables) (k begins offset : ℕ) (own : CodeSize) (low : offset
       let last = none_left (faulty_if (home.executable || is_nobits home) 15) (past_section home.executable (here t).offset (width * length values)) later.1 in
       let other = (or_parts home.executable (is_nobits home) (no_test (home.executable || is_nobits home) 15 last.0)).0 in
       let fits = past_fits home.executable (here t).offset (width * length values) other last.1 in
+      let same : data_bytes first (here t).offset (Values width values) ≡ width * length values = within_fits (here t).offset (width * length values) fits in
       let less = before other in
-      put_here (Values width values) other refl (omega (arith, fits)) fits (λ n h. omega (arith, h, less))
+      put_here (Values width values) other refl (omega (arith, fits)) (omega (arith, same, fits)) (λ n h. omega (arith, h, same, less))
 
   strings_here : (ended : Bool) (strings : List (List ℕ)) → directive_faults all t k (Strings ended strings) ≡ [] → Here (Directs (Strings ended strings))
   strings_here ended strings none =
@@ -167,8 +168,9 @@ module _ (all t : Tables) (k begins offset : ℕ) (own : CodeSize) (low : offset
       let last = none_left (faulty_if (home.executable || is_nobits home) 15) (past_section home.executable (here t).offset count) none in
       let other = (or_parts home.executable (is_nobits home) (no_test (home.executable || is_nobits home) 15 last.0)).0 in
       let fits = past_fits home.executable (here t).offset count other last.1 in
+      let same : data_bytes first (here t).offset (Strings ended strings) ≡ count = within_fits (here t).offset count fits in
       let less = before other in
-      put_here (Strings ended strings) other refl (omega (arith, fits)) fits (λ n h. omega (arith, h, less))
+      put_here (Strings ended strings) other refl (omega (arith, fits)) (omega (arith, same, fits)) (λ n h. omega (arith, h, same, less))
 
   zeros_here : (count : Expression) → directive_faults all t k (Zeros count) ≡ [] → Here (Directs (Zeros count))
   zeros_here count none =

@@ -5,6 +5,7 @@ use Rattle.std.specs.Prelude.{⊤}
 use Rattle.rv_statement.specs.Statement.{Statement}
 use Rattle.rv_unit_laws.specs.Tables.{Tables, at_start, after, after_all, tables}
 use Rattle.rv_unit_laws.specs.Faults.{faults, lowest, first_fault_from, first_fault}
+use Rattle.rv_unit_laws.proofs.FewLemmas.{no_fault_from}
 use Rattle.rv_unit.specs.Unit.{passed}
 use Rattle.rv_source_laws.proofs.HeldLemmas.{no_lowest, no_fault}
 
@@ -20,7 +21,7 @@ sound_from all k t (s ∷ ss) e =
     (no_lowest (faults all t k s.kind) parts.0, sound_from all (suc k) (after t k s.kind) ss parts.1)
 
 pub sound : (ss : List Statement) → first_fault ss ≡ None → AreSound (tables ss) 1 at_start ss
-sound ss e = sound_from (tables ss) 1 at_start ss e
+sound ss e = sound_from (tables ss) 1 at_start ss (no_fault_from ss e)
 
 sound_left : (all : Tables) (k : ℕ) (t : Tables) (ss : List Statement) (i : ℕ) (s : Statement) (rest : List Statement) → drop i ss ≡ s ∷ rest → AreSound all k t ss
     → faults all (after_all t k (take i ss)) (i + k) s.kind ≡ []

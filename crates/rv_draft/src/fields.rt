@@ -44,27 +44,18 @@ pub(crate) struct Choices {
 
 // ---- one field
 
-/// The field of a kind at a place, by what it takes. Ordinals have 32 bits, since more statements
-/// need more memory than there is.
-fn taking<'a>(
-    section: u32,
-    place: u32,
-    kind: Kind,
-    found: Reference<'a>,
-) -> Result<OpenField<'a>, SourceFault>
-    ensures { IfOk result (λ f. field_of f ≡ field_at section place (open_of kind found.entry)) }
+/// The field of a kind at a place, by what it takes.
+fn taking<'a>(section: u32, place: u32, kind: Kind, found: Reference<'a>) -> OpenField<'a>
+    ensures { field_of result ≡ field_at section place (open_of kind found.entry) }
 {
-    if found.ordinal >= 1 << 32 {
-        return Err(SourceFault::OutOfMemory);
-    }
-    Ok(OpenField {
+    OpenField {
         section,
         place,
         kind,
-        ordinal: found.ordinal as u32,
+        ordinal: found.ordinal,
         symbol: Some(found.symbol),
         addend: found.addend,
-    })
+    }
 }
 
 /// Adds a field.
@@ -90,7 +81,7 @@ fn put_found<'a>(
 {
     match found {
         Some(found) => {
-            let field = taking(section, place, kind, found)?;
+            let field = taking(section, place, kind, found);
             push(fields, field)?;
             Ok(())
         }
@@ -109,8 +100,7 @@ fn put_field<'a>(
     ensures { OnOk result (AtOwn spot.now (λ index. AddsAt spot.now place fields.old.items
         fields.new.items (own_opens spot.now index (statement_kind (statement.now).kind) kind))) }
 {
-    let ordinal = spot.ordinal as usize;
-    let found = open_field(statement, spot.scope, spot.place, ordinal, kind);
+    let found = open_field(statement, spot.scope, spot.place, spot.ordinal, kind);
     put_found(fields, spot.place.section, place, kind, found)
 }
 

@@ -152,7 +152,7 @@ pub fn near_forms(kind: &StatementKind<'_>, compressed: bool) -> Option<Forms>
 // ---- where they lead
 
 /// The section of the statement of an ordinal.
-fn section_at(places: &[SectionOffset], ordinal: usize) -> Option<u32>
+fn section_at(places: &[SectionOffset], ordinal: u32) -> Option<u32>
     ensures is { result ≡ laws.section_in places.now ordinal }
     ensures some { IfSome result (λ _. 1 ≤ ordinal) }
     ensures inside { IfSome result (λ _. ordinal ≤ length places.now) }
@@ -160,7 +160,7 @@ fn section_at(places: &[SectionOffset], ordinal: usize) -> Option<u32>
     if ordinal == 0 {
         return None;
     }
-    match places.get(ordinal - 1) {
+    match places.get((ordinal - 1) as usize) {
         Some(place) => Some(place.section),
         None => None,
     }
@@ -213,7 +213,7 @@ fn leading(
             Item {
                 addend: addend(plus),
                 section,
-                target: (definition.ordinal - 1) as u32,
+                target: definition.ordinal - 1,
                 forms,
             }
         }

@@ -29,7 +29,7 @@ use rv_unit::{Definition, Scope, SectionOffset};
 #[derive(Clone, Copy, Debug, PartialEq, Eq, Drop)]
 pub struct Reference<'a> {
     /// The ordinal of the statement, from 1.
-    pub ordinal: usize,
+    pub ordinal: u32,
     /// The symbol.
     pub symbol: Symbol<'a>,
     /// What is added.
@@ -67,7 +67,7 @@ fn is_low_part(kind: &Kind) -> bool
 }
 
 /// The address of a symbol with the constant beside it.
-fn to_symbol<'a>(ordinal: usize, value: &Outcome<'a>) -> Option<Reference<'a>>
+fn to_symbol<'a>(ordinal: u32, value: &Outcome<'a>) -> Option<Reference<'a>>
     ensures { (k : SpecKind) → ForValue value.now (λ v.
         laws.opens_of k result ≡ fields.symbol_field k ordinal v) }
 {
@@ -82,7 +82,7 @@ fn to_symbol<'a>(ordinal: usize, value: &Outcome<'a>) -> Option<Reference<'a>>
 }
 
 /// The low part of the distance that the statement of an ordinal has the upper part of.
-fn to_low<'a>(ordinal: usize, plus: u64) -> Option<Reference<'a>>
+fn to_low<'a>(ordinal: u32, plus: u64) -> Option<Reference<'a>>
     ensures { (k : SpecKind) → laws.opens_of k result ≡ fields.low_field k ordinal plus }
 {
     Some(Reference {
@@ -118,7 +118,7 @@ fn to_label<'a>(scope: &Scope<'_, 'a>, value: &Outcome<'a>) -> Option<Reference<
 /// What a field takes with a function of a value, in the statement of an ordinal, which is next.
 fn to_function<'a>(
     scope: &Scope<'_, 'a>,
-    ordinal: usize,
+    ordinal: u32,
     function: Function,
     value: &Outcome<'a>,
 ) -> Option<Reference<'a>>
@@ -137,7 +137,7 @@ fn to_function<'a>(
 /// What a field of a kind takes with an expression, in the statement of an ordinal.
 fn to_value<'a>(
     is_target: bool,
-    ordinal: usize,
+    ordinal: u32,
     kind: Kind,
     value: &Outcome<'a>,
 ) -> Option<Reference<'a>>
@@ -157,7 +157,7 @@ pub fn open_field<'a>(
     statement: &Statement<'a>,
     scope: &Scope<'_, 'a>,
     place: SectionOffset,
-    ordinal: usize,
+    ordinal: u32,
     kind: Kind,
 ) -> Option<Reference<'a>>
     ensures { AtNext scope.now (λ index. ordinal ≡ index + 1 → laws.opens_of kind result

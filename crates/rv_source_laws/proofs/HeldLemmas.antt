@@ -11,6 +11,7 @@ use Rattle.rv_unit_laws.specs.Tables.{Tables, at_start, here, value, counted, co
 use Rattle.rv_unit_laws.specs.Faults.{Fault, faulty_if, lowest, at_line, size_faults, contents_faults, past_section, contribution_faults, directive_faults, faults, first_fault_from, first_fault}
 use Rattle.rv_source_laws.specs.Located.{Located, located_from}
 use Rattle.rv_unit_laws.proofs.OpenedLemmas.{after_opened}
+use Rattle.rv_unit_laws.proofs.FewLemmas.{no_fault_from}
 
 -- instructions stand in sections of code that have bytes in the file, data in others, and those with bytes in the file in sections that have some
 abbrev pub ContributionHeld : Section → Contribution → Type 0
@@ -118,4 +119,4 @@ held_from all file k t (s ∷ ss) e =
 
 -- those of a source
 pub all_held : (ss : List Statement) → first_fault ss ≡ None → AllByRecursion Held (located_from 1 1 at_start ss)
-all_held ss e = held_from (tables ss) 1 1 at_start ss e
+all_held ss e = held_from (tables ss) 1 1 at_start ss (no_fault_from ss e)

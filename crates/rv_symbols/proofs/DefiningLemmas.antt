@@ -12,6 +12,7 @@ use Rattle.rv_statement.specs.Statement.{StatementKind, Label, Numbered, Instruc
 use Rattle.rv_unit_laws.specs.Tables as laws
 use Rattle.rv_unit_laws.specs.Tables.{Tables, Labelled, Assignment, at_start, tables, definition_at, label_of, assigned_ever, assigned_before, is_location}
 use Rattle.rv_unit_laws.specs.Faults.{first_fault}
+use Rattle.rv_unit_laws.proofs.FewLemmas.{no_fault_from}
 use Rattle.rv_unit_laws.proofs.FoundLemmas.{same_bytes, bytes_same, and_both}
 use Rattle.rv_unit_laws.proofs.BeforeLemmas.{before_start}
 use Rattle.rv_source_laws.specs.Located.{located_from}
@@ -121,7 +122,7 @@ module _ (ss : List Statement) (sites : List Site) (located : map (λ s. s.locat
     Gives d s kind = AllByRecursion (λ n. bytes_eq n name ≡ true → Own d (site_definition t sites s kind)) (defined_name t s.located.ordinal kind)
 
     founds : AllByRecursion (IsFound name t) sites
-    founds = labels_found name t 1 at_start ss sites located free (before_start 1) refl
+    founds = labels_found name t 1 at_start ss sites located (no_fault_from ss free) (before_start 1) refl
 
     found_label : (i : ℕ) (s : Site) (n : List ℕ) → slice_get sites i ≡ Some s → s.located.kind ≡ Label n → bytes_eq n name ≡ true → (l : Labelled) × (label_of t.labels true 0 name ≡ Some l) × (l.ordinal ≡ s.located.ordinal)
     found_label i s n at is f = all_index (IsFound name t) sites i s at founds n is f

@@ -124,7 +124,7 @@ impl<'i, 'u, 'a> Indices<'i, 'u, 'a> {
     }
 
     /// The index of the symbol without a name where the statement of this ordinal stands.
-    fn place_number(&self, ordinal: usize) -> u32
+    fn place_number(&self, ordinal: u32) -> u32
         ensures { (sites : List Site) (own : List SaidSymbol) (names : List (List ℕ))
             → IsSource (self.now).source.now sites → AreIndices self.now own names
             → result ≡ place_number own (site_at sites ordinal) }
@@ -132,7 +132,7 @@ impl<'i, 'u, 'a> Indices<'i, 'u, 'a> {
         if ordinal == 0 {
             return 0;
         }
-        match self.source.place(ordinal - 1) {
+        match self.source.place((ordinal - 1) as usize) {
             Some(place) => self.places.get(&place).copied().unwrap_or(0),
             None => 0,
         }

@@ -50,7 +50,7 @@ impl<'a> FirstSettings<'a> {
             → AreFirsts (self.new).ordinals (assignment_of setting.now ∷ assignments)) }
     {
         let other = self.ordinals.get(&setting.name).copied();
-        let first = least(setting.ordinal, other);
+        let first = least(setting.ordinal as usize, other);
         self.ordinals.insert(setting.name, first)?;
         Ok(())
     }

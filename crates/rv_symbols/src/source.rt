@@ -138,7 +138,7 @@ impl<'u, 'a> Source<'u, 'a> {
     {
         match assignment.meaning {
             Meaning::Constant(number) => Definition::Absolute(number),
-            Meaning::InSection(_, _) => self.after(assignment.ordinal, assignment.plus),
+            Meaning::InSection(_, _) => self.after(assignment.ordinal as usize, assignment.plus),
             _ => Definition::Skipped(0),
         }
     }

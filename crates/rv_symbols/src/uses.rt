@@ -61,7 +61,7 @@ fn definition<'a>(scope: &Scope<'_, 'a>, symbol_use: &SymbolUse<'a>) -> Option<D
 {
     if is_here(symbol_use.symbol) {
         return Some(Definition {
-            ordinal: symbol_use.ordinal as usize,
+            ordinal: symbol_use.ordinal,
             plus: 0,
         });
     }
@@ -118,10 +118,10 @@ fn mark(meant: &mut Vec<bool>, symbol: Symbol<'_>, definition: Option<Definition
     let Some(definition) = definition else {
         return;
     };
-    if definition.ordinal == 0 || definition.ordinal > meant.len() {
+    if definition.ordinal == 0 || definition.ordinal as usize > meant.len() {
         return;
     }
-    meant[definition.ordinal - 1] = true;
+    meant[(definition.ordinal - 1) as usize] = true;
 }
 
 /// The statements, so many, that uses without a name mean.

@@ -8,6 +8,7 @@ use Rattle.std.proofs.lemmas.Bool.{eqb-true, lt-ltb, ltb-true, ltb-false, and_pa
 use Rattle.rv_statement.specs.Statement.{StatementKind, Label, Directs, Statement, Sets}
 use Rattle.rv_unit_laws.specs.Tables.{Tables, Labelled, Assignment, at_start, tables, label_of, assigned_ever, assigned_before}
 use Rattle.rv_unit_laws.specs.Faults.{first_fault}
+use Rattle.rv_unit_laws.proofs.FewLemmas.{no_fault_from}
 use Rattle.rv_unit_laws.proofs.FoundLemmas.{same_bytes, bytes_same}
 use Rattle.rv_unit_laws.proofs.BeforeLemmas.{before_start}
 use Rattle.rv_source_laws.specs.Located.{located_from}
@@ -102,7 +103,7 @@ module _ (ss : List Statement) (sites : List Site) (located : map (λ s. s.locat
   t = tables ss
 
   founds : AllByRecursion (IsFound name t) sites
-  founds = labels_found name t 1 at_start ss sites located free (before_start 1) refl
+  founds = labels_found name t 1 at_start ss sites located (no_fault_from ss free) (before_start 1) refl
 
   -- the label that is found for it
   label_at : (i : ℕ) (s : Site) → slice_get sites i ≡ Some s → s.located.kind ≡ Label name → (l : Labelled) × (label_of t.labels true 0 name ≡ Some l) × (l.ordinal ≡ s.located.ordinal)

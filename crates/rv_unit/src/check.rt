@@ -5,6 +5,7 @@
 
 ghost use Rattle.std.specs.Prelude.{◌≡◌, ℕ, ◌+◌, ◌<◌, ◌≤◌, ◌^◌, ◌-◌, List, Some, flat_map, map, true, length, option_map};
 ghost use Rattle.rv_text.specs.Expr.{tree_of_expr};
+ghost use Rattle.rv_statement.specs.Limits.{most_statements};
 ghost use Rattle.rv_statement.specs.Statement.{Operand as SpecOperand, Instruction, Label, Directs, Zeros, Aligns_to_power, Aligns_to_bytes, Values, Strings};
 ghost use Rattle.rv_statement.specs.declared.mnemonic.Mnemonic.{Mnemonic as SpecMnemonic};
 ghost use Rattle.rv_statement.specs.View.{bytes_of, quoted, setting_of, statement_kind};
@@ -42,11 +43,19 @@ fn depth_after(depth: usize, kind: &StatementKind<'_>) -> usize
     }
 }
 
+/// The ordinal of the statement at an index.
+fn ordinal_of(index: usize) -> u32
+    requires { index < most_statements }
+    ensures { result ≡ index + 1 }
+{
+    index as u32 + 1
+}
+
 impl<'a> Unit<'a> {
     /// The fault of a `.set`.
     fn fault_of_assignment(
         &self,
-        ordinal: usize,
+        ordinal: u32,
         place: SectionOffset,
         assignment: &Setting<'a>,
     ) -> Option<SourceCode>
@@ -66,7 +75,7 @@ impl<'a> Unit<'a> {
     /// The fault of a count of zero bytes.
     fn fault_of_zeros(
         &self,
-        ordinal: usize,
+        ordinal: u32,
         place: SectionOffset,
         count: &Expr<'a>,
     ) -> Option<SourceCode>
@@ -82,7 +91,7 @@ impl<'a> Unit<'a> {
     /// The fault of an alignment to a power of two.
     fn fault_of_power(
         &self,
-        ordinal: usize,
+        ordinal: u32,
         place: SectionOffset,
         exponent: &Expr<'a>,
     ) -> Option<SourceCode>
@@ -107,7 +116,7 @@ impl<'a> Unit<'a> {
     /// The fault of an alignment in bytes.
     fn fault_of_bytes(
         &self,
-        ordinal: usize,
+        ordinal: u32,
         place: SectionOffset,
         bytes: &Expr<'a>,
     ) -> Option<SourceCode>
@@ -131,7 +140,7 @@ impl<'a> Unit<'a> {
     /// The fault of the values of data, one by one.
     fn fault_of_each(
         &self,
-        ordinal: usize,
+        ordinal: u32,
         place: SectionOffset,
         width: Width,
         values: &[Expr<'a>],
@@ -153,7 +162,7 @@ impl<'a> Unit<'a> {
     /// The fault of values of data.
     fn fault_of_values(
         &self,
-        ordinal: usize,
+        ordinal: u32,
         place: SectionOffset,
         width: Width,
         values: &[Expr<'a>],
@@ -190,7 +199,7 @@ impl<'a> Unit<'a> {
     }
 
     /// The fault of a label: its name is defined before.
-    fn fault_of_label(&self, ordinal: usize, name: &[u8]) -> Option<SourceCode>
+    fn fault_of_label(&self, ordinal: u32, name: &[u8]) -> Option<SourceCode>
         ensures { (index : ℕ) (p : SectionOffsetOf) → IsStatementOf self.now index ordinal p (Label name.now)
             → IsLowest result (faults_at self.now index (Label name.now)) }
     {
@@ -225,7 +234,7 @@ impl<'a> Unit<'a> {
     /// The fault of a statement of an ordinal, at the offset where it stands, after so many pushes without their pop.
     fn fault(
         &self,
-        ordinal: usize,
+        ordinal: u32,
         place: SectionOffset,
         depth: usize,
         kind: &StatementKind<'a>,
@@ -278,7 +287,7 @@ impl<'a> Unit<'a> {
         for index in 0..statements.len() {
             let statement = &statements[index];
             let place = places[index];
-            match self.fault(index + 1, place, depth, &statement.kind) {
+            match self.fault(ordinal_of(index), place, depth, &statement.kind) {
                 Some(code) => return Some((code, statement.line)),
                 None => depth = depth_after(depth, &statement.kind),
             }

@@ -23,12 +23,7 @@ use rv_unit_tables::SectionOffset;
 
 impl<'a> Unit<'a> {
     /// What a symbol means in the statement of an ordinal, which stands at the offset.
-    pub(crate) fn meaning(
-        &self,
-        ordinal: usize,
-        place: SectionOffset,
-        symbol: Symbol<'_>,
-    ) -> Meaning
+    pub(crate) fn meaning(&self, ordinal: u32, place: SectionOffset, symbol: Symbol<'_>) -> Meaning
         ensures { (o : ℕ) → IsFilled self.now → ordinal ≡ o →
             meaning_of result
             ≡ laws.meaning (laws.tables (said self.now)) true o (offset_of place)
@@ -45,7 +40,7 @@ impl<'a> Unit<'a> {
     /// The value of an expression of that statement; a fault has this line.
     pub(crate) fn value<'e>(
         &self,
-        ordinal: usize,
+        ordinal: u32,
         place: SectionOffset,
         expression: &Expr<'e>,
         line: u32,
@@ -63,7 +58,7 @@ impl<'a> Unit<'a> {
     }
 
     /// What a name means.
-    fn named(&self, ordinal: usize, name: &[u8]) -> Meaning
+    fn named(&self, ordinal: u32, name: &[u8]) -> Meaning
         ensures { IsIndexed (self.now).tables → (o : ℕ) →
             IsBefore (tables_of (self.now).tables) o →
             meaning_of result ≡ laws.named (tables_of (self.now).tables) true ordinal name.now }
@@ -106,7 +101,7 @@ impl<'a> Unit<'a> {
     }
 
     /// What the nearest numeric label before means.
-    fn backward(&self, ordinal: usize, digits: &[u8]) -> Meaning
+    fn backward(&self, ordinal: u32, digits: &[u8]) -> Meaning
         ensures { IsIndexed (self.now).tables → (o : ℕ) →
             IsBefore (tables_of (self.now).tables) o →
             meaning_of result
@@ -121,7 +116,7 @@ impl<'a> Unit<'a> {
     }
 
     /// What the nearest numeric label after means.
-    fn forward(&self, ordinal: usize, digits: &[u8]) -> Meaning
+    fn forward(&self, ordinal: u32, digits: &[u8]) -> Meaning
         ensures { IsIndexed (self.now).tables → (o : ℕ) →
             IsBefore (tables_of (self.now).tables) o →
             meaning_of result
@@ -138,7 +133,7 @@ impl<'a> Unit<'a> {
     /// What a symbol means in the statement of an ordinal, which stands at the offset, where later definitions do not count.
     pub(crate) fn early_meaning(
         &self,
-        ordinal: usize,
+        ordinal: u32,
         place: SectionOffset,
         symbol: Symbol<'_>,
     ) -> Meaning
@@ -158,7 +153,7 @@ impl<'a> Unit<'a> {
     /// The value of an expression of that statement, where later definitions do not count.
     pub(crate) fn early_value(
         &self,
-        ordinal: usize,
+        ordinal: u32,
         place: SectionOffset,
         expression: &Expr<'a>,
     ) -> Result<Value<'a>, SourceFault>
@@ -175,7 +170,7 @@ impl<'a> Unit<'a> {
     }
 
     /// What a name means by what is defined before.
-    fn early_named(&self, ordinal: usize, name: &[u8]) -> Meaning
+    fn early_named(&self, ordinal: u32, name: &[u8]) -> Meaning
         ensures { IsIndexed (self.now).tables → (o : ℕ) →
             IsBefore (tables_of (self.now).tables) o →
             meaning_of result ≡ laws.named (tables_of (self.now).tables) false ordinal name.now }
@@ -187,7 +182,7 @@ impl<'a> Unit<'a> {
     }
 
     /// What a name means that is not set before.
-    fn early_labelled(&self, ordinal: usize, name: &[u8]) -> Meaning
+    fn early_labelled(&self, ordinal: u32, name: &[u8]) -> Meaning
         ensures { IsIndexed (self.now).tables → (o : ℕ) →
             IsBefore (tables_of (self.now).tables) o →
             meaning_of result
@@ -201,7 +196,7 @@ impl<'a> Unit<'a> {
     }
 
     /// What a numeric label after means: no constant, if there is one.
-    fn early_forward(&self, ordinal: usize, digits: &[u8]) -> Meaning
+    fn early_forward(&self, ordinal: u32, digits: &[u8]) -> Meaning
         ensures { IsIndexed (self.now).tables → (o : ℕ) →
             IsBefore (tables_of (self.now).tables) o →
             meaning_of result
@@ -216,7 +211,7 @@ impl<'a> Unit<'a> {
     }
 
     /// Whether a label or an assignment has the name before an ordinal.
-    pub(crate) fn is_defined_before(&self, ordinal: usize, name: &[u8]) -> bool
+    pub(crate) fn is_defined_before(&self, ordinal: u32, name: &[u8]) -> bool
         ensures { IsIndexed (self.now).tables → (o : ℕ) → IsBefore (tables_of (self.now).tables) o
             → result ≡ laws.is_defined (tables_of (self.now).tables) ordinal name.now }
     {
@@ -225,7 +220,7 @@ impl<'a> Unit<'a> {
     }
 
     /// Whether a label or a location has the name before an ordinal.
-    pub(crate) fn has_location_before(&self, ordinal: usize, name: &[u8]) -> bool
+    pub(crate) fn has_location_before(&self, ordinal: u32, name: &[u8]) -> bool
         ensures { IsIndexed (self.now).tables → (o : ℕ) → IsBefore (tables_of (self.now).tables) o
             → result
             ≡ (is_some (laws.label_of (tables_of (self.now).tables).labels false ordinal name.now)
@@ -242,7 +237,7 @@ impl<'a> Unit<'a> {
     }
 
     /// What a symbol means in the statement of an ordinal by the statements before it alone, where nothing comes after it.
-    fn past_meaning(&self, ordinal: usize, place: SectionOffset, symbol: Symbol<'_>) -> Meaning
+    fn past_meaning(&self, ordinal: u32, place: SectionOffset, symbol: Symbol<'_>) -> Meaning
         ensures { (index : ℕ) → IsFilled self.now → index ≤ length (said self.now) →
             ordinal ≡ index + 1 →
             place.section < length (laws.opened_of (passed (said self.now) index)).sections
@@ -259,7 +254,7 @@ impl<'a> Unit<'a> {
     /// The value of an expression of that statement by the statements before it alone.
     pub(crate) fn past_value(
         &self,
-        ordinal: usize,
+        ordinal: u32,
         place: SectionOffset,
         expression: &Expr<'a>,
     ) -> Result<Value<'a>, SourceFault>

@@ -20,7 +20,7 @@ use rv_unit_tables::{Assignment, Definition, NumericLabel, SectionOffset, assign
 pub struct Scope<'u, 'a> {
     pub(crate) unit: &'u Unit<'a>,
     /// The ordinal of the statement that is next.
-    pub(crate) ordinal: usize,
+    pub(crate) ordinal: u32,
 }
 
 /// Where a numeric label stands.
@@ -30,7 +30,7 @@ fn definition_of_numeric_label(numeric_label: Option<NumericLabel>) -> Option<De
 {
     match numeric_label {
         Some(numeric_label) => Some(Definition {
-            ordinal: numeric_label.ordinal as usize,
+            ordinal: numeric_label.ordinal,
             plus: 0,
         }),
         None => None,
@@ -179,7 +179,7 @@ impl<'u, 'a> Scope<'u, 'a> {
         ensures passes { (index : ℕ) → index < length (said (self.old).unit.now) →
             IsScope self.old index → IsScope self.new (index + 1) }
     {
-        if self.ordinal <= self.unit.statements.len() {
+        if self.ordinal as usize <= self.unit.statements.len() {
             self.ordinal += 1;
         }
     }

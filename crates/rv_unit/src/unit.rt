@@ -1,15 +1,16 @@
 //! A source's statements with what they define.
 
-ghost use Rattle.std.specs.Prelude.{◌≡◌, ◌<◌, None, length, map, option_map, IfOk, IfErr};
+ghost use Rattle.std.specs.Prelude.{◌≡◌, ◌<◌, ◌≤◌, Some, None, length, map, option_map, IfOk, IfErr, IfSome, IfNone};
+ghost use Rattle.rv_text_laws.specs.Codes.{limit};
+ghost use Rattle.rv_statement.specs.Limits.{most_statements};
 ghost use Rattle.rv_statement.specs.View.{statement_of};
 ghost use Rattle.rv_unit_laws.specs.Faults.{first_fault};
 ghost use Rattle.rv_unit_laws.specs.Tables.{assigned_ever, binding_of};
 ghost use Rattle.rv_unit_tables.specs.Options.{options_of};
 ghost use Rattle.rv_unit_tables.specs.Tables.{tables_of, assignment_of};
-ghost use Rattle.rv_unit.specs.Unit.{said, passed, IsFilled, NamesFirst};
 
-use rv_statement::Statement;
-use rv_text::SourceFault;
+use rv_statement::{MOST_STATEMENTS, Statement};
+use rv_text::{SourceCode, SourceFault};
 use rv_unit_tables::{Assignment, Binding, Extent, Options, SectionOffset, Tables};
 use std::alloc::{AllocError, Global};
 
@@ -20,11 +21,28 @@ pub struct Unit<'a> {
     pub(crate) places: Vec<SectionOffset>,
     pub(crate) options: Vec<Options>,
     pub(crate) tables: Tables<'a>,
+    /// No more than a source may have.
+    pub ghost few: { length statements.items ≤ most_statements },
+}
+
+/// The line of the first statement that is too many.
+fn line_past_most(statements: &[Statement<'_>]) -> Option<u32>
+    ensures past { IfSome result
+        (λ line. first_fault (map statement_of statements.now)
+        ≡ Some (record { code = limit; line = line })) }
+    ensures few { IfNone result (length statements.now ≤ most_statements) }
+{
+    if statements.len() <= MOST_STATEMENTS {
+        return None;
+    }
+    Some(statements[MOST_STATEMENTS].line)
 }
 
 impl<'a> Unit<'a> {
-    /// The statements with their offsets, their sections and their names; or the first faulty label or directive, or
-    /// instruction outside code, at the line of its statement.
+    ghost use Rattle.rv_unit.specs.Unit.{said, passed, IsFilled, NamesFirst};
+
+    /// The statements with their offsets, their sections and their names; or that there are too many of them, or the
+    /// first faulty label or directive, or instruction outside code, at the line of its statement.
     pub fn build(alloc: Global, statements: Vec<Statement<'a>>) -> Result<Unit<'a>, SourceFault>
         ensures filled { IfOk result (λ u. IsFilled u) }
         ensures same { IfOk result (λ u. u.statements ≡ statements.entry) }
@@ -32,6 +50,12 @@ impl<'a> Unit<'a> {
         ensures refuses { IfErr result
             (λ e. NamesFirst e (map statement_of (statements.entry).items)) }
     {
+        if let Some(line) = line_past_most(&statements) {
+            return Err(SourceFault::At {
+                code: SourceCode::Limit,
+                line,
+            });
+        }
         let unit = Unit::fill(alloc, statements)?;
         match unit.first_fault() {
             None => Ok(unit),
@@ -41,6 +65,7 @@ impl<'a> Unit<'a> {
 
     /// The statements with their offsets, their sections and their names.
     fn fill(alloc: Global, statements: Vec<Statement<'a>>) -> Result<Unit<'a>, AllocError>
+        requires { length statements.items ≤ most_statements }
         ensures filled { IfOk result (λ u. IsFilled u) }
         ensures same { IfOk result (λ u. u.statements ≡ statements.entry) }
     {

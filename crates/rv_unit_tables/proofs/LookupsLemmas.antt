@@ -7,7 +7,7 @@ use Rattle.std.specs.List.{find, list_all}
 use Rattle.std.specs.Map.{lookup}
 use Rattle.std.specs.Str.{bytes_eq}
 use Rattle.std.proofs.lemmas.List.{reverse-append, map-append, length-map}
-use Rattle.std.proofs.lemmas.Bool.{leb-true, and_parts}
+use Rattle.std.proofs.lemmas.Bool.{leb-true, leb-false, and_parts}
 use Rattle.rv_text_laws.specs.Values.{Meaning, Known, InSection, Open, Refused}
 use Rattle.std.proofs.lemmas.List.Folds.{list_all-append}
 use Rattle.rv_unit_laws.specs.Sections.{Section, place_of_name}
@@ -175,6 +175,11 @@ bytes_found [] i e w d inside is = absurd (omega arith)
 bytes_found (x ∷ xs) zero e w d inside is = ap (λ (y : Extent). y.bytes) is
 bytes_found (x ∷ xs) (suc i) e w d inside is = bytes_found xs i e w d (omega arith) is
 
+pub bytes_here : (es : List Extent) (i : ℕ) (e : Extent) → i < length es → e ≡ get_or es i e → e.bytes ≡ slice_index_or (map (λ (x : laws.Extent). x.bytes) (map extent_of es)) i 0
+bytes_here [] i e inside is = absurd (omega arith)
+bytes_here (x ∷ xs) zero e inside is = ap (λ (y : Extent). y.bytes) is
+bytes_here (x ∷ xs) (suc i) e inside is = bytes_here xs i e (omega arith) is
+
 -- data at the end of the current section
 abbrev as_extent : Section → ℕ → ℕ → laws.Extent
 as_extent section bytes alignment = record { section = section; bytes = bytes; alignment = alignment }
@@ -198,13 +203,21 @@ pub extend_past : (es : List Extent) (n bytes : ℕ) (a : Option ℕ) → length
 extend_past es n bytes a past = sym (changed_past n (laws.extended bytes a) (map extent_of es) (omega (arith, past, length-map es extent_of)))
 
 -- past the longest section nothing fits
-pub past_all : (offset bytes : ℕ) → laws.longest_section < offset → 0 ≡ laws.within offset bytes
+past_all : (offset bytes : ℕ) → laws.longest_section < offset + bytes → laws.within offset bytes ≡ 0
 past_all offset bytes past = by (nat_le (offset + bytes) laws.longest_section) refl
   where
-    by : (b : Bool) → nat_le (offset + bytes) laws.longest_section ≡ b → 0 ≡ (if b then bytes else 0)
-    by true e = absurd (let l : offset + bytes ≤ laws.longest_section = leb-true (offset + bytes) laws.longest_section e in omega arith)
+    by : (b : Bool) → nat_le (offset + bytes) laws.longest_section ≡ b → (if b then bytes else 0) ≡ 0
+    by true e = absurd (let l : offset + bytes ≤ laws.longest_section = leb-true (offset + bytes) laws.longest_section e in omega (arith, l, past))
     by false e = refl
 
--- a size that is not the greatest number was not cut
-pub not_cut : (size bytes : ℕ) → size ≡ min bytes (2 ^ 64 - 1) → (size ≡ 2 ^ 64 - 1 → ⊥) → size ≡ bytes
-not_cut size bytes is less = omega (arith, less)
+-- a size that a number can't show doesn't fit, and neither does the greatest number
+pub within_cut : (offset size bytes : ℕ) → size ≡ min bytes (2 ^ 64 - 1) → laws.within offset size ≡ laws.within offset bytes
+within_cut offset size bytes is = by (nat_le bytes (2 ^ 64 - 1)) refl
+  where
+    by : (b : Bool) → nat_le bytes (2 ^ 64 - 1) ≡ b → laws.within offset size ≡ laws.within offset bytes
+    by true e = let l = leb-true bytes (2 ^ 64 - 1) e in ap (laws.within offset) (let same : size ≡ bytes = omega (arith, is, l) in same)
+    by false e =
+        let l = leb-false bytes (2 ^ 64 - 1) e in
+        let far : laws.longest_section < offset + size = omega (arith, is, l) in
+        let farther : laws.longest_section < offset + bytes = omega (arith, l) in
+        past_all offset size far ∙ sym (past_all offset bytes farther)

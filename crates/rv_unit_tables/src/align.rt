@@ -1,6 +1,6 @@
 //! Counts, alignments and sizes, by the values of their expressions.
 
-ghost use Rattle.std.specs.Prelude.{◌≡◌, ◌≤◌, ◌*◌, ◌-◌, ◌^◌, min, length, map};
+ghost use Rattle.std.specs.Prelude.{◌≡◌, ◌≤◌, ◌+◌, ◌*◌, ◌-◌, ◌^◌, min, length, map};
 ghost use Rattle.rv_statement.specs.View.{bytes_of, quoted};
 ghost use Rattle.rv_text.specs.Eval.{IsOutcome};
 ghost use Rattle.rv_text_laws.specs.Values as values;
@@ -86,21 +86,18 @@ pub fn padding(alignment: Option<u32>, offset: u32) -> u64
     }
 }
 
-/// So many bytes at an offset, where they do not pass the longest section.
-pub(crate) fn fitting(offset: u32, bytes: u64) -> u64
-    ensures { result ≡ laws.within offset bytes }
+/// The end of so many bytes at an offset, where they do not pass the longest section; else the offset.
+pub(crate) fn end_within(offset: u32, bytes: u64) -> u32
+    ensures { result ≡ offset + laws.within offset bytes }
 {
     match u64::from(offset).checked_add(bytes) {
-        Some(end) => if end <= LONGEST_SECTION { bytes } else { 0 },
-        None => 0,
+        Some(end) => if end <= LONGEST_SECTION {
+            end as u32
+        } else {
+            offset
+        },
+        None => offset,
     }
-}
-
-/// The bytes from an offset to the next multiple of an alignment, where they do not pass the longest section.
-pub(crate) fn fitting_padding(alignment: Option<u32>, offset: u32) -> u64
-    ensures { result ≡ laws.within offset (laws.padding alignment offset) }
-{
-    fitting(offset, padding(alignment, offset))
 }
 
 /// The bytes of a value of data.

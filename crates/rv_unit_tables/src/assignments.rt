@@ -45,7 +45,7 @@ pub(crate) fn add_assigned<'a>(
 }
 
 /// How many of assignments, in their order, stand before an ordinal.
-fn count_before(assignments: &[Assignment<'_>], ordinal: usize) -> usize
+fn count_before(assignments: &[Assignment<'_>], ordinal: u32) -> usize
     ensures bound { result ≤ length assignments.now }
     ensures point { IsNonDecreasingBy (λ (s : AssignmentOf). s.ordinal) assignments.now →
         IsPartitionPoint (λ (s : AssignmentOf). s.ordinal < ordinal)
@@ -61,7 +61,7 @@ fn count_before(assignments: &[Assignment<'_>], ordinal: usize) -> usize
 /// The latest of assignments, in their order, that stands before an ordinal.
 pub(crate) fn latest_before<'a>(
     assignments: &[Assignment<'a>],
-    ordinal: usize,
+    ordinal: u32,
 ) -> Option<Assignment<'a>>
     ensures { IsNonDecreasingBy (λ (s : AssignmentOf). s.ordinal) assignments.now →
         result ≡ find (λ (s : AssignmentOf). nat_lt s.ordinal ordinal) (reverse assignments.now) }

@@ -4,13 +4,14 @@
 //! full tables. So a faulty statement has an effect too, or none, as a second label of a name. A statement stands where
 //! its section ends before it, but one that enters a section stands after that.
 
-ghost use Rattle.std.specs.Prelude.{◌≡◌, ℕ, false, option_map, map, OnOk, IfOk, IfSome};
+ghost use Rattle.std.specs.Prelude.{◌≡◌, ◌≤◌, ℕ, false, length, option_map, map, OnOk, IfOk, IfSome};
 ghost use Rattle.rv_text_laws.specs.Expression.{Primary, Here, Tree as Expression};
 ghost use Rattle.rv_text_laws.specs.Values as values;
 ghost use Rattle.rv_text_laws.specs.Values.{Symbolic, value_of};
 ghost use Rattle.rv_text.specs.Nodes.{symbol_of};
 ghost use Rattle.rv_text.specs.Expr.{tree_of_expr};
 ghost use Rattle.rv_text.specs.Eval.{meaning_of, value_told, IsOutcome};
+ghost use Rattle.rv_statement.specs.Limits.{most_statements};
 ghost use Rattle.rv_statement.specs.Statement.{Aligns_to_power, Aligns_to_bytes, Zeros};
 ghost use Rattle.rv_statement.specs.View.{statement_kind, opening_of, statement_of};
 ghost use Rattle.rv_unit_laws.specs.Sections.{entered_by};
@@ -20,9 +21,7 @@ ghost use Rattle.rv_unit_tables.specs.Options.{options_of};
 ghost use Rattle.rv_unit_tables.specs.Sections.{offset_of};
 ghost use Rattle.rv_unit_tables.specs.Tables.{tables_of, assignment_of, IsIndexed};
 
-use crate::align::{
-    byte_alignment, counted, fitting, fitting_padding, power_alignment, strings_size, values_size,
-};
+use crate::align::{byte_alignment, counted, padding, power_alignment, strings_size, values_size};
 use crate::options::Options;
 use crate::section::Section;
 use crate::section_offset::SectionOffset;
@@ -42,7 +41,7 @@ fn enters(kind: &StatementKind<'_>) -> bool
 /// What a symbol and a number give the name of a `.set`, where `.` means this: a location, if the symbol is `.` in data.
 fn assigned_symbol<'a>(
     here: Meaning,
-    ordinal: usize,
+    ordinal: u32,
     name: &'a [u8],
     symbol: Symbol<'_>,
     plus: u64,
@@ -74,7 +73,7 @@ fn assigned_symbol<'a>(
 /// What a value gives the name of a `.set`, where `.` means this.
 fn assigned_value<'a>(
     here: Meaning,
-    ordinal: usize,
+    ordinal: u32,
     name: &'a [u8],
     value: Value<'_>,
 ) -> Option<Assignment<'a>>
@@ -98,7 +97,7 @@ fn assigned_value<'a>(
 /// What the value of its expression gives the name of a `.set`, where `.` means this.
 pub fn assigned<'a>(
     here: Meaning,
-    ordinal: usize,
+    ordinal: u32,
     name: &'a [u8],
     value: Result<Value<'_>, SourceFault>,
 ) -> Option<Assignment<'a>>
@@ -133,7 +132,7 @@ impl<'a> Tables<'a> {
     }
 
     /// Sets the name of a `.set`.
-    fn add_assignment(&mut self, ordinal: usize, assignment: &Setting<'a>) -> Result<(), AllocError>
+    fn add_assignment(&mut self, ordinal: u32, assignment: &Setting<'a>) -> Result<(), AllocError>
         ensures tables { OnOk result
             (IsIndexed self.old → IsBefore (tables_of self.old) ordinal →
             tables_of self.new
@@ -151,45 +150,42 @@ impl<'a> Tables<'a> {
     }
 
     /// Adds zero bytes.
-    fn add_zeros(&mut self, count: &Expr<'a>) -> Result<(), AllocError>
-        ensures tables { OnOk result
-            (IsIndexed self.old → (o : ℕ) → IsBefore (tables_of self.old) o →
+    fn add_zeros(&mut self, count: &Expr<'a>)
+        ensures tables { IsIndexed self.old → (o : ℕ) → IsBefore (tables_of self.old) o →
             tables_of self.new
-            ≡ laws.after_directive (tables_of self.old) o (Zeros (tree_of_expr count.now))) }
-        ensures indexed { OnOk result (IsIndexed self.old → IsIndexed self.new) }
+            ≡ laws.after_directive (tables_of self.old) o (Zeros (tree_of_expr count.now)) }
+        ensures indexed { IsIndexed self.old → IsIndexed self.new }
     {
         let bytes = counted(self.value(count));
-        self.extend(fitting(self.offset(), bytes), None)
+        self.extend(bytes, None)
     }
 
     /// Aligns to a power of two.
-    fn align_to_power(&mut self, exponent: &Expr<'a>) -> Result<(), AllocError>
-        ensures tables { OnOk result
-            (IsIndexed self.old → (o : ℕ) → IsBefore (tables_of self.old) o →
+    fn align_to_power(&mut self, exponent: &Expr<'a>)
+        ensures tables { IsIndexed self.old → (o : ℕ) → IsBefore (tables_of self.old) o →
             tables_of self.new
             ≡ laws.after_directive (tables_of self.old) o
-            (Aligns_to_power (tree_of_expr exponent.now))) }
-        ensures indexed { OnOk result (IsIndexed self.old → IsIndexed self.new) }
+            (Aligns_to_power (tree_of_expr exponent.now)) }
+        ensures indexed { IsIndexed self.old → IsIndexed self.new }
     {
         let alignment = power_alignment(self.value(exponent));
-        self.extend(fitting_padding(alignment, self.offset()), alignment)
+        self.extend(padding(alignment, self.offset()), alignment)
     }
 
     /// Aligns to a number of bytes.
-    fn align_to_bytes(&mut self, bytes: &Expr<'a>) -> Result<(), AllocError>
-        ensures tables { OnOk result
-            (IsIndexed self.old → (o : ℕ) → IsBefore (tables_of self.old) o →
+    fn align_to_bytes(&mut self, bytes: &Expr<'a>)
+        ensures tables { IsIndexed self.old → (o : ℕ) → IsBefore (tables_of self.old) o →
             tables_of self.new
             ≡ laws.after_directive (tables_of self.old) o
-            (Aligns_to_bytes (tree_of_expr bytes.now))) }
-        ensures indexed { OnOk result (IsIndexed self.old → IsIndexed self.new) }
+            (Aligns_to_bytes (tree_of_expr bytes.now)) }
+        ensures indexed { IsIndexed self.old → IsIndexed self.new }
     {
         let alignment = byte_alignment(self.value(bytes));
-        self.extend(fitting_padding(alignment, self.offset()), alignment)
+        self.extend(padding(alignment, self.offset()), alignment)
     }
 
     /// What a statement of this ordinal changes.
-    fn add(&mut self, ordinal: usize, kind: &StatementKind<'a>) -> Result<(), AllocError>
+    fn add(&mut self, ordinal: u32, kind: &StatementKind<'a>) -> Result<(), AllocError>
         ensures tables { OnOk result
             (IsIndexed self.old → IsBefore (tables_of self.old) ordinal →
             tables_of self.new
@@ -204,15 +200,34 @@ impl<'a> Tables<'a> {
             StatementKind::Opens(opening) => self.add_section(opening),
             StatementKind::Sets(assignment) => self.add_assignment(ordinal, assignment),
             StatementKind::Chooses(choice) => self.choose(*choice),
-            StatementKind::AlignsToPower(exponent) => self.align_to_power(exponent),
-            StatementKind::AlignsToBytes(bytes) => self.align_to_bytes(bytes),
-            StatementKind::Value(width, _) => self.extend_by(values_size(*width, 1)),
-            StatementKind::Values(width, values) => {
-                self.extend_by(values_size(*width, values.len()))
+            StatementKind::AlignsToPower(exponent) => {
+                self.align_to_power(exponent);
+                Ok(())
             }
-            StatementKind::Ascii(strings) => self.extend_by(strings_size(false, strings)),
-            StatementKind::Asciz(strings) => self.extend_by(strings_size(true, strings)),
-            StatementKind::Zeros(count) => self.add_zeros(count),
+            StatementKind::AlignsToBytes(bytes) => {
+                self.align_to_bytes(bytes);
+                Ok(())
+            }
+            StatementKind::Value(width, _) => {
+                self.extend_by(values_size(*width, 1));
+                Ok(())
+            }
+            StatementKind::Values(width, values) => {
+                self.extend_by(values_size(*width, values.len()));
+                Ok(())
+            }
+            StatementKind::Ascii(strings) => {
+                self.extend_by(strings_size(false, strings));
+                Ok(())
+            }
+            StatementKind::Asciz(strings) => {
+                self.extend_by(strings_size(true, strings));
+                Ok(())
+            }
+            StatementKind::Zeros(count) => {
+                self.add_zeros(count);
+                Ok(())
+            }
             StatementKind::Plain(_) => Ok(()),
             StatementKind::With(..) => Ok(()),
             StatementKind::WithFunction(..) => Ok(()),
@@ -223,11 +238,7 @@ impl<'a> Tables<'a> {
     }
 
     /// What a statement changes, and where it stands.
-    fn stand(
-        &mut self,
-        ordinal: usize,
-        kind: &StatementKind<'a>,
-    ) -> Result<SectionOffset, AllocError>
+    fn stand(&mut self, ordinal: u32, kind: &StatementKind<'a>) -> Result<SectionOffset, AllocError>
         ensures tables { OnOk result
             (IsIndexed self.old → IsBefore (tables_of self.old) ordinal →
             tables_of self.new
@@ -252,6 +263,7 @@ impl<'a> Tables<'a> {
         alloc: Global,
         statements: &[Statement<'a>],
     ) -> Result<Filled, AllocError>
+        requires { length statements.now ≤ most_statements }
         ensures tables { OnOk result
             (tables_of self.old ≡ laws.at_start → IsIndexed self.old →
             tables_of self.new ≡ laws.tables (map statement_of statements.now)) }
@@ -267,7 +279,7 @@ impl<'a> Tables<'a> {
     {
         let mut places = Vec::with_capacity(alloc, statements.len())?;
         let mut options = Vec::with_capacity(alloc, statements.len())?;
-        let mut ordinal: usize = 0;
+        let mut ordinal: u32 = 0;
         for statement in statements {
             ordinal += 1;
             options.push(self.options)?;

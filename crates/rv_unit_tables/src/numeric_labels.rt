@@ -52,7 +52,7 @@ pub(crate) fn add_numbered<'a>(
 }
 
 /// How many of numeric labels, in their order, stand before an ordinal.
-fn count_before(labels: &[NumericLabel], ordinal: usize) -> usize
+fn count_before(labels: &[NumericLabel], ordinal: u32) -> usize
     ensures bound { result ≤ length labels.now }
     ensures point { IsNonDecreasingBy (λ (m : NumericLabelOf). m.ordinal) labels.now →
         IsPartitionPoint (λ (m : NumericLabelOf). m.ordinal < ordinal)
@@ -61,12 +61,12 @@ fn count_before(labels: &[NumericLabel], ordinal: usize) -> usize
     labels.partition_point(
         |label: &NumericLabel| -> bool
             ensures { result ≡ nat_lt (label.now).ordinal ordinal }
-        { (label.ordinal as usize) < ordinal },
+        { label.ordinal < ordinal },
     )
 }
 
 /// The last of numeric labels, in their order, that stands before an ordinal.
-pub(crate) fn last_before(labels: &[NumericLabel], ordinal: usize) -> Option<NumericLabel>
+pub(crate) fn last_before(labels: &[NumericLabel], ordinal: u32) -> Option<NumericLabel>
     ensures { IsNonDecreasingBy (λ (m : NumericLabelOf). m.ordinal) labels.now →
         result ≡ find (λ (m : NumericLabelOf). nat_lt m.ordinal ordinal) (reverse labels.now) }
 {
@@ -77,7 +77,7 @@ pub(crate) fn last_before(labels: &[NumericLabel], ordinal: usize) -> Option<Num
 }
 
 /// How many of numeric labels, in their order, stand no later than an ordinal.
-fn count_until(labels: &[NumericLabel], ordinal: usize) -> usize
+fn count_until(labels: &[NumericLabel], ordinal: u32) -> usize
     ensures { IsNonDecreasingBy (λ (m : NumericLabelOf). m.ordinal) labels.now →
         IsPartitionPoint (λ (m : NumericLabelOf). m.ordinal ≤ ordinal)
         (λ (m : NumericLabelOf). ordinal < m.ordinal) labels.now result }
@@ -85,12 +85,12 @@ fn count_until(labels: &[NumericLabel], ordinal: usize) -> usize
     labels.partition_point(
         |label: &NumericLabel| -> bool
             ensures { result ≡ nat_le (label.now).ordinal ordinal }
-        { label.ordinal as usize <= ordinal },
+        { label.ordinal <= ordinal },
     )
 }
 
 /// The first of numeric labels, in their order, that stands after an ordinal.
-pub(crate) fn first_after(labels: &[NumericLabel], ordinal: usize) -> Option<NumericLabel>
+pub(crate) fn first_after(labels: &[NumericLabel], ordinal: u32) -> Option<NumericLabel>
     ensures { IsNonDecreasingBy (λ (m : NumericLabelOf). m.ordinal) labels.now →
         result ≡ find (λ (m : NumericLabelOf). nat_lt ordinal m.ordinal) labels.now }
 {

@@ -1,12 +1,13 @@
 //! Sections and their flags.
 
-ghost use Rattle.std.specs.Prelude.{◌≡◌, ◌+◌, max, None, option_map, IfSome};
+ghost use Rattle.std.specs.Prelude.{◌≡◌, ◌+◌, max, None, option_map};
 ghost use Rattle.rv_statement.specs.Sections.{standard_name};
 ghost use Rattle.rv_statement.specs.View.{now_of, quoted};
 ghost use Rattle.rv_unit_laws.specs.Sections as laws;
 ghost use Rattle.rv_unit_laws.specs.Tables as tables;
 ghost use Rattle.rv_unit_tables.specs.Sections.{section_of};
 
+use crate::align::end_within;
 use rv_statement::Standard;
 use rv_text::string_contains;
 use rv_unit_laws::SectionType;
@@ -35,16 +36,17 @@ pub struct Extent<'a> {
 }
 
 impl<'a> Extent<'a> {
-    /// Its end with so many bytes more, which one of code does not count; none where 32 bits don't show it.
-    pub(crate) fn end_after(&self, bytes: u64) -> Option<u32>
-        ensures { IfSome result (λ end. end
-            ≡ (self.now).bytes + tables.counted_in (section_of (self.now).section) bytes) }
+    /// Its end with so many bytes more, which one of code does not count, where they do not pass the longest section.
+    pub(crate) fn end_after(&self, bytes: u64) -> u32
+        ensures { result ≡ (self.now).bytes
+            + tables.counted_in (section_of (self.now).section)
+            (tables.within (self.now).bytes bytes) }
     {
-        let end = u64::from(self.bytes).checked_add(self.section.counted(bytes))?;
-        if end > u64::from(u32::MAX) {
-            return None;
+        if self.section.executable {
+            self.bytes
+        } else {
+            end_within(self.bytes, bytes)
         }
-        Some(end as u32)
     }
 
     /// With an end further on, and one more alignment.
@@ -173,13 +175,6 @@ impl<'a> Section<'a> {
             writable: has_flag(b'w', flags, variable || zeroed),
             section_type: type_given(kind, zeroed),
         }
-    }
-
-    /// The bytes of data that count in it: none in a section of code.
-    pub(crate) fn counted(&self, bytes: u64) -> u64
-        ensures { result ≡ tables.counted_in (section_of self.now) bytes }
-    {
-        if self.executable { 0 } else { bytes }
     }
 
     /// The section of a directive of its own.

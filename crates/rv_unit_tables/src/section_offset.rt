@@ -13,7 +13,7 @@ pub struct SectionOffset {
 #[derive(Clone, Copy, Debug, PartialEq, Eq, Drop)]
 pub struct Definition {
     /// The ordinal of the statement, from 1.
-    pub ordinal: usize,
+    pub ordinal: u32,
     /// The bytes after the statement's start.
     pub plus: u64,
 }

@@ -41,7 +41,7 @@ pub(crate) const MOST_SECTIONS: usize = 32_000;
 #[derive(Clone, Copy, Drop)]
 pub struct Label {
     /// The ordinal of its statement, from 1.
-    pub ordinal: usize,
+    pub ordinal: u32,
     pub place: SectionOffset,
 }
 
@@ -58,7 +58,7 @@ pub struct NumericLabel {
 pub struct Assignment<'a> {
     pub name: &'a [u8],
     /// The ordinal of its statement, from 1.
-    pub ordinal: usize,
+    pub ordinal: u32,
     pub meaning: Meaning,
     /// The bytes between its statement and a location.
     pub plus: u64,
@@ -175,7 +175,7 @@ impl<'a> Tables<'a> {
     }
 
     /// The label of a name, if it stands before an ordinal.
-    pub fn label_before(&self, ordinal: usize, name: &[u8]) -> Option<Label>
+    pub fn label_before(&self, ordinal: u32, name: &[u8]) -> Option<Label>
         ensures { (o : ℕ) → IsBefore (tables_of self.now) o →
             option_map (label_at name.now) result
             ≡ laws.label_of (tables_of self.now).labels false ordinal name.now }
@@ -205,7 +205,7 @@ impl<'a> Tables<'a> {
     }
 
     /// The latest assignment of a name before an ordinal.
-    pub fn assignment_before(&self, ordinal: usize, name: &[u8]) -> Option<Assignment<'a>>
+    pub fn assignment_before(&self, ordinal: u32, name: &[u8]) -> Option<Assignment<'a>>
         ensures { IsIndexed self.now → (o : ℕ) → IsBefore (tables_of self.now) o →
             option_map assignment_of result
             ≡ laws.assigned_before (tables_of self.now).assignments ordinal name.now }
@@ -230,7 +230,7 @@ impl<'a> Tables<'a> {
     }
 
     /// The nearest numeric label before an ordinal.
-    pub fn numeric_label_before(&self, ordinal: usize, digits: &[u8]) -> Option<NumericLabel>
+    pub fn numeric_label_before(&self, ordinal: u32, digits: &[u8]) -> Option<NumericLabel>
         ensures { IsIndexed self.now → (o : ℕ) → IsBefore (tables_of self.now) o →
             option_map (numeric_label_at (digits_value 10 digits.now)) result
             ≡ laws.numeric_label_before (tables_of self.now).numeric_labels ordinal
@@ -243,7 +243,7 @@ impl<'a> Tables<'a> {
     }
 
     /// The nearest numeric label after an ordinal.
-    pub fn numeric_label_after(&self, ordinal: usize, digits: &[u8]) -> Option<NumericLabel>
+    pub fn numeric_label_after(&self, ordinal: u32, digits: &[u8]) -> Option<NumericLabel>
         ensures { IsIndexed self.now → (o : ℕ) → IsBefore (tables_of self.now) o →
             option_map (numeric_label_at (digits_value 10 digits.now)) result
             ≡ laws.numeric_label_after (tables_of self.now).numeric_labels ordinal
@@ -377,7 +377,7 @@ impl<'a> Tables<'a> {
     }
 
     /// Defines a label, unless its name is defined.
-    pub(crate) fn add_label(&mut self, ordinal: usize, name: &'a [u8]) -> Result<(), AllocError>
+    pub(crate) fn add_label(&mut self, ordinal: u32, name: &'a [u8]) -> Result<(), AllocError>
         ensures tables { OnOk result
             (IsIndexed self.old → IsBefore (tables_of self.old) ordinal →
             tables_of self.new ≡ laws.with_label (tables_of self.old) ordinal name.now) }
@@ -394,7 +394,7 @@ impl<'a> Tables<'a> {
     /// Defines a numeric label.
     pub(crate) fn add_numeric_label(
         &mut self,
-        ordinal: usize,
+        ordinal: u32,
         digits: &'a [u8],
     ) -> Result<(), AllocError>
         ensures tables { OnOk result
@@ -404,12 +404,8 @@ impl<'a> Tables<'a> {
         ensures indexed { OnOk result
             (IsIndexed self.old → IsBefore (tables_of self.old) ordinal → IsIndexed self.new) }
     {
-        // ordinals have 32 bits; no source comes near
-        if ordinal > u32::MAX as usize {
-            return Err(AllocError);
-        }
         let label = NumericLabel {
-            ordinal: ordinal as u32,
+            ordinal,
             place: self.here(),
         };
         add_numbered(
@@ -449,36 +445,30 @@ impl<'a> Tables<'a> {
         add_assigned(*self.assignments.allocator(), &mut self.by_name, assigned)
     }
 
-    /// Adds data at the end of the current section, which one of code does not count, and an alignment of it.
-    pub(crate) fn extend(&mut self, bytes: u64, alignment: Option<u32>) -> Result<(), AllocError>
-        ensures tables { OnOk result
-            (tables_of self.new ≡ laws.with_data (tables_of self.old) bytes alignment) }
-        ensures indexed { OnOk result (IsIndexed self.old → IsIndexed self.new) }
+    /// Adds data at the end of the current section, where it does not pass the longest one, and an alignment of it. A
+    /// section of code does not count data.
+    pub(crate) fn extend(&mut self, size: u64, alignment: Option<u32>)
+        ensures tables { tables_of self.new
+            ≡ laws.with_data (tables_of self.old)
+            (laws.within (laws.here (tables_of self.old)).offset size) alignment }
+        ensures indexed { IsIndexed self.old → IsIndexed self.new }
     {
         let number = self.current as usize;
         if number >= self.extents.len() {
-            return Ok(());
+            return;
         }
         let extent = self.extents[number];
-        match extent.end_after(bytes) {
-            Some(end) => {
-                self.extents[number] = extent.longer(end, alignment);
-                Ok(())
-            }
-            None => Err(AllocError),
-        }
+        self.extents[number] = extent.longer(extent.end_after(size), alignment);
     }
 
-    /// Adds data of a size that shows all its bytes, or as many as a number can.
-    pub(crate) fn extend_by(&mut self, size: u64) -> Result<(), AllocError>
-        ensures tables { OnOk result
-            ((bytes : ℕ) → size ≡ min bytes (2 ^ 64 - 1) →
-            tables_of self.new ≡ laws.with_data (tables_of self.old) bytes None) }
-        ensures indexed { OnOk result (IsIndexed self.old → IsIndexed self.new) }
+    /// Adds data of a size that shows all its bytes, or as many as a number can: those do not fit.
+    pub(crate) fn extend_by(&mut self, size: u64)
+        ensures tables { (bytes : ℕ) → size ≡ min bytes (2 ^ 64 - 1) →
+            tables_of self.new
+            ≡ laws.with_data (tables_of self.old)
+            (laws.within (laws.here (tables_of self.old)).offset bytes) None }
+        ensures indexed { IsIndexed self.old → IsIndexed self.new }
     {
-        if size == u64::MAX {
-            return Err(AllocError);
-        }
         self.extend(size, None)
     }
 
