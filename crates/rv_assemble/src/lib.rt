@@ -1,7 +1,7 @@
 //! Assembling: the object of a source.
 //!
 //! It takes the bytes of one source. It gives an [`rv_object::Object`]: sections with their bytes and their open fields as
-//! relocations, symbols and rows; or the first fault of the source.
+//! relocations, symbols and rows; or the first fault of the source. The object lends the names of the source.
 //! Main contract: [`assemble`]: in `object` the object is that of the statements that the bytes read as (`IsObjectOf`), in
 //! `refuses` the fault is the first one of the source (`IsFirstFault`), unless memory ran out.
 //! It must not know addresses, other sources, or how objects are written to files.

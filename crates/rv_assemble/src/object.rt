@@ -20,12 +20,12 @@ use rv_unit::Unit;
 use std::alloc::{AllocError, Global};
 
 /// The object of a draft with its symbols. The bytes of its sections are moved, and the unit is given up.
-pub(crate) fn object(
+pub(crate) fn object<'a>(
     alloc: Global,
-    unit: Unit<'_>,
-    draft: Draft<'_>,
-    table: SymbolTable,
-) -> Result<Object, AllocError>
+    unit: Unit<'a>,
+    draft: Draft<'a>,
+    table: SymbolTable<'a>,
+) -> Result<Object<'a>, AllocError>
     requires filled { IsFilled unit }
     requires good { statements_fault (said unit) ≡ None }
     requires kept { OpenKept (said unit) }

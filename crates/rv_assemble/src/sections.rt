@@ -11,55 +11,53 @@ ghost use Rattle.std.specs.List.{AllByRecursion};
 use rv_object::{Contents, Relocation, Section};
 use rv_unit::{Extent, SectionType};
 use std::alloc::{AllocError, Global};
+use std::borrow::CowSlice;
 use std::mem;
 
 /// What a section has in the file: its bytes, or its size.
-fn contents(section_type: SectionType, end: u32, bytes: Vec<u8>) -> Contents
+fn contents<'a>(section_type: SectionType, end: u32, bytes: Vec<u8>) -> Contents<'a>
     ensures { made_of result ≡ contents_of section_type end bytes.items }
 {
     match section_type {
-        SectionType::Progbits => Contents::Progbits(bytes),
-        SectionType::Note => Contents::Note(bytes),
+        SectionType::Progbits => Contents::Progbits(CowSlice::Owned(bytes)),
+        SectionType::Note => Contents::Note(CowSlice::Owned(bytes)),
         SectionType::Nobits => Contents::Nobits(u64::from(end)),
     }
 }
 
-/// A section with its end, its bytes and its relocations.
-fn section(
-    alloc: Global,
-    extent: &Extent<'_>,
+/// A section with its end, its bytes and its relocations. Its name is the source's own.
+fn section<'a>(
+    extent: &Extent<'a>,
     end: u32,
     bytes: Vec<u8>,
     relocations: Vec<Relocation>,
-) -> Result<Section, AllocError>
+) -> Section<'a>
     requires { IsMakeable (section_by (extent_section extent.now) (extent.now).alignment end
         bytes.items (map relocation_of relocations.items)) }
-    ensures { IfOk result (λ s. section_of s
+    ensures { section_of result
         ≡ section_by (extent_section extent.now) (extent.now).alignment end bytes.items
-        (map relocation_of relocations.items)) }
+        (map relocation_of relocations.items) }
 {
     let section = &extent.section;
-    let mut name = Vec::new(alloc);
-    name.extend_from_slice(section.name)?;
-    Ok(Section {
-        name,
+    Section {
+        name: section.name,
         loaded: section.loaded,
         executable: section.executable,
         writable: section.writable,
         contents: contents(section.section_type, end, bytes),
         alignment: u64::from(extent.alignment),
         relocations,
-    })
+    }
 }
 
 /// The sections of a source, in its order, with the end, the bytes and the relocations of each.
-pub(crate) fn sections(
+pub(crate) fn sections<'a>(
     alloc: Global,
-    extents: &[Extent<'_>],
+    extents: &[Extent<'a>],
     ends: &[u32],
     mut bytes: Vec<Vec<u8>>,
     mut relocations: Vec<Vec<Relocation>>,
-) -> Result<Vec<Section>, AllocError>
+) -> Result<Vec<Section<'a>>, AllocError>
     requires each { AreEach extents.now ends.now bytes.items relocations.items }
     requires makeable { AllByRecursion IsMakeable
         (sections_by extents.now ends.now bytes.items relocations.items) }
@@ -72,7 +70,7 @@ pub(crate) fn sections(
         let own_relocations = mem::replace(&mut relocations[index], Vec::new(alloc));
         let extent = extents[index];
         let end = ends[index];
-        let section = section(alloc, &extent, end, own_bytes, own_relocations)?;
+        let section = section(&extent, end, own_bytes, own_relocations);
         sections.push(section)?;
     }
     Ok(sections)

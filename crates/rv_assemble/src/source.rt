@@ -26,7 +26,7 @@ use std::alloc::Global;
 
 /// The object of a source. A fault names its line, from 1, and is the first one: those of the text
 /// come before those of labels and directives, those before the ones of code, and sizes come last.
-pub fn assemble(alloc: Global, source: &[u8]) -> Result<Object, SourceFault>
+pub fn assemble(alloc: Global, source: &[u8]) -> Result<Object<'_>, SourceFault>
     ensures object { IfOk result (λ o.
         (ss : List Statement) × Reads source.now ss × (statements_fault ss ≡ None)
         × IsObjectOf ss (object_of o)) }
@@ -41,7 +41,7 @@ pub fn assemble(alloc: Global, source: &[u8]) -> Result<Object, SourceFault>
 }
 
 /// The object of a unit.
-fn assembled(alloc: Global, unit: Unit<'_>) -> Result<Object, SourceFault>
+fn assembled<'a>(alloc: Global, unit: Unit<'a>) -> Result<Object<'a>, SourceFault>
     requires filled { IsFilled unit }
     requires good { first_fault (said unit) ≡ None }
     requires names { HasNames (said unit) }

@@ -19,7 +19,7 @@ pub(crate) fn table<'a>(
     alloc: Global,
     unit: &Unit<'a>,
     draft: &Draft<'a>,
-) -> Result<SymbolTable, AllocError>
+) -> Result<SymbolTable<'a>, AllocError>
     requires filled { IsFilled unit.now }
     requires good { first_fault (said unit.now) ≡ None }
     requires names { HasNames (said unit.now) }

@@ -13,11 +13,10 @@ ghost use Rattle.rv_assemble_laws.specs.ShownNames.{said_names, are_shown, HasNa
 ghost use Rattle.rv_symbols.specs.Source.{tables_of, IsSource};
 ghost use Rattle.rv_symbols.specs.Found.{symbols_in};
 
-use crate::locals::symbol;
 use crate::source::Source;
 use rv_object::{Binding, Definition, Symbol};
 use rv_statement::Statement;
-use std::alloc::{AllocError, Global as Allocator};
+use std::alloc::AllocError;
 
 /// The name that the statement at this index defines for all files, with its definition.
 fn export<'s>(
@@ -43,12 +42,11 @@ fn export<'s>(
 }
 
 /// Adds the name that the statement at this index defines for all files.
-fn put_export(
-    alloc: Allocator,
-    symbols: &mut Vec<Symbol>,
+fn put_export<'a>(
+    symbols: &mut Vec<Symbol<'a>>,
     source: &Source<'_, '_>,
     index: usize,
-    statement: &Statement<'_>,
+    statement: &Statement<'a>,
 ) -> Result<(), AllocError>
     requires inside { index < length (source.now).offsets.now }
     requires shown { are_shown (said_names (statement_of statement.now).kind) ≡ true }
@@ -61,16 +59,18 @@ fn put_export(
     let Some((name, definition)) = export(source, index, statement) else {
         return Ok(());
     };
-    let named = symbol(alloc, name, Binding::Global, definition)?;
-    symbols.push(named)?;
+    symbols.push(Symbol {
+        name,
+        binding: Binding::Global,
+        definition,
+    })?;
     Ok(())
 }
 
 /// Adds the names that a file defines for all files.
-pub(crate) fn put_exports(
-    alloc: Allocator,
-    symbols: &mut Vec<Symbol>,
-    source: &Source<'_, '_>,
+pub(crate) fn put_exports<'a>(
+    symbols: &mut Vec<Symbol<'a>>,
+    source: &Source<'_, 'a>,
 ) -> Result<(), AllocError>
     requires each { length (source.now).offsets.now ≡ length (said (source.now).unit.now) }
     requires names { HasNames (said (source.now).unit.now) }
@@ -82,24 +82,26 @@ pub(crate) fn put_exports(
 {
     let statements = source.unit.statements();
     for i in 0..statements.len() {
-        put_export(alloc, symbols, source, i, &statements[i])?;
+        put_export(symbols, source, i, &statements[i])?;
     }
     Ok(())
 }
 
 /// Adds the names that a file leaves undefined.
-pub(crate) fn put_undefined(
-    alloc: Allocator,
-    symbols: &mut Vec<Symbol>,
-    names: &[&[u8]],
+pub(crate) fn put_undefined<'a>(
+    symbols: &mut Vec<Symbol<'a>>,
+    names: &[&'a [u8]],
 ) -> Result<(), AllocError>
     requires { are_shown (map now_of names.now) ≡ true }
     ensures { OnOk result (map symbol_of symbols.new.items ≡ map symbol_of symbols.old.items
         ++ map (λ name. global_symbol name Undefined) (map now_of names.now)) }
 {
     for name in names {
-        let undefined = symbol(alloc, name, Binding::Global, Definition::Undefined)?;
-        symbols.push(undefined)?;
+        symbols.push(Symbol {
+            name: *name,
+            binding: Binding::Global,
+            definition: Definition::Undefined,
+        })?;
     }
     Ok(())
 }

@@ -8,7 +8,6 @@ ghost use Rattle.rv_map.specs.Name.{is_name};
 ghost use Rattle.rv_object.specs.declared.symbol.Binding.TheVariants.{Local};
 ghost use Rattle.rv_object.specs.declared.symbol.Definition.TheVariants.{InSection};
 ghost use Rattle.rv_object.specs.Parts.{symbol_of};
-ghost use Rattle.rv_object.specs.Valid.{is_shown};
 ghost use Rattle.rv_assemble_laws.specs.Sites.{Site};
 ghost use Rattle.rv_assemble_laws.specs.Symbols.{local_symbol, named_symbols, local_symbols, references};
 ghost use Rattle.rv_assemble_laws.specs.ShownNames.{said_names, are_shown, HasNames};
@@ -20,25 +19,6 @@ use rv_object::{Binding, Definition, Symbol};
 use rv_statement::Statement;
 use std::alloc::{AllocError, Global};
 use std::collections::HashSet;
-
-/// A symbol of a name.
-pub(crate) fn symbol(
-    alloc: Global,
-    name: &[u8],
-    binding: Binding,
-    definition: Definition,
-) -> Result<Symbol, AllocError>
-    requires { is_shown binding name.now ≡ true }
-    ensures { IfOk result (λ x. symbol_of x
-        ≡ record { name = name.now; binding = binding; definition = definition }) }
-{
-    let name = Vec::from_slice(alloc, name)?;
-    Ok(Symbol {
-        name,
-        binding,
-        definition,
-    })
-}
 
 /// Whether a statement is the first at its place that a reference without a name means.
 fn is_first(
@@ -59,8 +39,7 @@ fn is_first(
 
 /// Adds a symbol without a name, where a statement is the first at its place that a reference without a name means.
 fn put_unnamed(
-    alloc: Global,
-    symbols: &mut Vec<Symbol>,
+    symbols: &mut Vec<Symbol<'_>>,
     seen: &mut HashSet<(u32, u64)>,
     place: (u32, u64),
     meant: bool,
@@ -76,13 +55,11 @@ fn put_unnamed(
         return Ok(());
     }
     let (section, offset) = place;
-    let unnamed = symbol(
-        alloc,
-        b"",
-        Binding::Local,
-        Definition::InSection(section, offset),
-    )?;
-    symbols.push(unnamed)?;
+    symbols.push(Symbol {
+        name: b"",
+        binding: Binding::Local,
+        definition: Definition::InSection(section, offset),
+    })?;
     Ok(())
 }
 
@@ -123,12 +100,11 @@ fn local<'s>(
 }
 
 /// Adds the name that the statement at this index defines for its own file.
-fn put_local(
-    alloc: Global,
-    symbols: &mut Vec<Symbol>,
+fn put_local<'a>(
+    symbols: &mut Vec<Symbol<'a>>,
     source: &Source<'_, '_>,
     index: usize,
-    statement: &Statement<'_>,
+    statement: &Statement<'a>,
 ) -> Result<(), AllocError>
     requires inside { index < length (source.now).offsets.now }
     requires shown { are_shown (said_names (statement_of statement.now).kind) ≡ true }
@@ -141,20 +117,22 @@ fn put_local(
     let Some((name, definition)) = local(source, index, statement) else {
         return Ok(());
     };
-    let named = symbol(alloc, name, Binding::Local, definition)?;
-    symbols.push(named)?;
+    symbols.push(Symbol {
+        name,
+        binding: Binding::Local,
+        definition,
+    })?;
     Ok(())
 }
 
 /// Adds the symbols of the statement at this index: one for its place, where a reference without a name means it and none is
 /// there yet, and the name that it defines.
-fn put_both(
-    alloc: Global,
-    symbols: &mut Vec<Symbol>,
+fn put_both<'a>(
+    symbols: &mut Vec<Symbol<'a>>,
     seen: &mut HashSet<(u32, u64)>,
     source: &Source<'_, '_>,
     index: usize,
-    statement: &Statement<'_>,
+    statement: &Statement<'a>,
     meant: bool,
 ) -> Result<(), AllocError>
     requires inside { index < length (source.now).offsets.now }
@@ -170,17 +148,17 @@ fn put_both(
         → slice_get sites index ≡ Some s → (q : ℕ × ℕ) → contains same_place seen.new q
         ≡ (contains same_place seen.old q || meant && same_place (place_in s) q)) }
 {
-    put_unnamed(alloc, symbols, seen, source.here(index), meant)?;
-    put_local(alloc, symbols, source, index, statement)?;
+    put_unnamed(symbols, seen, source.here(index), meant)?;
+    put_local(symbols, source, index, statement)?;
     Ok(())
 }
 
 /// The symbols of the file alone, where these statements are meant by references without a name.
-pub(crate) fn locals(
+pub(crate) fn locals<'a>(
     alloc: Global,
-    source: &Source<'_, '_>,
+    source: &Source<'_, 'a>,
     meant: &[bool],
-) -> Result<Vec<Symbol>, AllocError>
+) -> Result<Vec<Symbol<'a>>, AllocError>
     requires each { length (source.now).offsets.now ≡ length (said (source.now).unit.now) }
     requires marks { length meant.now ≡ length (said (source.now).unit.now) }
     requires names { HasNames (said (source.now).unit.now) }
@@ -194,15 +172,7 @@ pub(crate) fn locals(
     let mut symbols = Vec::new(alloc);
     let mut seen = HashSet::new(alloc);
     for i in 0..statements.len() {
-        put_both(
-            alloc,
-            &mut symbols,
-            &mut seen,
-            source,
-            i,
-            &statements[i],
-            meant[i],
-        )?;
+        put_both(&mut symbols, &mut seen, source, i, &statements[i], meant[i])?;
     }
     Ok(symbols)
 }

@@ -28,23 +28,23 @@ use std::alloc::{AllocError, Global};
 use std::collections::HashMap;
 
 /// Adds the name of the next symbol.
-fn put_name<'o>(
-    names: &mut HashMap<&'o [u8], u32>,
+fn put_name<'a>(
+    names: &mut HashMap<&'a [u8], u32>,
     next: u32,
-    symbol: &'o Symbol,
+    symbol: &Symbol<'a>,
 ) -> Result<(), AllocError>
     ensures { OnOk result ((xs : List SaidSymbol) → next ≡ length xs → AreNameIndices names.old xs
         → AreNameIndices names.new (xs ++ object_symbol symbol.now ∷ [])) }
 {
-    names.insert(symbol.name.as_slice(), next)?;
+    names.insert(symbol.name, next)?;
     Ok(())
 }
 
 /// The indices of the last symbols of each name.
-fn name_indices<'o>(
+fn name_indices<'a>(
     alloc: Global,
-    symbols: &'o [Symbol],
-) -> Result<HashMap<&'o [u8], u32>, AllocError>
+    symbols: &[Symbol<'a>],
+) -> Result<HashMap<&'a [u8], u32>, AllocError>
     requires { length symbols.now < 2 ^ 32 }
     ensures { IfOk result (λ x. AreNameIndices x (map object_symbol symbols.now)) }
 {
@@ -59,7 +59,7 @@ fn name_indices<'o>(
 fn put_place(
     places: &mut HashMap<(u32, u64), u32>,
     next: u32,
-    symbol: &Symbol,
+    symbol: &Symbol<'_>,
 ) -> Result<(), AllocError>
     ensures { OnOk result ((xs : List SaidSymbol) → next ≡ length xs → ArePlaceIndices places.old xs
         → ArePlaceIndices places.new (xs ++ object_symbol symbol.now ∷ [])) }
@@ -75,7 +75,10 @@ fn put_place(
 }
 
 /// The indices of the symbols without names, by their places.
-fn place_indices(alloc: Global, symbols: &[Symbol]) -> Result<HashMap<(u32, u64), u32>, AllocError>
+fn place_indices(
+    alloc: Global,
+    symbols: &[Symbol<'_>],
+) -> Result<HashMap<(u32, u64), u32>, AllocError>
     requires { length symbols.now < 2 ^ 32 }
     ensures { IfOk result (λ x. ArePlaceIndices x (map object_symbol symbols.now)) }
 {
@@ -92,7 +95,7 @@ struct Indices<'i, 'u, 'a> {
     source: &'i Source<'u, 'a>,
     /// How many are the source's own.
     count: usize,
-    names: HashMap<&'i [u8], u32>,
+    names: HashMap<&'a [u8], u32>,
     places: HashMap<(u32, u64), u32>,
     missing: &'i IndexSet<&'a [u8]>,
 }
@@ -104,7 +107,7 @@ impl<'i, 'u, 'a> Indices<'i, 'u, 'a> {
     fn of(
         alloc: Global,
         source: &'i Source<'u, 'a>,
-        own: &'i [Symbol],
+        own: &[Symbol<'a>],
         missing: &'i IndexSet<&'a [u8]>,
     ) -> Result<Self, AllocError>
         requires { length own.now < 2 ^ 32 }
@@ -188,7 +191,7 @@ impl<'i, 'u, 'a> Indices<'i, 'u, 'a> {
 pub(crate) fn numbers<'a>(
     alloc: Global,
     source: &Source<'_, 'a>,
-    own: &[Symbol],
+    own: &[Symbol<'a>],
     missing: &IndexSet<&'a [u8]>,
     uses: &[SymbolUse<'a>],
     definitions: &[Option<Definition>],

@@ -21,9 +21,9 @@ use std::alloc::{AllocError, Global};
 
 /// The symbols of an object, and for each use of a symbol its index.
 #[derive(Drop)]
-pub struct SymbolTable {
+pub struct SymbolTable<'a> {
     /// Those of the file alone, then those that it defines for all files, then those that it leaves undefined.
-    pub symbols: Vec<Symbol>,
+    pub symbols: Vec<Symbol<'a>>,
     /// A number for each use, in the order of the uses: the index of its symbol.
     pub numbers: Vec<u32>,
 }
@@ -35,7 +35,7 @@ pub fn symbols<'a>(
     unit: &Unit<'a>,
     offsets: &[u32],
     uses: &[SymbolUse<'a>],
-) -> Result<SymbolTable, AllocError>
+) -> Result<SymbolTable<'a>, AllocError>
     requires filled { IsFilled unit.now }
     requires good { first_fault (said unit.now) ≡ None }
     requires names { HasNames (said unit.now) }
@@ -51,7 +51,7 @@ pub fn symbols<'a>(
     let definitions = definitions(alloc, unit, uses)?;
     let meant = marks(alloc, offsets.len(), uses, definitions.as_slice())?;
     let mut symbols = locals(alloc, &source, meant.as_slice())?;
-    put_exports(alloc, &mut symbols, &source)?;
+    put_exports(&mut symbols, &source)?;
     let missing = missing(alloc, uses, definitions.as_slice())?;
     let numbers = numbers(
         alloc,
@@ -61,6 +61,6 @@ pub fn symbols<'a>(
         uses,
         definitions.as_slice(),
     )?;
-    put_undefined(alloc, &mut symbols, missing.as_slice())?;
+    put_undefined(&mut symbols, missing.as_slice())?;
     Ok(SymbolTable { symbols, numbers })
 }
