@@ -59,11 +59,12 @@ fn put_export<'a>(
     let Some((name, definition)) = export(source, index, statement) else {
         return Ok(());
     };
-    symbols.push(Symbol {
+    let named = Symbol {
         name,
         binding: Binding::Global,
         definition,
-    })?;
+    };
+    symbols.push(named)?;
     Ok(())
 }
 
@@ -97,11 +98,12 @@ pub(crate) fn put_undefined<'a>(
         ++ map (λ name. global_symbol name Undefined) (map now_of names.now)) }
 {
     for name in names {
-        symbols.push(Symbol {
+        let undefined = Symbol {
             name: *name,
             binding: Binding::Global,
             definition: Definition::Undefined,
-        })?;
+        };
+        symbols.push(undefined)?;
     }
     Ok(())
 }

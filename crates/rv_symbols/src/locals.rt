@@ -55,11 +55,12 @@ fn put_unnamed(
         return Ok(());
     }
     let (section, offset) = place;
-    symbols.push(Symbol {
+    let unnamed = Symbol {
         name: b"",
         binding: Binding::Local,
         definition: Definition::InSection(section, offset),
-    })?;
+    };
+    symbols.push(unnamed)?;
     Ok(())
 }
 
@@ -117,11 +118,12 @@ fn put_local<'a>(
     let Some((name, definition)) = local(source, index, statement) else {
         return Ok(());
     };
-    symbols.push(Symbol {
+    let named = Symbol {
         name,
         binding: Binding::Local,
         definition,
-    })?;
+    };
+    symbols.push(named)?;
     Ok(())
 }
 

@@ -10,8 +10,8 @@ use Rattle.rv_symbols.proofs.StandsLemmas.{got_map, some_at}
 use Rattle.rv_symbols.proofs.NamingLemmas.{all_got, drop_next}
 use Rattle.rv_symbols.proofs.exports.put_undefined.Goals as goal
 
-pub symbol-requires : goal.symbol-requires
-symbol-requires c =
+pub invariant_of-undefined : goal.invariant_of-undefined
+invariant_of-undefined c =
     let i = c.loop-name.name-index in
     let names = c.args.names.now in
     all_got is_name (map now_of names) i _ (got_map now_of names i ∙ ap (option_map now_of) (some_at names i (record { ref_ptr = (0, 0); now = [] }) c.loop-name-test.true)) c.requires
