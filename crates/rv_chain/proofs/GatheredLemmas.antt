@@ -81,16 +81,16 @@ refused_there texts i os fault number h good is refused = record {
 -- a refused link of assembled sources
 pub link_refused : (texts : List (List ℕ)) (start : ℕ) (relax : Bool) (fault : LinkFault) → AreUnlinked texts start relax fault → IsRefusedFor texts start relax (of_link fault)
 link_refused texts start relax faults.OutOfMemory h = tt
-link_refused texts start relax faults.Overflow h = inr h
-link_refused texts start relax faults.OddTarget h = inr h
-link_refused texts start relax faults.DanglingPcrel h = inr h
-link_refused texts start relax faults.AlignmentShort h = inr h
-link_refused texts start relax (faults.Undefined name) h = inr h
-link_refused texts start relax (faults.Duplicate name) h = inr h
-link_refused texts start relax faults.EntryMissing h = inr h
-link_refused texts start relax faults.ImageTooLarge h = inr h
-link_refused texts start relax faults.BadTextStart h = inr h
-link_refused texts start relax faults.TooManyFiles h = inr h
+link_refused texts start relax faults.Overflow h = (tt, inr h)
+link_refused texts start relax faults.OddTarget h = (tt, inr h)
+link_refused texts start relax faults.DanglingPcrel h = (tt, inr h)
+link_refused texts start relax faults.AlignmentShort h = (tt, inr h)
+link_refused texts start relax (faults.Undefined name) h = (tt, inr h)
+link_refused texts start relax (faults.Duplicate name) h = (tt, inr h)
+link_refused texts start relax faults.EntryMissing h = (tt, inr h)
+link_refused texts start relax faults.ImageTooLarge h = (tt, inr h)
+link_refused texts start relax faults.BadTextStart h = (tt, inr h)
+link_refused texts start relax faults.TooManyFiles h = (tt, inr h)
 
 -- the text of a source at an index
 pub source_at : (sources : List (Bor (List ℕ))) (i : ℕ) (d : Bor (List ℕ)) → i < length sources → get_or (map now_of sources) i [] ≡ (get_or sources i d).now
@@ -100,7 +100,7 @@ source_at (s ∷ sources) (suc i) d h = source_at sources i d (omega (arith, h))
 
 -- a source is refused, and those before it have objects
 pub refused_in : (texts : List (List ℕ)) (i : ℕ) (os : List Object) (f : Fault) → i < length texts → AreObjectsFrom (take i texts) os → IsRefusedAt (i + 1) (get_or texts i []) f → IsRefusedIn texts f
-refused_in texts i os (cases.Source number fault) h good (is, refused) = refused_there texts i os fault number h good is refused
+refused_in texts i os (cases.Source number fault) h good (named, is, refused) = (named, refused_there texts i os fault number h good is refused)
 refused_in texts i os (cases.File number fault) h good refused = refused
 refused_in texts i os (cases.Link fault) h good refused = refused
 refused_in texts i os cases.Memory h good refused = tt

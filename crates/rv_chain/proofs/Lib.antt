@@ -1,6 +1,11 @@
 pub mod AgreedLemmas
+pub mod EachLemmas
+pub mod FilesLemmas
 pub mod GatheredLemmas
 pub mod HeadlinedLemmas
+pub mod ReasonsLemmas
 pub mod ShownLemmas
+pub mod SoundLemmas
+pub mod SourcesLemmas
 pub mod UnreadLemmas
 pub mod WrittenLemmas

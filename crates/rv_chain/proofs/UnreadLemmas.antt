@@ -35,20 +35,20 @@ unread_there files i os fault number h good is refused = record {
 -- a file is refused, and those before it have objects
 pub unread_in : (files : List (List ℕ)) (i : ℕ) (os : List Object) (f : Fault) → i < length files → AreObjectsIn (take i files) os → IsUnreadAt (i + 1) (get_or files i []) f → AreUnread files f
 unread_in files i os (cases.Source number fault) h good refused = refused
-unread_in files i os (cases.File number fault) h good (is, refused) = unread_there files i os fault number h good is refused
+unread_in files i os (cases.File number fault) h good (named, is, refused) = (named, unread_there files i os fault number h good is refused)
 unread_in files i os (cases.Link fault) h good refused = refused
 unread_in files i os cases.Memory h good refused = tt
 
 -- a refused link of the objects in files
 pub link_unlinkable : (files : List (List ℕ)) (start : ℕ) (relax : Bool) (fault : LinkFault) → AreReadUnlinked files start relax fault → AreUnlinkable files start relax (of_link fault)
 link_unlinkable files start relax faults.OutOfMemory h = tt
-link_unlinkable files start relax faults.Overflow h = inr h
-link_unlinkable files start relax faults.OddTarget h = inr h
-link_unlinkable files start relax faults.DanglingPcrel h = inr h
-link_unlinkable files start relax faults.AlignmentShort h = inr h
-link_unlinkable files start relax (faults.Undefined name) h = inr h
-link_unlinkable files start relax (faults.Duplicate name) h = inr h
-link_unlinkable files start relax faults.EntryMissing h = inr h
-link_unlinkable files start relax faults.ImageTooLarge h = inr h
-link_unlinkable files start relax faults.BadTextStart h = inr h
-link_unlinkable files start relax faults.TooManyFiles h = inr h
+link_unlinkable files start relax faults.Overflow h = (tt, inr h)
+link_unlinkable files start relax faults.OddTarget h = (tt, inr h)
+link_unlinkable files start relax faults.DanglingPcrel h = (tt, inr h)
+link_unlinkable files start relax faults.AlignmentShort h = (tt, inr h)
+link_unlinkable files start relax (faults.Undefined name) h = (tt, inr h)
+link_unlinkable files start relax (faults.Duplicate name) h = (tt, inr h)
+link_unlinkable files start relax faults.EntryMissing h = (tt, inr h)
+link_unlinkable files start relax faults.ImageTooLarge h = (tt, inr h)
+link_unlinkable files start relax faults.BadTextStart h = (tt, inr h)
+link_unlinkable files start relax faults.TooManyFiles h = (tt, inr h)

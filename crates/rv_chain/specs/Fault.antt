@@ -1,11 +1,20 @@
--- What a fault of the linker is to who builds.
+-- Which faults name their cause, and what a fault of the linker is to who builds.
 
+use Rattle.std.specs.Prelude.{⊤}
+use Rattle.rv_lexer.specs.declared.fault.SourceFault.TheVariants as sources
+use Rattle.rv_elf.specs.declared.fault.FileFault.TheVariants as files
 use Rattle.rv_link.specs.declared.fault.LinkFault.{LinkFault}
-use Rattle.rv_link.specs.declared.fault.LinkFault.TheVariants.{OutOfMemory}
+use Rattle.rv_link.specs.declared.fault.LinkFault.TheVariants as links
 use Rattle.rv_chain.specs.declared.fault.Fault.{Fault}
-use Rattle.rv_chain.specs.declared.fault.Fault.TheVariants.{Link, Memory}
+use Rattle.rv_chain.specs.declared.fault.Fault.TheVariants.{Source, File, Link, Memory}
 
--- want of memory is nobody's fault
+-- want of memory, which is nobody's fault, is `Memory` alone: any other fault names its cause
+abbrev pub IsNamed : Fault → Type 0
+IsNamed (Source number sources.OutOfMemory) = ⊥
+IsNamed (File number files.OutOfMemory) = ⊥
+IsNamed (Link links.OutOfMemory) = ⊥
+IsNamed _ = ⊤
+
 abbrev pub of_link : LinkFault → Fault
-of_link OutOfMemory = Memory
+of_link links.OutOfMemory = Memory
 of_link fault = Link fault

@@ -5,5 +5,6 @@ pub mod Linking
 pub mod Listed
 pub mod LinkRefusals
 pub mod Objects
+pub mod OneFault
 pub mod Refusals
 pub mod Running

@@ -1,4 +1,5 @@
--- Why files are not linked, by their bytes and the address at which the text starts.
+-- Why files are not linked, by their bytes and the address at which the text starts: memory runs
+-- out, or a fault names its cause.
 
 use Rattle.std.specs.Prelude.{◌≡◌, ℕ, ◌+◌, Bool, ⊤, ◌⊎◌, List, ◌∷◌, ◌++◌, length, Some, None}
 use Rattle.std.specs.List.{AllByRecursion}
@@ -9,13 +10,14 @@ use Rattle.rv_link.specs.declared.fault.LinkFault.{LinkFault}
 use Rattle.rv_link.specs.Refusals.{AreWithin, ArePast, HasNoProgram}
 use Rattle.rv_chain.specs.declared.fault.Fault.{Fault}
 use Rattle.rv_chain.specs.declared.fault.Fault.TheVariants.{Source, File, Link, Memory}
+use Rattle.rv_chain.specs.Fault.{IsNamed}
 use Rattle.rv_chain.specs.Objects.{AreObjectsIn}
 
 -- a file of this number is refused, by its first fault; memory may run out
 abbrev pub IsUnreadAt : ℕ → List ℕ → Fault → Type 0
 IsUnreadAt place file (Source number fault) = ⊥
 IsUnreadAt place file (File number fault) =
-    (number ≡ place) × (first_fault file ≡ Some fault)
+    IsNamed (File number fault) × (number ≡ place) × (first_fault file ≡ Some fault)
 IsUnreadAt place file (Link fault) = ⊥
 IsUnreadAt place file Memory = ⊤
 
@@ -31,7 +33,8 @@ pub record IsFirstUnread (files : List (List ℕ)) (number : ℕ) (fault : FileF
 
 abbrev pub AreUnread : List (List ℕ) → Fault → Type 0
 AreUnread files (Source number fault) = ⊥
-AreUnread files (File number fault) = IsFirstUnread files number fault
+AreUnread files (File number fault) =
+    IsNamed (File number fault) × IsFirstUnread files number fault
 AreUnread files (Link fault) = ⊥
 AreUnread files Memory = ⊤
 
@@ -44,7 +47,9 @@ AreReadUnlinked files start relax fault =
 abbrev pub AreUnlinkable : List (List ℕ) → ℕ → Bool → Fault → Type 0
 AreUnlinkable files start relax (Source number fault) = ⊥
 AreUnlinkable files start relax (File number fault) =
-    AreWithin (length files) start × IsFirstUnread files number fault
+    IsNamed (File number fault)
+    × AreWithin (length files) start × IsFirstUnread files number fault
 AreUnlinkable files start relax (Link fault) =
-    ArePast (length files) start fault ⊎ AreReadUnlinked files start relax fault
+    IsNamed (Link fault)
+    × (ArePast (length files) start fault ⊎ AreReadUnlinked files start relax fault)
 AreUnlinkable files start relax Memory = ⊤

@@ -1,4 +1,5 @@
--- Why a build is refused, by the texts of its sources and the address at which the text starts.
+-- Why a build is refused, by the texts of its sources and the address at which the text starts:
+-- memory runs out, or a fault names its cause.
 
 use Rattle.std.specs.Prelude.{◌≡◌, ℕ, ◌+◌, Bool, ⊤, ◌⊎◌, List, ◌∷◌, ◌++◌, length}
 use Rattle.rv_lexer.specs.declared.fault.SourceFault.{SourceFault}
@@ -8,11 +9,13 @@ use Rattle.rv_link.specs.declared.fault.LinkFault.{LinkFault}
 use Rattle.rv_link.specs.Refusals.{AreWithin, ArePast, HasNoProgram}
 use Rattle.rv_chain.specs.declared.fault.Fault.{Fault}
 use Rattle.rv_chain.specs.declared.fault.Fault.TheVariants.{Source, File, Link, Memory}
+use Rattle.rv_chain.specs.Fault.{IsNamed}
 use Rattle.rv_chain.specs.Objects.{AreObjectsFrom}
 
 -- a source of this number is refused, by its first fault; memory may run out
 abbrev pub IsRefusedAt : ℕ → List ℕ → Fault → Type 0
-IsRefusedAt file text (Source number fault) = (number ≡ file) × IsFirstFault text fault
+IsRefusedAt file text (Source number fault) =
+    IsNamed (Source number fault) × (number ≡ file) × IsFirstFault text fault
 IsRefusedAt file text (File number fault) = ⊥
 IsRefusedAt file text (Link fault) = ⊥
 IsRefusedAt file text Memory = ⊤
@@ -29,7 +32,8 @@ pub record IsFirstRefused (texts : List (List ℕ)) (number : ℕ) (fault : Sour
   pub refused : IsFirstFault text fault
 
 abbrev pub IsRefusedIn : List (List ℕ) → Fault → Type 0
-IsRefusedIn texts (Source number fault) = IsFirstRefused texts number fault
+IsRefusedIn texts (Source number fault) =
+    IsNamed (Source number fault) × IsFirstRefused texts number fault
 IsRefusedIn texts (File number fault) = ⊥
 IsRefusedIn texts (Link fault) = ⊥
 IsRefusedIn texts Memory = ⊤
@@ -50,8 +54,10 @@ AreGood texts start = AreWithin (length texts) start × AreAssembled texts
 -- first the count of the files, then the text's start, then the sources, and then the link
 abbrev pub IsRefusedFor : List (List ℕ) → ℕ → Bool → Fault → Type 0
 IsRefusedFor texts start relax (Source number fault) =
-    AreWithin (length texts) start × IsFirstRefused texts number fault
+    IsNamed (Source number fault)
+    × AreWithin (length texts) start × IsFirstRefused texts number fault
 IsRefusedFor texts start relax (File number fault) = ⊥
 IsRefusedFor texts start relax (Link fault) =
-    ArePast (length texts) start fault ⊎ AreUnlinked texts start relax fault
+    IsNamed (Link fault)
+    × (ArePast (length texts) start fault ⊎ AreUnlinked texts start relax fault)
 IsRefusedFor texts start relax Memory = ⊤

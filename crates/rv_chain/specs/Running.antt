@@ -12,6 +12,7 @@ use Rattle.rv_isa_laws.specs.Reader.{Reader}
 use Rattle.rv_isa_laws.specs.Run.{machine_run}
 use Rattle.rv_chain.specs.declared.fault.Fault.{Fault}
 use Rattle.rv_chain.specs.declared.fault.Fault.TheVariants.{Source, File, Link, Memory}
+use Rattle.rv_chain.specs.Fault.{IsNamed}
 
 -- the file has no fault, and the outcome is that of the machine's run over its image
 pub record RunsFile (reader : Reader Spells StandsFor) (file input : List ℕ) (limit : ℕ)
@@ -24,6 +25,7 @@ pub record RunsFile (reader : Reader Spells StandsFor) (file input : List ℕ) (
 -- a file is refused by its first fault alone; memory may run out
 abbrev pub RefusesFile : List ℕ → Fault → Type 0
 RefusesFile file (Source number fault) = ⊥
-RefusesFile file (File number fault) = (number ≡ 1) × (first_fault file ≡ Some fault)
+RefusesFile file (File number fault) =
+    IsNamed (File number fault) × (number ≡ 1) × (first_fault file ≡ Some fault)
 RefusesFile file (Link fault) = ⊥
 RefusesFile file Memory = Unit {0}

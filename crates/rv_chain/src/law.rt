@@ -1,15 +1,17 @@
-//! Sources are built as their objects are linked.
+//! Sources are built as their objects are linked, and refused for one fault.
 
 ghost use Rattle.rv_chain.specs.Agreement.{BuildsAsItLinks};
+ghost use Rattle.rv_chain.specs.OneFault.{SourcesHaveOneFault, FilesHaveOneFault};
 
 use rv_assemble_laws::names_are_shown;
 use rv_object_file_laws::{one_object, written_object_is_read};
-use rv_parse_laws::{not_both, one_reading};
+use rv_parse_laws::{not_both, one_fault, one_reading};
 use rv_unique_link_laws::{
     objects_keep_it, one_program, refused_for_one_reason, refused_has_no_program,
 };
 use rv_unique_object_laws::{
     objects_are_not_too_long, objects_are_small, objects_have_files, one_object_of_statements,
+    statements_have_one_fault,
 };
 
 /// What `build` makes of sources, `link_objects` makes of the files of their objects: the same executable and the same map,
@@ -18,13 +20,46 @@ pub fn builds_as_it_links()
     ensures { BuildsAsItLinks }
 {
     one_reading();
+    one_fault();
     not_both();
     names_are_shown();
     one_object_of_statements();
     objects_are_small();
     objects_are_not_too_long();
+    statements_have_one_fault();
     objects_have_files();
     written_object_is_read();
+    one_object();
+    one_program();
+    refused_has_no_program();
+    refused_for_one_reason();
+    objects_keep_it();
+}
+
+/// What `build` says of a refusal leaves no choice: sources that have a program, as all that it builds have, are refused for
+/// want of memory alone, and others for that or for one fault.
+pub fn sources_have_one_fault()
+    ensures { SourcesHaveOneFault }
+{
+    one_reading();
+    one_fault();
+    not_both();
+    names_are_shown();
+    one_object_of_statements();
+    objects_are_small();
+    objects_are_not_too_long();
+    statements_have_one_fault();
+    one_program();
+    refused_has_no_program();
+    refused_for_one_reason();
+    objects_keep_it();
+}
+
+/// Nor does what `link_objects` says of one: files that are linked are refused for want of memory alone, and others for that
+/// or for one fault, where their objects are small.
+pub fn files_have_one_fault()
+    ensures { FilesHaveOneFault }
+{
     one_object();
     one_program();
     refused_has_no_program();

@@ -11,7 +11,9 @@
 //! other tools wrote: it gives what is written of the link of the objects that they hold (`specs/Linking`).
 //! `builds_as_it_links` says that sources and the files of their objects come to the same executable and map, or to the
 //! same fault of the link (`specs/Agreement`). `run_exec` gives the machine's run over the file's image. What is refused
-//! has its reason in the clauses `refuses` (`specs/Refusals`, `specs/LinkRefusals`, `specs/Running`).
+//! has its reason in the clauses `refuses` (`specs/Refusals`, `specs/LinkRefusals`, `specs/Running`): memory ran out, which
+//! is `Fault::Memory` alone, or a fault names its cause. `sources_have_one_fault` and `files_have_one_fault` say that there
+//! is one such fault, and none where there is a program (`specs/OneFault`).
 //!
 //! It must not know where bytes come from, nor how faults are told. In use:
 //!
@@ -36,7 +38,7 @@ pub use assembling::assemble_object;
 pub use building::{build, build_exe};
 pub use built::Built;
 pub use fault::Fault;
-pub use law::builds_as_it_links;
+pub use law::{builds_as_it_links, files_have_one_fault, sources_have_one_fault};
 pub use linking::link_objects;
 pub use running::run_exec;
 pub use rv_image::FileFault;

@@ -13,5 +13,6 @@ mod OneNumberLemmas
 mod OneObjectLemmas
 mod SmallLemmas
 mod NotTooLongLemmas
+mod OneFaultLemmas
 mod SymbolWeightsLemmas
 mod FileRoomLemmas

@@ -9,7 +9,7 @@ ghost use Rattle.rv_unit_laws.specs.Tables.{longest_section};
 ghost use Rattle.rv_unit_laws.specs.Faults.{Fault};
 ghost use Rattle.rv_object.specs.Object.{Object, size_of};
 ghost use Rattle.rv_object_file_laws.specs.Written.{HasFile};
-ghost use Rattle.rv_assemble_laws.specs.Refusals.{IsTooLong};
+ghost use Rattle.rv_assemble_laws.specs.Refusals.{IsTooLong, IsStatementsFault};
 ghost use Rattle.rv_assemble_laws.specs.ShownNames.{HasNames};
 ghost use Rattle.rv_assemble_laws.specs.IsObjectOf.{IsObjectOf};
 
@@ -35,6 +35,12 @@ pub fn objects_are_small()
 pub fn objects_are_not_too_long()
     ensures { (statements : List Statement) (o : Object) (f : Fault) →
         IsObjectOf statements o → IsTooLong statements f → ⊥ }
+{}
+
+/// Statements are refused for one fault: sizes, which are looked at last, are those of one family.
+pub fn statements_have_one_fault()
+    ensures { (statements : List Statement) (f g : Fault) → IsStatementsFault statements f →
+        IsStatementsFault statements g → f ≡ g }
 {}
 
 /// The object of a source has a file: its sections have numbers of 16 bits, and its symbols and its tables of names

@@ -1,0 +1,131 @@
+-- The objects in files, and why files are not linked.
+
+use Rattle.std.proofs.Common.{◌≡◌, ℕ, zero, suc, ◌+◌, ◌-◌, ◌<◌, Bool, true, false, cond, ◌⊎◌, inl, inr, List, [], ◌∷◌, length, map, filter, refl, sym, ap, subst, ◌∙◌, arith, Some, None}
+use Rattle.std.specs.Prelude.{IsTrue}
+use Rattle.std.specs.List.{AllByRecursion}
+use Rattle.rv_elf.specs.declared.fault.FileFault.{FileFault}
+use Rattle.rv_elf.specs.Sections.{section_count}
+use Rattle.rv_object.specs.Object.{Section, Object}
+use Rattle.rv_object.specs.Valid.{is_alignment, fit_inside, are_paddings, are_rows}
+use Rattle.rv_object_file_laws.specs.Parts.{is_kept, kept, row_records}
+use Rattle.rv_object_file_laws.specs.FirstFault.{first_fault}
+use Rattle.rv_object_file_laws.specs.ObjectOf.{ObjectOf, section_in, row_in}
+use Rattle.rv_object_checks.specs.Found.{section_at, sections_from}
+use Rattle.rv_object_reader.proofs.WalkLemmas.{sections_are}
+use Rattle.rv_object_reader.proofs.ValidSectionsLemmas.{IsValid, section_valid}
+use Rattle.rv_object_reader.proofs.ValidSymbolsLemmas.{object_rows}
+use Rattle.rv_link.specs.declared.fault.LinkFault.{LinkFault}
+use Rattle.rv_link.specs.Refusals.{AreWithin, ArePast, HasNoProgram}
+use Rattle.rv_unique_link_laws.specs.Asked.{IsSound, IsSmall}
+use Rattle.rv_unique_link_laws.specs.Same.{IsSameFault}
+use Rattle.rv_chain.specs.declared.fault.Fault.TheVariants.{Source, File, Link, Memory}
+use Rattle.rv_chain.specs.Fault.{IsNamed}
+use Rattle.rv_chain.specs.Objects.{IsObjectIn, AreEach, AreObjectsIn}
+use Rattle.rv_chain.specs.LinkRefusals.{IsFirstUnread, AreReadUnlinked}
+use Rattle.rv_chain.specs.OneFault.{AreSmallIn, FilesForMemory, FilesForOne, FilesHaveOneFault}
+use Rattle.rv_chain.proofs.EachLemmas.{weaken, same_each, count_each, in_middle, all_each, one_first}
+use Rattle.rv_chain.proofs.ReasonsLemmas.{within_past, past_once, IsRefusal, LinkLaws, no_refusal, one_reason}
+
+-- ---- what the object of a file keeps
+
+sections_hold : (file : List ℕ) (P : Section → Type 0) → ((i : ℕ) → 0 < i → i < section_count file → is_kept file (section_at file i) ≡ true → P (section_in file (section_at file i)))
+    → (n i : ℕ) → 0 < i → ((k : ℕ) → k < n → i + k < section_count file) → AllByRecursion P (map (section_in file) (filter (is_kept file) (sections_from file n i)))
+sections_hold file P f zero i low high = tt
+sections_hold file P f (suc n) i low high =
+    go (is_kept file (section_at file i)) refl (let up = high 0 (omega arith) in omega (arith, up))
+    (sections_hold file P f n (suc i) (omega (arith, low)) (λ k less. let up = high (suc k) (omega (arith, less)) in omega (arith, up)))
+  where
+    go : (b : Bool) → is_kept file (section_at file i) ≡ b → i < section_count file → AllByRecursion P (map (section_in file) (filter (is_kept file) (sections_from file n (suc i))))
+        → AllByRecursion P (map (section_in file) (cond b (section_at file i ∷ filter (is_kept file) (sections_from file n (suc i))) (filter (is_kept file) (sections_from file n (suc i)))))
+    go true e below rest = (f i low below e, rest)
+    go false e below rest = rest
+
+all_valid : (file : List ℕ) → first_fault file ≡ None → AllByRecursion IsValid (map (section_in file) (kept file))
+all_valid file none =
+    subst (λ ss. AllByRecursion IsValid (map (section_in file) (filter (is_kept file) ss))) (sym (sections_are file))
+    (sections_hold file IsValid (section_valid file none) (section_count file - 1) 1 (omega arith) (λ k less. omega (arith, less)))
+
+is_sound : (file : List ℕ) (o : Object) → IsObjectIn file o → IsSound o
+is_sound file o (none, is) =
+    let valid : AllByRecursion IsValid o.sections = subst (λ ss. AllByRecursion IsValid ss) (sym is.sections) (all_valid file none) in
+    record {
+      alignments = weaken IsValid (λ s. IsTrue (is_alignment s.alignment)) (λ s v. v.aligned) o.sections valid;
+      inside = weaken IsValid (λ s. IsTrue (fit_inside s.contents s.relocations)) (λ s v. v.inside) o.sections valid;
+      paddings = weaken IsValid (λ s. IsTrue (are_paddings s.executable s.contents s.relocations)) (λ s v. v.paddings) o.sections valid;
+      rows = ap (are_rows o.sections) is.rows ∙ ap (λ ss. are_rows ss (map (row_in file) (row_records file))) is.sections ∙ object_rows file none;
+    }
+
+are_sound : (files : List (List ℕ)) (os : List Object) → AreObjectsIn files os → AllByRecursion IsSound os
+are_sound files os inside = all_each IsObjectIn IsSound is_sound files os inside
+
+-- ---- a file without a fault, and one with a fault
+
+faulty : (file : List ℕ) (fault : FileFault) → first_fault file ≡ Some fault → first_fault file ≡ None → ⊥
+faulty file fault refused none = let clash : None ≡ Some fault = sym none ∙ refused in cc
+
+-- no file is the first with a fault
+pub no_unread : (files : List (List ℕ)) (os : List Object) (number : ℕ) (fault : FileFault) → AreObjectsIn files os → IsFirstUnread files number fault → ⊥
+no_unread files os number fault inside first =
+    let found = in_middle IsObjectIn first.before first.file first.after os (subst (λ l. AreEach IsObjectIn l os) first.whole inside) in
+    faulty first.file fault first.refused found.1.0
+
+some_one : (f g : FileFault) → Some f ≡ Some g → f ≡ g
+some_one f g e = cc
+
+-- the first of them, and its fault
+one_unread : (files : List (List ℕ)) (n m : ℕ) (f g : FileFault) → IsFirstUnread files n f → IsFirstUnread files m g → (n ≡ m) × (f ≡ g)
+one_unread files n m f g first other =
+    let both = one_first (λ file. first_fault file ≡ None) first.before other.before first.file other.file first.after other.after (sym first.whole ∙ other.whole)
+    first.sound other.sound (faulty first.file f first.refused) (faulty other.file g other.refused) in (
+      first.number_is ∙ ap (λ k. k + 1) both.0 ∙ sym other.number_is,
+      some_one f g (sym first.refused ∙ ap first_fault both.1 ∙ other.refused),
+    )
+
+-- a file is refused before its objects are linked
+file_first : (files : List (List ℕ)) (start : ℕ) (relax : Bool) (number : ℕ) (fault : FileFault) (other : LinkFault) → AreWithin (length files) start → IsFirstUnread files number fault
+    → ArePast (length files) start other ⊎ AreReadUnlinked files start relax other → ⊥
+file_first files start relax number fault other within first (inl past) = within_past (length files) start other within past
+file_first files start relax number fault other within first (inr (os, inside, un)) = no_unread files os number fault inside first
+
+-- ---- the laws
+
+module _ (one_held : (file : List ℕ) (o p : Object) → ObjectOf file o → ObjectOf file p → o ≡ p) where
+  pub one_in : (file : List ℕ) (o p : Object) → IsObjectIn file o → IsObjectIn file p → o ≡ p
+  one_in file o p (sound, is) (good, was) = one_held file o p is was
+
+  pub refusal_in : (files : List (List ℕ)) (os : List Object) (start : ℕ) (relax : Bool) (fault : LinkFault) → AreObjectsIn files os
+      → ArePast (length files) start fault ⊎ AreReadUnlinked files start relax fault → IsRefusal os start relax fault
+  refusal_in files os start relax fault inside (inl past) = inl (subst (λ n. ArePast n start fault) (count_each IsObjectIn files os inside) past)
+  refusal_in files os start relax fault inside (inr (ps, were, un)) =
+      inr (subst (λ l. HasNoProgram l start relax fault) (same_each IsObjectIn one_in files ps os were inside) un)
+
+  module _ (linking : LinkLaws) where
+    for_memory : FilesForMemory
+    for_memory files start relax exe map (Source number fault) linked un = absurd un
+    for_memory files start relax exe map (File number fault) (within, (os, inside, built)) (named, also, first) = absurd (no_unread files os number fault inside first)
+    for_memory files start relax exe map (Link fault) (within, (os, inside, built)) (named, reason) =
+        absurd (no_refusal linking os start relax built.linked fault built.links named (refusal_in files os start relax fault inside reason))
+    for_memory files start relax exe map Memory linked un = refl
+
+    both_unlinked : (files : List (List ℕ)) (start : ℕ) (relax : Bool) (fault other : LinkFault) → AreSmallIn files → IsNamed (Link fault) → IsNamed (Link other)
+        → ArePast (length files) start fault ⊎ AreReadUnlinked files start relax fault → ArePast (length files) start other ⊎ AreReadUnlinked files start relax other → IsSameFault fault other
+    both_unlinked files start relax fault other small named called (inl past) (inl again) = past_once (length files) start fault other past again
+    both_unlinked files start relax fault other small named called (inl past) (inr (os, inside, un)) =
+        one_reason linking os start relax fault other (are_sound files os inside) (small os inside) named called (refusal_in files os start relax fault inside (inl past)) (inr un)
+    both_unlinked files start relax fault other small named called (inr (os, inside, un)) again =
+        one_reason linking os start relax fault other (are_sound files os inside) (small os inside) named called (inr un) (refusal_in files os start relax other inside again)
+
+    for_one : FilesForOne
+    for_one files start relax Memory other small h k = inl refl
+    for_one files start relax (Source number fault) other small h k = absurd h
+    for_one files start relax (File number fault) Memory small h k = inr (inl refl)
+    for_one files start relax (File number fault) (Source place other) small h k = absurd k
+    for_one files start relax (File number fault) (File place other) small (named, within, first) (called, inside, second) = inr (inr (one_unread files number place fault other first second))
+    for_one files start relax (File number fault) (Link other) small (named, within, first) (called, reason) = absurd (file_first files start relax number fault other within first reason)
+    for_one files start relax (Link fault) Memory small h k = inr (inl refl)
+    for_one files start relax (Link fault) (Source place other) small h k = absurd k
+    for_one files start relax (Link fault) (File place other) small (named, reason) (called, within, first) = absurd (file_first files start relax place other fault within first reason)
+    for_one files start relax (Link fault) (Link other) small (named, reason) (called, again) = inr (inr (both_unlinked files start relax fault other small named called reason again))
+
+    pub have_one_fault : FilesHaveOneFault
+    have_one_fault = record { linked = for_memory; refused = for_one }

@@ -1,0 +1,111 @@
+-- Why objects are not linked: they are past the limits, or have no program. Either is one reason.
+
+use Rattle.std.proofs.Common.{◌≡◌, ℕ, Bool, ◌<◌, ◌≤◌, ◌⊎◌, inl, inr, List, length, refl, sym, ap, subst, ◌∙◌, arith}
+use Rattle.std.specs.List.{AllByRecursion}
+use Rattle.rv_image.specs.Linked.{Linked}
+use Rattle.rv_object.specs.Object.{Object}
+use Rattle.rv_object_laws.specs.IsLinkOf.{most_files}
+use Rattle.rv_object_laws.specs.Shortened.{Relaxes, IsProgramOf}
+use Rattle.rv_link.specs.declared.fault.LinkFault.{LinkFault}
+use Rattle.rv_link.specs.declared.fault.LinkFault.TheVariants as links
+use Rattle.rv_link.specs.Fault.{number_of}
+use Rattle.rv_link.specs.Refusals.{AreWithin, ArePast, HasNoProgram}
+use Rattle.rv_link.proofs.LeftLemmas.{alike, past_unlinked}
+use Rattle.rv_unique_link_laws.specs.Asked.{IsSound, IsSmall}
+use Rattle.rv_unique_link_laws.specs.Same.{OneProgram, RefusedForMemory, name_in, IsSameFault, RefusedForOne, RowsArePlaced, RunsBeginEven, TextsStartBelow}
+use Rattle.rv_chain.specs.declared.fault.Fault.TheVariants.{Link}
+use Rattle.rv_chain.specs.Fault.{IsNamed}
+
+-- a fault that names its cause is not want of memory
+not_memory : (fault : LinkFault) → IsNamed (Link fault) → fault ≡ links.OutOfMemory → ⊥
+not_memory fault named is = subst (λ f. IsNamed (Link f)) is named
+
+-- ---- limits
+
+pub within_past : (n start : ℕ) (fault : LinkFault) → AreWithin n start → ArePast n start fault → ⊥
+within_past n start links.TooManyFiles (few, at) many = let under : n ≤ most_files = few in let over : most_files < n = many in absurd (omega (arith, under, over))
+within_past n start links.BadTextStart (few, at) (same, bad) = bad at
+within_past n start links.Overflow within past = past
+within_past n start links.OddTarget within past = past
+within_past n start links.DanglingPcrel within past = past
+within_past n start links.AlignmentShort within past = past
+within_past n start (links.Undefined name) within past = past
+within_past n start (links.Duplicate name) within past = past
+within_past n start links.EntryMissing within past = past
+within_past n start links.ImageTooLarge within past = past
+within_past n start links.OutOfMemory within past = past
+
+-- which limit it is
+abbrev IsPastBy : ℕ → LinkFault → Type 0
+IsPastBy n fault = ((fault ≡ links.TooManyFiles) × (most_files < n)) ⊎ ((fault ≡ links.BadTextStart) × (n ≤ most_files))
+
+past_by : (n start : ℕ) (fault : LinkFault) → ArePast n start fault → IsPastBy n fault
+past_by n start links.TooManyFiles h = inl (refl, h)
+past_by n start links.BadTextStart (few, h) = inr (refl, few)
+past_by n start links.Overflow h = absurd h
+past_by n start links.OddTarget h = absurd h
+past_by n start links.DanglingPcrel h = absurd h
+past_by n start links.AlignmentShort h = absurd h
+past_by n start (links.Undefined name) h = absurd h
+past_by n start (links.Duplicate name) h = absurd h
+past_by n start links.EntryMissing h = absurd h
+past_by n start links.ImageTooLarge h = absurd h
+past_by n start links.OutOfMemory h = absurd h
+
+same_fault : (f g : LinkFault) → f ≡ g → IsSameFault f g
+same_fault f g e = (ap number_of e, ap name_in e)
+
+one_past : (n : ℕ) (f g : LinkFault) → IsPastBy n f → IsPastBy n g → IsSameFault f g
+one_past n f g (inl (is, many)) (inl (was, more)) = same_fault f g (is ∙ sym was)
+one_past n f g (inl (is, many)) (inr (was, few)) = absurd (let over : most_files < n = many in let under : n ≤ most_files = few in omega (arith, over, under))
+one_past n f g (inr (is, few)) (inl (was, many)) = absurd (let over : most_files < n = many in let under : n ≤ most_files = few in omega (arith, over, under))
+one_past n f g (inr (is, few)) (inr (was, fewer)) = same_fault f g (is ∙ sym was)
+
+pub past_once : (n start : ℕ) (f g : LinkFault) → ArePast n start f → ArePast n start g → IsSameFault f g
+past_once n start f g h k = one_past n f g (past_by n start f h) (past_by n start g k)
+
+-- ---- objects
+
+-- objects past the limits have no program, whatever relaxation leaves of them
+past_is : (os : List Object) (start : ℕ) (relax : Bool) (left : List Object) (fault : LinkFault) → Relaxes relax os left → ArePast (length os) start fault → HasNoProgram os start relax fault
+past_is os start relax left fault relaxed h = record {
+  left = left;
+  relaxed = relaxed;
+  unlinked = past_unlinked left start fault (subst (λ n. ArePast n start fault) (sym (alike relax os left relaxed).many) h);
+}
+
+-- why objects are refused
+abbrev pub IsRefusal : List Object → ℕ → Bool → LinkFault → Type 0
+IsRefusal os start relax fault = ArePast (length os) start fault ⊎ HasNoProgram os start relax fault
+
+told : (os : List Object) (start : ℕ) (relax : Bool) (left : List Object) (fault : LinkFault) → Relaxes relax os left → IsRefusal os start relax fault → HasNoProgram os start relax fault
+told os start relax left fault relaxed (inl past) = past_is os start relax left fault relaxed past
+told os start relax left fault relaxed (inr h) = h
+
+-- the laws of a link
+pub record LinkLaws : Type 0 where
+  pub one_linked : OneProgram
+  pub for_memory : RefusedForMemory
+  pub for_one : RefusedForOne
+  pub placed : RowsArePlaced
+  pub even : RunsBeginEven
+  pub below : TextsStartBelow
+
+module _ (laws : LinkLaws) where
+  -- objects with a program are not refused
+  pub no_refusal : (os : List Object) (start : ℕ) (relax : Bool) (l : Linked) (fault : LinkFault) → IsProgramOf os start relax l → IsNamed (Link fault) → IsRefusal os start relax fault → ⊥
+  no_refusal os start relax l fault links named h =
+      not_memory fault named (laws.for_memory os start relax l fault links (told os start relax links.left fault links.relaxed h))
+
+  by_law : (os : List Object) (start : ℕ) (relax : Bool) (fault other : LinkFault) → AllByRecursion IsSound os → AllByRecursion IsSmall os → IsNamed (Link fault) → IsNamed (Link other)
+      → HasNoProgram os start relax fault → HasNoProgram os start relax other → IsSameFault fault other
+  by_law os start relax fault other sound small named called h k =
+      laws.for_one os start relax fault other (laws.even os start relax sound) (laws.below os start relax sound small) h (not_memory fault named) k (not_memory other called)
+
+  pub one_reason : (os : List Object) (start : ℕ) (relax : Bool) (fault other : LinkFault) → AllByRecursion IsSound os → AllByRecursion IsSmall os → IsNamed (Link fault) → IsNamed (Link other)
+      → IsRefusal os start relax fault → IsRefusal os start relax other → IsSameFault fault other
+  one_reason os start relax fault other sound small named called (inl h) (inl k) = past_once (length os) start fault other h k
+  one_reason os start relax fault other sound small named called (inl h) (inr k) =
+      by_law os start relax fault other sound small named called (past_is os start relax k.left fault k.relaxed h) k
+  one_reason os start relax fault other sound small named called (inr h) k =
+      by_law os start relax fault other sound small named called h (told os start relax h.left other h.relaxed k)
