@@ -1,11 +1,13 @@
 #!/usr/bin/env python3
 """Damages sources, objects, executables and maps, and looks at how ./rv takes them.
 
-usage: hostile.py COUNT [--seed N] [--jobs N] [--only N]
+usage: hostile.py COUNT [--seed N] [--from N] [--jobs N] [--only N] [--gnu PREFIX]
 
 The files of tests/ and examples/, and the objects, executables and maps that ./rv makes of them, are damaged in the ways
-of `OF_ALL`, `OF_ELF`, `OF_SOURCES` and `OF_MAPS`, one to four at once. File N of a seed is the same in each run, and
-`--only N` takes it alone. Each file is given to the commands that read its kind. A find is
+of `OF_ALL`, `OF_ELF`, `OF_SOURCES` and `OF_MAPS`, one to four at once. With `--gnu`, as in `--gnu riscv64-unknown-elf-`,
+so are the objects and executables that GNU's tools make of them. File N of a seed is the same in each run with the same
+./rv; `--only N` takes it alone, and `--from N` begins with it. Each file is given to the commands that read its kind, a
+guest reads it as its input, and an object is linked alone, twice, or with another. A find is
 
   signal    the program is ended by a signal
   time      it takes more than 2 seconds of a processor, or 60 of the clock
@@ -14,7 +16,9 @@ of `OF_ALL`, `OF_ELF`, `OF_SOURCES` and `OF_MAPS`, one to four at once. File N o
   memory    its memory passes 20 times the bytes of its files and 16 MiB, beside what the program it makes or loads has
   want      it answers that memory ran out, and took no more than that
 
-Each find is one line, and its files are kept in the folder that the last line names. Exit status 1 if there is one.
+Each find is one line, and its files are kept in the folder that the last line names, up to 20 for each kind of find and
+command; the finds of each kind are counted before it. How far it is, and how many files a second it takes, goes to
+standard error every 10,000 files. Exit status 1 if there is a find. A long run: `TMPDIR=/dev/shm nice -n 19`.
 """
 
 import argparse
@@ -28,6 +32,7 @@ import struct
 import subprocess
 import sys
 import tempfile
+import time
 from collections import Counter
 from pathlib import Path
 
@@ -37,9 +42,11 @@ from run import RV, cases  # noqa: E402
 
 MIB = 1 << 20
 SECONDS, CLOCK, STEPS = 2, 60, 50_000
+SHOWN, TELLS = 20, 10_000
 LARGEST = 1 << 18
 NUMBERS = [0, 1, 2, 3, 4, 7, 8, 16, 24, 31, 32, 63, 64, 127, 128, 255, 256, 4095, 4096, 4097, 8192, 0x7FFF, 0x8000, 0xFF00,
-    0xFFF1, 0xFFFF, 0x10000, MIB, 16 * MIB, 256 * MIB, 0x3FEFF000, 0x3FF00000, 0x40000000, 1 << 31, 1 << 32, 1 << 63, 1 << 64]
+    0xFFF1, 0xFFFF, 0x10000, MIB, 16 * MIB, 256 * MIB, 0x3FEFF000, 0x3FF00000, 0x40000000, 1 << 31, 1 << 32, 1 << 62,
+    1 << 63, (1 << 64) - 4096, 1 << 64]
 # the fields of each record of a file (System V gABI; files.md for rows): offset and bytes
 FIELDS = {
     "header": [(4, 1), (5, 1), (6, 1), (16, 2), (18, 2), (20, 4), (24, 8), (32, 8), (40, 8), (48, 4), (52, 2), (54, 2), (56, 2),
@@ -203,7 +210,7 @@ def with_whole_file_as_section(pick, file, _):
 
 def with_longer_table(pick, file, _):
     """A table is moved to the end of the file, with its records many times."""
-    file, table = bytearray(file), some_table(pick, file, "section", "symbol", "relocation", "row")
+    file, table = bytearray(file), some_table(pick, file, "segment", "section", "symbol", "relocation", "row")
     if not table:
         return bytes(file)
     kind, places, header = table
@@ -220,9 +227,10 @@ def with_table(file, kind, header, records):
     file += bytes(-len(file) % 8)
     place, size = len(file), len(records) * SIZES[kind]
     file += b"".join(records)
-    if kind == "section":
-        put(file, 40, 8, place)
-        put(file, 60, 2, len(records))
+    if header is None:
+        at, count = {"segment": (32, 56), "section": (40, 60)}[kind]
+        put(file, at, 8, place)
+        put(file, count, 2, len(records))
     else:
         put(file, header + 24, 8, place)
         put(file, header + 32, 8, size)
@@ -367,7 +375,16 @@ def damaged(pick, kind, file, corpus):
 # --- the files to begin with
 
 
-def corpus_of(pick):
+def made_by_gnu(prefix, at):
+    """The object and the executable that GNU's tools make of the source, where they do."""
+    calls = [["as", "-march=rv64imac", "-o", "gnu.o", "a.s"], ["ld", "-Ttext=0x10000", "-o", "gnu", "gnu.o"]]
+    for kind, (tool, *words) in zip(("object", "exe"), calls):
+        if subprocess.run([prefix + tool, *words], cwd=at, stderr=subprocess.DEVNULL).returncode:
+            return
+        yield kind, (at / words[words.index("-o") + 1]).read_bytes()
+
+
+def corpus_of(pick, gnu):
     """For each kind its files, each with those that belong to it: of an executable its map, of a map its executable."""
     corpus = {kind: [] for kind in KINDS}
     for _, files, _ in cases([]):
@@ -389,6 +406,8 @@ def corpus_of(pick):
                 if len(exe) + len(map_) <= LARGEST or text is long:
                     corpus["exe"].append((exe, map_))
                     corpus["map"].append((map_ if len(map_) <= LARGEST else map_[: map_.index(b"row")], exe))
+                    for kind, file in made_by_gnu(gnu, at) if gnu else ():
+                        corpus[kind] += [(file, map_ if kind == "exe" else None)] if len(file) <= LARGEST else []
     corpus["tokens"] = sorted({it for text, _ in corpus["source"] for it in TOKEN.findall(text[:4096])})
     return corpus
 
@@ -424,9 +443,9 @@ def is_named(words, status, said):
 def called(words, at, most=None):
     """Runs a call, with that much memory: its status and what it said."""
     limits = f"ulimit -S -t {SECONDS}; " + (f"ulimit -v {most // 1024}; " if most else "")
-    with open(os.devnull) as none:
+    with open(at / "file" if words[0] == "run" else os.devnull) as given:
         try:
-            ran = subprocess.run(["sh", "-c", limits + 'exec "$0" "$@"', RV, *words], cwd=at, stdin=none,
+            ran = subprocess.run(["sh", "-c", limits + 'exec "$0" "$@"', RV, *words], cwd=at, stdin=given,
                 stdout=subprocess.DEVNULL, stderr=subprocess.PIPE, timeout=CLOCK)
         except subprocess.TimeoutExpired:
             return -signal.SIGXCPU, "hangs"
@@ -439,7 +458,8 @@ PEAK = "import os, sys; it = os.posix_spawn(sys.argv[1], sys.argv[1:], os.enviro
 def peak(words, at):
     """The most memory that a call takes, in bytes, and whether it says that memory ran out."""
     measure = [sys.executable, "-I", "-S", "-c", PEAK, "/bin/sh", "-c", 'ulimit -S -t 10; exec "$0" "$@" > /dev/null', RV, *words]
-    ran = subprocess.run(measure, cwd=at, stdin=subprocess.DEVNULL, capture_output=True, text=True, errors="replace")
+    with open(at / "file") as given:
+        ran = subprocess.run(measure, cwd=at, stdin=given, capture_output=True, text=True, errors="replace")
     return 1024 * int(ran.stdout), "out of memory" in ran.stderr
 
 
@@ -457,11 +477,17 @@ def outputs(words):
     return [name for mark, name in zip(words, words[1:]) if mark in marks]
 
 
+def read_by(words, at):
+    """The files that a call reads; `-` is the file itself."""
+    names = ["file" if it == "-" else it for it in words[1:]]
+    return [at / it for it in names if it not in outputs(words) and (at / it).is_file()]
+
+
 def own_bytes(words, at):
     """The bytes of the program that a call made or loaded, and of its map."""
     made = sum((at / it).stat().st_size for it in outputs(words) if (at / it).exists())
-    for name in words[1:]:
-        file = (at / name).read_bytes()[:LARGEST] if (at / name).is_file() else b""
+    for path in read_by(words, at):
+        file = path.read_bytes()[:LARGEST]
         if file.startswith(b"\x7fELF") and len(file) >= 64:
             places = next(it for kind, it, _ in tables(file) if kind == "segment")
             made += sum(min(get(file, it + 40, 8), 256 * MIB) for it in places)
@@ -473,8 +499,7 @@ def find_in(words, at):
     made = outputs(words)
     for it in made:
         (at / it).unlink(missing_ok=True)
-    given = [at / it for it in words[1:] if (at / it).is_file()]
-    most = 20 * sum(it.stat().st_size for it in given) + 16 * MIB
+    most = 20 * sum(it.stat().st_size for it in read_by(words, at)) + 16 * MIB
     status, said = called(words, at, most + LEAST)
     if status == -signal.SIGXCPU:
         return "time", said
@@ -502,13 +527,18 @@ def calls(pick, kind, at):
     twice = ["file"] * pick.choice([1, 1, 1, 1, 2])
     if pick.random() < 0.05:
         yield ["dump", "file"]
+    if pick.random() < 0.05 and kind in ("source", "exe"):
+        yield [*run, "-"]
     if kind == "source":
         yield ["as", "-o", "obj", "file"]
+        if pick.random() < 0.05:
+            yield ["map", *options, *twice]
         yield ["build", "-o", "exe", "--map", "map", *options, *twice]
         if (at / "obj").exists():
             yield ["ld", "-o", "exe", "--map", "map", *options, "obj"]
     elif kind == "object":
-        yield ["ld", "-o", "exe", "--map", "map", *options, *twice]
+        beside = pick.choice([twice, twice, twice, ["file", "other"], ["other", "file"]])
+        yield ["ld", "-o", "exe", "--map", "map", *options, *beside]
     elif kind == "exe":
         yield [*run, "file"]
         yield ["objdump", "--map", "other", "file"]
@@ -526,6 +556,7 @@ def attack(number):
     pick = random.Random(f"{SEED} {number}")
     kind = pick.choice(["source"] * 4 + ["object"] * 4 + ["exe"] * 2 + ["map"])
     file, other = pick.choice(CORPUS[kind])
+    other = pick.choice(CORPUS[kind])[0] if kind == "object" else other
     finds, ends = [], Counter()
     with tempfile.TemporaryDirectory() as folder:
         at = Path(folder)
@@ -536,11 +567,23 @@ def attack(number):
             what, end = find_in(words, at)
             ends[what or end] += 1
             if what:
-                kept = KEPT / f"{number}-{words[0]}-{what.replace(' ', '-')}"
-                shutil.copytree(at, kept, dirs_exist_ok=True)
                 size = (at / "file").stat().st_size
-                finds.append(f"{what}: file {number}, {kind} of {size} bytes: rv {' '.join(words)}: {end.strip()}")
+                line = f"{what}: file {number}, {kind} of {size} bytes: rv {' '.join(words)}: {end.strip()}"
+                finds.append((f"{what} at {words[0]}", line))
+                keep(at, f"{words[0]}-{what.replace(' ', '-')}", number)
     return finds, ends
+
+
+def keep(at, what, number):
+    """Keeps the files of a find, where there are not many of its kind."""
+    if len([*KEPT.glob(f"{what}-*")]) < SHOWN:
+        shutil.copytree(at, KEPT / f"{what}-{number}", dirs_exist_ok=True)
+
+
+def tell(done, start):
+    """Says how far the run is."""
+    if done % TELLS == 0:
+        print(f"{done} files, {done / (time.monotonic() - start):.0f} a second", file=sys.stderr, flush=True)
 
 
 def main():
@@ -548,25 +591,31 @@ def main():
     words = argparse.ArgumentParser(description="damages files and looks at how ./rv takes them")
     words.add_argument("count", type=int)
     words.add_argument("--seed", type=int, default=1)
+    words.add_argument("--from", type=int, default=0, dest="first")
     words.add_argument("--jobs", type=int, default=len(os.sched_getaffinity(0)))
     words.add_argument("--only", type=int)
+    words.add_argument("--gnu")
     given = words.parse_args()
     if not RV.exists():
         sys.exit("no ./rv: run make first")
-    SEED, LEAST = given.seed, least()
-    CORPUS, KEPT = corpus_of(random.Random(SEED)), Path(tempfile.mkdtemp(prefix="hostile-"))
-    numbers = range(given.count) if given.only is None else [given.only]
-    finds, done, ends = 0, 0, Counter()
+    SEED, KEPT = given.seed, Path(tempfile.mkdtemp(prefix="hostile-"))
+    LEAST, CORPUS = least(), corpus_of(random.Random(SEED), given.gnu)
+    first, count = (given.first, given.count) if given.only is None else (given.only, 1)
+    kinds, done, ends, start = Counter(), 0, Counter(), time.monotonic()
     with multiprocessing.get_context("fork").Pool(given.jobs, signal.signal, (signal.SIGINT, signal.SIG_IGN)) as pool:
         try:
-            for found, ended in pool.imap_unordered(attack, numbers, chunksize=20):
-                finds, done, ends = finds + len(found), done + 1, ends + ended
-                for line in found:
-                    print(line, flush=True)
+            for found, ended in pool.imap_unordered(attack, range(first, first + count), chunksize=20):
+                done, ends = done + 1, ends + ended
+                for kind, line in found:
+                    kinds[kind] += 1
+                    print(line, flush=True) if kinds[kind] <= SHOWN else None
+                tell(done, start)
         except KeyboardInterrupt:
             print("stopped")
-    print(", ".join(f"{end} {count}" for end, count in sorted(ends.items())))
-    print(f"{done} files of seed {SEED}, {sum(ends.values())} calls, {finds} finds in {KEPT}")
+    for counts in filter(None, (ends, kinds)):
+        print(", ".join(f"{it} {count}" for it, count in sorted(counts.items())))
+    finds = sum(kinds.values())
+    print(f"{done} files of seed {SEED}, from {first} on, {sum(ends.values())} calls, {finds} finds in {KEPT}")
     if not finds:
         KEPT.rmdir()
     return 1 if finds else 0
