@@ -1,7 +1,8 @@
 # make             proves and builds the program as ./rv, and runs an example with it
 # make check       runs the cases of tests/ over ./rv, in seconds
-# make test        the whole gate: every proof from nothing, the must-fail edits, the tests, the program and its cases, and
-#                  what each crate cost
+# make refused     refuses each request for memory of ./rv and of the library's calls in turn
+# make test        the whole gate: every proof from nothing, the must-fail edits, the tests, the programs and their cases,
+#                  and what each crate cost
 # make bench       measures rv beside GNU's tools, qemu-riscv64 and an interpreter in C, where they are installed
 # make install     PREFIX=/usr/local by default
 
@@ -9,9 +10,10 @@ PREFIX ?= /usr/local
 EXAMPLE := examples/exit7.s
 PROGRAM := crates/rv_cli/out/rv_cli
 # What the program is made of: no test crate, and no edit that must fail.
-SOURCES := crates.txt $(shell find crates \( -name out -o -name must-fail -o -name '*_tests' \) -prune -o -type f -print)
+FILES := $(shell find crates \( -name out -o -name must-fail -o -name '*_tests' \) -prune -o -type f -print)
+SOURCES := crates.txt $(filter-out crates/rv_refused/%,$(FILES))
 
-.PHONY: all check test bench install clean
+.PHONY: all check refused test bench install clean
 
 all: rv
 	@echo "rv run $(EXAMPLE)"
@@ -22,10 +24,18 @@ rv: $(SOURCES)
 	scripts/build.py rv_cli
 	cp $(PROGRAM) rv
 
+rv_refused: crates.txt $(FILES)
+	scripts/build.py rv_refused
+	cp crates/rv_refused/out/rv_refused rv_refused
+
 check: rv
 	tests/run.py
 	tests/damaged.py
 	scripts/links.py
+	scripts/want_of_memory.py
+
+refused: rv rv_refused
+	tests/refused.py
 
 test:
 	scripts/test.py
@@ -37,4 +47,4 @@ install: rv
 	install -D -m 755 rv $(DESTDIR)$(PREFIX)/bin/rv
 
 clean:
-	rm -rf rv out crates/*/out
+	rm -rf rv rv_refused out crates/*/out

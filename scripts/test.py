@@ -35,16 +35,21 @@ def said(words):
     return passed, failed or int(ran.returncode != 0)
 
 
+def copy(built, program):
+    """Copies a program that was built; without one, none of an earlier run stays."""
+    program.unlink(missing_ok=True)
+    if built.exists():
+        shutil.copy(built, program)
+
+
 def main():
     status, lines = gate_times.measured(["rt", "ci"])
     passed, failed = counts(lines[-1].strip() if lines else "")
     sums = [(passed, failed or int(status != 0))]
-    built = {ROOT / "crates" / crate / "out" / crate: ROOT / name for crate, name in PROGRAMS.items()}
-    if all(it.exists() for it in built):
-        for program, copy in built.items():
-            shutil.copy(program, copy)
-        sums += [said(words) for words in OF_PROGRAMS]
-    sums += [said(words) for words in OF_FILES]
+    for crate, name in PROGRAMS.items():
+        copy(ROOT / "crates" / crate / "out" / crate, ROOT / name)
+    scripts = [*(OF_PROGRAMS if (ROOT / "rv").exists() else []), *OF_FILES]
+    sums += [said(words) for words in scripts]
     passed, failed = map(sum, zip(*sums))
     print(f"\n{passed} passed, {failed} failed", flush=True)
     return 1 if failed else 0

@@ -1,12 +1,14 @@
 #!/usr/bin/env python3
-"""Refuses each request for memory of ./rv in turn, and looks at what it answers.
+"""Refuses each request for memory of ./rv, and of each call of the library, in turn, and looks at what is answered.
 
-usage: refused.py [WORD ..]     only cases whose names begin so, as `ld` or `run echo_four`
+usage: refused.py [WORD ..]     only cases whose names begin so, as `ld` or `run echo_four` or `step`
 
-A case is a command and a source. It runs once as it is, which gives the ordinary answer and the count of requests; then
-once for each number up to that count with that request refused (refuse.c), and once with the number after it. Wanted is
-`rv: out of memory` with status 1, no output, no input taken and no file left, and in the end the ordinary answer. One line
-for each other answer. Needs a C compiler, `cc`, and glibc; the last line is 'N passed, M failed'.
+A case is a command of ./rv, or a call that ./rv_refused makes (crates/rv_refused), and a source. It runs once as it is,
+which gives the ordinary answer and the count of requests; then once for each number up to that count with that request
+refused (refuse.c), and once with the number after it. Of a command is wanted `rv: out of memory` with status 1, no
+output, no input taken and no file left; of a call that it answers so, and gives the ordinary answer when it is made
+again. In the end the ordinary answer is wanted. One line for each other answer. Needs a C compiler, `cc`, and glibc; the
+last line is 'N passed, M failed'.
 """
 
 import os
@@ -14,46 +16,51 @@ import subprocess
 import sys
 import tempfile
 from concurrent.futures import ThreadPoolExecutor
-from dataclasses import dataclass
+from dataclasses import dataclass, replace
 from pathlib import Path
 
 TESTS = Path(__file__).resolve().parent
-RV = TESTS.parent / "rv"
+RV, LIBRARY = TESTS.parent / "rv", TESTS.parent / "rv_refused"
 SECONDS = 60
-EXIT = "li a7, 93\necall\n"
-START = ".globl _start\n"
+START = ".globl _start; _start: "
+EXIT = "li a7, 93; ecall"
 
 
 @dataclass
 class Source:
-    """A program: its files, what its run gives, the end that the run tells, and its input."""
+    """A program: its files, of a line each, what its run gives, the end that it comes to, and its input; or its fault."""
 
     files: list
     status: int = 0
     console: bytes = b""
-    said: str = ""
+    end: str = ""
     given: bytes = b""
+    fault: str = ""
 
 
 SOURCES = {
-    "exit7": Source([".option norvc\n" + START + "_start: li a0, 7\n" + EXIT], status=7),
-    "hello_short": Source(
-        [START + "_start: li a0, 1\nla a1, msg\nli a2, 5\nli a7, 64\necall\nli a0, 0\n" + EXIT
-         + '.section .rodata\nmsg: .ascii "hello"\n'],
+    "exit7": Source([f".option norvc; {START}li a0, 7; {EXIT}"], status=7),
+    "hello": Source(
+        [f'{START}li a0, 1; la a1, msg; li a2, 5; li a7, 64; ecall; li a0, 0; {EXIT}; .section .rodata; msg: .ascii "hello"'],
         console=b"hello"),
-    "far_tail": Source([START + "_start: tail f\n" + 1021 * "nop\n" + "f: " + EXIT]),
+    "far_tail": Source([f"{START}tail f; {1021 * 'nop; '}f: {EXIT}"]),
     "two_files": Source(
-        [START + "_start: li a0, 0\nloop: addi a0, a0, 1\nli t0, 3\nblt a0, t0, loop\ntail f\n",
-         ".globl f, loop\nf: loop: addi a0, a0, 4\nli t0, 10\nblt a0, t0, loop\n" + EXIT],
+        [f"{START}li a0, 0; loop: addi a0, a0, 1; li t0, 3; blt a0, t0, loop; tail f",
+         f".globl f, loop; f: loop: addi a0, a0, 4; li t0, 10; blt a0, t0, loop; {EXIT}"],
         status=11),
     "echo_four": Source(
-        [START + "_start: li a0, 0\nla a1, b\nli a2, 4\nli a7, 63\necall\nmv a2, a0\nli a0, 1\nli a7, 64\necall\nli a0, 0\n"
-         + EXIT + ".bss\nb: .zero 4\n"],
+        [f"{START}li a0, 0; la a1, b; li a2, 4; li a7, 63; ecall; mv a2, a0; li a0, 1; li a7, 64; ecall; li a0, 0; {EXIT}; "
+         ".bss; b: .zero 4"],
         console=b"abcd", given=b"abcdef"),
     "outside": Source(
-        [START + "_start: li a0, 1\nla a1, b\nli a2, 1\nli a7, 64\necall\nld a0, (zero)\n.data\nb: .byte 'b'\n"],
-        console=b"b", status=125, said="rv: LoadOutside 0\n"),
+        [f"{START}li a0, 1; la a1, b; li a2, 1; li a7, 64; ecall; ld a0, (zero); .data; b: .byte 'b'"],
+        console=b"b", status=125, end="LoadOutside 0"),
+    "undefined": Source([f"{START}call f; call _g"], fault="L5 Undefined f"),
+    "twice": Source([f"{START}{EXIT}", ".globl _start; _start: nop"], fault="L6 Duplicate _start"),
+    "no_operands": Source([f"{START}addi a0, a1; {EXIT}"], fault="1.s:1: E7 BadOperands"),
 }
+OF_ONE_FILE = ("read_object", "write_object")
+CALLS = ("build", "link_objects", "run_exec", "run_io", "step", "listing", "read_map", "write_map", *OF_ONE_FILE)
 
 
 @dataclass(frozen=True)
@@ -69,7 +76,7 @@ class Answer:
     def __str__(self):
         ended = f"signal {-self.status}" if self.status < 0 else f"status {self.status}"
         parts = [ended, self.said.strip().replace("\n", " / ") or "nothing said"]
-        parts += [f"{len(self.out)} bytes of output"] if self.out else []
+        parts += [f"{len(self.out)} bytes of output, {self.out[:40]!r} .."] if self.out else []
         parts += [f"{self.taken} bytes of input taken"] if self.taken else []
         parts += [f"{name} left" for name, _ in self.left]
         return ", ".join(parts)
@@ -80,27 +87,33 @@ REFUSED = Answer(1, b"", "rv: out of memory\n", 0, ())
 
 @dataclass
 class Case:
-    """A call; its files are those of the folder `at`."""
+    """A call of a program in the folder `at`, where its files are, and the answer that is wanted of it."""
 
     name: str
     words: list
     at: Path
-    given: bytes = b""
+    given: bytes
+    wanted: Answer
+
+    @property
+    def is_of_library(self):
+        return self.words[0] == LIBRARY
 
     def answer(self, shim=None, number=0, count=None):
         """Runs the call in a new folder, with a request refused."""
         set_by = {"LD_PRELOAD": str(shim), "REFUSE": str(number)} if shim else {}
         set_by.update({"REQUESTS": str(count)} if count else {})
+        set_by.update({"MARKED": "1"} if self.is_of_library else {})
         with tempfile.TemporaryDirectory() as folder, tempfile.TemporaryFile() as given:
             given.write(self.given)
             given.flush()
             os.lseek(given.fileno(), 0, os.SEEK_SET)
-            words = [str(self.at / word[1:]) if word.startswith("@") else word for word in self.words]
-            ran = subprocess.run([RV, *words], cwd=folder, stdin=given, capture_output=True, timeout=SECONDS,
+            ran = subprocess.run(self.words, cwd=folder, stdin=given, capture_output=True, timeout=SECONDS,
                 env={**os.environ, **set_by})
             taken = os.lseek(given.fileno(), 0, os.SEEK_CUR)
             left = tuple((it.name, it.read_bytes()) for it in sorted(Path(folder).iterdir()))
-        return Answer(ran.returncode, ran.stdout, ran.stderr.decode("utf8", "replace"), taken, left)
+        said = ran.stderr.decode("utf8", "replace").replace(f"{self.at}/", "")
+        return Answer(ran.returncode, ran.stdout, said, taken, left)
 
     def requests(self, shim):
         """How many requests for memory the call makes."""
@@ -108,55 +121,96 @@ class Case:
             self.answer(shim, 0, count.name)
             return int(count.read() or 0)
 
+    def refused(self):
+        """The answer that is wanted where a request is refused."""
+        if self.is_of_library:
+            return replace(self.wanted, out=self.wanted.out.replace(b"begin\n", b"begin\nmemory\n", 1))
+        return REFUSED
 
-def made(words, folder):
-    """Makes files that the cases of a source begin with."""
-    subprocess.run([RV, *words], cwd=folder, check=True, timeout=SECONDS)
+    def wrong(self, wanted, shim=None, number=0):
+        """The line of an answer that is not wanted, or nothing."""
+        came = self.answer(shim, number)
+        return f"{self.name}: request {number}: {came}" if came != wanted else None
+
+
+def made(at, *words):
+    """What ./rv writes to standard output for a call that makes what cases begin with, or are compared with."""
+    return subprocess.run([RV, *words], cwd=at, check=True, timeout=SECONDS, stdout=subprocess.PIPE).stdout
+
+
+def written(at, texts):
+    """What ./rv makes of sources: the file of each object, the executable, its map and its listing."""
+    for text in texts:
+        made(at, "as", "-o", text.replace(".s", ".o"), text)
+    made(at, "build", "-o", "exe", "--map", "map", *texts)
+    files = [(at / it).read_bytes() for it in (*[it.replace(".s", ".o") for it in texts], "exe", "map")]
+    return *files, made(at, "objdump", "--map", "map", "exe")
+
+
+def commands(name, source, at, texts):
+    """The cases of a source's commands, each with files that are wanted of it, and output."""
+    *objects, exe, map_, listing = written(at, texts)
+    paths = [str(at / it) for it in texts]
+    said = f"rv: {source.end}\n" if source.end else ""
+    ran = Answer(source.status, source.console, said, min(len(source.console), len(source.given)), ())
+    wrote = lambda **files: Answer(0, b"", "", 0, tuple(files.items()))
+    shown = lambda out: Answer(0, out, "", 0, ())
+    dump = made(at, "dump", "exe")
+    calls = [(f"as {name}" + f" {text}" * (len(texts) > 1), ["as", "-o", "obj", path], wrote(obj=held))
+        for text, path, held in zip(texts, paths, objects)]
+    calls += [
+        (f"ld {name}", ["ld", "-o", "exe", "--map", "map", *[it.replace(".s", ".o") for it in paths]], wrote(exe=exe, map=map_)),
+        (f"build --map {name}", ["build", "-o", "exe", "--map", "map", *paths], wrote(exe=exe, map=map_)),
+        (f"build {name}", ["build", "-o", "exe", *paths], wrote(exe=exe)),
+        (f"run {name}", ["run", str(at / "exe")], ran),
+        (f"objdump {name}", ["objdump", "--map", str(at / "map"), str(at / "exe")], shown(listing)),
+        (f"map {name}", ["map", *paths], shown(map_)),
+        (f"dump {name}", ["dump", str(at / "exe")], shown(dump)),
+    ]
+    calls += [(f"run of a source {name}", ["run", *paths], ran)] if len(paths) == 1 else []
+    for called, words, wanted in calls:
+        yield Case(called, [RV, *words], at, source.given if wanted is ran else b"", wanted)
+
+
+def faulty(name, source, at, texts):
+    """The cases of a source that is refused for a fault."""
+    paths = [str(at / it) for it in texts]
+    for words in (["build", "-o", "exe", "--map", "map"], ["build", "-o", "exe"], ["map"]):
+        wanted = Answer(1, b"", f"rv: {source.fault}\n", 0, ())
+        yield Case(" ".join([words[0], name]), [RV, *words, *paths], at, b"", wanted)
+
+
+def of_library(name, source, at, texts):
+    """The cases of the library's calls: what ./rv_refused is given, and what it writes."""
+    *objects, exe, map_, listing = written(at, texts)
+    end = f"{source.end or f'Exited {source.status}'}\n".encode() + source.console
+    built = exe.hex().encode() + b"\n" + map_
+    left = f"{max(len(source.given) - len(source.console), 0)} bytes of input left\n".encode()
+    wanted = {"build": built, "link_objects": built, "run_exec": end, "run_io": left + end, "step": end,
+        "listing": listing, "read_map": map_, "write_map": map_}
+    calls = [(call, name, source.files, wanted[call]) for call in CALLS if call in wanted]
+    for text, file, held in zip(texts, source.files, objects):
+        which = f"{name} {text}" if len(texts) > 1 else name
+        calls += [(call, which, [file], held.hex().encode() + b"\n") for call in OF_ONE_FILE]
+    for call, which, files, held in calls:
+        given = b"\n".join([call.encode(), source.given, *[it.encode() for it in files]]) + b"\n"
+        yield Case(f"{call} {which}", [LIBRARY], at, given, Answer(0, b"begin\nanswer\n" + held, "", len(given), ()))
 
 
 def cases(name, source, at):
-    """The cases of a source: each command; `@` stands before the names of the files that are there."""
+    """The cases of a source, whose files are written to a folder."""
     texts = [f"{number}.s" for number in range(1, len(source.files) + 1)]
-    objects = [text.replace(".s", ".o") for text in texts]
-    for text, object_, held in zip(texts, objects, source.files):
-        (at / text).write_text(held)
-        made(["as", "-o", object_, text], at)
-    made(["build", "-o", "exe", "--map", "map", *texts], at)
-    texts, objects = [f"@{it}" for it in texts], [f"@{it}" for it in objects]
-    calls = [("as", ["as", "-o", "obj", text]) for text in texts] + [
-        ("ld", ["ld", "-o", "exe", "--map", "map", *objects]),
-        ("build --map", ["build", "-o", "exe", "--map", "map", *texts]),
-        ("build", ["build", "-o", "exe", *texts]),
-        ("run", ["run", "@exe"]),
-        ("objdump", ["objdump", "--map", "@map", "@exe"]),
-        ("map", ["map", *texts]),
-        ("dump", ["dump", "@exe"]),
-    ]
-    calls += [("run of a source", ["run", *texts])] if len(texts) == 1 else []
-    for number, (command, words) in enumerate(calls, 1):
-        which = f" {number}.s" if command == "as" and len(texts) > 1 else ""
-        yield command, Case(f"{command} {name}{which}", words, at, source.given if command.startswith("run") else b"")
-
-
-def is_ordinary(command, source, answer):
-    """Whether an answer without refusals is what the source is said to give."""
-    if command.startswith("run"):
-        took = min(len(source.console), len(source.given))
-        return answer == Answer(source.status, source.console, source.said, took, ())
-    files = {"as": ("obj",), "ld": ("exe", "map"), "build": ("exe",), "build --map": ("exe", "map")}.get(command, ())
-    names = tuple(name for name, _ in answer.left)
-    return (answer.status, answer.said, names) == (0, "", files) and bool(answer.out) == (not files)
-
-
-def wrong(case, wanted, shim, number):
-    """The line of an answer that is not wanted, or nothing."""
-    came = case.answer(shim, number)
-    return f"{case.name}: request {number}: {came}" if came != wanted else None
+    for text, held in zip(texts, source.files):
+        (at / text).write_text(held + "\n")
+    if source.fault:
+        return [*faulty(name, source, at, texts)]
+    return [*commands(name, source, at, texts), *of_library(name, source, at, texts)]
 
 
 def main(names):
-    if not RV.exists():
-        sys.exit("no ./rv: run make first")
+    for it in (RV, LIBRARY):
+        if not it.exists():
+            sys.exit(f"no ./{it.name}: run make {it.name} first")
     lines = []
     with tempfile.TemporaryDirectory() as folder, ThreadPoolExecutor(len(os.sched_getaffinity(0))) as pool:
         shim = Path(folder, "refuse.so")
@@ -164,14 +218,14 @@ def main(names):
         for name, source in SOURCES.items():
             at = Path(folder, name)
             at.mkdir()
-            for command, case in cases(name, source, at):
+            for case in cases(name, source, at):
                 if names and not any(case.name.startswith(it) for it in names):
                     continue
-                ordinary, count = case.answer(), case.requests(shim)
-                lines.append(None if is_ordinary(command, source, ordinary) else f"{case.name}: {ordinary}")
-                lines.append(None if count else f"{case.name}: no request was counted")
+                count = case.requests(shim)
+                lines += [case.wrong(case.wanted), None if count else f"{case.name}: no request was counted"]
                 for number in range(1, count + 2):
-                    lines.append(pool.submit(wrong, case, REFUSED if number <= count else ordinary, shim, number))
+                    wanted = case.refused() if number <= count else case.wanted
+                    lines.append(pool.submit(case.wrong, wanted, shim, number))
         lines = [it.result() if hasattr(it, "result") else it for it in lines]
     for it in filter(None, lines):
         print(it)

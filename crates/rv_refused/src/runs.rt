@@ -1,0 +1,71 @@
+//! Calls that run an executable.
+
+use crate::calls::executable;
+use crate::error::Failed;
+use crate::given::Given;
+use crate::marks::{mark, marked};
+use crate::shown::show_run;
+use rv_chain::{End, run_exec};
+use rv_image::{Image, load};
+use rv_machine::{Io, Machine, RunFault, run_io};
+use rv_memory::{Memory, Paged};
+use std::alloc::{AllocError, Global};
+
+/// The most instructions of a run.
+const LIMIT: u64 = 100_000;
+/// The most bytes that a guest writes.
+const CONSOLE_LIMIT: usize = 4096;
+
+/// Runs the executable's file.
+pub(crate) fn run_file(rt: &HostRuntime, given: &Given<'_>) -> Result<(), Failed> {
+    let alloc = rt.alloc();
+    let exe = executable(alloc, given)?;
+    let outcome = marked(rt, || {
+        Ok(run_exec(alloc, exe.as_slice(), given.input, LIMIT)?)
+    })?;
+    show_run(rt, outcome.end, outcome.console.as_slice())
+}
+
+/// Runs the executable over streams that are the same before and after a refusal.
+pub(crate) fn run_over_streams(rt: &HostRuntime, given: &Given<'_>) -> Result<(), Failed> {
+    let alloc: Global = rt.alloc();
+    let exe = executable(alloc, given)?;
+    let image: Image = load(alloc, exe.as_slice())?;
+    let mut input = given.input;
+    let mut console = Vec::with_capacity(alloc, CONSOLE_LIMIT)?;
+    let mut reader = Io::new(&mut input);
+    let mut writer = Io::new(&mut console);
+    mark(rt, b"begin\n")?;
+    let mut answer = run_io(alloc, image, &mut reader, &mut writer, LIMIT);
+    if matches!(answer, Err(RunFault::OutOfMemory)) {
+        mark(rt, b"memory\n")?;
+        let image = load(alloc, exe.as_slice())?;
+        answer = run_io(alloc, image, &mut reader, &mut writer, LIMIT);
+    }
+    mark(rt, b"answer\n")?;
+    let left = input.len();
+    println!(rt; "{left} bytes of input left")?;
+    show_run(rt, answer?, console.as_slice())
+}
+
+/// Steps a machine to its end; a step that is refused is made again.
+pub(crate) fn step_machine(rt: &HostRuntime, given: &Given<'_>) -> Result<(), Failed> {
+    let alloc: Global = rt.alloc();
+    let exe = executable(alloc, given)?;
+    let image = load(alloc, exe.as_slice())?;
+    let entry = image.entry;
+    let memory = Paged::new(alloc, image)?;
+    let mut machine = Machine::new(alloc, memory, entry, given.input)?;
+    let end = marked(rt, || Ok(stepped(&mut machine)?))?;
+    show_run(rt, end, machine.console())
+}
+
+/// Steps a machine until it ends.
+fn stepped<M: Memory + Drop>(machine: &mut Machine<M>) -> Result<End, AllocError> {
+    for _ in 0..LIMIT {
+        if let Some(end) = machine.step()? {
+            return Ok(end);
+        }
+    }
+    Ok(End::Limit)
+}
