@@ -60,7 +60,6 @@ SOURCES = {
     "no_operands": Source([f"{START}addi a0, a1; {EXIT}"], fault="1.s:1: E7 BadOperands"),
 }
 OF_ONE_FILE = ("read_object", "write_object")
-CALLS = ("build", "link_objects", "run_exec", "run_io", "step", "listing", "read_map", "write_map", *OF_ONE_FILE)
 
 
 @dataclass(frozen=True)
@@ -180,15 +179,31 @@ def faulty(name, source, at, texts):
         yield Case(" ".join([words[0], name]), [RV, *words, *paths], at, b"", wanted)
 
 
+def of_bad_files(name, at):
+    """The cases of files that are refused: cut off after 100 bytes, or no map."""
+    for it in ("1.o", "exe"):
+        (at / f"cut_{it}").write_bytes((at / it).read_bytes()[:100])
+    calls = [
+        ("cut_1.o: F1 Truncated", ["ld", "-o", "made", str(at / "cut_1.o")]),
+        ("cut_exe: F1 Truncated", ["run", str(at / "cut_exe")]),
+        ("1.s: not a map", ["objdump", "--map", str(at / "1.s"), str(at / "exe")]),
+    ]
+    for fault, words in calls:
+        wanted = Answer(1, b"", f"rv: {fault}\n", 0, ())
+        yield Case(f"{words[0]} of a bad file {name}", [RV, *words], at, b"", wanted)
+
+
 def of_library(name, source, at, texts):
     """The cases of the library's calls: what ./rv_refused is given, and what it writes."""
     *objects, exe, map_, listing = written(at, texts)
     end = f"{source.end or f'Exited {source.status}'}\n".encode() + source.console
     built = exe.hex().encode() + b"\n" + map_
     left = f"{max(len(source.given) - len(source.console), 0)} bytes of input left\n".encode()
-    wanted = {"build": built, "link_objects": built, "run_exec": end, "run_io": left + end, "step": end,
-        "listing": listing, "read_map": map_, "write_map": map_}
-    calls = [(call, name, source.files, wanted[call]) for call in CALLS if call in wanted]
+    wanted = {"build": built, "link_objects": built, "run_exec": end, "run_io": left + end, "listing": listing,
+        "read_map": map_, "write_map": map_}
+    # a step asks for memory where it writes to the console
+    wanted.update({"step": end} if source.console else {})
+    calls = [(call, name, source.files, held) for call, held in wanted.items()]
     for text, file, held in zip(texts, source.files, objects):
         which = f"{name} {text}" if len(texts) > 1 else name
         calls += [(call, which, [file], held.hex().encode() + b"\n") for call in OF_ONE_FILE]
@@ -204,7 +219,7 @@ def cases(name, source, at):
         (at / text).write_text(held + "\n")
     if source.fault:
         return [*faulty(name, source, at, texts)]
-    return [*commands(name, source, at, texts), *of_library(name, source, at, texts)]
+    return [*commands(name, source, at, texts), *of_bad_files(name, at), *of_library(name, source, at, texts)]
 
 
 def main(names):

@@ -2,13 +2,12 @@
 
 use crate::error::Failed;
 use crate::given::Given;
+use crate::library::{
+    built, image_in, linked, listing, map_in, map_text, object_file, object_in, written,
+};
 use crate::marks::{mark, marked};
 use crate::runs::{run_file, run_over_streams, step_machine};
 use crate::shown::{show_built, show_file};
-use rv_chain::{Built, LinkOptions, assemble_object, build, build_exe, link_objects};
-use rv_disasm::listing;
-use rv_image::load;
-use rv_map::Map;
 use std::alloc::Global;
 
 /// Makes the call that is asked for, and shows what it answers.
@@ -28,23 +27,6 @@ pub(crate) fn answer(rt: &HostRuntime, given: &Given<'_>) -> Result<(), Failed> 
     }
 }
 
-fn options() -> LinkOptions {
-    LinkOptions {
-        text_start: 0x1_0000,
-        relax: true,
-    }
-}
-
-/// The executable of the sources.
-pub(crate) fn executable(alloc: Global, given: &Given<'_>) -> Result<Vec<u8>, Failed> {
-    Ok(build_exe(alloc, given.sources.as_slice(), options())?)
-}
-
-/// The executable of the sources and its map.
-fn built(alloc: Global, given: &Given<'_>) -> Result<Built, Failed> {
-    Ok(build(alloc, given.sources.as_slice(), options())?)
-}
-
 fn build_sources(rt: &HostRuntime, given: &Given<'_>) -> Result<(), Failed> {
     let alloc: Global = rt.alloc();
     let built = marked(rt, || built(alloc, given))?;
@@ -55,51 +37,41 @@ fn link_files(rt: &HostRuntime, given: &Given<'_>) -> Result<(), Failed> {
     let alloc: Global = rt.alloc();
     let mut files: Vec<Vec<u8>> = Vec::new(alloc);
     for source in &given.sources {
-        files.push(assemble_object(alloc, source)?)?;
+        files.push(object_file(alloc, source)?)?;
     }
     let mut objects: Vec<&[u8]> = Vec::new(alloc);
     for file in &files {
         objects.push(file.as_slice())?;
     }
-    let built = marked(rt, || {
-        Ok(link_objects(alloc, objects.as_slice(), options())?)
-    })?;
+    let built = marked(rt, || linked(alloc, objects.as_slice()))?;
     show_built(rt, &built)
 }
 
 fn list(rt: &HostRuntime, given: &Given<'_>) -> Result<(), Failed> {
     let alloc: Global = rt.alloc();
     let built = built(alloc, given)?;
-    let image = load(alloc, built.exe.as_slice())?;
+    let image = image_in(alloc, built.exe.as_slice())?;
     let map = map_in(alloc, built.map.as_slice())?;
-    let text = marked(rt, || Ok(listing(alloc, &image, &map)?))?;
+    let text = marked(rt, || listing(alloc, &image, &map))?;
     mark(rt, text.as_slice())
 }
 
 /// Reads the object of the first source, and shows its file.
 fn read_object(rt: &HostRuntime, given: &Given<'_>) -> Result<(), Failed> {
     let alloc: Global = rt.alloc();
-    let file = assemble_object(alloc, given.source()?)?;
-    let object = marked(rt, || Ok(rv_object_reader::read(alloc, file.as_slice())?))?;
-    let again = rv_object_writer::write(alloc, &object)?;
+    let file = object_file(alloc, given.source()?)?;
+    let object = marked(rt, || object_in(alloc, file.as_slice()))?;
+    let again = written(alloc, &object)?;
     show_file(rt, again.as_slice())
 }
 
 /// Writes the object of the first source.
 fn write_object(rt: &HostRuntime, given: &Given<'_>) -> Result<(), Failed> {
     let alloc: Global = rt.alloc();
-    let file = assemble_object(alloc, given.source()?)?;
-    let object = rv_object_reader::read(alloc, file.as_slice())?;
-    let again = marked(rt, || Ok(rv_object_writer::write(alloc, &object)?))?;
+    let file = object_file(alloc, given.source()?)?;
+    let object = object_in(alloc, file.as_slice())?;
+    let again = marked(rt, || written(alloc, &object))?;
     show_file(rt, again.as_slice())
-}
-
-/// The map that a text is of.
-fn map_in(alloc: Global, text: &[u8]) -> Result<Map, Failed> {
-    match rv_map::read(alloc, text)? {
-        Some(map) => Ok(map),
-        None => Err(Failed::NoAnswer),
-    }
 }
 
 /// Reads the map of the sources, and shows its text.
@@ -107,7 +79,7 @@ fn read_map(rt: &HostRuntime, given: &Given<'_>) -> Result<(), Failed> {
     let alloc: Global = rt.alloc();
     let built = built(alloc, given)?;
     let map = marked(rt, || map_in(alloc, built.map.as_slice()))?;
-    let again = rv_map::write(alloc, &map)?;
+    let again = map_text(alloc, &map)?;
     mark(rt, again.as_slice())
 }
 
@@ -115,6 +87,6 @@ fn write_map(rt: &HostRuntime, given: &Given<'_>) -> Result<(), Failed> {
     let alloc: Global = rt.alloc();
     let built = built(alloc, given)?;
     let map = map_in(alloc, built.map.as_slice())?;
-    let again = marked(rt, || Ok(rv_map::write(alloc, &map)?))?;
+    let again = marked(rt, || map_text(alloc, &map))?;
     mark(rt, again.as_slice())
 }

@@ -12,6 +12,7 @@
 mod calls;
 mod error;
 mod given;
+mod library;
 mod marks;
 mod runs;
 mod shown;

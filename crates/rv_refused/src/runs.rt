@@ -1,15 +1,14 @@
 //! Calls that run an executable.
 
-use crate::calls::executable;
 use crate::error::Failed;
 use crate::given::Given;
+use crate::library::{executable, image_in, machine, outcome};
 use crate::marks::{mark, marked};
 use crate::shown::show_run;
-use rv_chain::{End, run_exec};
-use rv_image::{Image, load};
+use rv_chain::End;
 use rv_machine::{Io, Machine, RunFault, run_io};
-use rv_memory::{Memory, Paged};
-use std::alloc::{AllocError, Global};
+use rv_memory::Paged;
+use std::alloc::Global;
 
 /// The most instructions of a run.
 const LIMIT: u64 = 100_000;
@@ -20,17 +19,15 @@ const CONSOLE_LIMIT: usize = 4096;
 pub(crate) fn run_file(rt: &HostRuntime, given: &Given<'_>) -> Result<(), Failed> {
     let alloc = rt.alloc();
     let exe = executable(alloc, given)?;
-    let outcome = marked(rt, || {
-        Ok(run_exec(alloc, exe.as_slice(), given.input, LIMIT)?)
-    })?;
-    show_run(rt, outcome.end, outcome.console.as_slice())
+    let ran = marked(rt, || outcome(alloc, exe.as_slice(), given.input, LIMIT))?;
+    show_run(rt, ran.end, ran.console.as_slice())
 }
 
 /// Runs the executable over streams that are the same before and after a refusal.
 pub(crate) fn run_over_streams(rt: &HostRuntime, given: &Given<'_>) -> Result<(), Failed> {
     let alloc: Global = rt.alloc();
     let exe = executable(alloc, given)?;
-    let image: Image = load(alloc, exe.as_slice())?;
+    let image = image_in(alloc, exe.as_slice())?;
     let mut input = given.input;
     let mut console = Vec::with_capacity(alloc, CONSOLE_LIMIT)?;
     let mut reader = Io::new(&mut input);
@@ -39,7 +36,7 @@ pub(crate) fn run_over_streams(rt: &HostRuntime, given: &Given<'_>) -> Result<()
     let mut answer = run_io(alloc, image, &mut reader, &mut writer, LIMIT);
     if matches!(answer, Err(RunFault::OutOfMemory)) {
         mark(rt, b"memory\n")?;
-        let image = load(alloc, exe.as_slice())?;
+        let image = image_in(alloc, exe.as_slice())?;
         answer = run_io(alloc, image, &mut reader, &mut writer, LIMIT);
     }
     mark(rt, b"answer\n")?;
@@ -52,16 +49,13 @@ pub(crate) fn run_over_streams(rt: &HostRuntime, given: &Given<'_>) -> Result<()
 pub(crate) fn step_machine(rt: &HostRuntime, given: &Given<'_>) -> Result<(), Failed> {
     let alloc: Global = rt.alloc();
     let exe = executable(alloc, given)?;
-    let image = load(alloc, exe.as_slice())?;
-    let entry = image.entry;
-    let memory = Paged::new(alloc, image)?;
-    let mut machine = Machine::new(alloc, memory, entry, given.input)?;
-    let end = marked(rt, || Ok(stepped(&mut machine)?))?;
+    let mut machine = machine(alloc, exe.as_slice(), given.input)?;
+    let end = marked(rt, || stepped(&mut machine))?;
     show_run(rt, end, machine.console())
 }
 
 /// Steps a machine until it ends.
-fn stepped<M: Memory + Drop>(machine: &mut Machine<M>) -> Result<End, AllocError> {
+fn stepped(machine: &mut Machine<Paged>) -> Result<End, Failed> {
     for _ in 0..LIMIT {
         if let Some(end) = machine.step()? {
             return Ok(end);
