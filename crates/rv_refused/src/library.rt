@@ -4,7 +4,7 @@
 use crate::error::Failed;
 use crate::given::Given;
 use rv_chain::{
-    Built, LinkOptions, Outcome, assemble_object, build, build_exe, link_objects, run_exec,
+    Built, End, LinkOptions, Outcome, assemble_object, build, build_exe, link_objects, run_exec,
 };
 use rv_image::{Image, load};
 use rv_machine::Machine;
@@ -64,6 +64,10 @@ pub(crate) fn machine(alloc: Global, exe: &[u8], input: &[u8]) -> Result<Machine
     let entry = image.entry;
     let memory = Paged::new(alloc, image)?;
     Ok(Machine::new(alloc, memory, entry, input)?)
+}
+
+pub(crate) fn step(machine: &mut Machine<Paged>) -> Result<Option<End>, Failed> {
+    Ok(machine.step()?)
 }
 
 pub(crate) fn listing(alloc: Global, image: &Image, map: &Map) -> Result<Vec<u8>, Failed> {

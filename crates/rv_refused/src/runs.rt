@@ -2,7 +2,7 @@
 
 use crate::error::Failed;
 use crate::given::Given;
-use crate::library::{executable, image_in, machine, outcome};
+use crate::library::{executable, image_in, machine, outcome, step};
 use crate::marks::{mark, marked};
 use crate::shown::show_run;
 use rv_chain::End;
@@ -57,7 +57,7 @@ pub(crate) fn step_machine(rt: &HostRuntime, given: &Given<'_>) -> Result<(), Fa
 /// Steps a machine until it ends.
 fn stepped(machine: &mut Machine<Paged>) -> Result<End, Failed> {
     for _ in 0..LIMIT {
-        if let Some(end) = machine.step()? {
+        if let Some(end) = step(machine)? {
             return Ok(end);
         }
     }
