@@ -23,14 +23,14 @@ Comes (Some e) next h m h' m' = (next ≡ Over (end_of e)) × ((h' ≡ h) × (m'
 abbrev pub ComesOf : Option End → Effect → laws.Hart → Mem → laws.Hart → Mem → Type 0
 ComesOf ended effect h m h' m' = Comes ended (apply effect m) h m h' m'
 
--- the same of a machine, which keeps its end: after an end, and where memory runs out, nothing
--- changes
+-- the same of a machine, which keeps its end: after an end it answers that end alone, and nothing
+-- changes; nor does anything where memory runs out
 abbrev pub Steps : {E : Type 0} → Result (Option End) E → Option End → Option End → Next →
     laws.Hart → Mem → laws.Hart → Mem → Type 0
+Steps result (Some e) after next h m h' m' =
+    (result ≡ Ok (Some e)) × ((after ≡ Some e) × ((h' ≡ h) × (m' ≡ m)))
 Steps (Ok ended) None after next h m h' m' = (after ≡ ended) × Comes ended next h m h' m'
-Steps (Ok ended) (Some e) after next h m h' m' =
-    (ended ≡ Some e) × ((after ≡ Some e) × ((h' ≡ h) × (m' ≡ m)))
-Steps (Err _) before after next h m h' m' = (after ≡ before) × ((h' ≡ h) × (m' ≡ m))
+Steps (Err _) None after next h m h' m' = (after ≡ None) × ((h' ≡ h) × (m' ≡ m))
 
 -- what a run came to, at this state by this end
 abbrev pub outcome_at : State → End → laws.Outcome

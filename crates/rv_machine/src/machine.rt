@@ -131,8 +131,8 @@ impl<M: Memory + Drop> Machine<M> {
         })
     }
 
-    /// One step, or the end that the machine came to before; then nothing changes. Where memory runs out,
-    /// the machine is as it was and can go on.
+    /// One step; after an end, that end and nothing else, and nothing changes. Where memory runs out, the machine is
+    /// as it was and can go on.
     #[inline(never)]
     pub fn step(&mut self) -> Result<Option<End>, AllocError>
         ensures kept { IfOk result (λ ended. self.old.end ≡ None → self.new.end ≡ ended) }
