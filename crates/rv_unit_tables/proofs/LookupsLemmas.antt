@@ -218,6 +218,6 @@ within_cut offset size bytes is = by (nat_le bytes (2 ^ 64 - 1)) refl
     by true e = let l = leb-true bytes (2 ^ 64 - 1) e in ap (laws.within offset) (let same : size ≡ bytes = omega (arith, is, l) in same)
     by false e =
         let l = leb-false bytes (2 ^ 64 - 1) e in
-        let far : laws.longest_section < offset + size = omega (arith, is, l) in
-        let farther : laws.longest_section < offset + bytes = omega (arith, l) in
+        let far : 2 ^ 28 < offset + size = omega (arith, is, l) in
+        let farther : 2 ^ 28 < offset + bytes = omega (arith, l) in
         past_all offset size far ∙ sym (past_all offset bytes farther)
