@@ -3,6 +3,7 @@
 use Rattle.std.proofs.Common.{◌≡◌, ℕ, suc, ◌+◌, ◌-◌, ◌<◌, ◌≤◌, Bool, true, false, not, ◌==◌, List, [], ◌∷◌, ◌++◌, length, map, drop, filter, get_or, replicate, refl, sym, ap, ◌∙◌, append_assoc, append-nil, length-append, arith, ne_eqb, if◌then◌else◌}
 use Rattle.std.specs.Prelude.{flat_map}
 use Rattle.std.proofs.lemmas.List.{drop_more, drop_all, length-replicate}
+use Rattle.std.proofs.Math.Seq.{drop-append_seam}
 use mir.Val.{bool_byte}
 use Rattle.rv_elf.specs.declared.file_header.FileHeader.{FileHeader}
 use Rattle.rv_elf.specs.Records.{file_header_bytes, section_header_bytes}
@@ -11,7 +12,9 @@ use Rattle.rv_object.specs.declared.section.Section.{Section as DeclaredSection}
 use Rattle.rv_object.specs.Object.{Section, Symbol}
 use Rattle.rv_object.specs.Sections.{section_of}
 use Rattle.rv_layout_laws.specs.Alignment.{aligned}
-use Rattle.rv_object_file_laws.specs.Written.{Piece, zeros_at, contents_from, headers_from, header_of, rela_pieces, row_pieces, has_relocations, is_local, locals}
+use Rattle.rv_object_writer.specs.declared.piece.Piece.{Piece as DeclaredPiece}
+use Rattle.rv_object_writer.specs.Pieces.{piece_of}
+use Rattle.rv_object_file_laws.specs.Written.{Piece, zeros_at, contents_from, headers_offset, headers_from, header_of, rela_pieces, row_pieces, has_relocations, is_local, locals}
 
 -- the next of those that are left
 pub left : {A : Type 0} (xs : List A) (i : ℕ) (x d : A) → i < length xs → x ≡ get_or xs i d → drop i xs ≡ x ∷ drop (i + 1) xs
@@ -48,18 +51,64 @@ pub length-header : (h : FileHeader) → length (file_header_bytes h) ≡ 64
 unfolding file_header_bytes
 length-header h = refl
 
--- the parts of a file
-pub whole_file : (h : FileHeader) (ps : List Piece) (start one two later new rest : List ℕ) → start ≡ [] → one ≡ start ++ file_header_bytes h
-    → two ≡ one ++ contents_from (length one) ps → later ≡ two ++ replicate 64 0 → new ≡ later ++ rest
+-- where contents end, the section headers stand; no section's contents begin past that
+pub not_below : (at : ℕ) → at ≤ aligned 8 at
+not_below at = omega arith
+
+pub contents_end : (at : ℕ) (ps : List Piece) → at + length (contents_from at ps) ≡ headers_offset at ps
+contents_end at [] =
+    let zeros : length (zeros_at at) ≡ aligned 8 at - at = length-replicate {A = ℕ} (aligned 8 at - at) 0 in
+    let up = not_below at in
+    omega arith
+contents_end at (p ∷ ps) =
+    let next = aligned 8 at + length p.bytes in
+    let rest = contents_from next ps in
+    let zeros : length (zeros_at at) ≡ aligned 8 at - at = length-replicate {A = ℕ} (aligned 8 at - at) 0 in
+    let up = not_below at in
+    let all : length (zeros_at at ++ (p.bytes ++ rest)) ≡ length (zeros_at at) + length (p.bytes ++ rest) = length-append (zeros_at at) (p.bytes ++ rest) in
+    let behind : length (p.bytes ++ rest) ≡ length p.bytes + length rest = length-append p.bytes rest in
+    let end : next + length rest ≡ headers_offset next ps = contents_end next ps in
+    omega arith
+
+pub begins_below : (at : ℕ) (ps : List Piece) → aligned 8 at ≤ headers_offset at ps
+begins_below at [] = omega arith
+begins_below at (p ∷ ps) =
+    let next = aligned 8 at + length p.bytes in
+    let up = not_below next in
+    let more = begins_below next ps in
+    omega arith
+
+-- one section header later
+pub ends_on : (ps : List DeclaredPiece) (i at offset total : ℕ) (d : DeclaredPiece) → i < length ps → offset ≡ aligned 8 at
+    → headers_offset at (map piece_of (drop i ps)) ≡ total
+    → headers_offset (offset + length (get_or ps i d).bytes.now) (map piece_of (drop (i + 1) ps)) ≡ total
+ends_on ps i at offset total d inside is end =
+    ap (λ n. headers_offset (n + length (get_or ps i d).bytes.now) (map piece_of (drop (i + 1) ps))) is
+    ∙ ap (λ l. headers_offset at (map piece_of l)) (sym (left ps i (get_or ps i d) d inside refl)) ∙ end
+
+-- the parts of a file, whose header is written over the zeros that keep its place
+pub whole_file : (h : FileHeader) (ps : List Piece) (start one two set later new rest : List ℕ) → start ≡ [] → one ≡ start ++ replicate 64 0
+    → two ≡ one ++ contents_from (length one) ps → set ≡ file_header_bytes h ++ drop 64 two → later ≡ set ++ replicate 64 0 → new ≡ later ++ rest
     → new ≡ file_header_bytes h ++ (contents_from 64 ps ++ (replicate 64 0 ++ rest))
-whole_file h ps start one two later new rest empty header contents zeros headers =
-    let first : one ≡ file_header_bytes h = header ∙ ap (λ l. l ++ file_header_bytes h) empty in
-    let size : length one ≡ 64 = ap length first ∙ length-header h in
-    let second : two ≡ file_header_bytes h ++ contents_from 64 ps =
-    contents ∙ ap (λ n. one ++ contents_from n ps) size ∙ ap (λ l. l ++ contents_from 64 ps) first in
+whole_file h ps start one two set later new rest empty place contents header zeros headers =
     let zero_header : List ℕ = replicate 64 0 in
-    headers ∙ ap (λ l. l ++ rest) (zeros ∙ ap (λ l. l ++ zero_header) second)
+    let first : one ≡ zero_header = place ∙ ap (λ l. l ++ zero_header) empty in
+    let size : length one ≡ 64 = ap length first in
+    let second : two ≡ zero_header ++ contents_from 64 ps =
+    contents ∙ ap (λ n. one ++ contents_from n ps) size ∙ ap (λ l. l ++ contents_from 64 ps) first in
+    let third : set ≡ file_header_bytes h ++ contents_from 64 ps =
+    header ∙ ap (λ l. file_header_bytes h ++ drop 64 l) second ∙ ap (λ l. file_header_bytes h ++ l) (drop-append_seam zero_header (contents_from 64 ps)) in
+    headers ∙ ap (λ l. l ++ rest) (zeros ∙ ap (λ l. l ++ zero_header) third)
     ∙ append_assoc (file_header_bytes h ++ contents_from 64 ps) zero_header rest ∙ append_assoc (file_header_bytes h) (contents_from 64 ps) (zero_header ++ rest)
+
+-- with the place of its header, a file that ends with contents has the length up to the section headers
+pub length_so_far : (ps : List Piece) (start one two : List ℕ) → start ≡ [] → one ≡ start ++ replicate 64 0 → two ≡ one ++ contents_from (length one) ps
+    → length two ≡ headers_offset 64 ps
+length_so_far ps start one two empty place contents =
+    let zero_header : List ℕ = replicate 64 0 in
+    let size : length one ≡ 64 = ap length (place ∙ ap (λ l. l ++ zero_header) empty) in
+    ap length contents ∙ length-append one (contents_from (length one) ps)
+    ∙ ap (λ n. n + length (contents_from n ps)) size ∙ contents_end 64 ps
 
 pub contents_more : (p : Piece) (ps : List Piece) (out new : List ℕ) → new ≡ (out ++ zeros_at (length out)) ++ p.bytes
     → new ++ contents_from (length new) ps ≡ out ++ contents_from (length out) (p ∷ ps)
@@ -128,3 +177,12 @@ locals_more s ss e = ap (λ b. if b then suc (locals ss) else 0) e
 
 pub locals_end : (s : Symbol) (ss : List Symbol) → is_local s ≡ false → locals (s ∷ ss) ≡ 0
 locals_end s ss e = ap (λ b. if b then suc (locals ss) else 0) e
+
+pub header_put : (ns : List (List ℕ)) (ps : List DeclaredPiece) (i at offset : ℕ) (d : DeclaredPiece) (out new whole : List ℕ)
+    → i < length ps → offset ≡ aligned 8 at → new ≡ out ++ section_header_bytes (header_of ns at (piece_of (get_or ps i d)))
+    → out ++ flat_map section_header_bytes (headers_from ns at (map piece_of (drop i ps))) ≡ whole
+    → new ++ flat_map section_header_bytes (headers_from ns (offset + length (get_or ps i d).bytes.now) (map piece_of (drop (i + 1) ps))) ≡ whole
+header_put ns ps i at offset d out new whole inside is grown so_far =
+    let size : ℕ = length (get_or ps i d).bytes.now in
+    headers_more ns at (offset + size) (piece_of (get_or ps i d)) (map piece_of (drop (i + 1) ps)) out new grown (ap (λ n. n + size) is)
+    ∙ ap (λ l. out ++ flat_map section_header_bytes (headers_from ns at (map piece_of l))) (sym (left ps i (get_or ps i d) d inside refl)) ∙ so_far

@@ -20,8 +20,8 @@ pub(crate) struct Piece<'p> {
     pub bytes: &'p [u8],
     /// Its size in memory or in the file, in bytes.
     pub size: u64,
-    pub link: u64,
-    pub info: u64,
+    pub link: u128,
+    pub info: u128,
     pub alignment: u64,
     pub entry_size: u64,
 }

@@ -28,35 +28,30 @@ pub(crate) struct Tables {
     pub symbols: Vec<u8>,
     /// The names of the symbols.
     pub names: Vec<u8>,
-    /// The index of the section of symbols.
-    pub symtab: u64,
+    /// The index of the section of symbols; a number of 64 bits need not hold the sum of the counts before it.
+    pub symtab: u128,
 }
 
 /// The index of the section of symbols.
-fn symtab_index(object: &Object<'_>, relocations: &[RelaTable]) -> Result<u64, AllocError>
+fn symtab_index(object: &Object<'_>, relocations: &[RelaTable]) -> u128
     requires { map (rela_piece 0) relocations.now
         ≡ rela_pieces 0 1 (object_of object.now).sections }
-    ensures at { IfOk result (λ n. n ≡ symtab_index (object_of object.now)) }
-    ensures room { IfOk result (λ n. n + 2 < 2 ^ 64) }
+    ensures at { result ≡ symtab_index (object_of object.now) }
+    ensures room { result + 2 < 2 ^ 128 }
 {
-    let rows = u64::from(!object.rows.is_empty());
-    let sections = object.sections.len() as u64;
-    let tables = relocations.len() as u64;
-    if sections > 1 << 62 || tables > 1 << 62 {
-        return Err(AllocError);
-    }
-    Ok(1 + sections + tables + rows)
+    let rows = u128::from(!object.rows.is_empty());
+    1 + object.sections.len() as u128 + relocations.len() as u128 + rows
 }
 
 impl Tables {
     /// Those of an object.
     pub(crate) fn of(alloc: Global, object: &Object<'_>) -> Result<Self, AllocError>
         ensures tables { IfOk result (λ tables. AreTables (object_of object.now) tables) }
-        ensures room { IfOk result (λ tables. tables.symtab + 2 < 2 ^ 64) }
+        ensures room { IfOk result (λ tables. tables.symtab + 2 < 2 ^ 128) }
         ensures known { IfOk result (λ tables. HaveKnownNumbers (object_of object.now)) }
     {
         let relocations = rela_tables(alloc, object.sections.as_slice())?;
-        let symtab = symtab_index(object, relocations.as_slice())?;
+        let symtab = symtab_index(object, relocations.as_slice());
         let rows = rows_table(alloc, object.rows.as_slice())?;
         let names = symbol_names(alloc, object.symbols.as_slice())?;
         let symbols = symbols_table(alloc, &names, symtab + 2, object.symbols.as_slice())?;
@@ -87,7 +82,7 @@ fn put_sections<'p>(
 }
 
 /// The section of a table of relocations.
-fn rela_section<'p>(symtab: u64, table: &'p RelaTable) -> Piece<'p>
+fn rela_section<'p>(symtab: u128, table: &'p RelaTable) -> Piece<'p>
     ensures { piece_of result ≡ rela_piece symtab table.now }
 {
     Piece {
@@ -97,7 +92,7 @@ fn rela_section<'p>(symtab: u64, table: &'p RelaTable) -> Piece<'p>
         bytes: table.bytes.as_slice(),
         size: table.bytes.len() as u64,
         link: symtab,
-        info: table.section,
+        info: u128::from(table.section),
         alignment: 8,
         entry_size: 24,
     }
@@ -106,7 +101,7 @@ fn rela_section<'p>(symtab: u64, table: &'p RelaTable) -> Piece<'p>
 /// Adds the sections of relocations.
 fn put_relocations<'p>(
     pieces: &mut Vec<Piece<'p>>,
-    symtab: u64,
+    symtab: u128,
     tables: &'p [RelaTable],
 ) -> Result<(), AllocError>
     ensures { OnOk result (map piece_of pieces.new.items ≡ map piece_of pieces.old.items
@@ -136,9 +131,9 @@ fn put_rows<'p>(
 }
 
 /// The section of symbols: its link is the section of their names, its info the first symbol that is not local.
-fn symbols_section<'p>(symtab: u64, locals: u64, bytes: &'p [u8]) -> Piece<'p>
-    requires room { symtab + 1 < 2 ^ 64 }
-    requires few { locals + 1 < 2 ^ 64 }
+fn symbols_section<'p>(symtab: u128, locals: u128, bytes: &'p [u8]) -> Piece<'p>
+    requires room { symtab + 1 < 2 ^ 128 }
+    requires few { locals + 1 < 2 ^ 128 }
     ensures { piece_of result ≡ table_piece (codes ".symtab") sht_symtab bytes.now
         (symtab + 1) (1 + locals) 8 symbol_size }
 {
@@ -162,7 +157,7 @@ pub(crate) fn first_pieces<'p>(
     tables: &'p Tables,
 ) -> Result<Vec<Piece<'p>>, AllocError>
     requires tables { AreTables (object_of object.now) tables.now }
-    requires room { (tables.now).symtab + 2 < 2 ^ 64 }
+    requires room { (tables.now).symtab + 2 < 2 ^ 128 }
     ensures pieces { IfOk result
         (λ pieces. map piece_of pieces.items ≡ first_pieces (object_of object.now)) }
     ensures sizes { IfOk result (λ pieces. AllByRecursion
@@ -172,7 +167,7 @@ pub(crate) fn first_pieces<'p>(
     put_sections(&mut pieces, object.sections.as_slice())?;
     put_relocations(&mut pieces, tables.symtab, tables.relocations.as_slice())?;
     put_rows(&mut pieces, object, tables.rows.as_slice())?;
-    let locals = locals(object.symbols.as_slice());
+    let locals = u128::from(locals(object.symbols.as_slice()));
     pieces.push(symbols_section(tables.symtab, locals, tables.symbols.as_slice()))?;
     pieces.push(Piece::table(b".strtab", SHT_STRTAB, tables.names.as_slice(), 1, 0))?;
     Ok(pieces)
@@ -186,7 +181,7 @@ pub(crate) fn all_pieces<'p>(
     names: &'p [u8],
 ) -> Result<Vec<Piece<'p>>, AllocError>
     requires tables { AreTables (object_of object.now) tables.now }
-    requires room { (tables.now).symtab + 2 < 2 ^ 64 }
+    requires room { (tables.now).symtab + 2 < 2 ^ 128 }
     ensures { IfOk result (λ pieces. map piece_of pieces.items ≡ first_pieces (object_of object.now)
         ++ table_piece (codes ".shstrtab") sht_strtab names.now 0 0 1 0 ∷ []) }
 {

@@ -226,7 +226,7 @@ fn binding(binding: Binding) -> u8
 }
 
 /// The index of a symbol's section; one without an address names the last section.
-fn section_index(last: u64, definition: Definition) -> u16
+fn section_index(last: u128, definition: Definition) -> u16
     ensures { result ≡ section_index_of last definition % 2 ^ 16 }
 {
     match definition {
@@ -255,7 +255,7 @@ fn value(definition: Definition) -> u64
 fn put_symbol(
     out: &mut ElfWriter,
     names: &StringTable<'_>,
-    last: u64,
+    last: u128,
     symbol: &Symbol<'_>,
 ) -> Result<(), AllocError>
     ensures written { OnOk result ((ns : List (List ℕ)) → IsTable (strings_of ns) names.now
@@ -278,7 +278,7 @@ fn put_symbol(
 pub(crate) fn symbols_table(
     alloc: Global,
     names: &StringTable<'_>,
-    last: u64,
+    last: u128,
     symbols: &[Symbol<'_>],
 ) -> Result<Vec<u8>, AllocError>
     ensures written { IfOk result (λ bytes. (ns : List (List ℕ)) → IsTable (strings_of ns) names.now

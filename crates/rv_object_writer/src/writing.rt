@@ -3,7 +3,7 @@
 //! Nothing is refused but want of memory. An object with more sections, symbols or bytes of names than a file has
 //! numbers for loses their upper bytes and cannot be read again. The object of a source is never one.
 
-ghost use Rattle.std.specs.Prelude.{◌≡◌, ◌+◌, ◌++◌, ◌^◌, ◌<◌, ℕ, List, None, map, flat_map, length, replicate, if◌then◌else◌, IfOk, OnOk};
+ghost use Rattle.std.specs.Prelude.{◌≡◌, ◌+◌, ◌++◌, ◌^◌, ◌<◌, ◌≤◌, ℕ, List, None, map, flat_map, length, drop, replicate, if◌then◌else◌, IfOk, OnOk};
 ghost use Rattle.std.specs.List.{AllByRecursion};
 ghost use Rattle.rv_elf.specs.Fields.{file_header_size, section_header_size};
 ghost use Rattle.rv_elf.specs.Records.{file_header_bytes, section_header_bytes};
@@ -21,7 +21,9 @@ use crate::names::section_names;
 use crate::piece::Piece;
 use crate::pieces::{Tables, all_pieces, first_pieces};
 use crate::strings::StringTable;
-use rv_elf::{EM_RISCV, ET_REL, ElfWriter, FileHeader, SectionHeader};
+use rv_elf::{
+    EM_RISCV, ET_REL, ElfWriter, FILE_HEADER_SIZE, FileHeader, SECTION_HEADER_SIZE, SectionHeader,
+};
 use rv_object::Object;
 use rv_object_file_laws::written_object_is_read;
 use std::alloc::{AllocError, Global};
@@ -44,7 +46,7 @@ pub fn write(alloc: Global, object: &Object<'_>) -> Result<Vec<u8>, AllocError>
 /// The file of an object with these tables.
 fn write_tables(alloc: Global, object: &Object<'_>, tables: &Tables) -> Result<Vec<u8>, AllocError>
     requires tables { AreTables (object_of object.now) tables.now }
-    requires room { (tables.now).symtab + 2 < 2 ^ 64 }
+    requires room { (tables.now).symtab + 2 < 2 ^ 128 }
     ensures written { IfOk result (λ file. file.items ≡ file_of (object_of object.now)) }
     ensures sizes { IfOk result (λ file. AllByRecursion
         (λ s. size_of s.contents < 2 ^ 64) (object_of object.now).sections) }
@@ -62,7 +64,7 @@ fn write_named(
     names: &StringTable<'_>,
 ) -> Result<Vec<u8>, AllocError>
     requires tables { AreTables (object_of object.now) tables.now }
-    requires room { (tables.now).symtab + 2 < 2 ^ 64 }
+    requires room { (tables.now).symtab + 2 < 2 ^ 128 }
     requires names { IsTable (strings_of (file_names (object_of object.now))) names.now }
     ensures { IfOk result (λ file. file.items ≡ file_of (object_of object.now)) }
 {
@@ -82,7 +84,7 @@ fn write_named(
 fn put_file(
     alloc: Global,
     rvc: bool,
-    last: u64,
+    last: u128,
     pieces: &[Piece<'_>],
     names: &StringTable<'_>,
 ) -> Result<Vec<u8>, AllocError>
@@ -94,54 +96,33 @@ fn put_file(
         (headers_from ns file_header_size (map piece_of pieces.now))))) }
 {
     let mut out = ElfWriter::new(alloc);
-    put_header(&mut out, rvc, last, pieces)?;
+    out.zeros(FILE_HEADER_SIZE)?;
     put_contents(&mut out, pieces)?;
-    out.zeros(64)?;
+    set_header(&mut out, rvc, last, pieces);
+    out.zeros(SECTION_HEADER_SIZE)?;
     put_headers(&mut out, pieces, names)?;
     Ok(out.finish())
 }
 
-/// The next multiple of 8.
-fn aligned(at: u64) -> Result<u64, AllocError>
-    ensures { IfOk result (λ next. next ≡ aligned 8 at) }
+/// Where the contents of a section begin: at the next multiple of 8.
+fn aligned(at: u64) -> u64
+    requires { aligned 8 at < 2 ^ 64 }
+    ensures { result ≡ aligned 8 at }
 {
-    let past = at.checked_add(7).ok_or(AllocError)?;
-    Ok(past / 8 * 8)
+    at + (8 - at % 8) % 8
 }
 
-/// Where contents end that begin at the next multiple of 8.
-fn after(at: u64, bytes: &[u8]) -> Result<u64, AllocError>
-    ensures { IfOk result (λ next. next ≡ aligned 8 at + length bytes.now) }
-{
-    let begin = aligned(at)?;
-    let end = begin.checked_add(bytes.len() as u64).ok_or(AllocError)?;
-    Ok(end)
-}
-
-/// Where the section headers stand.
-fn headers_offset(pieces: &[Piece<'_>]) -> Result<u64, AllocError>
-    ensures { IfOk result (λ end. end ≡ headers_offset file_header_size (map piece_of pieces.now)) }
-{
-    let mut at = 64;
-    for piece in pieces {
-        at = after(at, piece.bytes)?;
-    }
-    aligned(at)
-}
-
-/// Writes the header of the file.
+/// Writes the header of the file over its first bytes, where the section headers come next.
 #[tactic(auto, unfolding(rv_elf::specs::Records::file_header_bytes))]
-fn put_header(
-    out: &mut ElfWriter,
-    rvc: bool,
-    last: u64,
-    pieces: &[Piece<'_>],
-) -> Result<(), AllocError>
-    ensures { OnOk result (out.new
-        ≡ out.old ++ file_header_bytes (header_by rvc last (map piece_of pieces.now))) }
+fn set_header(out: &mut ElfWriter, rvc: bool, last: u128, pieces: &[Piece<'_>])
+    requires front { file_header_size ≤ length out.old }
+    requires next { length out.old ≡ headers_offset file_header_size (map piece_of pieces.now) }
+    ensures written { out.new ≡ file_header_bytes (header_by rvc last (map piece_of pieces.now))
+        ++ drop file_header_size out.old }
+    ensures small { length out.old < 2 ^ 64 }
 {
-    let e_shoff = headers_offset(pieces)?;
-    out.header(&FileHeader {
+    let e_shoff = out.len() as u64;
+    out.set_header(&FileHeader {
         e_type: ET_REL,
         e_machine: EM_RISCV,
         e_version: 1,
@@ -155,16 +136,14 @@ fn put_header(
         e_shentsize: 64,
         e_shnum: ((1 + pieces.len() as u64) % 0x1_0000) as u16,
         e_shstrndx: (last % 0x1_0000) as u16,
-    })
+    });
 }
 
 /// Writes zeros up to the next multiple of 8.
 fn put_zeros(out: &mut ElfWriter) -> Result<(), AllocError>
     ensures { OnOk result (out.new ≡ out.old ++ zeros_at (length out.old)) }
 {
-    let at = out.len() as u64;
-    let next = aligned(at)?;
-    out.zeros((next - at) as usize)
+    out.zeros((8 - out.len() % 8) % 8)
 }
 
 /// Writes the contents of sections, each at a multiple of 8.
@@ -213,14 +192,16 @@ fn put_headers(
     pieces: &[Piece<'_>],
     names: &StringTable<'_>,
 ) -> Result<(), AllocError>
+    requires { headers_offset file_header_size (map piece_of pieces.now) < 2 ^ 64 }
     ensures { OnOk result ((ns : List (List ℕ)) → IsTable (strings_of ns) names.now
         → out.new ≡ out.old ++ flat_map section_header_bytes
         (headers_from ns file_header_size (map piece_of pieces.now))) }
 {
     let mut at = 64;
     for piece in pieces {
-        put_section_header(out, names, aligned(at)?, piece)?;
-        at = after(at, piece.bytes)?;
+        let offset = aligned(at);
+        put_section_header(out, names, offset, piece)?;
+        at = offset + piece.bytes.len() as u64;
     }
     Ok(())
 }

@@ -17,12 +17,12 @@ loop-symbol-preserved c =
     let xs = c.args.symbols.now in
     let x = c.symbol-item.result in
     let ss = c.loop-symbol.invariant.0 in
-    let name = c.as_slice.result.now in
+    let name = x.name.now in
     let inside : i < length xs = search rules in
     let rest : List (List ℕ) = map (λ (s : Symbol). s.name) (map symbol_of (drop (i + 1) xs)) in (
       with_string ss name,
       c.in_ok-put.ensures ss c.loop-symbol.invariant.1,
-      (name_more ss name rest ∙ ap (λ n. ss ++ unseen ss (n ∷ rest)) c.as_slice.ensures.value
+      (name_more ss name rest
           ∙ ap (λ l. ss ++ unseen ss (map (λ (s : Symbol). s.name) (map symbol_of l))) (sym (left xs i x x inside c.symbol-item.is))
           ∙ c.loop-symbol.invariant.2),
     )

@@ -22,7 +22,7 @@ returns-clause-pieces c =
     ap (map (rela_piece c.args.tables.now.symtab)) c.as_slice-2.ensures.value ∙ has.pieces ∙ ap (λ n. rela_pieces n 1 o.sections) has.index in
     let symtab : piece_of c.symbols_section.result ≡ table_piece (codes ".symtab") sht_symtab c.args.tables.now.symbols.items (symtab_index o + 1) (1 + locals o.symbols) 8 symbol_size =
     c.symbols_section.ensures ∙ (λ i. table_piece (codes ".symtab") sht_symtab (c.as_slice-5.ensures.value i) (has.index i + 1)
-    (1 + (c.locals-locals.ensures.count ∙ ap (λ l. locals (map symbol_of l)) c.as_slice-4.ensures.value) i) 8 symbol_size) in
+    (1 + (c.from-locals.ensures ∙ c.locals.ensures.count ∙ ap (λ l. locals (map symbol_of l)) c.as_slice-4.ensures.value) i) 8 symbol_size) in
     let strtab = c.table.ensures ∙ ap (λ l. table_piece (codes ".strtab") sht_strtab l 0 0 1 0) (c.as_slice-6.ensures.value ∙ has.all_names) in
     five _ _ _ _ _ sections (c.in_ok-put_relocations.ensures ∙ ap (λ l. map piece_of c.put_sections.new.pieces.items ++ l) relas) c.in_ok-put_rows.ensures
     (ap (map piece_of) c.in_ok-push.ensures.items ∙ map_push piece_of c.put_rows.new.pieces.items c.symbols_section.result

@@ -12,7 +12,7 @@ returns-clause-at c =
     let o = c.args.object.now in
     let ts = c.args.relocations.now in
     let long : length (map section_of o.sections.items) ≡ length o.sections.items = length-map o.sections.items section_of in
-    let sections : c.len-sections.result ≡ length (map section_of o.sections.items) = omega (arith, long, c.len-sections.ensures, o.sections.ok.0) in
+    let sections : c.len.result ≡ length (map section_of o.sections.items) = omega (arith, long, c.len.ensures, o.sections.ok.0) in
     let tables : length ts ≡ length (filter has_relocations (map section_of o.sections.items)) =
     sym (length-map ts (rela_piece 0)) ∙ ap length c.requires ∙ relas_count 0 1 (map section_of o.sections.items) in
     let count : o.rows.len ≡ length o.rows.items = omega (arith, o.rows.ok.0) in

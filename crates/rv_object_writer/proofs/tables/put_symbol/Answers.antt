@@ -2,7 +2,7 @@ use Rattle.std.proofs.Common.{◌≡◌, ◌++◌, ◌∙◌, ◌*◌, ◌%◌, 
 use Rattle.rv_elf.specs.Records.{symbol_bytes}
 use Rattle.rv_object.specs.Object.{Symbol}
 use Rattle.rv_object.specs.Parts.{symbol_of}
-use Rattle.rv_object_file_laws.specs.Written.{strings_of, offset_in, name_offset, section_index_of, symbol_record}
+use Rattle.rv_object_file_laws.specs.Written.{strings_of, name_offset, section_index_of, symbol_record}
 use Rattle.rv_object_writer.proofs.CutLemmas.{symbol_cut}
 use Rattle.rv_object_writer.proofs.tables.put_symbol.Goals as goal
 
@@ -10,7 +10,7 @@ pub returns-clause-written : goal.returns-clause-written
 returns-clause-written c = λ ns table.
     let s : Symbol = symbol_of c.args.symbol.now in
     let last = c.args.last in
-    let name : c.offset-name.result ≡ name_offset ns s.name = c.offset-name.ensures (strings_of ns) table ∙ ap (offset_in (strings_of ns)) c.as_slice.ensures.value in
+    let name : c.offset-name.result ≡ name_offset ns s.name = c.offset-name.ensures (strings_of ns) table in
     c.in_ok-symbol.ensures.ok ∙ ap (λ l. c.args.out.now ++ l) (
     (λ i. symbol_bytes (record {
       st_name = name i % 2 ^ 32;

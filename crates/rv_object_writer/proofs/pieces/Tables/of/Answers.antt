@@ -18,13 +18,13 @@ use Rattle.rv_object_writer.proofs.pieces.Tables.of.Goals as goal
 pub returns-clause-tables : goal.returns-clause-tables
 returns-clause-tables c =
     let o : Object = object_of c.args.object.now in
-    let symtab = c.in_ok-symtab.symtab in
+    let symtab = c.symtab_index-symtab.result in
     let names = c.in_ok-names.names in
     let table : IsTable (strings_of (symbol_names o)) names =
     subst (λ (l : List DeclaredSymbol). IsTable (strings_of (map (λ (s : Symbol). s.name) (map symbol_of l))) names) c.as_slice-4.ensures.value c.in_ok-names.ensures in
-    let last : symtab + 2 ≡ last_index o = ap (λ n. n + 2) c.in_ok-symtab.ensures.at in
+    let last : symtab + 2 ≡ last_index o = ap (λ n. n + 2) c.symtab_index-symtab.ensures.at in
     record {
-      index = c.in_ok-symtab.ensures.at;
+      index = c.symtab_index-symtab.ensures.at;
       pieces = c.in_ok-relocations.ensures.tables symtab ∙ ap (λ l. rela_pieces symtab 1 (map section_of l)) c.as_slice.ensures.value;
       all_rows = c.in_ok-rows.ensures.written ∙ ap (flat_map (λ (row : Row). row_bytes (row_record row))) c.as_slice-3.ensures.value;
       all_symbols =
