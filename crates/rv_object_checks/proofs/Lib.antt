@@ -3,6 +3,7 @@ pub mod KeptSectionsLemmas
 pub mod KindNumbersLemmas
 pub mod MeetingLemmas
 pub mod OpeningLemmas
+pub mod PositionsLemmas
 pub mod RecordsLemmas
 pub mod RelocationStepsLemmas
 pub mod SectionsFromLemmas

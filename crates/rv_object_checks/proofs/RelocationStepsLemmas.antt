@@ -1,7 +1,8 @@
 -- Relocations one after the other: what has been looked at, and what is left.
 
-use Rattle.std.proofs.Common.{◌≡◌, ℕ, suc, ◌+◌, ◌-◌, ◌*◌, ◌<◌, ◌≤◌, Bool, true, false, not, ◌&&◌, ◌||◌, nat_le, ◌%◌, length, subst, List, [], ◌∷◌, ◌++◌, Option, Some, None, refl, sym, ap, ◌∙◌, arith, append_assoc}
+use Rattle.std.proofs.Common.{◌≡◌, ℕ, suc, ◌+◌, ◌-◌, ◌*◌, ◌<◌, ◌≤◌, Bool, true, false, not, ◌&&◌, ◌||◌, nat_le, ◌%◌, length, subst, List, [], ◌∷◌, ◌++◌, drop, Option, Some, None, refl, sym, ap, ◌∙◌, arith, append_assoc}
 use Rattle.std.specs.Prelude.{◌==◌, option_to_list, if◌then◌else◌, unwrap_or, replicate}
+use Rattle.std.specs.Int.{cast_signed, w64}
 use Rattle.std.proofs.lemmas.List.{length-replicate}
 use Rattle.std.proofs.lemmas.Bool.{leb-true, and_parts}
 use Rattle.std.proofs.lemmas.Bool.Decides.{nat_tests}
@@ -10,6 +11,7 @@ use Rattle.rv_elf.specs.declared.rela.Rela.{Rela}
 use Rattle.rv_elf.specs.declared.section_header.SectionHeader.{SectionHeader}
 use Rattle.rv_elf.specs.declared.fault.FileFault.{FileFault}
 use Rattle.rv_elf.specs.Fields.{rela_size}
+use Rattle.rv_elf.specs.Fields as at
 use Rattle.rv_elf.specs.Numbers.{sht_nobits}
 use Rattle.rv_elf.specs.FirstFault.{first_true}
 use Rattle.rv_elf.specs.Records.{rela_at}
@@ -19,6 +21,7 @@ use Rattle.rv_object.specs.Valid.{is_align, held, fits_inside, is_padding, is_pa
 use Rattle.rv_object_file_laws.specs.FirstFault.{relocations_tests, relocation_tests}
 use Rattle.rv_object_file_laws.specs.Parts.{relocation_in, relocations_in, extent_of}
 use Rattle.rv_object_checks.specs.Stretches.{Holds}
+use Rattle.rv_object_checks.proofs.SymbolFieldsLemmas.{number_behind}
 use Rattle.rv_elf.specs.FirstTrue.{first_true_none, first_true_some}
 
 -- the records from an index on, of so many
@@ -129,3 +132,13 @@ held_inside h r fit pads some = go (is_align r.kind) refl pads some where
       → r.place + (if b then unwrap_or (padding_of r.addend) 0 else width_of r.kind) ≤ h.sh_size
   go true e pads some = subst (λ n. r.place + unwrap_or (padding_of r.addend) 0 ≤ n) (extent_size h) (padding_inside (extent_of h) r.place (padding_of r.addend) pads)
   go false e pads some = field_inside h r some fit
+
+-- ---- a record behind a place
+
+pub rela_behind : (p : ℕ) (bytes : List ℕ) → rela_at 0 (drop p bytes) ≡ rela_at p bytes
+rela_behind p bytes = λ i. record {
+  r_offset = number_behind at.r_offset p bytes i;
+  r_type = number_behind at.r_type p bytes i;
+  r_sym = number_behind at.r_sym p bytes i;
+  r_addend = cast_signed w64 (number_behind at.r_addend p bytes i);
+}

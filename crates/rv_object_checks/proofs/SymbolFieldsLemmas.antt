@@ -1,21 +1,24 @@
 -- Symbols: their records, and their names.
 
-use Rattle.std.proofs.Common.{◌≡◌, ℕ, ◌+◌, ◌/◌, ◌≤◌, ◌<◌, true, false, List, drop, Option, Some, None, refl, ap, sym, ◌∙◌, arith}
-use Rattle.std.specs.Prelude.{nat_le, ◌==◌, ◌&&◌, not}
+use Rattle.std.proofs.Common.{◌≡◌, ◌⊎◌, inr, ℕ, ◌+◌, ◌/◌, Bool, true, false, List, drop, Option, Some, None, refl, ap, sym, ◌∙◌, subst, arith}
+use Rattle.std.specs.Prelude.{◌==◌, ◌&&◌, not, flat_map, Result, MatchResult}
+use Rattle.std.specs.declared.result.Result.TheVariants.{Ok, Err}
 use Rattle.rv_map.specs.Name.{is_name}
 use Rattle.std.proofs.lemmas.List.{drop-drop}
-use Rattle.std.proofs.lemmas.Bool.Decides.{nat_tests}
 use Rattle.byteorder.specs.Endian.{little_number}
+use Rattle.rv_elf.specs.declared.fault.FileFault.{FileFault}
+use Rattle.rv_elf.specs.declared.fault.FileFault.TheVariants.{OutOfMemory}
+use Rattle.rv_elf.specs.FirstFault.{Finds, first_true}
 use Rattle.rv_elf.specs.declared.symbol.Symbol.{Symbol}
 use Rattle.rv_elf.specs.Fields as at
 use Rattle.rv_elf.specs.Records.{symbol_at}
-use Rattle.rv_elf.specs.Sections.{string_at}
-use Rattle.rv_object_file_laws.specs.FirstFault.{is_none, is_bad_name}
+use Rattle.rv_elf.specs.Sections.{string_at, symbols_in}
+use Rattle.rv_object_file_laws.specs.FirstFault.{is_none, is_bad_name, symbol_tests}
 use Rattle.rv_object_file_laws.specs.Parts.{name_at}
-use Rattle.rv_object_checks.specs.Names.{strings_end}
-use Rattle.rv_object_checks.proofs.StringsLemmas.{no_string, name_is}
+use Rattle.rv_object_checks.specs.Names.{can_show}
+use Rattle.rv_object_checks.proofs.StringsLemmas.{name_is}
 
-number_behind : (f : at.Field) (p : ℕ) (bytes : List ℕ) → at.number_in f 0 (drop p bytes) ≡ at.number_in f p bytes
+pub number_behind : (f : at.Field) (p : ℕ) (bytes : List ℕ) → at.number_in f 0 (drop p bytes) ≡ at.number_in f p bytes
 unfolding at.number_in
 number_behind f p bytes =
     let same : 0 + f.offset ≡ f.offset = omega arith in
@@ -31,27 +34,35 @@ symbol_behind p bytes = λ i. record {
   st_size = number_behind at.st_size p bytes i;
 }
 
-none_bad : (s : Symbol) (o : Option (List ℕ)) → is_none o ≡ true → true ≡ is_bad_name s o
-none_bad s None e = refl
-none_bad s (Some name) e = cc
+-- a global symbol wants a name that a map can show, any other one that ends
+global_name : (s : Symbol) (o : Option (List ℕ)) → (s.st_info / 16 == 1) ≡ true → not (can_show o) ≡ is_bad_name s o
+global_name s None global = refl
+global_name s (Some name) global = ap (λ b. b && not (is_name name)) (sym global)
 
-some_good : (s : Symbol) (o : Option (List ℕ)) → is_none o ≡ false → (s.st_info / 16 == 1) ≡ false → false ≡ is_bad_name s o
-some_good s None e local = cc
-some_good s (Some name) e local = ap (λ b. b && not (is_name name)) (sym local)
+local_name : (s : Symbol) (o : Option (List ℕ)) → (s.st_info / 16 == 1) ≡ false → is_none o ≡ is_bad_name s o
+local_name s None local = refl
+local_name s (Some name) local = ap (λ b. b && not (is_name name)) (sym local)
 
-past_end : (n o : ℕ) → n ≤ o → nat_le n o ≡ true
-past_end n o h = grind (arith, nat_tests)
+pub bad_global : (names : List ℕ) (s : Symbol) → (s.st_name ≡ 0 → ⊥) → (s.st_info / 16 == 1) ≡ true → not (can_show (string_at names s.st_name)) ≡ is_bad_name s (name_at names s.st_name)
+bad_global names s some global = global_name s (string_at names s.st_name) global ∙ ap (is_bad_name s) (name_is names s.st_name some)
 
-before_end : (n o : ℕ) → o < n → nat_le n o ≡ false
-before_end n o h = grind (arith, nat_tests)
+twice : (b : Bool) → not (not b) ≡ b
+twice true = refl
+twice false = refl
 
-pub no_name : (names : List ℕ) (s : Symbol) (end : ℕ) → end ≡ strings_end names → (s.st_name ≡ 0 → ⊥) → end ≤ s.st_name → true ≡ is_bad_name s (name_at names s.st_name)
-no_name names s end is some past =
-    none_bad s (string_at names s.st_name) (no_string names s.st_name ∙ past_end (strings_end names) s.st_name (omega (arith, is)))
-    ∙ ap (is_bad_name s) (name_is names s.st_name some)
+pub bad_local : (names : List ℕ) (s : Symbol) → (s.st_name ≡ 0 → ⊥) → (s.st_info / 16 == 1) ≡ false → not (not (is_none (string_at names s.st_name))) ≡ is_bad_name s (name_at names s.st_name)
+bad_local names s some local =
+    twice (is_none (string_at names s.st_name)) ∙ local_name s (string_at names s.st_name) local ∙ ap (is_bad_name s) (name_is names s.st_name some)
 
-pub local_name : (names : List ℕ) (s : Symbol) (end : ℕ) → end ≡ strings_end names → (s.st_name ≡ 0 → ⊥) → s.st_name < end → (s.st_info / 16 == 1) ≡ false →
-    false ≡ is_bad_name s (name_at names s.st_name)
-local_name names s end is some before local =
-    some_good s (string_at names s.st_name) (no_string names s.st_name ∙ before_end (strings_end names) s.st_name (omega (arith, is))) local
-    ∙ ap (is_bad_name s) (name_is names s.st_name some)
+-- the first fault of the symbols in a table, or want of memory
+found_or_short : {X : Type 0} (tests : List (Bool × FileFault)) (r : Result X FileFault) → Finds tests r → MatchResult r (λ _. first_true tests ≡ None) (λ fault. (fault ≡ OutOfMemory) ⊎ (first_true tests ≡ Some fault))
+found_or_short tests (Ok x) h = h
+found_or_short tests (Err fault) h = inr h
+
+abbrev table_tests : List ℕ → List ℕ → List ℕ → List (Bool × FileFault)
+table_tests file names bytes = flat_map (symbol_tests file names) (drop 1 (symbols_in bytes))
+
+pub found_or_short_of : {X : Type 0} (file names others bytes more : List ℕ) (r : Result X FileFault) → names ≡ others → bytes ≡ more → Finds (table_tests file names bytes) r →
+    MatchResult r (λ _. first_true (table_tests file others more) ≡ None) (λ fault. (fault ≡ OutOfMemory) ⊎ (first_true (table_tests file others more) ≡ Some fault))
+found_or_short_of file names others bytes more r same equal h =
+    found_or_short (table_tests file others more) r (subst (λ t. Finds t r) (ap (λ ns. table_tests file ns bytes) same ∙ ap (table_tests file others) equal) h)

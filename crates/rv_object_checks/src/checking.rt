@@ -8,7 +8,6 @@ ghost use Rattle.rv_object_file_laws.specs.FirstFault.{first_fault};
 ghost use Rattle.rv_object_checks.specs.Opening.{opening_tests};
 
 use crate::checked::Checked;
-use crate::copies::check_copies;
 use crate::names::Names;
 use crate::tables::Tables;
 use crate::walk::check_sections;
@@ -23,7 +22,6 @@ pub fn check<'a>(alloc: Global, file: &'a [u8]) -> Result<Checked<'a>, FileFault
 {
     let view = open(file)?;
     let tables = Tables::of(alloc, Names::of(view))?;
-    check_copies(&tables)?;
     check_sections(alloc, &tables)?;
     Ok(checked(tables))
 }

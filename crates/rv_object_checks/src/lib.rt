@@ -20,16 +20,17 @@
 
 mod checked;
 mod checking;
-mod copies;
 mod fields;
 mod headers;
 mod names;
 mod paddings;
 mod places;
+mod positions;
 mod relocations;
 mod rows;
 mod rows_reading;
 mod sections;
+mod strings;
 mod symbols;
 mod tables;
 mod walk;
@@ -37,7 +38,8 @@ mod walk;
 pub use checked::Checked;
 pub use checking::check;
 pub use headers::{is_executable, is_loaded};
-pub use relocations::kind_numbered;
+pub use positions::first_from;
+pub use relocations::{kind_numbered, rela_from};
 pub use rows::{ROW_SIZE, RowRecord};
 pub use rows_reading::row_in;
 pub use symbols::symbol_from;

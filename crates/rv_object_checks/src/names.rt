@@ -1,16 +1,14 @@
 //! The names of a file's sections.
 
 ghost use Rattle.std.specs.Prelude.{◌≡◌, ◌<◌, ℕ, not};
-ghost use Rattle.std.specs.List.{list_all};
 ghost use Rattle.rv_elf.specs.Sections.{section_count, names_section};
-ghost use Rattle.rv_map.specs.Name.{is_name, is_name_byte};
 ghost use Rattle.rv_object_file_laws.specs.FirstFault.{is_none};
 ghost use Rattle.rv_object_file_laws.specs.Parts.{name_at, name_of, is_named, is_rows, is_kept};
 ghost use Rattle.rv_object_file_laws.specs.Rows.{rows_name};
-ghost use Rattle.rv_object_checks.specs.Names.{strings_end, names_table, names_end};
+ghost use Rattle.rv_object_checks.specs.Names.{names_table, names_end};
 
-use memchr::memrchr;
-use rv_elf::{ElfView, SectionHeader, SectionIndex, string_in};
+use crate::strings::end_of_strings;
+use rv_elf::{ElfView, SectionHeader, SectionIndex};
 
 /// The name of the section of rows, as a table of names has it.
 const ROWS_NAME: &[u8] = b".rv.rows\0";
@@ -55,11 +53,6 @@ impl<'a> Names<'a> {
         header.sh_name == 0 || u64::from(header.sh_name) < self.end
     }
 
-    /// The bytes of the section's name; 0 where it has none, or one that does not end.
-    pub(crate) fn length_of(&self, header: &SectionHeader) -> u64 {
-        length_of_name(self.table, self.end, header.sh_name)
-    }
-
     /// Whether the section has the rows.
     pub(crate) fn is_rows(&self, header: &SectionHeader) -> bool
         ensures { result ≡ is_rows self.now.view.file.now header.now }
@@ -76,28 +69,6 @@ impl<'a> Names<'a> {
     }
 }
 
-/// Where the last string of a table ends: behind its last zero byte.
-pub(crate) fn end_of_strings(table: &[u8]) -> u64
-    ensures { result ≡ strings_end table.now }
-{
-    match memrchr(0, table) {
-        Some(last) => last as u64 + 1,
-        None => 0,
-    }
-}
-
-/// The bytes of the name at an offset of a table, the last string of which ends at `end`; 0 where there is none, or none
-/// that ends.
-pub(crate) fn length_of_name(table: &[u8], end: u64, offset: u32) -> u64 {
-    if offset == 0 || u64::from(offset) >= end {
-        return 0;
-    }
-    match string_in(table, offset) {
-        Some(name) => name.len() as u64,
-        None => 0,
-    }
-}
-
 /// Whether the name at an offset is that of the section of rows.
 fn is_rows_name(table: &[u8], offset: u32) -> bool
     ensures { result ≡ is_named rows_name (name_at table.now offset) }
@@ -109,18 +80,4 @@ fn is_rows_name(table: &[u8], offset: u32) -> bool
         Some(rest) => rest.starts_with(ROWS_NAME),
         None => false,
     }
-}
-
-/// Whether a map can show the name: one byte or more, each of them printed and no blank.
-pub(crate) fn is_name(name: &[u8]) -> bool
-    ensures { result ≡ is_name name.now }
-{
-    !name.is_empty() && are_shown(name)
-}
-
-/// Whether each byte is printed and no blank: 21h to 7Eh.
-fn are_shown(name: &[u8]) -> bool
-    ensures { result ≡ list_all is_name_byte name.now }
-{
-    name.iter().all(|byte| b'!' <= *byte && *byte <= b'~')
 }

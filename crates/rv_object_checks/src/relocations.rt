@@ -16,12 +16,9 @@ ghost use Rattle.rv_object_file_laws.specs.Parts.{is_executable, extent_of, kind
 ghost use Rattle.rv_object_checks.specs.Stretches.{Holds, placed};
 
 use crate::places::{Places, is_align};
-use rv_elf::{FileFault, Rela, SHF_EXECINSTR, SHT_NOBITS, SectionHeader, rela_in};
+use rv_elf::{FileFault, RELA_SIZE, Rela, SHF_EXECINSTR, SHT_NOBITS, SectionHeader, rela_in};
 use rv_isa::{Kind, kind_of};
 use std::alloc::AllocError;
-
-/// The bytes of a record.
-const RELA_SIZE: usize = 24;
 
 /// The most bytes of a padding.
 const LONGEST_PADDING: u64 = 4094;
@@ -46,14 +43,19 @@ pub(crate) fn check_relocations(
         ⊎ (first_true (relocations_tests header.now symbols before (relas_in records.now))
         ≡ Some fault)) }
 {
-    let Ok(count) = u32::try_from(records.len() / RELA_SIZE) else {
-        return Err(FileFault::OutOfMemory);
-    };
-    for index in 0..count {
-        let rela = rela_in(records, index);
+    for index in 0..records.len() / RELA_SIZE {
+        let rela = rela_from(records, index);
         check_relocation(header, symbols, places, &rela)?;
     }
     Ok(())
+}
+
+/// The relocation of this index, from 0, in a section of these bytes.
+pub fn rela_from(bytes: &[u8], index: usize) -> Rela
+    requires { rela_size * index + rela_size ≤ length bytes.now }
+    ensures { result ≡ rela_at (rela_size * index) bytes.now }
+{
+    rela_in(&bytes[RELA_SIZE * index..], 0)
 }
 
 /// Looks at a relocation, as `check_relocations` does at all.

@@ -1,20 +1,21 @@
 //! The symbols of a section.
 
-ghost use Rattle.std.specs.Prelude.{◌≡◌, ◌+◌, ◌*◌, ◌/◌, ◌==◌, ◌≤◌, ◌<◌, true, drop, flat_map, length};
+ghost use Rattle.std.specs.Prelude.{◌≡◌, ◌⊎◌, ◌+◌, ◌*◌, ◌/◌, ◌==◌, ◌≤◌, ◌<◌, true, None, Some, MatchResult, drop, flat_map, length};
 ghost use Rattle.rv_elf.specs.Fields.{symbol_size};
-ghost use Rattle.rv_elf.specs.FirstFault.{Finds};
+ghost use Rattle.rv_elf.specs.FirstFault.{Finds, first_true};
 ghost use Rattle.rv_elf.specs.Numbers.{stb_global};
 ghost use Rattle.rv_elf.specs.Records.{symbol_at};
 ghost use Rattle.rv_elf.specs.Sections.{section_count, section_of, contents_of, symbols_in};
+ghost use Rattle.rv_elf.specs.declared.fault.FileFault.TheVariants.{OutOfMemory};
 ghost use Rattle.rv_object_file_laws.specs.FirstFault.{symbol_tests, symbol_count, is_bad_name, has_binding, has_home};
 ghost use Rattle.rv_object_file_laws.specs.Parts.{is_section, name_at};
-ghost use Rattle.rv_object_checks.specs.Names.{strings_end};
 
-use crate::names::{end_of_strings, is_name};
+use crate::strings::Strings;
 use rv_elf::{
     ElfView, FileFault, SHN_ABS, SHN_UNDEF, STB_GLOBAL, STB_LOCAL, SYMBOL_SIZE, SectionHeader,
-    SectionIndex, Symbol, SymbolIndex, string_in, symbol_in,
+    SectionIndex, Symbol, SymbolIndex, symbol_in,
 };
+use std::alloc::Global;
 
 /// How many symbols there are for these relocations, by the header of the table that they name, symbol 0 as well.
 pub(crate) fn count_symbols(view: &ElfView<'_>, relocations: &SectionHeader) -> u64
@@ -34,36 +35,45 @@ pub fn symbol_from(bytes: &[u8], index: usize) -> Symbol
 }
 
 /// Looks at the symbols of a section, one after the other, but for symbol 0.
-pub(crate) fn check_symbols(view: &ElfView<'_>, header: &SectionHeader) -> Result<(), FileFault>
+pub(crate) fn check_symbols(
+    alloc: Global,
+    view: &ElfView<'_>,
+    header: &SectionHeader,
+) -> Result<(), FileFault>
     requires { is_section view.now.file.now header.now.sh_link ≡ true }
-    ensures { Finds
-        (flat_map
+    ensures { MatchResult result
+        (λ _. first_true (flat_map
         (symbol_tests view.now.file.now (section_of view.now.file.now header.now.sh_link))
-        (drop 1 (symbols_in (contents_of view.now.file.now header.now)))) result }
+        (drop 1 (symbols_in (contents_of view.now.file.now header.now)))) ≡ None)
+        (λ fault. (fault ≡ OutOfMemory)
+        ⊎ (first_true (flat_map
+        (symbol_tests view.now.file.now (section_of view.now.file.now header.now.sh_link))
+        (drop 1 (symbols_in (contents_of view.now.file.now header.now)))) ≡ Some fault)) }
 {
-    let names = view.section(SectionIndex(header.sh_link as u16));
-    let end = end_of_strings(names);
-    let bytes = view.contents(header);
+    let names = Strings::of(alloc, view.section(SectionIndex(header.sh_link as u16)))?;
+    check_table(view, &names, view.contents(header))
+}
+
+/// Looks at the symbols in a table of these bytes, but for symbol 0.
+fn check_table(view: &ElfView<'_>, names: &Strings<'_>, bytes: &[u8]) -> Result<(), FileFault>
+    ensures { Finds
+        (flat_map (symbol_tests view.now.file.now names.now.table.now)
+        (drop 1 (symbols_in bytes.now))) result }
+{
     let others = (bytes.len() / SYMBOL_SIZE).saturating_sub(1);
     for earlier in 0..others {
         let symbol = symbol_from(bytes, earlier + 1);
-        check_symbol(view, names, end, &symbol)?;
+        check_symbol(view, names, &symbol)?;
     }
     Ok(())
 }
 
-/// Looks at a symbol, whose name stands in a table of strings, the last of which ends at `end`.
+/// Looks at a symbol, whose name stands in a table of strings.
 #[tactic(auto, unfolding(rv_object_file_laws::specs::FirstFault::symbol_tests))]
-fn check_symbol(
-    view: &ElfView<'_>,
-    names: &[u8],
-    end: u64,
-    symbol: &Symbol,
-) -> Result<(), FileFault>
-    requires { end ≡ strings_end names.now }
-    ensures { Finds (symbol_tests view.now.file.now names.now symbol.now) result }
+fn check_symbol(view: &ElfView<'_>, names: &Strings<'_>, symbol: &Symbol) -> Result<(), FileFault>
+    ensures { Finds (symbol_tests view.now.file.now names.now.table.now symbol.now) result }
 {
-    if is_bad_name(names, end, symbol) {
+    if is_bad_name(names, symbol) {
         return Err(FileFault::BadString);
     }
     if !has_binding(symbol) || !has_home(view, symbol) {
@@ -74,23 +84,17 @@ fn check_symbol(
 
 /// Whether the symbol's name has no end, or is that of a global symbol and none that a map can show. Offset 0 is no
 /// name.
-fn is_bad_name(names: &[u8], end: u64, symbol: &Symbol) -> bool
-    requires { end ≡ strings_end names.now }
-    ensures { result ≡ is_bad_name symbol.now (name_at names.now symbol.now.st_name) }
+fn is_bad_name(names: &Strings<'_>, symbol: &Symbol) -> bool
+    ensures { result ≡ is_bad_name symbol.now
+        (name_at names.now.table.now symbol.now.st_name) }
 {
     if symbol.st_name == 0 {
         return is_global(symbol);
     }
-    if u64::from(symbol.st_name) >= end {
-        return true;
+    if is_global(symbol) {
+        return !names.is_shown(symbol.st_name);
     }
-    if !is_global(symbol) {
-        return false;
-    }
-    match string_in(names, symbol.st_name) {
-        Some(name) => !is_name(name),
-        None => true,
-    }
+    !names.has_end(symbol.st_name)
 }
 
 /// Whether the symbol is global.

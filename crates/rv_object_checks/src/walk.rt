@@ -35,7 +35,7 @@ pub(crate) fn check_sections(alloc: Global, tables: &Tables<'_>) -> Result<(), F
     for earlier in 0..count_sections(&tables.names.view) {
         let header = tables.names.view.section_header(SectionIndex(earlier + 1));
         check_section(&tables.names, &header, symbols_before, rows_before)?;
-        check_records(tables, &header, &mut held)?;
+        check_records(alloc, tables, &header, &mut held)?;
         symbols_before = either(symbols_before, is_symbol_table(&header));
         rows_before = either(rows_before, tables.names.is_rows(&header));
     }
@@ -63,6 +63,7 @@ fn no_places(alloc: Global, count: u16) -> Result<Vec<Places>, AllocError>
 
 /// Looks at the records of a section.
 fn check_records(
+    alloc: Global,
     tables: &Tables<'_>,
     header: &SectionHeader,
     held: &mut [Places],
@@ -80,7 +81,7 @@ fn check_records(
         ≡ Some fault)) }
 {
     if is_symbol_table(header) {
-        return check_symbols(&tables.names.view, header);
+        return check_symbols(alloc, &tables.names.view, header);
     }
     if is_rela(header) {
         return check_target(&tables.names.view, header, held);

@@ -1,40 +1,8 @@
-use Rattle.std.proofs.Common.{◌≡◌, ◌+◌, ◌*◌, ◌-◌, ◌/◌, length, drop, None, Some, subst, ap, sym, ◌∙◌, arith}
-use Rattle.std.specs.Prelude.{flat_map}
-use Rattle.std.proofs.lemmas.Result.{err_from_is_err_and}
-use Rattle.rv_elf.specs.FirstFault.{first_true}
-use Rattle.rv_elf.specs.Records.{symbol_at}
-use Rattle.rv_elf.specs.Sections.{records, symbols_in, contents_of}
-use Rattle.rv_object_file_laws.specs.FirstFault.{symbol_tests}
-use Rattle.rv_object_checks.proofs.RecordsLemmas.{records_behind, tests_step, tests_stop}
+use Rattle.std.proofs.Common.{◌∙◌}
+use Rattle.rv_object_checks.proofs.SymbolFieldsLemmas.{found_or_short_of}
 use Rattle.rv_object_checks.proofs.symbols.check_symbols.Goals as goal
 
-pub loop-earlier-init : goal.loop-earlier-init
-loop-earlier-init c =
-    let bytes = c.contents-bytes.result.now in
-    ap (λ rs. first_true (flat_map (symbol_tests c.args.view.now.file.now c.section-names.result.now) rs))
-    (records_behind symbol_at 24 (length bytes / 24) 24 bytes (omega arith)
-    ∙ ap (λ m. records symbol_at 24 (m - 0) 24 bytes) (sym c.saturating_sub-others.ensures))
-
-pub loop-earlier-preserved : goal.loop-earlier-preserved
-loop-earlier-preserved c =
-    let i = c.loop-earlier.earlier in
-    let tests = symbol_tests c.args.view.now.file.now c.section-names.result.now in
-    let fine = subst (λ s. first_true (tests s) ≡ None) c.symbol_from-symbol.ensures c.in_ok-check_symbol.ensures in
-    c.loop-earlier.invariant
-    ∙ tests_step tests symbol_at 24 c.saturating_sub-others.result i (24 * (i + 1)) (24 * (i + 1 + 1)) c.contents-bytes.result.now
-    c.loop-earlier-test.true (omega arith) fine
-
-pub returns-in_err-check_symbol : goal.returns-in_err-check_symbol
-returns-in_err-check_symbol c =
-    let file = c.args.view.now.file.now in
-    let names = c.section-names.result.now in
-    let i = c.loop-earlier.earlier in
-    let tests = symbol_tests file names in
-    let found = subst (λ s. first_true (tests s) ≡ Some c.in_err-check_symbol.field-0.0) c.symbol_from-symbol.ensures c.in_err-check_symbol.ensures in
-    let p = err_from_is_err_and c.from_residual.result c.from_residual.ensures.1 in
-    rw (p.1, p.2) (
-    ap (λ ns. first_true (flat_map (symbol_tests file ns) (drop 1 (symbols_in (contents_of file c.args.header.now))))) (sym c.section-names.ensures)
-    ∙ ap (λ bs. first_true (flat_map tests (drop 1 (symbols_in bs)))) (sym c.contents-bytes.ensures)
-    ∙ c.loop-earlier.invariant
-    ∙ tests_stop tests symbol_at 24 c.saturating_sub-others.result i (24 * (i + 1)) (24 * (i + 1 + 1)) c.contents-bytes.result.now
-    c.in_err-check_symbol.field-0.0 c.loop-earlier-test.true (omega arith) found)
+pub returns : goal.returns
+returns c =
+    found_or_short_of c.args.view.now.file.now c.in_ok-names.names.table.now _ c.contents.result.now _ c.check_table.result
+    (c.in_ok-names.ensures ∙ c.section.ensures) c.contents.ensures c.check_table.ensures

@@ -1,9 +1,11 @@
-use Rattle.std.proofs.Common.{sym, ◌∙◌, arith}
-use Rattle.rv_object_checks.proofs.SymbolFieldsLemmas.{no_name, local_name}
+use Rattle.std.proofs.Common.{not, sym, ap, ◌∙◌, arith}
+use Rattle.rv_object_checks.proofs.SymbolFieldsLemmas.{bad_global, bad_local}
 use Rattle.rv_object_checks.proofs.symbols.is_bad_name.Goals as goal
 
-pub returns-then-from-end : goal.returns-then-from-end
-returns-then-from-end c = no_name c.args.names.now c.args.symbol.now c.args.end c.requires (λ e. omega (arith, e)) (omega arith)
+pub returns-then-is_global : goal.returns-then-is_global
+returns-then-is_global c =
+    ap not c.is_shown.ensures ∙ bad_global c.args.names.now.table.now c.args.symbol.now (λ e. omega (arith, e)) (sym c.is_global-2.ensures ∙ c.if-is_global.true)
 
-pub returns-then-not-is_global : goal.returns-then-not-is_global
-returns-then-not-is_global c = local_name c.args.names.now c.args.symbol.now c.args.end c.requires (λ e. omega (arith, e)) (omega arith) (sym c.is_global-2.ensures ∙ c.if-not-is_global.true)
+pub returns : goal.returns
+returns c =
+    ap not c.has_end.ensures ∙ bad_local c.args.names.now.table.now c.args.symbol.now (λ e. omega (arith, e)) (sym c.is_global-2.ensures ∙ c.if-is_global.false)

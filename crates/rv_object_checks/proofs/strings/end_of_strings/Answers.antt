@@ -1,6 +1,6 @@
 use Rattle.std.proofs.Common.{sym}
 use Rattle.rv_object_checks.proofs.StringsLemmas.{none_end, last_end}
-use Rattle.rv_object_checks.proofs.names.end_of_strings.Goals as goal
+use Rattle.rv_object_checks.proofs.strings.end_of_strings.Goals as goal
 
 pub returns-in-Some : goal.returns-in-Some
 returns-in-Some c =
