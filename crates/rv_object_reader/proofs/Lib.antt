@@ -5,6 +5,7 @@ pub mod GoodRelocationsLemmas
 pub mod KeptLemmas
 pub mod MadeLemmas
 pub mod RelasLemmas
+pub mod StringsLemmas
 pub mod SymbolCountLemmas
 pub mod TablesLemmas
 pub mod ValidSectionsLemmas

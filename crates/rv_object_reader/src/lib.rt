@@ -1,7 +1,7 @@
 //! Reads objects: the object of a file, whoever wrote it.
 //!
 //! It takes the bytes of any file. It gives the [`rv_object::Object`] that the file holds, or the first fault of the
-//! file. Nothing of the file is copied before all of it is found to be good.
+//! file. The object lends its names and contents from the file.
 //!
 //! Main contract: [`read`] answers an object just of a file without a fault (`first_fault`), and then the file's own
 //! (`ObjectOf`); otherwise the fault that stands first, or want of memory. It knows neither addresses nor other files.
@@ -19,6 +19,7 @@ mod reading;
 mod relocations;
 mod rows;
 mod sections;
+mod strings;
 mod symbols;
 
 pub use reading::read;

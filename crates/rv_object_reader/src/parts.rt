@@ -1,33 +1,27 @@
-//! The parts of an object, copied out of its file.
+//! The parts of an object, lent by its file.
 
 ghost use Rattle.std.specs.Prelude.{◌≡◌, ◌==◌, ◌%◌, [], None, unwrap_or, IfOk};
 ghost use Rattle.rv_elf.specs.Fields.{number_in, e_flags};
 ghost use Rattle.rv_object.specs.Parts.{contents_of};
 ghost use Rattle.rv_object_file_laws.specs.ObjectOf.{binding_in};
-ghost use Rattle.rv_object_file_laws.specs.Parts.{contents_in, is_writable, name_at, name_of};
+ghost use Rattle.rv_object_file_laws.specs.Parts.{contents_in, is_writable, name_of};
 ghost use Rattle.rv_object_file_laws.specs.FirstFault.{first_fault};
+ghost use Rattle.rv_object_checks.specs.Names.{names_table};
 
+use crate::strings::Strings;
 use rv_elf::{
     EF_RISCV_RVC, ElfView, SHF_WRITE, SHT_NOBITS, SHT_NOTE, STB_LOCAL, SectionHeader, SectionIndex,
-    Symbol, string_in,
+    Symbol,
 };
 use rv_object::{Binding, Contents};
 use std::alloc::{AllocError, Global};
+use std::borrow::CowSlice;
 
 /// Whether the file has compressed code.
 pub(crate) fn is_compressed(view: &ElfView<'_>) -> bool
     ensures { result ≡ (number_in e_flags 0 view.now.file.now % 2 == 1) }
 {
     view.header().e_flags / EF_RISCV_RVC % 2 == 1
-}
-
-/// A copy of these bytes.
-pub(crate) fn copied(alloc: Global, bytes: &[u8]) -> Result<Vec<u8>, AllocError>
-    ensures { IfOk result (λ copy. copy.items ≡ bytes.now) }
-{
-    let mut copy = Vec::with_capacity(alloc, bytes.len())?;
-    copy.extend_from_slice(bytes)?;
-    Ok(copy)
 }
 
 /// Whether a program may write to the section.
@@ -38,22 +32,17 @@ pub(crate) fn is_writable(header: &SectionHeader) -> bool
 }
 
 /// What the section of this header has in its file.
-pub(crate) fn contents(
-    alloc: Global,
-    view: &ElfView<'_>,
-    header: &SectionHeader,
-) -> Result<Contents, AllocError>
-    ensures { IfOk result
-        (λ contents. contents_of contents ≡ contents_in view.now.file.now header.now) }
+pub(crate) fn contents<'a>(view: &ElfView<'a>, header: &SectionHeader) -> Contents<'a>
+    ensures { contents_of result ≡ contents_in view.now.file.now header.now }
 {
     if header.sh_type == SHT_NOBITS {
-        return Ok(Contents::Nobits(header.sh_size));
+        return Contents::Nobits(header.sh_size);
     }
-    let bytes = copied(alloc, view.contents(header))?;
+    let bytes = CowSlice::Borrowed(view.contents(header));
     if header.sh_type == SHT_NOTE {
-        return Ok(Contents::Note(bytes));
+        return Contents::Note(bytes);
     }
-    Ok(Contents::Progbits(bytes))
+    Contents::Progbits(bytes)
 }
 
 /// Who may name a symbol.
@@ -66,36 +55,26 @@ pub(crate) fn binding(symbol: &Symbol) -> Binding
     Binding::Global
 }
 
-/// The name at an offset of a table of names; none where it has no end.
-pub(crate) fn name_in(names: &[u8], offset: u32) -> &[u8]
-    ensures { result.now ≡ unwrap_or (name_at names.now offset) [] }
+/// The names of the sections; none where the file has no names.
+#[tactic(auto, using(crate::proofs::TablesLemmas::names_within))]
+pub(crate) fn section_names<'a>(
+    alloc: Global,
+    view: &ElfView<'a>,
+) -> Result<Strings<'a>, AllocError>
+    requires { first_fault view.now.file.now ≡ None }
+    ensures { IfOk result (λ names. names.table.now ≡ names_table view.now.file.now) }
 {
-    if offset == 0 {
-        return &[];
+    let index = view.header().e_shstrndx;
+    if index == 0 {
+        return Strings::of(alloc, &[]);
     }
-    match string_in(names, offset) {
-        Some(name) => name,
-        None => &[],
-    }
+    Strings::of(alloc, view.section(SectionIndex(index)))
 }
 
-/// The name of the section of this header; none where the file has no names.
-#[tactic(auto, using(crate::proofs::TablesLemmas::names_within))]
-pub(crate) fn name(
-    alloc: Global,
-    view: &ElfView<'_>,
-    header: &SectionHeader,
-) -> Result<Vec<u8>, AllocError>
-    requires { first_fault view.now.file.now ≡ None }
-    ensures { IfOk result
-        (λ name. name.items ≡ unwrap_or (name_of view.now.file.now header.now) []) }
+/// The name of the section of this header.
+pub(crate) fn name<'a>(view: &ElfView<'_>, names: &Strings<'a>, header: &SectionHeader) -> &'a [u8]
+    requires { names.now.table.now ≡ names_table view.now.file.now }
+    ensures { result.now ≡ unwrap_or (name_of view.now.file.now header.now) [] }
 {
-    let names = view.header().e_shstrndx;
-    if names == 0 {
-        return Ok(Vec::new(alloc));
-    }
-    copied(
-        alloc,
-        name_in(view.section(SectionIndex(names)), header.sh_name),
-    )
+    names.name(header.sh_name)
 }

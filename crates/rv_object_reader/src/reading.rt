@@ -17,7 +17,7 @@ use rv_object_checks::check;
 use std::alloc::Global;
 
 /// The object of a file, or the first of the file's faults.
-pub fn read(alloc: Global, file: &[u8]) -> Result<Object, FileFault>
+pub fn read<'a>(alloc: Global, file: &'a [u8]) -> Result<Object<'a>, FileFault>
     ensures object { IfOk result
         (λ object. (first_fault file.now ≡ None) × ObjectOf file.now (object_of object)) }
     ensures refuses { IfErr result

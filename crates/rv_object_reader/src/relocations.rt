@@ -1,17 +1,15 @@
 //! The relocations of each section that an object keeps.
 
-ghost use Rattle.std.specs.Prelude.{◌≡◌, ◌<◌, ◌≤◌, ◌+◌, ◌*◌, ◌++◌, ◌∷◌, [], IfOk, OnOk, List, length, map, option_map};
-ghost use Rattle.rv_elf.specs.Fields.{rela_size};
-ghost use Rattle.rv_elf.specs.Records.{rela_at};
+ghost use Rattle.std.specs.Prelude.{◌≡◌, ◌<◌, ◌++◌, ◌∷◌, [], IfOk, OnOk, List, length, map, option_map};
 ghost use Rattle.rv_elf.specs.Sections.{section_count, relas_in};
 ghost use Rattle.rv_object.specs.Parts.{relocation_of};
 ghost use Rattle.rv_object_checks.specs.Found.{section_at};
 ghost use Rattle.rv_object_file_laws.specs.Parts.{FileSection, kept, relocation_in, relocations_in};
 ghost use Rattle.rv_object_reader.specs.Collected.{lists_of, lists_so_far, lists_in};
 
-use rv_elf::{RELA_SIZE, Rela, SHT_RELA, SectionIndex, rela_in};
+use rv_elf::{RELA_SIZE, Rela, SHT_RELA, SectionIndex};
 use rv_object::Relocation;
-use rv_object_checks::{Checked, count_sections, is_loaded, kind_numbered};
+use rv_object_checks::{Checked, count_sections, is_loaded, kind_numbered, rela_from};
 use std::alloc::{AllocError, Global};
 
 /// The relocations of each section that an object keeps, in the order of the file; none of one that is not loaded.
@@ -84,14 +82,6 @@ fn append(list: &mut Vec<Relocation>, bytes: &[u8]) -> Result<(), AllocError>
         list.push(relocation)?;
     }
     Ok(())
-}
-
-/// The record of this index, from 0, in a section of these bytes.
-fn rela_from(bytes: &[u8], index: usize) -> Rela
-    requires { rela_size * index + rela_size ≤ length bytes.now }
-    ensures { result ≡ rela_at (rela_size * index) bytes.now }
-{
-    rela_in(&bytes[RELA_SIZE * index..], 0)
 }
 
 /// The relocation that a record is; none where the linker has no such kind.

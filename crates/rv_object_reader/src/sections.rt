@@ -5,11 +5,13 @@ ghost use Rattle.rv_elf.specs.Sections.{section_count};
 ghost use Rattle.rv_object.specs.Parts.{relocation_of};
 ghost use Rattle.rv_object.specs.Sections.{section_of};
 ghost use Rattle.rv_object_checks.specs.Found.{section_at};
+ghost use Rattle.rv_object_checks.specs.Names.{names_table};
 ghost use Rattle.rv_object_file_laws.specs.ObjectOf.{section_in};
 ghost use Rattle.rv_object_file_laws.specs.Parts.{is_kept, kept, sections as sections_in};
 ghost use Rattle.rv_object_reader.specs.Collected.{lists_of, lists_in, list_so_far};
 
-use crate::parts::{contents, is_writable, name};
+use crate::parts::{contents, is_writable, name, section_names};
+use crate::strings::Strings;
 use rv_elf::SectionIndex;
 use rv_object::{Relocation, Section};
 use rv_object_checks::{Checked, count_sections, is_executable, is_loaded};
@@ -17,15 +19,16 @@ use std::alloc::{AllocError, Global};
 use std::mem;
 
 /// The sections that an object keeps, with the relocations of each.
-pub(crate) fn sections(
+pub(crate) fn sections<'a>(
     alloc: Global,
-    checked: &Checked<'_>,
+    checked: &Checked<'a>,
     mut relocations: Vec<Vec<Relocation>>,
-) -> Result<Vec<Section>, AllocError>
+) -> Result<Vec<Section<'a>>, AllocError>
     requires { lists_in relocations.items ≡ lists_of checked.now.view.file.now }
     ensures { IfOk result (λ sections. map section_of sections.items
         ≡ map (section_in checked.now.view.file.now) (kept checked.now.view.file.now)) }
 {
+    let names = section_names(alloc, &checked.view)?;
     let mut sections = Vec::with_capacity(alloc, relocations.len())?;
     for earlier in 0..count_sections(&checked.view) {
         let index = SectionIndex(earlier + 1);
@@ -33,18 +36,19 @@ pub(crate) fn sections(
             continue;
         };
         let own = mem::replace(&mut relocations[place as usize], Vec::new(alloc));
-        sections.push(section(alloc, checked, index, own)?)?;
+        sections.push(section(checked, &names, index, own))?;
     }
     Ok(sections)
 }
 
 /// The section of an index, with its relocations.
-fn section(
-    alloc: Global,
-    checked: &Checked<'_>,
+fn section<'a>(
+    checked: &Checked<'a>,
+    names: &Strings<'a>,
     index: SectionIndex,
     relocations: Vec<Relocation>,
-) -> Result<Section, AllocError>
+) -> Section<'a>
+    requires named { names.now.table.now ≡ names_table checked.now.view.file.now }
     requires some { 0 < index.0 }
     requires within { index.0 < section_count checked.now.view.file.now }
     requires kept { is_kept checked.now.view.file.now
@@ -52,18 +56,18 @@ fn section(
     requires own { map relocation_of relocations.items
         ≡ list_so_far checked.now.view.file.now (sections_in checked.now.view.file.now)
         (section_at checked.now.view.file.now index.0) }
-    ensures { IfOk result (λ section. section_of section
-        ≡ section_in checked.now.view.file.now (section_at checked.now.view.file.now index.0)) }
+    ensures { section_of result
+        ≡ section_in checked.now.view.file.now (section_at checked.now.view.file.now index.0) }
 {
     let view = &checked.view;
     let header = view.section_header(index);
-    Ok(Section {
-        name: name(alloc, view, &header)?,
+    Section {
+        name: name(view, names, &header),
         loaded: is_loaded(&header),
         executable: is_executable(&header),
         writable: is_writable(&header),
-        contents: contents(alloc, view, &header)?,
+        contents: contents(view, &header),
         alignment: header.sh_addralign.max(1),
         relocations,
-    })
+    }
 }

@@ -9,14 +9,18 @@ ghost use Rattle.rv_object_file_laws.specs.FirstFault.{has_home, symbol_tests};
 ghost use Rattle.rv_object_file_laws.specs.ObjectOf.{names_of, symbol_in, definition_in};
 ghost use Rattle.rv_object_file_laws.specs.Parts.{symbol_records, symbol_table};
 
-use crate::parts::{binding, copied, name_in};
+use crate::parts::binding;
+use crate::strings::Strings;
 use rv_elf::{SHN_ABS, SHN_UNDEF, SYMBOL_SIZE, SectionIndex, Symbol as SymbolRecord};
 use rv_object::{Definition, Symbol};
 use rv_object_checks::{Checked, symbol_from};
 use std::alloc::{AllocError, Global};
 
 /// The symbols of a file, but for symbol 0.
-pub(crate) fn symbols(alloc: Global, checked: &Checked<'_>) -> Result<Vec<Symbol>, AllocError>
+pub(crate) fn symbols<'a>(
+    alloc: Global,
+    checked: &Checked<'a>,
+) -> Result<Vec<Symbol<'a>>, AllocError>
     ensures { IfOk result (λ symbols. map symbol_of symbols.items
         ≡ map (symbol_in checked.now.view.file.now)
         (drop 1 (symbol_records checked.now.view.file.now))) }
@@ -26,20 +30,21 @@ pub(crate) fn symbols(alloc: Global, checked: &Checked<'_>) -> Result<Vec<Symbol
     };
     let header = checked.view.section_header(table);
     let names = checked.view.section(SectionIndex(header.sh_link as u16));
-    symbols_in(alloc, checked, checked.view.contents(&header), names)
+    let strings = Strings::of(alloc, names)?;
+    symbols_in(alloc, checked, checked.view.contents(&header), &strings)
 }
 
 /// The symbols in a table of these bytes, but for symbol 0, whose names stand in a table of strings.
-fn symbols_in(
+fn symbols_in<'a>(
     alloc: Global,
-    checked: &Checked<'_>,
+    checked: &Checked<'a>,
     bytes: &[u8],
-    names: &[u8],
-) -> Result<Vec<Symbol>, AllocError>
-    requires named { names.now
+    names: &Strings<'a>,
+) -> Result<Vec<Symbol<'a>>, AllocError>
+    requires named { names.now.table.now
         ≡ names_of checked.now.view.file.now (symbol_table checked.now.view.file.now) }
     requires good { AllByRecursion
-        (λ s. first_true (symbol_tests checked.now.view.file.now names.now s) ≡ None)
+        (λ s. first_true (symbol_tests checked.now.view.file.now names.now.table.now s) ≡ None)
         (drop 1 (records_in bytes.now)) }
     ensures { IfOk result (λ symbols. map symbol_of symbols.items
         ≡ map (symbol_in checked.now.view.file.now) (drop 1 (records_in bytes.now))) }
@@ -47,30 +52,24 @@ fn symbols_in(
     let others = (bytes.len() / SYMBOL_SIZE).saturating_sub(1);
     let mut symbols = Vec::with_capacity(alloc, others)?;
     for earlier in 0..others {
-        symbols.push(symbol(alloc, checked, names, &symbol_from(bytes, earlier + 1))?)?;
+        symbols.push(symbol(checked, names, &symbol_from(bytes, earlier + 1)))?;
     }
     Ok(symbols)
 }
 
 /// The symbol of a record.
-fn symbol(
-    alloc: Global,
-    checked: &Checked<'_>,
-    names: &[u8],
-    entry: &SymbolRecord,
-) -> Result<Symbol, AllocError>
-    requires named { names.now
+fn symbol<'a>(checked: &Checked<'a>, names: &Strings<'a>, entry: &SymbolRecord) -> Symbol<'a>
+    requires named { names.now.table.now
         ≡ names_of checked.now.view.file.now (symbol_table checked.now.view.file.now) }
     requires good { first_true
-        (symbol_tests checked.now.view.file.now names.now entry.now) ≡ None }
-    ensures { IfOk result
-        (λ symbol. symbol_of symbol ≡ symbol_in checked.now.view.file.now entry.now) }
+        (symbol_tests checked.now.view.file.now names.now.table.now entry.now) ≡ None }
+    ensures { symbol_of result ≡ symbol_in checked.now.view.file.now entry.now }
 {
-    Ok(Symbol {
-        name: copied(alloc, name_in(names, entry.st_name))?,
+    Symbol {
+        name: names.name(entry.st_name),
         binding: binding(entry),
         definition: definition(checked, entry),
-    })
+    }
 }
 
 /// Where a symbol stands.

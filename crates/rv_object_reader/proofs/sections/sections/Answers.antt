@@ -36,7 +36,7 @@ loop-earlier-preserved c =
     let keeps : is_kept file (section_at file (i + 1)) ≡ true = sym (c.in-Some.ensures.kept (omega arith)) in
     record {
       made = so_far_more (λ _. Unit {0}) (section_in file) (kept file) section_of c.loop-earlier.sections.items c.push.new.self.items
-          (section_at file (i + 1)) c.in_ok-section.field-0 (kept_left file i) (kept_left file (i + 1)) was.made
-          (kept_here file i below keeps) c.in_ok-section.ensures c.in_ok-push.ensures.items;
+          (section_at file (i + 1)) c.section.result (kept_left file i) (kept_left file (i + 1)) was.made
+          (kept_here file i below keeps) c.section.ensures c.in_ok-push.ensures.items;
       left = left_taken file i c.in-Some.place c.loop-earlier.relocations.items _ (sym c.in-Some.ensures.place) was.left;
     }

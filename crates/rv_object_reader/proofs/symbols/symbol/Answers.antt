@@ -15,5 +15,5 @@ invariant_of-result c =
     let file = c.args.checked.now.view.file.now in
     let entry = c.args.entry.now in
     let good = subst (λ names. first_true (symbol_tests file names entry) ≡ None) c.requires.named c.requires.good in
-    let name = c.in_ok-copied.ensures ∙ c.name_in.ensures ∙ ap (λ names. unwrap_or (name_at names entry.st_name) []) c.requires.named in
-    record { shown = ap (λ b. is_shown b c.in_ok-copied.field-0.items) c.binding.ensures ∙ ap (is_shown _) name ∙ symbol_shown file entry good }
+    let name = c.name.ensures ∙ ap (λ names. unwrap_or (name_at names entry.st_name) []) c.requires.named in
+    record { shown = ap (λ b. is_shown b c.name.result.now) c.binding.ensures ∙ ap (is_shown _) name ∙ symbol_shown file entry good }

@@ -30,7 +30,7 @@ symbols_in-requires-clause-good c =
     let checked = c.args.checked.now in
     let file = checked.view.file.now in
     let header = c.section_header-header.ensures in
-    let named = ap (names_of file) c.in-Some.ensures.found ∙ ap (λ h. section_of file h.sh_link) (sym header) ∙ sym c.section-names.ensures in
+    let named = ap (names_of file) c.in-Some.ensures.found ∙ ap (λ h. section_of file h.sh_link) (sym header) ∙ sym c.section-names.ensures ∙ sym c.in_ok-strings.ensures in
     let all = ap (symbols_of file) c.in-Some.ensures.found ∙ ap (λ h. symbols_in (contents_of file h)) (sym header) ∙ ap symbols_in (sym c.contents.ensures) in
     subst (λ names. AllByRecursion (λ s. first_true (symbol_tests file names s) ≡ None) (drop 1 (symbols_in c.contents.result.now))) named
     (subst (λ rs. AllByRecursion (IsGoodSymbol file) (drop 1 rs)) all (good_symbols file checked.good))

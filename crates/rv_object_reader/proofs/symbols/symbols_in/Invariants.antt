@@ -12,5 +12,5 @@ use Rattle.rv_object_reader.proofs.symbols.symbols_in.Given as goal
 abbrev pub invariant-loop-earlier : goal.invariant-loop-earlier
 invariant-loop-earlier l =
     let file = l.checked.view.file.now in
-    SoFar (λ s. first_true (symbol_tests file l.names s) ≡ None) (symbol_in file) (drop 1 (symbols_in l.bytes)) (map symbol_of l.symbols.items)
+    SoFar (λ s. first_true (symbol_tests file l.names.table.now s) ≡ None) (symbol_in file) (drop 1 (symbols_in l.bytes)) (map symbol_of l.symbols.items)
     (records symbol_at 24 (l.others - l.earlier) (24 * (l.earlier + 1)) l.bytes)
