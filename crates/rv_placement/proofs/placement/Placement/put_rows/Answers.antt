@@ -8,7 +8,7 @@ abbrev blank : Row
 blank = record { line = 0; ordinal = 0; section = 0; offset = 0; bytes = 0; instructions = 0 }
 
 pub returns-in-None-clause-known : goal.returns-in-None-clause-known
-returns-in-None-clause-known c = c.loop-row.invariant.known
+returns-in-None-clause-known c = λ before. c.loop-row.invariant.known (All-same IsRow _ _ c.in_ok-reserve.ensures.items before)
 
 pub returns-in-None-clause-added : goal.returns-in-None-clause-added
 returns-in-None-clause-added c os start is at =
@@ -25,3 +25,6 @@ loop-row-preserved c = record {
       row_more os start c.args.self.now is c.args.file c.args.object.now at rows lie i blank c.loop-row-test.true q c.row-moved.result c.map_row.result c.loop-row.rows.items _ _ c.in-Some.ensures c.row-moved.ensures c.map_row.ensures.moved
       c.in_ok-push-in-Some.ensures.items (c.loop-row.invariant.added os start is at);
 }
+
+pub returns-clause-known : goal.returns-clause-known
+returns-clause-known c = λ before. c.loop-row.invariant.known (All-same IsRow _ _ c.in_ok-reserve.ensures.items before)
