@@ -57,6 +57,9 @@ struct Sink {
     room: usize,
     /// Whether it fails without room, or else takes nothing.
     fails: bool,
+    writes: usize,
+    /// The write that fails, from 1.
+    failing: usize,
 }
 
 impl Sink {
@@ -66,13 +69,16 @@ impl Sink {
             step,
             room,
             fails,
+            writes: 0,
+            failing: 0,
         }
     }
 }
 
 impl Write for Sink {
     fn write(&mut self, bytes: &[u8]) -> io::Result<usize> {
-        if self.room == 0 && self.fails {
+        self.writes = self.writes.wrapping_add(1);
+        if self.writes == self.failing || self.room == 0 && self.fails {
             return Err(Error::from(ErrorKind::Other));
         }
         let count = self.step.min(bytes.len()).min(self.room);
@@ -203,6 +209,56 @@ fn reads_until_enough_or_nothing_comes(rt: HostRuntime) -> Result<(), Fail> {
     Ok(())
 }
 
+const OUT_FAILED: Result<End, RunFault> = Err(RunFault::OutputFault);
+
+/// A guest; the most bytes of a read and of a write; how many reads it comes to; how many bytes each of its writes has,
+/// which end at a page; its console.
+type Moves = (&'static [u32], usize, usize, usize, &'static [u8]);
+
+const MOVES: [Moves; 4] = [
+    (&HELLO, 9, 0, 5, b"hello"),
+    (&HELLO, 1, 0, 1, b"hello"),
+    (&ECHO, 9, 2, 2, b"abcd"),
+    (&ECHO, 1, 4, 1, b"abcd"),
+];
+
+/// Whether a guest whose read of this number fails ends so before it writes.
+fn fails_to_read(alloc: Global, moves: &Moves, read: usize) -> Result<bool, Fail> {
+    let (words, step, reads, _, console) = *moves;
+    let mut source = Source::new(b"abcdef", step);
+    source.failing = read;
+    let mut sink = Sink::new(alloc, step, 9, true);
+    if read > reads {
+        return ends(alloc, words, &mut source, &mut sink, DONE, console);
+    }
+    ends(alloc, words, &mut source, &mut sink, IN_FAILED, b"")
+}
+
+/// Whether a guest whose write of this number fails ends so, with what the writes before it have written.
+fn fails_to_write(alloc: Global, moves: &Moves, write: usize) -> Result<bool, Fail> {
+    let (words, step, _, each, console) = *moves;
+    let mut source = Source::new(b"abcdef", step);
+    let mut sink = Sink::new(alloc, step, 9, true);
+    sink.failing = write;
+    let before = write.wrapping_sub(1).wrapping_mul(each).min(console.len());
+    let (written, rest) = console.split_at(before);
+    let ended = if rest.is_empty() { DONE } else { OUT_FAILED };
+    ends(alloc, words, &mut source, &mut sink, ended, written)
+}
+
+/// Each read and each write fails in turn, and then none.
+#[test]
+fn fails_where_a_stream_fails(rt: HostRuntime) -> Result<(), Fail> {
+    let alloc = rt.alloc();
+    for moves in &MOVES {
+        for call in 1..7 {
+            assert!(rt; fails_to_read(alloc, moves, call)?, "read {call}");
+            assert!(rt; fails_to_write(alloc, moves, call)?, "write {call}");
+        }
+    }
+    Ok(())
+}
+
 /// What the guest has not asked for is still there.
 #[test]
 fn reads_nothing_ahead(rt: HostRuntime) -> Result<(), Fail> {
@@ -222,7 +278,6 @@ fn writes_until_all_is_written(rt: HostRuntime) -> Result<(), Fail> {
         for step in 1..6 {
             for room in 0..5 {
                 let mut sink = Sink::new(alloc, step, room, fails);
-                let failed = Err(RunFault::OutputFault);
                 let mut source = Source::new(b"", 9);
                 assert!(rt;
                     ends(
@@ -230,7 +285,7 @@ fn writes_until_all_is_written(rt: HostRuntime) -> Result<(), Fail> {
                         &HELLO,
                         &mut source,
                         &mut sink,
-                        failed,
+                        OUT_FAILED,
                         &hello[..room]
                     )?,
                     "{step} {room}"
