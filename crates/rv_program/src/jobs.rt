@@ -3,7 +3,7 @@
 //! Files and streams are reached through [`System`] alone, so that a test sees each exit status and each line without starting
 //! a process. A job writes no file before all that it writes is made.
 
-ghost use Rattle.std.specs.Prelude.{◌≡◌, IfOk};
+ghost use Rattle.std.specs.Prelude.{◌≡◌};
 ghost use Rattle.rv_program.specs.Status.{run_status};
 
 use crate::disassembly::{dump, objdump};
@@ -116,7 +116,7 @@ fn run<S: System>(system: &mut S, name: &str, limit: u64) -> Result<u8, CliError
         GuestInput::Standard
     };
     match system.run(image, input, limit) {
-        Ok(end) => report_end(system, &end),
+        Ok(end) => Ok(report_end(system, &end)),
         Err(fault) => Err(run_line(alloc, &fault)?),
     }
 }
@@ -138,15 +138,14 @@ fn executable(alloc: Global, name: &str, source: &[u8]) -> Result<Vec<u8>, CliEr
 }
 
 /// Says how a run ended where the guest did not exit; the exit status.
-fn report_end<S: System>(system: &mut S, end: &End) -> Result<u8, CliError>
-    ensures { IfOk result (λ status. status ≡ run_status end.now) }
+fn report_end<S: System>(system: &mut S, end: &End) -> u8
+    ensures { result ≡ run_status end.now }
 {
     match end {
-        End::Exited(code) => Ok(*code),
+        End::Exited(code) => *code,
         _ => {
-            let line = end_line(system.alloc(), end)?;
-            system.tell(line.as_str());
-            Ok(NOT_EXITED)
+            system.tell(end_line(end).as_str());
+            NOT_EXITED
         }
     }
 }

@@ -19,6 +19,7 @@
 //! ```
 #![tactic(auto)]
 
+mod digits;
 mod disassembly;
 mod error;
 mod host;

@@ -3,8 +3,10 @@
 ghost use Rattle.std.specs.Prelude.{◌≡◌, IfOk, option_map, string_bytes};
 ghost use Rattle.rv_program.specs.Messages.{Tells, end_text, fault_text, file_name, file_text, kind_in, link_text, name_in, run_text, source_text};
 
+use crate::digits::{LINE_BYTES, put_hexadecimal};
 use crate::error::CliError;
 use crate::shown::shown_name;
+use arrayvec::ArrayString;
 use rv_chain::{End, Fault, FileFault, LinkFault, SourceFault};
 use rv_machine::RunFault;
 use std::alloc::{AllocError, Global};
@@ -103,15 +105,18 @@ fn name_in(fault: &LinkFault) -> Option<&[u8]>
     }
 }
 
-/// As `FetchOutside 8`; an address is hexadecimal, in lower case.
-pub fn end_line(alloc: Global, end: &End) -> Result<String, AllocError>
-    ensures { IfOk result (λ line. string_bytes line ≡ end_text end.now) }
+/// As `FetchOutside 8`; an address is hexadecimal, in lower case. It takes no memory, as the guest has run by then.
+pub fn end_line(end: &End) -> ArrayString<LINE_BYTES>
+    ensures { result.bytes ≡ end_text end.now }
 {
-    let what = end.name();
-    match end.address() {
-        Some(address) => format!(in alloc; "{what} {address:x}"),
-        None => what.to_string(alloc),
-    }
+    let mut line = ArrayString::new();
+    line.push_str(end.name());
+    let Some(address) = end.address() else {
+        return line;
+    };
+    line.push_str(" ");
+    put_hexadecimal(&mut line, address);
+    line
 }
 
 /// As `X1 InputFault`.

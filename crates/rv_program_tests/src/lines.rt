@@ -46,8 +46,10 @@ fn fault_lines(rt: HostRuntime) -> Result<(), AllocError> {
 #[test]
 fn end_lines(rt: HostRuntime) -> Result<(), AllocError> {
     let alloc = rt.alloc();
-    let end = End::StoreOutside(0x3fff_fffc);
-    assert!(rt; end_line(alloc, &end)?.as_str() == "StoreOutside 3ffffffc");
+    assert!(rt; end_line(&End::Limit).as_str() == "Limit");
+    assert!(rt; end_line(&End::StoreOutside(0x3fff_fffc)).as_str() == "StoreOutside 3ffffffc");
+    let longest = End::MisalignedAtomic(u64::MAX);
+    assert!(rt; end_line(&longest).as_str() == "MisalignedAtomic ffffffffffffffff");
     assert!(rt;
         tells(
             &run_line(alloc, &RunFault::InputFault)?,

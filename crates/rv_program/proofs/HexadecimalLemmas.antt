@@ -1,0 +1,56 @@
+-- The last digit of a number in hexadecimal, and how many it has.
+
+use Rattle.std.proofs.Common.{◌≡◌, ℕ, zero, suc, ◌+◌, ◌/◌, ◌%◌, ◌^◌, ◌≤◌, ◌<◌, false, cond, List, [], ◌∷◌, ◌++◌, length, refl, eqb, sym, ap, ◌∙◌, append_assoc, arith, inl, inr}
+use Rattle.std.proofs.lemmas.Bool.{cases_lt}
+use Rattle.std.proofs.lemmas.Bool.Decides.{nat_tests}
+use Rattle.std.proofs.lemmas.List.{length-append}
+use Rattle.std.specs.Fmt.{digits, digits_onto, digit_glyph}
+use Rattle.std.proofs.lemmas.Fmt.{hex_one_digit}
+
+abbrev spell : ℕ → ℕ → List ℕ → List ℕ
+spell k n acc = digits_onto k 16 false n acc
+
+abbrev last : ℕ → ℕ
+last n = digit_glyph false (n % 16)
+
+spell_last : (k n : ℕ) (acc : List ℕ) → n < 16 → spell (suc k) n acc ≡ last n ∷ acc
+spell_last k n acc h = let zero_left : n / 16 ≡ 0 = omega arith in rw zero_left refl
+
+spell_next : (k n : ℕ) (acc : List ℕ) → 16 ≤ n → spell (suc k) n acc ≡ spell k (n / 16) (last n ∷ acc)
+spell_next k n acc h = let more : eqb (n / 16) 0 ≡ false = grind (arith, nat_tests) in ap (λ t. cond t (last n ∷ acc) (spell k (n / 16) (last n ∷ acc))) more
+
+spell-append : (k n : ℕ) (acc : List ℕ) → spell k n acc ≡ spell k n [] ++ acc
+spell-append zero n acc = refl
+spell-append (suc k) n acc = elim (cases_lt n 16) [
+  | inl l ↦ spell_last k n acc l ∙ ap (λ x. x ++ acc) (sym (spell_last k n [] l))
+  | inr l ↦ spell_next k n acc l ∙ spell-append k (n / 16) (last n ∷ acc) ∙ sym (append_assoc (spell k (n / 16) []) (last n ∷ []) acc)
+      ∙ ap (λ x. x ++ acc) (sym (spell_next k n [] l ∙ spell-append k (n / 16) (last n ∷ [])))
+]
+
+-- the limit of digits does not matter once it is large enough
+spell_enough : (j k n : ℕ) (acc : List ℕ) → n < 16 ^ suc j → n < 16 ^ suc k → spell (suc j) n acc ≡ spell (suc k) n acc
+spell_enough zero k n acc p q = spell_last zero n acc (omega arith) ∙ sym (spell_last k n acc (omega arith))
+spell_enough (suc j) zero n acc p q = spell_last (suc j) n acc (omega arith) ∙ sym (spell_last zero n acc (omega arith))
+spell_enough (suc j) (suc k) n acc p q = elim (cases_lt n 16) [
+  | inl l ↦ spell_last (suc j) n acc l ∙ sym (spell_last (suc k) n acc l)
+  | inr l ↦ spell_next (suc j) n acc l ∙ spell_enough j k (n / 16) (last n ∷ acc) (omega arith) (omega arith) ∙ sym (spell_next (suc k) n acc l)
+]
+
+pub one_digit : (n : ℕ) → n < 16 → digits 16 false n ≡ digit_glyph false n ∷ []
+one_digit n h = hex_one_digit false n h
+
+pub more_digits : (n : ℕ) → 16 ≤ n → n < 2 ^ 64 → digits 16 false n ≡ digits 16 false (n / 16) ++ (digit_glyph false (n % 16) ∷ [])
+unfolding digits
+more_digits n h small =
+    spell_next 63 n [] h ∙ spell_enough 62 63 (n / 16) (last n ∷ []) (omega arith) (omega arith) ∙ spell-append 64 (n / 16) (last n ∷ [])
+
+-- the digit that is not yet there
+pub one_more : (n : ℕ) → 16 ≤ n → n < 2 ^ 64 → length (digits 16 false n) ≡ length (digits 16 false (n / 16)) + 1
+one_more n h small = ap length (more_digits n h small) ∙ length-append (digits 16 false (n / 16)) (digit_glyph false (n % 16) ∷ [])
+
+pub few_digits : (k n : ℕ) → n < 16 ^ suc k → n < 2 ^ 64 → length (digits 16 false n) ≤ suc k
+few_digits zero n fits small = let one = ap length (one_digit n (omega arith)) in omega (arith, one)
+few_digits (suc k) n fits small = elim (cases_lt n 16) [
+  | inl l ↦ let one = ap length (one_digit n l) in omega (arith, one)
+  | inr l ↦ let rest = few_digits k (n / 16) (omega arith) (omega arith) in let more = one_more n l small in omega (arith, rest, more)
+]
