@@ -38,26 +38,26 @@ use std::alloc::{AllocError, Global};
 
 /// A section of an object, and where it stands.
 #[derive(Drop)]
-pub(crate) struct Input<'p, 'o> {
+pub(crate) struct Input<'p, 'o, 'a> {
     /// The place of its object, from 0.
     pub(crate) file: usize,
     /// Its own place there.
     pub(crate) index: usize,
-    pub(crate) section: &'p ShortSection<'o>,
+    pub(crate) section: &'p ShortSection<'o, 'a>,
     pub(crate) placed: &'p PlacedSection,
 }
 
 /// Objects whose sections and names have their addresses.
 #[derive(Drop)]
-pub(crate) struct Fixed<'p, 'o> {
-    pub(crate) objects: &'p [ShortObject<'o>],
+pub(crate) struct Fixed<'p, 'o, 'a> {
+    pub(crate) objects: &'p [ShortObject<'o, 'a>],
     pub(crate) placement: &'p Placement,
-    pub(crate) values: &'p Values<'p, 'o>,
+    pub(crate) values: &'p Values<'p, 'o, 'a>,
 }
 
-impl<'p, 'o> Fixed<'p, 'o> {
+impl<'p, 'o, 'a> Fixed<'p, 'o, 'a> {
     /// The section at an index of an object, both from 0.
-    pub(crate) fn input(&self, file: usize, index: usize) -> Input<'p, 'o>
+    pub(crate) fn input(&self, file: usize, index: usize) -> Input<'p, 'o, 'a>
         requires fixed { IsFixed self.now }
         requires section { index < length (object_at (objects_of self.now) (file + 1)).sections }
         ensures input { IsInputOf self.now result }
@@ -72,7 +72,7 @@ impl<'p, 'o> Fixed<'p, 'o> {
     }
 
     /// The value of a relocation of a section, as it has moved.
-    fn value(&self, input: &Input<'_, '_>, relocation: &Relocation) -> Result<i64, LinkFault>
+    fn value(&self, input: &Input<'_, '_, '_>, relocation: &Relocation) -> Result<i64, LinkFault>
         requires fixed { IsFixed self.now }
         requires input { IsInputOf self.now input.now }
         ensures found { IfOk result
@@ -90,7 +90,11 @@ impl<'p, 'o> Fixed<'p, 'o> {
     }
 
     /// Writes the values of a section's relocations to their fields in what is kept of it.
-    pub(crate) fn relocate(&self, input: &Input<'_, '_>, bytes: &mut [u8]) -> Result<(), LinkFault>
+    pub(crate) fn relocate(
+        &self,
+        input: &Input<'_, '_, '_>,
+        bytes: &mut [u8],
+    ) -> Result<(), LinkFault>
         requires fixed { IsFixed self.now }
         requires input { IsInputOf self.now input.now }
         requires inside { AllByRecursion
@@ -114,7 +118,7 @@ impl<'p, 'o> Fixed<'p, 'o> {
     }
 
     /// Judges the relocations of a section without bytes.
-    pub(crate) fn judge(&self, input: &Input<'_, '_>) -> Result<(), LinkFault>
+    pub(crate) fn judge(&self, input: &Input<'_, '_, '_>) -> Result<(), LinkFault>
         requires fixed { IsFixed self.now }
         requires input { IsInputOf self.now input.now }
         requires zeroed { is_nobits (short_section_of (input.now).section.now).contents ≡ true }
@@ -129,7 +133,7 @@ impl<'p, 'o> Fixed<'p, 'o> {
     fn put_bytes(
         &self,
         alloc: Global,
-        input: &Input<'_, '_>,
+        input: &Input<'_, '_, '_>,
         out: &mut Vec<u8>,
     ) -> Result<(), LinkFault>
         requires fixed { IsFixed self.now }
@@ -149,7 +153,7 @@ impl<'p, 'o> Fixed<'p, 'o> {
     pub(crate) fn put(
         &self,
         alloc: Global,
-        input: &Input<'_, '_>,
+        input: &Input<'_, '_, '_>,
         region: u64,
         out: &mut Vec<u8>,
     ) -> Result<(), LinkFault>
@@ -182,7 +186,7 @@ fn put_zeros(out: &mut Vec<u8>, count: u64) -> Result<(), AllocError>
 fn put_contents(
     alloc: Global,
     plan: &SectionPlan,
-    section: &ShortSection<'_>,
+    section: &ShortSection<'_, '_>,
     out: &mut Vec<u8>,
 ) -> Result<(), AllocError>
     ensures { OnOk result (out.new.items ≡ out.old.items

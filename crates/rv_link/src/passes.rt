@@ -40,7 +40,7 @@ pub const MOST_FILES: usize = 1024;
 /// Links objects with their calls as they are into a program, whose text starts at an address.
 pub(crate) fn link_as_they_are(
     alloc: Global,
-    objects: &[ShortObject<'_>],
+    objects: &[ShortObject<'_, '_>],
     start: u64,
 ) -> Result<Linked, LinkFault>
     ensures links { IfOk result
@@ -81,7 +81,7 @@ pub fn within_limits(files: usize, text_start: u64) -> Result<(), LinkFault>
 }
 
 /// What the names of objects mean: each has one definition for all files at most, and no reference is without one.
-fn resolve<'o>(alloc: Global, objects: &[ShortObject<'o>]) -> Result<Names<'o>, LinkFault>
+fn resolve<'a>(alloc: Global, objects: &[ShortObject<'_, 'a>]) -> Result<Names<'a>, LinkFault>
     ensures named { IfOk result (IsNamed (map short_object_of objects.now)) }
     ensures refuses { IfErr result (AreUnnamed (map short_object_of objects.now)) }
 {
@@ -119,7 +119,7 @@ fn undefined(alloc: Global, name: &[u8]) -> Result<LinkFault, AllocError>
 }
 
 /// Where the sections of objects stand.
-fn place(alloc: Global, objects: &[ShortObject<'_>], start: u64) -> Result<Placement, LinkFault>
+fn place(alloc: Global, objects: &[ShortObject<'_, '_>], start: u64) -> Result<Placement, LinkFault>
     requires page { start % 4096 ≡ 0 }
     requires low { start < stack_start }
     ensures placed { IfOk result (IsPlacement (map short_object_of objects.now) start) }
@@ -132,7 +132,7 @@ fn place(alloc: Global, objects: &[ShortObject<'_>], start: u64) -> Result<Place
 /// Where a run begins: at an even address, as that of each even place of code is.
 fn entry(
     names: &Names<'_>,
-    objects: &[ShortObject<'_>],
+    objects: &[ShortObject<'_, '_>],
     placement: &Placement,
 ) -> Result<u64, LinkFault>
     requires { IsPlaced (map short_object_of objects.now) names.now placement.now }
@@ -155,11 +155,11 @@ fn entry(
 }
 
 /// The bytes of the regions of placed objects.
-fn fill<'o>(
+fn fill<'a>(
     alloc: Global,
-    objects: &[ShortObject<'o>],
+    objects: &[ShortObject<'_, 'a>],
     placement: &Placement,
-    names: &Names<'o>,
+    names: &Names<'a>,
 ) -> Result<Regions, LinkFault>
     requires { IsReady (map short_object_of objects.now) names.now placement.now }
     ensures filled { IfOk result
@@ -178,7 +178,7 @@ fn fill<'o>(
 /// The program of placed objects, whose regions are filled, and its map.
 fn finish(
     alloc: Global,
-    objects: &[ShortObject<'_>],
+    objects: &[ShortObject<'_, '_>],
     names: &Names<'_>,
     placement: Placement,
     entry: u64,
@@ -214,7 +214,7 @@ fn finish(
 }
 
 /// Whether an object has compressed code.
-fn has_compressed(objects: &[ShortObject<'_>]) -> bool
+fn has_compressed(objects: &[ShortObject<'_, '_>]) -> bool
     ensures { result ≡ list_any (λ o. o.rvc) (map short_object_of objects.now) }
 {
     for object in objects {

@@ -21,7 +21,7 @@ use std::alloc::Global;
 fn text(
     alloc: Global,
     objects: &[Object<'_>],
-    lent: &[ShortObject<'_>],
+    lent: &[ShortObject<'_, '_>],
 ) -> Result<Option<Placed>, LinkFault>
     requires { map short_object_of lent.now ≡ map object_of objects.now }
     ensures sites { IfOk result
@@ -40,11 +40,11 @@ fn text(
 }
 
 /// What relaxation, where it is on, leaves of objects. They are lent: no byte of them moves before the program.
-pub(crate) fn relaxed<'o>(
+pub(crate) fn relaxed<'o, 'a>(
     alloc: Global,
-    objects: &'o [Object<'o>],
+    objects: &'o [Object<'a>],
     relax: bool,
-) -> Result<Vec<ShortObject<'o>>, LinkFault>
+) -> Result<Vec<ShortObject<'o, 'a>>, LinkFault>
     ensures relaxes { IfOk result
         (λ left. Relaxes relax (map object_of objects.now) (map short_object_of left.items)) }
     ensures refuses { IfErr result (AreDoubled (map object_of objects.now)) }

@@ -32,11 +32,11 @@ use std::alloc::{AllocError, Global};
 
 /// A section of text, by its file and its index there, both from 0.
 #[derive(Clone, Copy, Drop)]
-pub(crate) struct Input<'i> {
+pub(crate) struct Input<'i, 'a> {
     pub(crate) file: usize,
-    pub(crate) object: &'i Object<'i>,
+    pub(crate) object: &'i Object<'a>,
     pub(crate) index: usize,
-    pub(crate) section: &'i Section<'i>,
+    pub(crate) section: &'i Section<'a>,
     /// What the symbols of its object name.
     pub(crate) entries: &'i Entries,
 }
@@ -66,7 +66,7 @@ fn padding_site(offset: u64, bytes: u64, alignment: u64) -> Site
 }
 
 /// A call, if its words, its target and the symbols of its object allow that it is shortened.
-fn call(text: &Text<'_, '_>, input: &Input<'_>, relocation: &Relocation) -> Option<Call>
+fn call(text: &Text<'_, '_, '_>, input: &Input<'_, '_>, relocation: &Relocation) -> Option<Call>
     requires laid { IsLaid text.now }
     requires given { IsGiven text.now input.now }
     requires within { (relocation.now).place + 8
@@ -97,8 +97,8 @@ fn call(text: &Text<'_, '_>, input: &Input<'_>, relocation: &Relocation) -> Opti
 /// that it is shortened.
 fn put_call(
     sites: &mut Vec<Site>,
-    text: &Text<'_, '_>,
-    input: &Input<'_>,
+    text: &Text<'_, '_, '_>,
+    input: &Input<'_, '_>,
     first: u64,
     relocation: &Relocation,
 ) -> Result<(), AllocError>
@@ -129,8 +129,8 @@ fn put_call(
 /// It stands between the others of the section, which are in the order of their places.
 fn put_change(
     sites: &mut Vec<Site>,
-    text: &Text<'_, '_>,
-    input: &Input<'_>,
+    text: &Text<'_, '_, '_>,
+    input: &Input<'_, '_>,
     first: u64,
     before: Before,
     relocation: &Relocation,
@@ -170,8 +170,8 @@ fn put_change(
 /// Adds what may change of a section whose first byte stands at an offset, by its relocations in the order of their places.
 fn put_changes(
     sites: &mut Vec<Site>,
-    text: &Text<'_, '_>,
-    input: &Input<'_>,
+    text: &Text<'_, '_, '_>,
+    input: &Input<'_, '_>,
     first: u64,
     sorted: &[Relocation],
 ) -> Result<(), AllocError>
@@ -217,8 +217,8 @@ fn put_no_starts(starts: &mut Vec<bool>, count: usize) -> Result<(), AllocError>
 pub(crate) fn put_section(
     alloc: Global,
     marked: &mut Marked,
-    text: &Text<'_, '_>,
-    input: &Input<'_>,
+    text: &Text<'_, '_, '_>,
+    input: &Input<'_, '_>,
     stop: u64,
 ) -> Result<u64, AllocError>
     requires laid { IsLaid text.now }

@@ -21,8 +21,8 @@ use std::alloc::{AllocError, Global};
 
 /// The text of objects in one line.
 #[derive(Drop)]
-pub(crate) struct Text<'t, 'o> {
-    pub(crate) objects: &'t [Object<'t>],
+pub(crate) struct Text<'t, 'a, 'o> {
+    pub(crate) objects: &'t [Object<'a>],
     pub(crate) names: &'t Names<'o>,
     /// Where the first byte of each section stands, by its file and its index there, both from 0.
     pub(crate) bases: Vec<Vec<u64>>,
@@ -55,13 +55,13 @@ fn base(bases: &[Vec<u64>], file: usize, index: usize) -> u64
     }
 }
 
-impl<'t, 'o> Text<'t, 'o> {
+impl<'t, 'a, 'o> Text<'t, 'a, 'o> {
     /// That of objects, whose names mean this; `None` where it is too long.
     pub(crate) fn of(
         alloc: Global,
-        objects: &'t [Object<'t>],
+        objects: &'t [Object<'a>],
         names: &'t Names<'o>,
-    ) -> Result<Option<Text<'t, 'o>>, AllocError>
+    ) -> Result<Option<Text<'t, 'a, 'o>>, AllocError>
         requires { IsNames (map object_of objects.now) names.now }
         ensures laid { IfOk result (λ found. IfSome found IsLaid) }
         ensures same { IfOk result

@@ -57,7 +57,7 @@ pub fn placed(
 }
 
 /// Adds the sites of all objects.
-fn put_all(alloc: Global, marked: &mut Marked, text: &Text<'_, '_>) -> Result<(), AllocError>
+fn put_all(alloc: Global, marked: &mut Marked, text: &Text<'_, '_, '_>) -> Result<(), AllocError>
     requires { IsLaid text.now }
     ensures sites { OnOk result
         (marked.new.sites.items ≡ marked.old.sites.items ++ sites_of (objects_of text.now)) }
@@ -75,7 +75,7 @@ fn put_all(alloc: Global, marked: &mut Marked, text: &Text<'_, '_>) -> Result<()
 fn put_object(
     alloc: Global,
     marked: &mut Marked,
-    text: &Text<'_, '_>,
+    text: &Text<'_, '_, '_>,
     file: usize,
     object: &Object<'_>,
     first: u64,
@@ -103,7 +103,7 @@ fn put_object(
 fn put_at(
     alloc: Global,
     marked: &mut Marked,
-    text: &Text<'_, '_>,
+    text: &Text<'_, '_, '_>,
     file: usize,
     object: &Object<'_>,
     entries: &Entries,

@@ -49,7 +49,7 @@ impl Highs {
     /// The high parts of objects.
     pub(crate) fn of(
         alloc: Global,
-        objects: &[ShortObject<'_>],
+        objects: &[ShortObject<'_, '_>],
         placement: &Placement,
     ) -> Result<Highs, AllocError>
         ensures { IfOk result (λ h. (file section offset : ℕ) → found h file section offset
@@ -81,7 +81,7 @@ impl Highs {
     fn add_object(
         &mut self,
         file: usize,
-        object: &ShortObject<'_>,
+        object: &ShortObject<'_, '_>,
         placement: &Placement,
     ) -> Result<(), AllocError>
         ensures { OnOk result (HasFileBefore self.old self.new file (λ s offset.
@@ -102,7 +102,7 @@ impl Highs {
         &mut self,
         file: usize,
         index: usize,
-        section: &ShortSection<'_>,
+        section: &ShortSection<'_, '_>,
         places: &[PlacedSection],
     ) -> Result<(), AllocError>
         ensures { OnOk result (HasBefore self.old self.new file index
@@ -120,7 +120,7 @@ impl Highs {
         &mut self,
         file: usize,
         index: usize,
-        section: &ShortSection<'_>,
+        section: &ShortSection<'_, '_>,
         plan: &SectionPlan,
     ) -> Result<(), AllocError>
         ensures { OnOk result (HasBefore self.old self.new file index (λ offset.
@@ -140,7 +140,7 @@ impl Highs {
         &mut self,
         file: usize,
         index: usize,
-        section: &ShortSection<'_>,
+        section: &ShortSection<'_, '_>,
         plan: &SectionPlan,
         relocation: &Relocation,
     ) -> Result<(), AllocError>

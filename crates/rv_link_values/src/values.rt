@@ -24,10 +24,10 @@ use std::alloc::{AllocError, Global};
 
 /// What the relocations of placed objects are worth.
 #[derive(Drop)]
-pub struct Values<'p, 'o> {
-    pub(crate) objects: &'p [ShortObject<'o>],
+pub struct Values<'p, 'o, 'a> {
+    pub(crate) objects: &'p [ShortObject<'o, 'a>],
     pub(crate) placement: &'p Placement,
-    pub(crate) names: &'p Names<'o>,
+    pub(crate) names: &'p Names<'a>,
     pub(crate) highs: Highs,
 }
 
@@ -46,14 +46,14 @@ fn placed(placement: &Placement, file: usize, index: usize) -> Option<&PlacedSec
     sections.get(index)
 }
 
-impl<'p, 'o> Values<'p, 'o> {
+impl<'p, 'o, 'a> Values<'p, 'o, 'a> {
     /// Those of objects, with their sections placed, and of what their names mean.
     pub fn of(
         alloc: Global,
-        objects: &'p [ShortObject<'o>],
+        objects: &'p [ShortObject<'o, 'a>],
         placement: &'p Placement,
-        names: &'p Names<'o>,
-    ) -> Result<Values<'p, 'o>, AllocError>
+        names: &'p Names<'a>,
+    ) -> Result<Values<'p, 'o, 'a>, AllocError>
         ensures { (start : ℕ) → IsNames (map short_object_of objects.now) names.now
             → IsPlacement (map short_object_of objects.now) start placement.now
             → IfOk result (IsValues (map short_object_of objects.now) placement.now) }

@@ -66,7 +66,7 @@ pub fn begins_at(section: &Section<'_>) -> u64
 }
 
 /// The multiple at which what is left of a section begins: that of the section as it was.
-pub(crate) fn multiple_of(section: &ShortSection<'_>) -> u64
+pub(crate) fn multiple_of(section: &ShortSection<'_, '_>) -> u64
     ensures value { result ≡ inputs.begins_at (short_section_of section.now) }
     ensures some { 0 < result }
     ensures small { result ≤ 4096 }
@@ -75,7 +75,7 @@ pub(crate) fn multiple_of(section: &ShortSection<'_>) -> u64
 }
 
 /// The multiple of a section that goes to a region; 1 of others.
-fn weight(destination: Destination, section: &ShortSection<'_>) -> u64
+fn weight(destination: Destination, section: &ShortSection<'_, '_>) -> u64
     ensures value { result ≡ walk.weight (walk.goes destination) (short_section_of section.now) }
     ensures some { 0 < result }
     ensures small { result ≤ 4096 }
@@ -88,7 +88,7 @@ fn weight(destination: Destination, section: &ShortSection<'_>) -> u64
 }
 
 /// The greatest multiple of the sections of a file that go to a region.
-fn greatest_in(destination: Destination, sections: &[ShortSection<'_>]) -> u64
+fn greatest_in(destination: Destination, sections: &[ShortSection<'_, '_>]) -> u64
     ensures value { result
         ≡ walk.greatest_in (walk.goes destination) (map short_section_of sections.now) }
     ensures some { 0 < result }
@@ -102,7 +102,7 @@ fn greatest_in(destination: Destination, sections: &[ShortSection<'_>]) -> u64
 }
 
 /// The greatest multiple of the sections that go to a region.
-pub(crate) fn greatest_of(destination: Destination, objects: &[ShortObject<'_>]) -> u64
+pub(crate) fn greatest_of(destination: Destination, objects: &[ShortObject<'_, '_>]) -> u64
     ensures value { result
         ≡ walk.greatest_of (walk.goes destination) (map short_object_of objects.now) }
     ensures some { 0 < result }

@@ -15,7 +15,7 @@ pub(crate) enum Destination {
 }
 
 /// Whether a section goes to a region.
-pub(crate) fn goes_to(destination: Destination, section: &ShortSection<'_>) -> bool
+pub(crate) fn goes_to(destination: Destination, section: &ShortSection<'_, '_>) -> bool
     ensures { result ≡ goes destination (short_section_of section.now) }
 {
     if !section.whole.loaded || section.whole.executable {

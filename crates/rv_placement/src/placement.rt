@@ -58,11 +58,11 @@ fn memory_of(text: Region, behind: Regions) -> u64
 }
 
 /// The section of an object, by that one's place, from 0, and its own index there.
-pub(crate) fn section_at<'s, 'o>(
-    objects: &'s [ShortObject<'o>],
+pub(crate) fn section_at<'s, 'o, 'a>(
+    objects: &'s [ShortObject<'o, 'a>],
     file: usize,
     index: u32,
-) -> Option<&'s ShortSection<'o>>
+) -> Option<&'s ShortSection<'o, 'a>>
     ensures { option_map (λ s. short_section_of s.now) result
         ≡ laws.section_at (map short_object_of objects.now) file index }
 {
@@ -81,7 +81,7 @@ impl Placement {
     /// Places the sections of objects whose text begins at an address.
     pub fn of(
         alloc: Global,
-        objects: &[ShortObject<'_>],
+        objects: &[ShortObject<'_, '_>],
         text_start: u64,
     ) -> Result<Placement, PlacementFault>
         requires page { text_start % 4096 ≡ 0 }
@@ -127,7 +127,7 @@ impl Placement {
     /// where it has no place in memory.
     pub fn address(
         &self,
-        objects: &[ShortObject<'_>],
+        objects: &[ShortObject<'_, '_>],
         file: usize,
         section: u32,
         offset: u64,

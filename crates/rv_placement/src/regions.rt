@@ -34,7 +34,7 @@ pub(crate) struct Regions {
 
 /// Where a section starts and ends that loses no byte and comes after an end; `None` where it
 /// passes the end of memory.
-fn behind(section: &ShortSection<'_>, stop: u64) -> Option<(u64, u64)>
+fn behind(section: &ShortSection<'_, '_>, stop: u64) -> Option<(u64, u64)>
     requires { stop ≤ stack_start }
     ensures found { IfSome result (λ found.
         (found.0 ≡ start_behind stop (short_section_of section.now))
@@ -56,7 +56,7 @@ fn behind(section: &ShortSection<'_>, stop: u64) -> Option<(u64, u64)>
 /// passes the end of memory.
 fn move_section(
     place: &mut PlacedSection,
-    section: &ShortSection<'_>,
+    section: &ShortSection<'_, '_>,
     destination: Destination,
     stop: u64,
 ) -> Option<u64>
@@ -79,7 +79,7 @@ fn move_section(
 /// Moves the sections of a file that go to a region, one behind another. Gives their end.
 fn move_file(
     places: &mut [PlacedSection],
-    sections: &[ShortSection<'_>],
+    sections: &[ShortSection<'_, '_>],
     destination: Destination,
     first: u64,
 ) -> Option<u64>
@@ -103,7 +103,7 @@ fn move_file(
 /// Moves the sections of all files that go to a region. Gives their end.
 fn move_files(
     files: &mut [Vec<PlacedSection>],
-    objects: &[ShortObject<'_>],
+    objects: &[ShortObject<'_, '_>],
     destination: Destination,
     first: u64,
 ) -> Option<u64>
@@ -130,7 +130,7 @@ fn move_files(
 /// memory.
 fn region(
     files: &mut [Vec<PlacedSection>],
-    objects: &[ShortObject<'_>],
+    objects: &[ShortObject<'_, '_>],
     destination: Destination,
     start: u64,
 ) -> Option<Region>
@@ -155,7 +155,7 @@ fn region(
 /// after data. `None` where they pass the end of memory.
 pub(crate) fn regions_behind(
     files: &mut [Vec<PlacedSection>],
-    objects: &[ShortObject<'_>],
+    objects: &[ShortObject<'_, '_>],
     text_end: u64,
 ) -> Option<Regions>
     requires each { map length (lists_of files.old)

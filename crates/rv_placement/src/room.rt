@@ -21,7 +21,7 @@ const FARTHEST: u64 = 1 << 62;
 /// it has no room.
 fn room_behind(
     alloc: Global,
-    section: &ShortSection<'_>,
+    section: &ShortSection<'_, '_>,
     stop: u64,
 ) -> Result<Option<u64>, AllocError>
     requires { stop ≤ farthest }
@@ -51,7 +51,7 @@ fn room_behind(
 /// padding of the text has no room.
 fn room_in(
     alloc: Global,
-    sections: &[ShortSection<'_>],
+    sections: &[ShortSection<'_, '_>],
     first: u64,
 ) -> Result<Option<u64>, AllocError>
     requires { first ≤ farthest }
@@ -74,7 +74,7 @@ fn room_in(
 /// Whether each padding of the text has room in a section that starts below `FARTHEST`.
 fn is_roomy_below(
     alloc: Global,
-    objects: &[ShortObject<'_>],
+    objects: &[ShortObject<'_, '_>],
     first: u64,
 ) -> Result<bool, AllocError>
     requires { first ≤ farthest }
@@ -94,7 +94,7 @@ fn is_roomy_below(
 /// Why sections that are too large cannot be placed.
 pub(crate) fn unplaced(
     alloc: Global,
-    objects: &[ShortObject<'_>],
+    objects: &[ShortObject<'_, '_>],
     text_start: u64,
 ) -> Result<PlacementFault, AllocError>
     requires { text_start < stack_start }

@@ -71,7 +71,7 @@ impl Placement {
     fn put_rows(
         &self,
         rows: &mut Vec<MapRow>,
-        object: &ShortObject<'_>,
+        object: &ShortObject<'_, '_>,
         file: usize,
         own: &[Row],
     ) -> Result<(), AllocError>
@@ -101,7 +101,7 @@ impl Placement {
         &self,
         alloc: Global,
         rows: &mut Vec<MapRow>,
-        object: &ShortObject<'_>,
+        object: &ShortObject<'_, '_>,
         file: usize,
     ) -> Result<(), AllocError>
         requires { file + 1 < 2 ^ 64 }
@@ -124,7 +124,7 @@ impl Placement {
     pub fn rows(
         &self,
         alloc: Global,
-        objects: &[ShortObject<'_>],
+        objects: &[ShortObject<'_, '_>],
     ) -> Result<Vec<MapRow>, AllocError>
         ensures known { IfOk result (λ rows. All IsRow rows.items) }
         ensures rows { (start : ℕ) → IsPlacement (map short_object_of objects.now) start self.now

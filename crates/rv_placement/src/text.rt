@@ -23,7 +23,7 @@ use std::alloc::{AllocError, Global};
 fn put_other(
     alloc: Global,
     places: &mut Vec<PlacedSection>,
-    section: &ShortSection<'_>,
+    section: &ShortSection<'_, '_>,
 ) -> Result<(), AllocError>
     ensures { IfOk result
         (λ _. IsPut (short_section_of section.now) 0 places.old.items places.new.items) }
@@ -39,7 +39,7 @@ fn put_other(
 fn put_code(
     alloc: Global,
     places: &mut Vec<PlacedSection>,
-    section: &ShortSection<'_>,
+    section: &ShortSection<'_, '_>,
     start: u64,
 ) -> Result<Option<u64>, AllocError>
     requires { start ≤ stack_start }
@@ -78,7 +78,7 @@ fn put_section(
     alloc: Global,
     places: &mut Vec<PlacedSection>,
     gaps: &mut Vec<Region>,
-    section: &ShortSection<'_>,
+    section: &ShortSection<'_, '_>,
     stop: u64,
 ) -> Result<Option<u64>, AllocError>
     requires { stop ≤ stack_start }
@@ -112,7 +112,7 @@ fn put_file(
     alloc: Global,
     places: &mut Vec<PlacedSection>,
     gaps: &mut Vec<Region>,
-    sections: &[ShortSection<'_>],
+    sections: &[ShortSection<'_, '_>],
     first: u64,
 ) -> Result<Option<u64>, AllocError>
     requires empty { places.old.items ≡ [] }
@@ -142,7 +142,7 @@ pub(crate) fn put_files(
     alloc: Global,
     files: &mut Vec<Vec<PlacedSection>>,
     gaps: &mut Vec<Region>,
-    objects: &[ShortObject<'_>],
+    objects: &[ShortObject<'_, '_>],
     first: u64,
 ) -> Result<Option<u64>, AllocError>
     requires empty { files.old.items ≡ [] }

@@ -66,7 +66,7 @@ pub fn has_padding(relocation: &Relocation) -> bool
 /// Adds a relocation of a section as it has moved, if it is an alignment with bytes of padding.
 fn put(
     found: &mut Vec<Relocation>,
-    section: &ShortSection<'_>,
+    section: &ShortSection<'_, '_>,
     relocation: &Relocation,
 ) -> Result<(), AllocError>
     ensures { OnOk result
@@ -85,7 +85,10 @@ fn put(
 }
 
 /// The alignments with bytes of padding of a section.
-fn with_padding(alloc: Global, section: &ShortSection<'_>) -> Result<Vec<Relocation>, AllocError>
+fn with_padding(
+    alloc: Global,
+    section: &ShortSection<'_, '_>,
+) -> Result<Vec<Relocation>, AllocError>
     ensures { IfOk result (λ found. map relocation_of found.items
         ≡ filter has_padding_of (short_section_of section.now).relocations) }
 {
@@ -99,7 +102,7 @@ fn with_padding(alloc: Global, section: &ShortSection<'_>) -> Result<Vec<Relocat
 /// The alignments with bytes of padding of a section of code, from the last to the first.
 pub(crate) fn alignments(
     alloc: Global,
-    section: &ShortSection<'_>,
+    section: &ShortSection<'_, '_>,
 ) -> Result<Vec<Relocation>, AllocError>
     requires { are_all_apart (short_section_of section.now).relocations ≡ true }
     ensures { IfOk result (λ sorted. reverse (map relocation_of sorted.items)

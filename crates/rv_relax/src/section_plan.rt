@@ -35,7 +35,7 @@ impl SectionPlan {
     /// What is kept of a section that starts at an address.
     pub fn of(
         alloc: Global,
-        section: &ShortSection<'_>,
+        section: &ShortSection<'_, '_>,
         start: u64,
     ) -> Result<SectionPlan, AllocError>
         requires low { size_of (short_section_of section.now).contents < 2 ^ 64 }

@@ -26,7 +26,7 @@ impl<'o> Names<'o> {
     /// symbol.
     pub fn address(
         &self,
-        objects: &[ShortObject<'_>],
+        objects: &[ShortObject<'_, '_>],
         placement: &Placement,
         file: usize,
         index: u32,
@@ -52,7 +52,7 @@ impl<'o> Names<'o> {
     /// with the paddings whole. None where it is a number or the linker's, or there is no symbol.
     pub fn place(
         &self,
-        objects: &[ShortObject<'_>],
+        objects: &[ShortObject<'_, '_>],
         file: usize,
         index: u32,
     ) -> Option<(usize, u32, u64)>
@@ -85,7 +85,7 @@ impl<'o> Names<'o> {
     }
 
     /// Whether a run can begin: the global `_start` stands at an even place of a section of text, wherever that stands.
-    pub fn has_entry(&self, objects: &[ShortObject<'_>]) -> bool
+    pub fn has_entry(&self, objects: &[ShortObject<'_, '_>]) -> bool
         ensures { IsNames (map short_object_of objects.now) self.now
             → result ≡ has_entry (map short_object_of objects.now) }
     {
@@ -96,7 +96,7 @@ impl<'o> Names<'o> {
     }
 
     /// Where a run begins: the address of the global `_start`, if that stands at an even place of a section of text.
-    pub fn entry(&self, objects: &[ShortObject<'_>], placement: &Placement) -> Option<u64>
+    pub fn entry(&self, objects: &[ShortObject<'_, '_>], placement: &Placement) -> Option<u64>
         ensures { (start : ℕ) → IsNames (map short_object_of objects.now) self.now
             → IsPlacement (map short_object_of objects.now) start placement.now
             → result ≡ laws.entry_of (starts_of placement.now) 1 (map short_object_of objects.now) }
@@ -115,11 +115,11 @@ impl<'o> Names<'o> {
 }
 
 /// The symbol at an index of a file, both from 0, and its definition as it has moved.
-fn symbol_at<'o>(
-    objects: &[ShortObject<'o>],
+fn symbol_at<'o, 'a>(
+    objects: &[ShortObject<'o, 'a>],
     file: usize,
     index: u32,
-) -> Option<(&'o Symbol<'o>, Definition)>
+) -> Option<(&'o Symbol<'a>, Definition)>
     ensures { (o : SaidObject) → slice_get (map short_object_of objects.now) file ≡ Some o
         → option_map with_definition result ≡ slice_get o.symbols index }
 {
@@ -140,7 +140,7 @@ fn placed(exported: Exported) -> Option<(usize, u32, u64)>
 
 /// The address of what a file defines.
 pub(crate) fn defined_address(
-    objects: &[ShortObject<'_>],
+    objects: &[ShortObject<'_, '_>],
     placement: &Placement,
     file: usize,
     definition: Definition,
@@ -159,7 +159,7 @@ pub(crate) fn defined_address(
 }
 
 /// Whether a run can begin at a definition of a file: at an even place of a section of text, whatever becomes of its address.
-fn can_begin(objects: &[ShortObject<'_>], file: usize, definition: Definition) -> bool
+fn can_begin(objects: &[ShortObject<'_, '_>], file: usize, definition: Definition) -> bool
     ensures { (o : SaidObject) → slice_get (map short_object_of objects.now) file ≡ Some o
         → result ≡ laws.can_begin o definition }
 {
@@ -172,7 +172,7 @@ fn can_begin(objects: &[ShortObject<'_>], file: usize, definition: Definition) -
 }
 
 /// Whether a section of a file is one of text.
-fn goes_to_text(objects: &[ShortObject<'_>], file: usize, section: u32) -> bool
+fn goes_to_text(objects: &[ShortObject<'_, '_>], file: usize, section: u32) -> bool
     ensures { (o : SaidObject) → slice_get (map short_object_of objects.now) file ≡ Some o
         → result ≡ laws.is_in_text (slice_get o.sections section) }
 {

@@ -34,7 +34,7 @@ impl<'o> Definitions<'o> {
     /// Those of objects. A name that has two is refused: the first second one, by file and symbol.
     pub(crate) fn of(
         alloc: Global,
-        objects: &[ShortObject<'o>],
+        objects: &[ShortObject<'_, 'o>],
     ) -> Result<Definitions<'o>, ResolveFault<'o>>
         ensures answers { IfOk result (λ definitions.
             Answers (exports_from 0 (map short_object_of objects.now)) definitions) }
@@ -53,7 +53,7 @@ impl<'o> Definitions<'o> {
     }
 
     /// Adds the definitions for all files among the symbols of a file.
-    fn put_all(&mut self, file: usize, object: &ShortObject<'o>) -> Result<(), ResolveFault<'o>>
+    fn put_all(&mut self, file: usize, object: &ShortObject<'_, 'o>) -> Result<(), ResolveFault<'o>>
         ensures added { OnOk result ((o : SaidObject) (es : List Export) → Answers es self.old
             → AreAdded es (exports_in file o (symbols_of object.now)) self.new) }
         ensures refuses { IfErr result (λ fault. (o : SaidObject) (es : List Export)
@@ -70,8 +70,8 @@ impl<'o> Definitions<'o> {
     fn put(
         &mut self,
         file: usize,
-        object: &ShortObject<'o>,
-        symbol: &'o Symbol<'o>,
+        object: &ShortObject<'_, 'o>,
+        symbol: &Symbol<'o>,
     ) -> Result<(), ResolveFault<'o>>
         ensures added { OnOk result ((o : SaidObject) (es : List Export) → Answers es self.old
             → AreAdded es (exports_in file o (moved_in object.now symbol.now ∷ [])) self.new) }

@@ -29,7 +29,7 @@ impl<'o> Names<'o> {
     pub fn globals(
         &self,
         alloc: Allocator,
-        objects: &[ShortObject<'_>],
+        objects: &[ShortObject<'_, '_>],
         placement: &Placement,
     ) -> Result<Vec<Global>, AllocError>
         ensures known { IfOk result (λ globals. All (λ g. IsGlobal (global_of g)) globals.items) }
@@ -109,10 +109,10 @@ impl<'o> Names<'o> {
 fn put_globals(
     alloc: Allocator,
     globals: &mut Vec<Global>,
-    objects: &[ShortObject<'_>],
+    objects: &[ShortObject<'_, '_>],
     placement: &Placement,
     file: usize,
-    object: &ShortObject<'_>,
+    object: &ShortObject<'_, '_>,
 ) -> Result<(), AllocError>
     ensures known { OnOk result (All (λ g. IsGlobal (global_of g)) globals.old.items
         → All (λ g. IsGlobal (global_of g)) globals.new.items) }
@@ -132,10 +132,10 @@ fn put_globals(
 fn put_global(
     alloc: Allocator,
     globals: &mut Vec<Global>,
-    objects: &[ShortObject<'_>],
+    objects: &[ShortObject<'_, '_>],
     placement: &Placement,
     file: usize,
-    object: &ShortObject<'_>,
+    object: &ShortObject<'_, '_>,
     symbol: &Symbol<'_>,
 ) -> Result<(), AllocError>
     ensures known { OnOk result (All (λ g. IsGlobal (global_of g)) globals.old.items

@@ -31,7 +31,7 @@ impl Meanings {
     /// What the symbols of objects mean, of which these are the global definitions.
     pub(crate) fn of(
         alloc: Global,
-        objects: &[ShortObject<'_>],
+        objects: &[ShortObject<'_, '_>],
         definitions: &Definitions<'_>,
     ) -> Result<Meanings, AllocError>
         ensures { Answers (exports_from 0 (map short_object_of objects.now)) definitions.now

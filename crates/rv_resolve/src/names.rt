@@ -29,7 +29,7 @@ pub struct Names<'o> {
 
 impl<'o> Names<'o> {
     /// Those of objects. A name that has two is refused: the first second one, by file and symbol.
-    pub fn of(alloc: Global, objects: &[ShortObject<'o>]) -> Result<Names<'o>, ResolveFault<'o>>
+    pub fn of(alloc: Global, objects: &[ShortObject<'_, 'o>]) -> Result<Names<'o>, ResolveFault<'o>>
         ensures names { IfOk result (λ names. IsNames (map short_object_of objects.now) names) }
         ensures distinct { IfOk result
             (λ _. AreDistinct (global_names (map short_object_of objects.now))) }

@@ -26,7 +26,7 @@ use rv_shorten::ShortObject;
 
 impl<'o> Names<'o> {
     /// The first reference without a meaning, by object, section and relocation: the name of its symbol.
-    pub fn undefined(&self, objects: &[ShortObject<'o>]) -> Option<&'o [u8]>
+    pub fn undefined(&self, objects: &[ShortObject<'_, 'o>]) -> Option<&'o [u8]>
         ensures first { IsNames (map short_object_of objects.now) self.now
             → option_map bytes_of result ≡ laws.first_undefined (map short_object_of objects.now) }
         ensures resolved { IfNone result (IsNames (map short_object_of objects.now) self.now
@@ -47,9 +47,9 @@ impl<'o> Names<'o> {
     /// The first in an object.
     fn undefined_in(
         &self,
-        objects: &[ShortObject<'_>],
+        objects: &[ShortObject<'_, '_>],
         file: usize,
-        object: &ShortObject<'o>,
+        object: &ShortObject<'_, 'o>,
     ) -> Option<&'o [u8]>
         ensures { IsNames (map short_object_of objects.now) self.now
             → slice_get (map short_object_of objects.now) file ≡ Some (short_object_of object.now)
@@ -74,9 +74,9 @@ impl<'o> Names<'o> {
     /// The first of relocations of an object.
     fn undefined_among(
         &self,
-        objects: &[ShortObject<'_>],
+        objects: &[ShortObject<'_, '_>],
         file: usize,
-        object: &ShortObject<'o>,
+        object: &ShortObject<'_, 'o>,
         relocations: &[Relocation],
     ) -> Option<&'o [u8]>
         ensures { IsNames (map short_object_of objects.now) self.now
@@ -99,9 +99,9 @@ impl<'o> Names<'o> {
     /// The name of a relocation's symbol, if that has no address.
     fn undefined_name(
         &self,
-        objects: &[ShortObject<'_>],
+        objects: &[ShortObject<'_, '_>],
         file: usize,
-        object: &ShortObject<'o>,
+        object: &ShortObject<'_, 'o>,
         relocation: &Relocation,
     ) -> Option<&'o [u8]>
         ensures { IsNames (map short_object_of objects.now) self.now
@@ -126,7 +126,7 @@ impl<'o> Names<'o> {
     /// Whether the symbol at an index of an object has an address, wherever sections stand and whatever is cut of them.
     fn is_resolved(
         &self,
-        objects: &[ShortObject<'_>],
+        objects: &[ShortObject<'_, '_>],
         file: usize,
         index: u32,
         symbol: &Symbol<'_>,
@@ -145,7 +145,13 @@ impl<'o> Names<'o> {
     }
 
     /// Whether the symbol at an index of an object, which does not define it, means what has an address.
-    fn is_known(&self, objects: &[ShortObject<'_>], file: usize, index: u32, name: &[u8]) -> bool
+    fn is_known(
+        &self,
+        objects: &[ShortObject<'_, '_>],
+        file: usize,
+        index: u32,
+        name: &[u8],
+    ) -> bool
         ensures { (o : SaidObject) (s : SaidSymbol)
             → IsNames (map short_object_of objects.now) self.now
             → slice_get (map short_object_of objects.now) file ≡ Some o
@@ -160,7 +166,7 @@ impl<'o> Names<'o> {
 }
 
 /// Whether a definition of a file has an address, wherever sections stand.
-fn has_address(objects: &[ShortObject<'_>], file: usize, definition: Definition) -> bool
+fn has_address(objects: &[ShortObject<'_, '_>], file: usize, definition: Definition) -> bool
     ensures { (o : SaidObject) → slice_get (map short_object_of objects.now) file ≡ Some o
         → result ≡ laws.has_address o definition }
 {
@@ -173,7 +179,7 @@ fn has_address(objects: &[ShortObject<'_>], file: usize, definition: Definition)
 }
 
 /// Whether a section of a file has a place in memory.
-fn is_loaded(objects: &[ShortObject<'_>], file: usize, section: u32) -> bool
+fn is_loaded(objects: &[ShortObject<'_, '_>], file: usize, section: u32) -> bool
     ensures { (o : SaidObject) → slice_get (map short_object_of objects.now) file ≡ Some o
         → result ≡ laws.is_loaded_at (slice_get o.sections section) }
 {

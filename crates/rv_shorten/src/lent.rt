@@ -12,10 +12,10 @@ use rv_object::{Object, Section};
 use std::alloc::{AllocError, Global};
 
 /// Sections of which nothing is cut.
-fn whole_sections<'o>(
+fn whole_sections<'o, 'a>(
     alloc: Global,
-    sections: &'o [Section<'o>],
-) -> Result<Vec<ShortSection<'o>>, AllocError>
+    sections: &'o [Section<'a>],
+) -> Result<Vec<ShortSection<'o, 'a>>, AllocError>
     ensures same { IfOk result
         (λ left. map short_section_of left.items ≡ map section_of sections.now) }
     ensures none { IfOk result
@@ -33,10 +33,10 @@ fn whole_sections<'o>(
 /// # Errors
 ///
 /// Want of memory.
-pub fn whole<'o>(
+pub fn whole<'o, 'a>(
     alloc: Global,
-    objects: &'o [Object<'o>],
-) -> Result<Vec<ShortObject<'o>>, AllocError>
+    objects: &'o [Object<'a>],
+) -> Result<Vec<ShortObject<'o, 'a>>, AllocError>
     ensures { IfOk result
         (λ left. map short_object_of left.items ≡ map object_of objects.now) }
 {

@@ -18,18 +18,18 @@ use rv_object::{Definition, Object, Row};
 
 /// An object, less what is cut of its calls. It is lent, and nothing of it is copied: what moves is told when it is asked for.
 #[derive(Drop)]
-pub struct ShortObject<'o> {
+pub struct ShortObject<'o, 'a> {
     /// The object as it was. The names and bindings of its symbols stay, and whether it has compressed code.
-    pub whole: &'o Object<'o>,
+    pub whole: &'o Object<'a>,
     /// Its sections, less what is cut of them.
-    pub sections: Vec<ShortSection<'o>>,
+    pub sections: Vec<ShortSection<'o, 'a>>,
     /// Each row lies in a section that has a place in memory.
     pub ghost lie: { IsTrue (are_rows (map short_section_of sections.items)
         (map (cutting.cut_row_of (moves_in_all sections.items)) (whole.now).rows.items)) },
 }
 
 /// The cuts of the section of an index; none past the end.
-fn cuts_of<'s>(sections: &'s [ShortSection<'_>], index: u32) -> &'s [Cut]
+fn cuts_of<'s>(sections: &'s [ShortSection<'_, '_>], index: u32) -> &'s [Cut]
     ensures order { are_in_order 0 0 result.now ≡ true }
     ensures value { map move_of result.now ≡ cutting.moves_at (moves_in_all sections.now) index }
 {
@@ -58,11 +58,14 @@ fn moved_row(row: Row, cuts: &[Cut]) -> Row
     }
 }
 
-impl<'o> ShortObject<'o> {
+impl<'o, 'a> ShortObject<'o, 'a> {
     ghost use Rattle.rv_shorten.specs.View.{short_object_of};
 
     /// An object of which these sections are left.
-    pub(crate) fn of(whole: &'o Object<'o>, sections: Vec<ShortSection<'o>>) -> ShortObject<'o>
+    pub(crate) fn of(
+        whole: &'o Object<'a>,
+        sections: Vec<ShortSection<'o, 'a>>,
+    ) -> ShortObject<'o, 'a>
         requires cuts { cutting.AllCut (object_of whole.now).sections
             (moves_in_all sections.items) }
         requires left { map short_section_of sections.items

@@ -15,12 +15,12 @@ use rv_object::Object;
 use std::alloc::{AllocError, Global};
 
 /// The objects that are left, as the sites of the text go by.
-fn shorten_all<'o>(
+fn shorten_all<'o, 'a>(
     alloc: Global,
-    objects: &'o [Object<'o>],
+    objects: &'o [Object<'a>],
     sites: &[Site],
     kept: &[u32],
-) -> Result<Vec<ShortObject<'o>>, AllocError>
+) -> Result<Vec<ShortObject<'o, 'a>>, AllocError>
     requires many { length kept.now ≡ length sites.now }
     requires walked { AreWalked (map object_of objects.now) sites.now kept.now }
     ensures { IfOk result (λ left. map short_object_of left.items
@@ -42,12 +42,12 @@ fn shorten_all<'o>(
 /// # Errors
 ///
 /// Want of memory.
-pub fn shorten<'o>(
+pub fn shorten<'o, 'a>(
     alloc: Global,
-    objects: &'o [Object<'o>],
+    objects: &'o [Object<'a>],
     sites: &[Site],
     kept: &[u32],
-) -> Result<Vec<ShortObject<'o>>, AllocError>
+) -> Result<Vec<ShortObject<'o, 'a>>, AllocError>
     requires sites { sites.now ≡ sites_of (map object_of objects.now) }
     requires text { IsText sites.now }
     requires family { length kept.now ≡ length sites.now }

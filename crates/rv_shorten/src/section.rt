@@ -17,9 +17,9 @@ use rv_object::{Contents, Relocation, Section};
 
 /// A section, less what is cut of its calls. It is lent, and nothing of it is copied: what moves is told when it is asked for.
 #[derive(Drop)]
-pub struct ShortSection<'o> {
+pub struct ShortSection<'o, 'a> {
     /// The section as it was. Its name, its flags and its alignment stay.
-    pub whole: &'o Section<'o>,
+    pub whole: &'o Section<'a>,
     /// Its calls that are cut short.
     pub(crate) cuts: Vec<Cut>,
     /// They stand one behind the other.
@@ -38,12 +38,12 @@ pub struct ShortSection<'o> {
         (keeps_paddings (cut_section (map move_of cuts.items) (section_of whole.now))) },
 }
 
-impl<'o> ShortSection<'o> {
+impl<'o, 'a> ShortSection<'o, 'a> {
     ghost use Rattle.rv_shorten.specs.Bytes.{left_bytes};
     ghost use Rattle.rv_shorten.specs.Sections.{moves_in, short_section_of};
 
     /// A section of which these calls are cut short.
-    pub(crate) fn of(whole: &'o Section<'o>, cuts: Vec<Cut>) -> ShortSection<'o>
+    pub(crate) fn of(whole: &'o Section<'a>, cuts: Vec<Cut>) -> ShortSection<'o, 'a>
         requires order { are_in_order 0 0 cuts.items ≡ true }
         requires cuts { AreCuts (section_of whole.now) (map move_of cuts.items) }
         ensures cuts { moves_in result ≡ map move_of cuts.items }

@@ -177,12 +177,12 @@ fn section_cuts(
 }
 
 /// The sections of an object that are left, to whose text the first sites belong, and how many these are.
-pub(crate) fn short_sections<'o>(
+pub(crate) fn short_sections<'o, 'a>(
     alloc: Global,
-    sections: &'o [Section<'o>],
+    sections: &'o [Section<'a>],
     sites: &[Site],
     kept: &[u32],
-) -> Result<(Vec<ShortSection<'o>>, usize), AllocError>
+) -> Result<(Vec<ShortSection<'o, 'a>>, usize), AllocError>
     requires many { length kept.now ≡ length sites.now }
     requires cuts { AllCut (map section_of sections.now)
         (walk.object_moves (map section_of sections.now) sites.now kept.now) }
