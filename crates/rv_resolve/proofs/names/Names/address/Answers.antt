@@ -1,7 +1,6 @@
 use Rattle.std.proofs.Common.{◌≡◌, ◌+◌, Some, map, refl, ap, sym, ◌∙◌}
 use Rattle.std.specs.Prelude.{option_and_then}
 use Rattle.std.specs.List.{slice_get}
-use Rattle.rv_map.specs.Globals.{global_address, linker_symbols}
 use Rattle.rv_object_laws.specs.Names.{symbol_address}
 use Rattle.rv_placement.specs.Placement.{starts_of}
 use Rattle.rv_shorten.specs.View.{short_object_of}
@@ -33,6 +32,5 @@ returns-in-None c = λ start o h stands at.
     let s = with_definition (c.in_ok-symbol.symbol, c.in_ok-symbol.definition) in
     let there : Some s ≡ slice_get o.symbols c.args.index = c.in_ok-symbol.ensures o at in
     c.linker_address.ensures os start stands
-    ∙ ap (global_address (linker_symbols (regions_of p))) c.as_slice.ensures.value
     ∙ sym (address_none os c.args.file o s.name s.definition (sym (c.meant.ensures os o s h at (sym there) refl) ∙ c.in-None.is) h.distinct (starts_of p) (regions_of p))
     ∙ ap (option_and_then (symbol_address (shown_globals os p) (starts_of p (c.args.file + 1)) o)) there

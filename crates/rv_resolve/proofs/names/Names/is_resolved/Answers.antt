@@ -1,4 +1,4 @@
-use Rattle.std.proofs.Common.{◌≡◌, map, ap, sym, ◌∙◌}
+use Rattle.std.proofs.Common.{◌≡◌, map, refl, ap, ◌∙◌}
 use Rattle.rv_object.specs.declared.symbol.Definition.TheVariants as definitions
 use Rattle.rv_object.specs.Parts.{symbol_of}
 use Rattle.rv_shorten.specs.Cutting.{cut_definition, cut_symbol}
@@ -11,7 +11,7 @@ returns-in-Undefined c = λ o cuts h at there.
     let os = map short_object_of c.args.objects.now in
     let s = cut_symbol cuts (symbol_of c.args.symbol.now) in
     let free : s.definition ≡ definitions.Undefined = ap (cut_definition cuts) c.in-Undefined.is in
-    c.is_known.ensures o s h at there free (sym c.as_slice.ensures.value) ∙ known_resolved os o s free
+    c.is_known.ensures o s h at there free refl ∙ known_resolved os o s free
 
 pub returns-in_default : goal.returns-in_default
 returns-in_default c = λ o cuts h at there.

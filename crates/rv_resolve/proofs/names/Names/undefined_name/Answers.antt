@@ -31,8 +31,7 @@ returns-else-is_resolved c = λ h at.
     let found = c.in-Some.ensures.lookup in
     let there : slice_get o.symbols i ≡ Some s = symbol_there x c.deref.result.now i c.deref.ensures.value c.in-Some.symbol.now found.3.0 found.1 in
     let resolved : is_resolved os o s ≡ false = sym (c.is_resolved.ensures o (moves_of x) h at there) ∙ c.if-is_resolved.false in
-    ap Some c.as_slice.ensures.value
-    ∙ sym (ap (undefined_name os o) is ∙ ap (undefined_symbol os o) there ∙ ap (λ b. if b then None else Some s.name) resolved)
+    sym (ap (undefined_name os o) is ∙ ap (undefined_symbol os o) there ∙ ap (λ b. if b then None else Some s.name) resolved)
 
 pub returns-in-None : goal.returns-in-None
 returns-in-None c = λ h at.
@@ -42,4 +41,4 @@ returns-in-None c = λ h at.
     let i = c.in_ok-index.index in
     let is : c.args.relocation.now.symbol ≡ Some i = search rules in
     let there : slice_get o.symbols i ≡ None = symbol_past x c.deref.result.now i c.deref.ensures.value c.in-None.ensures.lookup.3 in
-    ap Some c.as_slice-in-None.ensures ∙ sym (ap (undefined_name os o) is ∙ ap (undefined_symbol os o) there)
+    ap Some c.as_slice.ensures ∙ sym (ap (undefined_name os o) is ∙ ap (undefined_symbol os o) there)
