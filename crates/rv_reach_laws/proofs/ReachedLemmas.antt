@@ -44,10 +44,11 @@ use Rattle.rv_shorten.proofs.ShortLemmas.{size_left, paddings_stay}
 use Rattle.rv_shorten.proofs.ShiftsLemmas as cut
 use Rattle.rv_unique_link_laws.proofs.MultiplesLemmas.{BeginsSo, all_begin}
 use Rattle.rv_reach_laws.specs.Reach.{is_short_call, ForEachLeft, ShortCallsReach}
+use Rattle.rv_reach_laws.proofs.MovingLemmas.{rises}
 use Rattle.rv_reach_laws.proofs.LinesLemmas.{IsFramed, Frames, frames}
 use Rattle.rv_reach_laws.proofs.SpansLemmas.{left_section, left_input, lefts, IsPlain, address, in_order, stays_even, nearer_ahead, nearer_behind}
 use Rattle.rv_reach_laws.proofs.TargetsLemmas.{IsAt, IsInText, in_text, place_at, stands, target_stands}
-use Rattle.rv_reach_laws.proofs.ShorterLemmas.{sounds, IsEvenCode, evens, ordered_all, index_of, in_at, all_at, kept_here, lows}
+use Rattle.rv_reach_laws.proofs.ShorterLemmas.{sounds, IsEvenCode, evens, ordered_all, index_of, in_at, all_at, kept_here, IsLow, lows}
 
 -- ---- values that reach are in range
 
@@ -161,15 +162,13 @@ module _ (ds : List DeclaredObject) (kept : List ℕ) (greatest : IsGreatestClos
   left_is : inputs goes_to_text left ≡ map (left_input os kept) is
   left_is = lefts os kept 1 os
 
-  abbrev IsLow : InputSection → Type 0
-  IsLow i = starts_of p i.file i.index + size_of (left_section (map object_of ds) kept i).contents < 2 ^ 64
+  abbrev IsLeftLow : InputSection → Type 0
+  IsLeftLow i = IsLow p (left_input (map object_of ds) kept i)
 
-  all_lows : AllByRecursion IsLow is
-  all_lows =
-      unmapped (λ i. starts_of p i.file i.index + size_of i.section.contents < 2 ^ 64) (left_input os kept) is
-      (subst (AllByRecursion (λ i. starts_of p i.file i.index + size_of i.section.contents < 2 ^ 64)) left_is (lows left start p placed))
+  all_lows : AllByRecursion IsLeftLow is
+  all_lows = unmapped (IsLow p) (left_input os kept) is (subst (AllByRecursion (IsLow p)) left_is (lows left start p placed))
 
-  plains_from : (at gone : ℕ) (js : List InputSection) → Frames os kept at gone js → AllByRecursion (IsTextInput os) js → AllByRecursion BeginsSo js → AllByRecursion IsEvenCode js → AllByRecursion IsLow js
+  plains_from : (at gone : ℕ) (js : List InputSection) → Frames os kept at gone js → AllByRecursion (IsTextInput os) js → AllByRecursion BeginsSo js → AllByRecursion IsEvenCode js → AllByRecursion IsLeftLow js
       → AllByRecursion (IsPlain os kept) js
   plains_from at gone [] f a b c d = tt
   plains_from at gone (i ∷ js) (f, fs) (a, as') (b, bs) (c, cs) (d, ds') = (
@@ -177,7 +176,7 @@ module _ (ds : List DeclaredObject) (kept : List ℕ) (greatest : IsGreatestClos
       text = a.text;
       padded = record {
         text = a.text;
-        low = omega (arith, d);
+        low = d.0;
         paddings = subst (λ (x : Section). are_paddings x.executable x.contents x.relocations ≡ true) (same_text (its i) i.section a.text)
             (paddings_stay i.section (cuts (its i) i.section) i.section.executable a.inside f.allowed a.paddings);
       };
@@ -235,12 +234,15 @@ module _ (ds : List DeclaredObject) (kept : List ℕ) (greatest : IsGreatestClos
   -- each place has an address of 64 bits
   pub address_low : (k : ℕ) (i : InputSection) → slice_get is k ≡ Some i → (n : ℕ) → n ≤ size_of i.section.contents → address os kept start starts i n < 2 ^ 64
   address_low k i there n low =
-      let room = all_at IsLow is k i all_lows there in
+      let room = all_at IsLeftLow is k i all_lows there in
       let plain = all_at (IsPlain os kept) is k i plains there in
       let frame = frame_at os kept 0 0 is all_frames k i there in
       let up = cut.rising 0 (size_of i.section.contents) n (size_of i.section.contents) (cuts (its i) i.section) frame.frame.allowed.order low in
-      let ends = plain.ends in
-      omega (arith, room, up, ends)
+      let goes : ℕ → ℕ = λ m. starts i.file i.index + new_offset (moves (starts i.file i.index) (left_section os kept i)) m in
+      let most : goes (new_offset (cuts (its i) i.section) (size_of i.section.contents)) < 2 ^ 64 = subst (λ m. goes m < 2 ^ 64) plain.ends room.1 in
+      let before =
+      rises (starts i.file i.index) (new_offset (cuts (its i) i.section) n) (new_offset (cuts (its i) i.section) (size_of i.section.contents)) (left_section os kept i) plain.padded up in
+      omega (arith, most, before)
 
   -- ---- a call
 
