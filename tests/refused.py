@@ -59,7 +59,7 @@ SOURCES = {
     "twice": Source([f"{START}{EXIT}", ".globl _start; _start: nop"], fault="L6 Duplicate _start"),
     "no_operands": Source([f"{START}addi a0, a1; {EXIT}"], fault="1.s:1: E7 BadOperands"),
 }
-OF_ONE_FILE = ("read_object", "write_object")
+OF_FIRST_FILE = ("read_object", "write_object")
 
 
 @dataclass(frozen=True)
@@ -204,9 +204,10 @@ def of_library(name, source, at, texts):
     # a step asks for memory where it writes to the console
     wanted.update({"step": end} if source.console else {})
     calls = [(call, name, source.files, held) for call, held in wanted.items()]
-    for text, file, held in zip(texts, source.files, objects):
+    for at_file, (text, held) in enumerate(zip(texts, objects)):
         which = f"{name} {text}" if len(texts) > 1 else name
-        calls += [(call, which, [file], held.hex().encode() + b"\n") for call in OF_ONE_FILE]
+        first = source.files[at_file:] + source.files[:at_file]
+        calls += [(call, which, first, held.hex().encode() + b"\n") for call in OF_FIRST_FILE]
     for call, which, files, held in calls:
         given = b"\n".join([call.encode(), source.given, *[it.encode() for it in files]]) + b"\n"
         yield Case(f"{call} {which}", [LIBRARY], at, given, Answer(0, b"begin\nanswer\n" + held, "", len(given), ()))
