@@ -54,8 +54,9 @@ fn source_line(alloc: Global, name: &str, fault: &SourceFault) -> Result<CliErro
 fn file_line(alloc: Global, name: &str, fault: &FileFault) -> Result<CliError, AllocError>
     ensures { IfOk result (λ error. Tells error (file_text name.now fault.now)) }
 {
-    let Some(number) = fault.number() else {
-        return Ok(CliError::Memory);
+    let number = match fault {
+        FileFault::OutOfMemory => return Ok(CliError::Memory),
+        _ => fault.number().unwrap_or(0),
     };
     let what = fault.name();
     let line = match kind_in(fault) {
@@ -80,8 +81,9 @@ fn kind_in(fault: &FileFault) -> Option<u32>
 fn link_line(alloc: Global, fault: &LinkFault) -> Result<CliError, AllocError>
     ensures { IfOk result (λ error. Tells error (link_text fault.now)) }
 {
-    let Some(number) = fault.number() else {
-        return Ok(CliError::Memory);
+    let number = match fault {
+        LinkFault::OutOfMemory => return Ok(CliError::Memory),
+        _ => fault.number().unwrap_or(0),
     };
     let what = fault.name();
     let line = match name_in(fault) {
