@@ -1,12 +1,9 @@
-//! Objects by way of their files, which are read as those of other tools are: sections of code, each with its relocations,
-//! and symbols without names but for `_start`.
+//! Files of objects, which are read as those of other tools are: sections of code, each with its relocations, and symbols
+//! without names but for `_start`.
 //!
 //! Source: System V gABI, "ELF Header", "Sections", "Symbol Table", "Relocation".
 
-use rv_object::Object;
-use rv_object_reader::read;
 use std::alloc::{AllocError, Global};
-use std::test::Fail;
 
 /// The kinds of relocations by their numbers in the psABI; the index of the symbol, from 1, stands above 32 bits.
 pub(crate) const CALL_PLT: u64 = 19;
@@ -74,13 +71,13 @@ fn put_section(parts: &mut Parts, shape: [u64; 5], bytes: &[u8]) -> Result<(), A
     Ok(())
 }
 
-/// The object of sections of code, each its bytes, its alignment and its relocations, and of these symbols. The sections have
+/// The file of sections of code, each its bytes, its alignment and its relocations, and of these symbols. The sections have
 /// the numbers 1, 3 and so on in the file.
-pub(crate) fn object(
+pub(crate) fn file(
     alloc: Global,
     sections: &[(&[u8], u64, &[[u64; 3]])],
     symbols: &[[u64; 3]],
-) -> Result<Object<'_>, Fail> {
+) -> Result<Vec<u8>, AllocError> {
     let mut parts = Parts {
         body: Vec::new(alloc),
         headers: Vec::new(alloc),
@@ -102,8 +99,8 @@ pub(crate) fn object(
     file_of(alloc, &parts, names)
 }
 
-/// The object of the file with these parts, whose names are in the last section, with this number.
-fn file_of(alloc: Global, parts: &Parts, names: u64) -> Result<Object<'_>, Fail> {
+/// The file with these parts, whose names are in the last section, with this number.
+fn file_of(alloc: Global, parts: &Parts, names: u64) -> Result<Vec<u8>, AllocError> {
     let counts = names << 48 | names.wrapping_add(1) << 32 | 64 << 16;
     let mut file = Vec::new(alloc);
     // the magic number, 64 bits; type 1 for machine 243; the flag of compressed code
@@ -120,5 +117,5 @@ fn file_of(alloc: Global, parts: &Parts, names: u64) -> Result<Object<'_>, Fail>
     put(&mut file, header.as_slice())?;
     file.extend_from_slice(&parts.body)?;
     file.extend_from_slice(&parts.headers)?;
-    Ok(read(alloc, &file)?)
+    Ok(file)
 }

@@ -1,9 +1,10 @@
 //! What a link answers, and links of no object.
 
-use crate::files::{CALL_OF_FIRST, RELAX, START, object, place};
+use crate::files::{CALL_OF_FIRST, RELAX, START, file, place};
 use rv_image::Region;
 use rv_link::{LinkOptions, link};
 use rv_object::Object;
+use rv_object_reader::read;
 use std::alloc::Global;
 use std::test::Fail;
 
@@ -24,8 +25,8 @@ const CALL: [[u64; 3]; 2] = [[0, CALL_OF_FIRST, 0], [0, RELAX, 0]];
 #[test]
 fn a_program(rt: HostRuntime) -> Result<(), Fail> {
     let alloc = rt.alloc();
-    let object = object(alloc, &[(CODE, 2, CALL.as_slice())], &[place(16), START])?;
-    let objects = vec![in alloc; object]?;
+    let file = file(alloc, &[(CODE, 2, CALL.as_slice())], &[place(16), START])?;
+    let objects = vec![in alloc; read(alloc, &file)?]?;
     let linked = link(alloc, &objects, OPTIONS)?;
     assert!(rt; linked.text.as_slice() == SHORT);
     assert!(rt; linked.rodata.is_empty() && linked.data.is_empty() && linked.rvc);

@@ -1,9 +1,10 @@
 //! What a plan tells of the text of objects. The numbers stand by hand: a text begins at a multiple of all alignments, and
 //! `jal` reaches each target.
 
-use crate::files::{ALIGN, CALL_OF_FIRST, RELAX, object, place};
+use crate::files::{ALIGN, CALL_OF_FIRST, RELAX, file, place};
 use rv_link_sites::placed;
 use rv_object::Object;
+use rv_object_reader::read;
 use rv_relax::{Placed, Plan};
 use rv_resolve::Names;
 use rv_shorten::whole;
@@ -70,17 +71,17 @@ fn pads(alloc: Global, plan: &Plan<'_>) -> Result<Vec<u32>, AllocError> {
     Ok(pads)
 }
 
-/// Whether the plan of an object has these sizes of calls and of alignments, has room for these, and gives each offset this
-/// one afterwards.
+/// Whether the plan of the object in a file has these sizes of calls and of alignments, has room for these, and gives each
+/// offset this one afterwards.
 fn tells(
     alloc: Global,
-    object: Object<'_>,
+    file: &[u8],
     calls: &[u32],
     alignments: &[u32],
     is_roomy: bool,
     offsets: &[(u64, u64)],
-) -> Result<bool, AllocError> {
-    let objects = vec![in alloc; object]?;
+) -> Result<bool, Fail> {
+    let objects = vec![in alloc; read(alloc, file)?]?;
     let Some(text) = text(alloc, &objects)? else {
         return Ok(false);
     };
@@ -100,20 +101,29 @@ fn tells(
 #[test]
 fn plans_tell_of_texts(rt: HostRuntime) -> Result<(), Fail> {
     let alloc = rt.alloc();
-    let three = object(alloc, &[(THREE, 2, THREE_CALLS.as_slice())], &[place(32)])?;
+    let three = file(alloc, &[(THREE, 2, THREE_CALLS.as_slice())], &[place(32)])?;
     let moved = [(0, 0), (8, 4), (16, 8), (24, 12), (32, 20)];
-    assert!(rt; tells(alloc, three, &[4, 4, 4], &[], true, &moved)?);
-    let aligned = object(
+    assert!(rt; tells(alloc, &three, &[4, 4, 4], &[], true, &moved)?);
+    let aligned = file(
         alloc,
         &[(ALIGNED, 2, CALL_AND_PADDING.as_slice())],
         &[place(14)],
     )?;
     let moved = [(8, 4), (12, 8), (14, 8), (16, 10)];
-    assert!(rt; tells(alloc, aligned, &[4], &[4], true, &moved)?);
+    assert!(rt; tells(alloc, &aligned, &[4], &[4], true, &moved)?);
     let sections = [(FIRST, 2, CALL.as_slice()), (SECOND, 8, CALL.as_slice())];
-    let two = object(alloc, sections.as_slice(), &[IN_SECOND])?;
-    assert!(rt; tells(alloc, two, &[4, 4], &[], true, &[(8, 4), (16, 8), (18, 10)])?);
-    let short = object(alloc, &[(SHORT, 2, SHORT_PADDING.as_slice())], &[])?;
-    assert!(rt; tells(alloc, short, &[], &[6], false, &[(2, 2)])?);
+    let two = file(alloc, sections.as_slice(), &[IN_SECOND])?;
+    assert!(rt;
+        tells(
+            alloc,
+            &two,
+            &[4, 4],
+            &[],
+            true,
+            &[(8, 4), (16, 8), (18, 10)]
+        )?
+    );
+    let short = file(alloc, &[(SHORT, 2, SHORT_PADDING.as_slice())], &[])?;
+    assert!(rt; tells(alloc, &short, &[], &[6], false, &[(2, 2)])?);
     Ok(())
 }

@@ -1,9 +1,9 @@
 //! How many passes relaxation takes over calls of which each reaches only once its neighbour is shortened. The counts stand by
 //! hand: passes go forwards and backwards in turn, and the last shortens nothing.
 
-use crate::files::{CALL_PLT, RELAX, object, place};
+use crate::files::{CALL_PLT, RELAX, file, place};
 use crate::plans::text;
-use rv_object::Object;
+use rv_object_reader::read;
 use rv_relax::Plan;
 use std::alloc::{AllocError, Global};
 use std::test::Fail;
@@ -19,9 +19,9 @@ const COUNT: u64 = 100;
 /// A call, as an assembler leaves it.
 const CALL: [u8; 8] = [0x97, 0, 0, 0, 0xe7, 0x80, 0, 0];
 
-/// How many passes there are over the sites of an object, and whether all of its calls are short then.
-fn passes(alloc: Global, object: Object<'_>) -> Result<Option<(usize, bool)>, AllocError> {
-    let objects = vec![in alloc; object]?;
+/// How many passes there are over the sites of the object in a file, and whether all of its calls are short then.
+fn passes(alloc: Global, file: &[u8]) -> Result<Option<(usize, bool)>, Fail> {
+    let objects = vec![in alloc; read(alloc, file)?]?;
     let Some(text) = text(alloc, &objects)? else {
         return Ok(None);
     };
@@ -30,8 +30,8 @@ fn passes(alloc: Global, object: Object<'_>) -> Result<Option<(usize, bool)>, Al
     Ok(Some((plan.rounds(), are_short)))
 }
 
-/// An object of zeros in which calls stand from an offset on, eight bytes each, and their targets four bytes apart.
-fn chain(alloc: Global, calls: u64, targets: u64, size: u64) -> Result<Object<'_>, Fail> {
+/// The file of an object of zeros in which calls stand from an offset on, eight bytes each, and their targets four bytes apart.
+fn chain(alloc: Global, calls: u64, targets: u64, size: u64) -> Result<Vec<u8>, AllocError> {
     let mut bytes = vec![in alloc; 0; calls as usize]?;
     let mut relocations = Vec::new(alloc);
     let mut symbols = Vec::new(alloc);
@@ -44,7 +44,7 @@ fn chain(alloc: Global, calls: u64, targets: u64, size: u64) -> Result<Object<'_
     }
     let behind = (size as usize).saturating_sub(bytes.len());
     bytes.extend_from_slice(&vec![in alloc; 0; behind]?)?;
-    object(
+    file(
         alloc,
         &[(bytes.as_slice(), 2, relocations.as_slice())],
         &symbols,
@@ -56,8 +56,8 @@ fn chain(alloc: Global, calls: u64, targets: u64, size: u64) -> Result<Object<'_
 fn a_chain_from_the_end(rt: HostRuntime) -> Result<(), Fail> {
     let alloc = rt.alloc();
     let last = 8 * (COUNT - 1) + FORWARDS;
-    let object = chain(alloc, 0, last - 4 * (COUNT - 1), last + 2)?;
-    assert_eq!(rt; passes(alloc, object)?, Some((3, true)));
+    let file = chain(alloc, 0, last - 4 * (COUNT - 1), last + 2)?;
+    assert_eq!(rt; passes(alloc, &file)?, Some((3, true)));
     Ok(())
 }
 
@@ -65,7 +65,7 @@ fn a_chain_from_the_end(rt: HostRuntime) -> Result<(), Fail> {
 #[test]
 fn a_chain_from_the_start(rt: HostRuntime) -> Result<(), Fail> {
     let alloc = rt.alloc();
-    let object = chain(alloc, BACKWARDS, 0, BACKWARDS + 8 * COUNT)?;
-    assert_eq!(rt; passes(alloc, object)?, Some((2, true)));
+    let file = chain(alloc, BACKWARDS, 0, BACKWARDS + 8 * COUNT)?;
+    assert_eq!(rt; passes(alloc, &file)?, Some((2, true)));
     Ok(())
 }
