@@ -8,7 +8,7 @@ use Rattle.rv_object_reader.proofs.ValidSymbolsLemmas.{symbol_shown}
 use Rattle.rv_object_reader.proofs.symbols.symbol.Goals as goal
 
 pub definition-requires : goal.definition-requires
-definition-requires c = symbol_has c.args.checked.now.view.file.now c.args.names.now c.args.entry.now c.requires.good
+definition-requires c = symbol_has c.args.checked.now.view.file.now c.args.names.now.table.now c.args.entry.now c.requires.good
 
 pub invariant_of-result : goal.invariant_of-result
 invariant_of-result c =
