@@ -1,6 +1,6 @@
 -- The indices of symbols.
 
-use Rattle.std.proofs.Common.{◌≡◌, ℕ, suc, ◌+◌, ◌<◌, ◌≤◌, Bool, true, false, cond, List, [], ◌∷◌, ◌++◌, length, map, take, get_or, refl, sym, ap, ◌∙◌, arith, Option, Some, None}
+use Rattle.std.proofs.Common.{◌≡◌, ℕ, suc, ◌+◌, ◌^◌, ◌<◌, ◌≤◌, Bool, true, false, cond, List, [], ◌∷◌, ◌++◌, length, map, take, get_or, refl, sym, ap, ◌∙◌, subst, arith, Option, Some, None}
 use Rattle.std.specs.Prelude.{◌&&◌, ◌==◌, not, nat_lt, option_map, unwrap_or, position, IfSome, if◌then◌else◌}
 use Rattle.std.specs.Borrow.{Bor}
 use Rattle.std.specs.List.{position_or_len}
@@ -97,3 +97,11 @@ position_is name ks =
 pub found_within : (found : Option ℕ) (count : ℕ) → IfSome found (λ i. i < count) → unwrap_or found 0 ≤ count
 found_within None count h = omega arith
 found_within (Some i) count h = omega (arith, h)
+
+-- symbols and the names after them are as many as what they were made of
+pub few_after : (own : List DeclaredSymbol) (keys names : List (Bor (List ℕ))) (count : ℕ) → count ≡ length (map symbol_of own) → map now_of keys ≡ map now_of names → length own + length names < 2 ^ 32
+    → count + length keys < 2 ^ 32
+few_after own keys names count counted later few =
+    let one : count ≡ length own = counted ∙ length-map own symbol_of in
+    let two : length keys ≡ length names = sym (length-map keys now_of) ∙ ap length later ∙ length-map names now_of in
+    subst (λ n. n < 2 ^ 32) (ap (λ n. n + length names) (sym one) ∙ ap (λ n. count + n) (sym two)) few

@@ -14,7 +14,7 @@ pub invariant_of-undefined : goal.invariant_of-undefined
 invariant_of-undefined c =
     let i = c.loop-name.name-index in
     let names = c.args.names.now in
-    all_got is_name (map now_of names) i _ (got_map now_of names i ∙ ap (option_map now_of) (some_at names i (record { ref_ptr = (0, 0); now = [] }) c.loop-name-test.true)) c.requires
+    record { shown = all_got is_name (map now_of names) i _ (got_map now_of names i ∙ ap (option_map now_of) (some_at names i (record { ref_ptr = (0, 0); now = [] }) c.loop-name-test.true)) c.requires }
 
 pub loop-name-preserved : goal.loop-name-preserved
 loop-name-preserved c =
@@ -24,8 +24,7 @@ loop-name-preserved c =
     let old = map symbol_of c.loop-name.symbols.items in
     let rest = map (λ name. global_symbol name Undefined) (drop (i + 1) (map now_of names)) in
     ap (λ l. map symbol_of l ++ rest) c.in_ok-push.ensures.items
-    ∙ ap (λ l. l ++ rest) (map-append symbol_of c.loop-name.symbols.items (c.in_ok-undefined.undefined ∷ []))
-    ∙ append_assoc old (symbol_of c.in_ok-undefined.undefined ∷ []) rest
-    ∙ ap (λ x. old ++ x ∷ rest) c.in_ok-undefined.ensures
+    ∙ ap (λ l. l ++ rest) (map-append symbol_of c.loop-name.symbols.items _)
+    ∙ append_assoc old (global_symbol name.now Undefined ∷ []) rest
     ∙ ap (λ l. old ++ map (λ name. global_symbol name Undefined) l) (sym (drop_next (map now_of names) i name.now (got_map now_of names i ∙ ap (option_map now_of) (some_at names i (record { ref_ptr = (0, 0); now = [] }) c.loop-name-test.true))))
     ∙ c.loop-name.invariant

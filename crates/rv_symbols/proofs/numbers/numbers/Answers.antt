@@ -10,11 +10,16 @@ use Rattle.rv_symbols.specs.SymbolUse.{use_of, uses_of}
 use Rattle.rv_symbols.specs.Source.{IsSource}
 use Rattle.rv_symbols.specs.Numbers.{number_by}
 use Rattle.rv_symbols.specs.Found.{definition_in}
+use Rattle.rv_symbols.proofs.IndexingLemmas.{few_after}
 use Rattle.rv_symbols.proofs.UsingLemmas.{use_at, found_at, numbers_more}
 use Rattle.rv_symbols.proofs.numbers.numbers.Goals as goal
 
 abbrev no_use : SymbolUse
 no_use = record { ordinal = 0; symbol = Name (record { ref_ptr = (0, 0); now = [] }) }
+
+pub number-requires : goal.number-requires
+number-requires c =
+    few_after c.args.own.now c.in_ok-indices.indices.missing.now.keys c.args.missing.now.keys c.in_ok-indices.indices.count c.in_ok-indices.ensures.indices.counted c.in_ok-indices.ensures.indices.later c.requires.few
 
 pub loop-i-preserved : goal.loop-i-preserved
 loop-i-preserved c = λ sites t h defs.
@@ -27,7 +32,7 @@ loop-i-preserved c = λ sites t h defs.
     let inside : i < length us = search rules in
     let within : i < length ds = search rules in
     numbers_more (λ r. number_by own names sites r.symbol (definition_in t r)) (uses_of us) i r c.loop-i.numbers.items _ _ _ (use_at us i no_use inside) c.in_ok-push.ensures.items
-    (c.in_ok-number.ensures sites own names (subst (λ (x : Source). IsSource x sites) (sym c.in_ok-indices.ensures.source) h) c.in_ok-indices.ensures.indices
+    (c.number.ensures sites own names (subst (λ (x : Source). IsSource x sites) (sym c.in_ok-indices.ensures.source) h) c.in_ok-indices.ensures.indices
     ∙ ap (number_by own names sites r.symbol) (found_at t us ds defs i no_use None inside within))
     (c.loop-i.invariant sites t h defs)
 

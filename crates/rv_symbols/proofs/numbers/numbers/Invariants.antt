@@ -13,6 +13,6 @@ use Rattle.rv_symbols.proofs.numbers.numbers.Given as goal
 
 -- the numbers so far, and those of the uses that are left, are all of them
 abbrev pub invariant-loop-i : goal.invariant-loop-i
-invariant-loop-i l = (sites : List Site) (t : Tables) → IsSource l.source sites → map (option_map definition_of) l.definitions ≡ map (definition_in t) (uses_of l.uses)
-    → l.numbers.items ++ map (λ r. number_by (map symbol_of l.own) (map now_of l.missing.keys) sites r.symbol (definition_in t r)) (drop l.i (uses_of l.uses))
-    ≡ map (λ r. number_by (map symbol_of l.own) (map now_of l.missing.keys) sites r.symbol (definition_in t r)) (uses_of l.uses)
+invariant-loop-i l = (sites : List Site) (t : Tables) → IsSource l.fn.source sites → map (option_map definition_of) l.definitions ≡ map (definition_in t) (uses_of l.uses)
+    → l.numbers.items ++ map (λ r. number_by (map symbol_of l.fn.own) (map now_of l.fn.missing.keys) sites r.symbol (definition_in t r)) (drop l.i (uses_of l.uses))
+    ≡ map (λ r. number_by (map symbol_of l.fn.own) (map now_of l.fn.missing.keys) sites r.symbol (definition_in t r)) (uses_of l.uses)
