@@ -9,4 +9,4 @@ placed-requires c = subst (λ os. IsNames os c.in-Ok.names) c.requires c.in-Ok.e
 
 pub returns-in-Err-clause-refuses : goal.returns-in-Err-clause-refuses
 returns-in-Err-clause-refuses c =
-    c.in_ok-of_names.ensures (map object_of c.args.objects.now) (subst (λ os. IsDuplicate c.in-Err.fault (first_duplicate os)) c.requires c.in-Err.ensures.refuses)
+    c.in_ok-of_names-in-Err.ensures (map object_of c.args.objects.now) (subst (λ os. IsDuplicate c.in-Err.fault (first_duplicate os)) c.requires c.in-Err.ensures.refuses)
