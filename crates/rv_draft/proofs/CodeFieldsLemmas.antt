@@ -31,7 +31,7 @@ use Rattle.rv_draft.specs.declared.data.Spot.{Spot}
 use Rattle.rv_draft.specs.declared.fields.Choices.{Choices}
 use Rattle.rv_draft.specs.declared.item.Item.{Item}
 use Rattle.rv_draft.specs.Code.{bytes_coded, value_at}
-use Rattle.rv_draft.specs.Coded.{IsCoded, IsCodedAt}
+use Rattle.rv_draft.specs.Coded.{IsCoded, IsCodedAt, HasBytes}
 use Rattle.rv_draft.specs.DataParts.{is_alignment, padding_said, code_said}
 use Rattle.rv_draft.specs.Seated.{site_of}
 use Rattle.rv_draft.specs.Spots.{value_in, shape_opens, coded_fields, fields_coded, HasBytesOf, IsAtSpot}
@@ -42,7 +42,7 @@ little_long : (width n : ℕ) → length (little_endian width n) ≡ width
 little_long zero n = refl
 little_long (suc width) n = ap suc (little_long width _)
 
-encoded_long : (i : Inst) (n : ℕ) (bytes : List ℕ) → IsEncodedIn i n bytes → length bytes ≡ n
+pub encoded_long : (i : Inst) (n : ℕ) (bytes : List ℕ) → IsEncodedIn i n bytes → length bytes ≡ n
 encoded_long i n bytes (inl (e, f)) = ap length f ∙ little_long 4 (word (form i)) ∙ sym e
 encoded_long i n bytes (inr (e, (q, h, f))) = ap length f ∙ little_long 2 q ∙ sym e
 
@@ -60,7 +60,7 @@ pair_long i j bytes first second a b e =
     let two : length second ≡ 4 = encoded_long j 4 second b in
     omega (arith, all, one, two)
 
-part_long : (rvc : Bool) (p : CodePart) (a b : List ℕ) → IsCodedPart rvc p a → IsCodedPart rvc p b → length a ≡ length b
+pub part_long : (rvc : Bool) (p : CodePart) (a b : List ℕ) → IsCodedPart rvc p a → IsCodedPart rvc p b → length a ≡ length b
 part_long rvc (Closed i) a b (v, m, x) (w, n, y) = least_one rvc i (length a) (length b) m n
 part_long rvc (OpenPart k i) a b (v, x) (w, y) = encoded_long i (width_of k) a x ∙ sym (encoded_long i (width_of k) b y)
 part_long rvc (Joined k i j) a b (v, w, (f, (s, x, y, e))) (v', w', (f', (s', x', y', e'))) =
@@ -94,7 +94,7 @@ module _ (fields : Kind → List Open) (more : List Open) (own : CodePart → Li
 
 -- ---- two codes of a statement
 
-some_parts : (ps qs : List CodePart) → Some ps ≡ Some qs → ps ≡ qs
+pub some_parts : (ps qs : List CodePart) → Some ps ≡ Some qs → ps ≡ qs
 some_parts ps qs e = ap (λ o. unwrap_or o []) e
 
 code_fields_of : (v : Expression → Value) (rvc : Bool) (m n bytes : ℕ) (mnemonic : Mnemonic) (operands : List Operand) (found coded : List Coded)
@@ -117,13 +117,13 @@ no_fields fields more section place (c ∷ cs) e = absurd (cc)
 
 -- the fields of a statement whose code was found once more
 located_fields : (t : Tables) (l : Located) (x : Item) (found coded : List Coded) (section : ℕ) (says : StatementKind)
-    → is_alignment says ≡ false → HasBytesOf coded x says → IsCoded (λ e. value_at t l e) l.options.rvc says coded → IsCoded (λ e. value_at t l e) l.options.rvc says found → length (bytes_coded found) ≡ x.bytes
+    → is_alignment says ≡ false → HasBytesOf coded x says → IsCoded (λ e. value_at t l e) l.options.rvc says coded → IsCoded (λ e. value_at t l e) l.options.rvc says found → HasBytes found x.bytes says
     → coded_fields (λ k. field_of t (λ e. value_at t l e) l.ordinal (operand_of l.kind) k) (relax_fields l.options.relax l.ordinal) section x.offset found
     ≡ fields_from section x.offset (code_said t (site_of l x coded) says)
 located_fields t l x found coded section (Label name) plain size a b long = no_fields _ _ section x.offset found b.1
 located_fields t l x found coded section (Numbered number) plain size a b long = no_fields _ _ section x.offset found b.1
 located_fields t l x found coded section (Instruction mnemonic operands) plain size a b long =
-    code_fields_of (λ e. value_at t l e) l.options.rvc b.0 a.0 x.bytes mnemonic operands found coded b.1 a.1 long size _ _ (part_fields t (λ e. value_at t l e) l) section x.offset l.ordinal
+    code_fields_of (λ e. value_at t l e) l.options.rvc b.0 a.0 x.bytes mnemonic operands found coded b.1 a.1 (sym long) size _ _ (part_fields t (λ e. value_at t l e) l) section x.offset l.ordinal
     (own_parts t (λ e. value_at t l e) l)
 located_fields t l x found coded section (Directs directive) plain size a b long =
     no_fields _ _ section x.offset found b.1 ∙ ap (λ c. fields_from section x.offset (if c then padding_said l.ordinal x.bytes else [])) (sym plain)
@@ -131,7 +131,7 @@ located_fields t l x found coded section (Directs directive) plain size a b long
 -- the same by where the statement stands
 pub spot_fields : (spot : Spot) (index : ℕ) (says : StatementKind) (choices : Choices) (l : Located) (x : Item) (found coded : List Coded)
     → IsAtSpot spot index says choices l → is_alignment l.kind ≡ false → HasBytesOf coded x l.kind → IsCodedAt (tables (said spot.scope.now.unit.now)) l coded
-    → IsCoded (λ e. value_in spot index e) choices.compressed says found → length (bytes_coded found) ≡ x.bytes
+    → IsCoded (λ e. value_in spot index e) choices.compressed says found → HasBytes found x.bytes l.kind
     → fields_coded spot index says choices.relax x.offset found
     ≡ fields_from spot.place.section x.offset (code_said (tables (said spot.scope.now.unit.now)) (site_of l x coded) l.kind)
 spot_fields spot index says choices l x found coded at plain size coded_as is long =

@@ -43,17 +43,20 @@ left_map f xs i x inside is =
 pub put_twice : (old mid new a b : List ℕ) → mid ≡ old ++ a → new ≡ mid ++ b → new ≡ old ++ (a ++ b)
 put_twice old mid new a b first second = second ∙ ap (λ l. l ++ b) first ∙ append_assoc old a b
 
-take_next : (xs : List ℕ) (i x : ℕ) → i < length xs → take (suc i) xs ≡ take i xs ++ get_or xs i x ∷ []
+pub take_next : (xs : List ℕ) (i x : ℕ) → i < length xs → take (suc i) xs ≡ take i xs ++ get_or xs i x ∷ []
 take_next [] i x inside = absurd (let none : i < 0 = inside in omega arith)
 take_next (y ∷ ys) zero x inside = refl
 take_next (y ∷ ys) (suc i) x inside = ap (λ l. y ∷ l) (take_next ys i x (let h : suc i < suc (length ys) = inside in omega arith))
 
--- lists that are alike so far, with one element more
-pub same_more : (i : ℕ) (xs ys : List ℕ) (x y : ℕ) → take i xs ≡ take i ys → i < length xs → i < length ys → get_or xs i x ≡ get_or ys i y → take (i + 1) xs ≡ take (i + 1) ys
-same_more i xs ys x y so inside within same =
-    let next : i + 1 ≡ suc i = omega arith in
-    ap (λ n. take n xs) next ∙ take_next xs i x inside ∙ ap (λ l. l ++ get_or xs i x ∷ []) so ∙ ap (λ z. take i ys ++ z ∷ []) same ∙ sym (take_next ys i y within)
-    ∙ ap (λ n. take n ys) (sym next)
+pub take_none : (xs : List ℕ) → take 0 xs ≡ []
+take_none [] = refl
+take_none (x ∷ xs) = refl
+
+pub take_past : (xs : List ℕ) (i : ℕ) → length xs ≤ i → take i xs ≡ xs
+take_past [] zero past = refl
+take_past [] (suc i) past = refl
+take_past (x ∷ xs) zero past = absurd (omega (arith, past))
+take_past (x ∷ xs) (suc i) past = ap (λ l. x ∷ l) (take_past xs i (let h : suc (length xs) ≤ suc i = past in omega (arith, h)))
 
 -- the code of one instruction without padding
 pub alone_bytes : (e : Encoded) → code_bytes 0 (alone_coded e).items ≡ encoded_bytes e

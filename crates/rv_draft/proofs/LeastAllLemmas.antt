@@ -214,7 +214,7 @@ branch_section : (s : Located) (forms : Forms) (near : Option Near) → (branch_
 branch_section s forms None = refl
 branch_section s forms (Some near) = refl
 
-item_section : (t : Tables) (all : List Located) (s : Located) (n : ℕ) (os : List Operand) (forms : Option Forms) → (item_by t all s n os forms).section ≡ s.section
+pub item_section : (t : Tables) (all : List Located) (s : Located) (n : ℕ) (os : List Operand) (forms : Option Forms) → (item_by t all s n os forms).section ≡ s.section
 item_section t all s n os None = refl
 item_section t all s n os (Some (Settled size)) = refl
 item_section t all s n os (Some CompressedBranch) = branch_section s CompressedBranch (near_target t all s os)

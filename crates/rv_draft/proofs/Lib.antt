@@ -3,14 +3,19 @@ pub mod CodeFieldsLemmas
 pub mod DataSoFarLemmas
 pub mod DraftedLemmas
 pub mod EvensLemmas
+pub mod FixedLemmas
 pub mod FieldsSoFarLemmas
 pub mod FirstCodeLemmas
 pub mod FittedLemmas
 pub mod GrowingLemmas
+pub mod InputLemmas
 pub mod ItemizedLemmas
 pub mod JoinedLemmas
 pub mod LeastAllLemmas
+pub mod LengthsLemmas
 pub mod LocationsLemmas
+pub mod MadeLemmas
+pub mod NearLemmas
 pub mod RoomsLemmas
 pub mod RoomyLemmas
 pub mod SectionedLemmas
@@ -23,3 +28,4 @@ pub mod StandingLemmas
 pub mod StretchedLemmas
 pub mod WholeLemmas
 pub mod WidthsLemmas
+pub mod WordsLemmas

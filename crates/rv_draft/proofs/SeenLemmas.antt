@@ -1,6 +1,6 @@
 -- What branch sizes see of the statements of a source.
 
-use Rattle.std.proofs.Common.{◌≡◌, ℕ, zero, suc, ◌+◌, ◌-◌, ◌<◌, ◌==◌, Bool, true, false, List, [], ◌∷◌, ◌++◌, length, map, take, drop, Option, Some, None, option_map, refl, sym, ap, ◌∙◌, subst, arith, eqb-true, eq-eqb}
+use Rattle.std.proofs.Common.{◌≡◌, ℕ, zero, suc, ◌+◌, ◌-◌, ◌<◌, ◌==◌, Bool, true, false, List, [], ◌∷◌, ◌++◌, length, map, take, drop, Option, Some, None, option_map, refl, sym, ap, ◌∙◌, subst, arith, eqb-true, eq-eqb, inr}
 use Rattle.std.specs.Prelude.{slice_get, slice_index, if◌then◌else◌}
 use Rattle.std.specs.List.{find}
 use Rattle.rv_text_laws.specs.Values.{Value, Symbolic}
@@ -16,7 +16,11 @@ use Rattle.rv_statement.specs.View.{statement_of}
 use Rattle.rv_unit.specs.declared.unit.Unit.{Unit as SourceUnit}
 use Rattle.rv_unit.specs.Unit.{said, IsFilled}
 use Rattle.std.proofs.lemmas.List.{length-append}
-use Rattle.rv_draft.specs.Measure.{IsMeasured}
+use Rattle.rv_assemble_laws.specs.Refusals.{code_faults_at}
+use Rattle.rv_instruction.specs.Code.{near_forms_of, OffersAny, MayHave}
+use Rattle.rv_draft.specs.Code.{padding_of, value_at}
+use Rattle.rv_draft.specs.Measure.{HasLength, HasLengthAt, HaveLengths, AreLengths, IsMeasured}
+use Rattle.rv_draft.proofs.WholeLemmas.{faults_in}
 use Rattle.rv_draft.proofs.StandingLemmas.{StandsAt, located_at, stated_length}
 use Rattle.rv_unit_tables.specs.declared.section_offset.SectionOffset.{SectionOffset}
 use Rattle.rv_unit_tables.specs.Sections.{offset_of}
@@ -28,10 +32,10 @@ use Rattle.rv_instruction.specs.Near.{section_in, near_by, near_in, near_value_i
 
 -- ---- the section of a statement, by its ordinal
 
-abbrev Found : ℕ → List Located → Option Located
+abbrev pub Found : ℕ → List Located → Option Located
 Found n ls = find (λ (s : Located). s.ordinal == n) ls
 
-other : (a b : ℕ) → a < b → (a == b) ≡ false
+pub other : (a b : ℕ) → a < b → (a == b) ≡ false
 other a b h = go (a == b) refl
   where
     go : (c : Bool) → (a == b) ≡ c → (a == b) ≡ false
@@ -58,7 +62,7 @@ found_at (suc j) k t (s ∷ ss) =
     ∙ ap (λ n. option_map (λ (s : Located). s.section) (Found n (located_from 1 (suc k) (after t k s.kind) ss))) same
     ∙ found_at j (suc k) (after t k s.kind) ss
 
-found_none : (k : ℕ) (t : Tables) (ss : List Statement) → Found 0 (located_from 1 (suc k) t ss) ≡ None
+pub found_none : (k : ℕ) (t : Tables) (ss : List Statement) → Found 0 (located_from 1 (suc k) t ss) ≡ None
 found_none k t [] = refl
 found_none k t (s ∷ ss) =
     ap (λ b. if b then Some (located_now 1 (suc k) t s) else Found 0 (located_from 1 (suc (suc k)) (after t (suc k) s.kind) ss)) (none_first k)
@@ -189,16 +193,78 @@ items_count t all (s ∷ ss) (l ∷ ls) same =
     let less : length ls ≡ length ss = let e : suc (length ls) ≡ suc (length ss) = same in omega (arith, e) in
     ap suc (items_count t all ss ls less)
 
+-- ---- how long each is as code
+
+-- the least of the forms of a statement is one of them
+forms_offered : (t : Tables) (all : List Located) (s : Located) (bytes n : ℕ) (os : List Operand) (forms : Option Forms) → Offers (sizes.item_by t all s bytes os forms).forms n → OffersAny forms n
+forms_offered t all s bytes n os None offers = tt
+forms_offered t all s bytes n os (Some (Settled size)) offers = offers
+forms_offered t all s bytes n os (Some CompressedBranch) offers = go (near_target t all s os) offers
+  where
+    go : (o : Option sizes.Near) → Offers (branch_item s CompressedBranch o).forms n → Offers CompressedBranch n
+    go None e = inr (inr e)
+    go (Some near) e = e
+forms_offered t all s bytes n os (Some Branch) offers = go (near_target t all s os) offers
+  where
+    go : (o : Option sizes.Near) → Offers (branch_item s Branch o).forms n → Offers Branch n
+    go None e = inr e
+    go (Some near) e = e
+forms_offered t all s bytes n os (Some CompressedJump) offers = go (near_target t all s os) offers
+  where
+    go : (o : Option sizes.Near) → Offers (branch_item s CompressedJump o).forms n → Offers CompressedJump n
+    go None e = inr e
+    go (Some near) e = e
+
+kind_offered : (t : Tables) (all : List Located) (s : Located) (bytes n : ℕ) (kind : StatementKind) → Offers (item_by_kind t all s bytes kind).forms n → MayHave s.options.rvc kind n
+kind_offered t all s bytes n (Instruction mnemonic os) offers = forms_offered t all s bytes n os (near_forms s.options.rvc mnemonic os) offers
+kind_offered t all s bytes n (Label name) offers = tt
+kind_offered t all s bytes n (Numbered number) offers = tt
+kind_offered t all s bytes n (Directs directive) offers = tt
+
+-- a statement without forms has the length that it had
+kind_same : (t : Tables) (all : List Located) (s : Located) (bytes n : ℕ) (kind : StatementKind) → near_forms_of s.options.rvc kind ≡ None → Offers (item_by_kind t all s bytes kind).forms n → bytes ≡ n
+kind_same t all s bytes n (Instruction mnemonic os) none offers = sym (subst (λ f. Offers (sizes.item_by t all s bytes os f).forms n) none offers)
+kind_same t all s bytes n (Label name) none offers = sym offers
+kind_same t all s bytes n (Numbered number) none offers = sym offers
+kind_same t all s bytes n (Directs directive) none offers = sym offers
+
+lengths_are : (t : Tables) (all ss : List Located) (ls found : List ℕ) → HaveLengths t ss ls → length found ≡ length (items_of t all ss ls)
+    → ((i : ℕ) → Offers (item_at (items_of t all ss ls) i).forms (slice_index found i)) → AreLengths t ss found
+lengths_are t all [] [] [] told count offered = tt
+lengths_are t all [] [] (n ∷ found) told count offered = absurd (omega (arith, count))
+lengths_are t all [] (l ∷ ls) found told count offered = absurd told
+lengths_are t all (s ∷ ss) [] found told count offered = absurd told
+lengths_are t all (s ∷ ss) (l ∷ ls) [] told count offered = absurd (let e : 0 ≡ suc (length (items_of t all ss ls)) = count in omega (arith, e))
+lengths_are t all (s ∷ ss) (l ∷ ls) (n ∷ found) (told, others) count offered =
+    let fewer : length found ≡ length (items_of t all ss ls) = let e : suc (length found) ≡ suc (length (items_of t all ss ls)) = count in omega (arith, e) in (
+      record {
+        offered = kind_offered t all s l n s.kind (offered 0);
+        told = λ sound none code is. told sound none code is ∙ kind_same t all s l n s.kind none (offered 0);
+      },
+      lengths_are t all ss ls found others fewer (λ i. offered (suc i)),
+    )
+
+lengths_more : (t : Tables) (xs : List Located) (ls : List ℕ) (s : Located) (n : ℕ) → HaveLengths t xs ls → HasLengthAt t s n → HaveLengths t (xs ++ s ∷ []) (ls ++ n ∷ [])
+lengths_more t [] [] s n h one = (one, tt)
+lengths_more t [] (l ∷ ls) s n h one = absurd h
+lengths_more t (x ∷ xs) [] s n h one = absurd h
+lengths_more t (x ∷ xs) (l ∷ ls) s n (h, hs) one = (h, lengths_more t xs ls s n hs one)
+
 -- ---- the statements of a unit, so far
 
 abbrev pub MeasuredTo : List Statement → ℕ → List Item → Type 0
 MeasuredTo ss i items =
-    (ls : List ℕ) × (length ls ≡ length (take i (located_from 1 1 at_start ss)))
+    (ls : List ℕ) × HaveLengths (tables ss) (take i (located_from 1 1 at_start ss)) ls
+    × (length ls ≡ length (take i (located_from 1 1 at_start ss)))
     × (items ≡ items_of (tables ss) (located_from 1 1 at_start ss) (take i (located_from 1 1 at_start ss)) ls)
 
 pub measured_begin : (ss : List Statement) → MeasuredTo ss 0 []
-measured_begin ss = ([], none_taken (located_from 1 1 at_start ss), none_seen (located_from 1 1 at_start ss))
+measured_begin ss = ([], none_long (located_from 1 1 at_start ss), none_taken (located_from 1 1 at_start ss), none_seen (located_from 1 1 at_start ss))
   where
+    none_long : (ls : List Located) → HaveLengths (tables ss) (take 0 ls) []
+    none_long [] = tt
+    none_long (s ∷ ls) = tt
+
     none_taken : (ls : List Located) → length {A = ℕ} [] ≡ length (take 0 ls)
     none_taken [] = refl
     none_taken (s ∷ ls) = refl
@@ -219,11 +285,33 @@ seen_there u i x p rvc bytes item filled at on is =
     let here = subst (λ b. item ≡ item_in (section_in u.places.items) s.section (tables ss) (i + 1) (λ e. value (tables ss) true (i + 1) (place_of s) e) b bytes (statement_of x).kind) on there in
     here ∙ sym (item_same u.places.items (located_from 1 1 at_start ss) (places_agree u.places.items ss filled.stand) (tables ss) s bytes (statement_of x).kind)
 
-pub measured_more : (u : SourceUnit) (i : ℕ) (x : SourceStatement) (p : SectionOffset) (rvc : Bool) (old new : List Item) (item : Item) → IsFilled u → StandsAt u i x p
-    → rvc ≡ (located_at (said u) i (statement_of x)).options.rvc
-    → (bytes : ℕ) × (item ≡ item_in (section_in u.places.items) p.section (tables (said u)) (i + 1) (λ e. value (tables (said u)) true (i + 1) (offset_of p) e) rvc bytes (statement_of x).kind)
+-- how long a statement is where it stands
+long_there : (u : SourceUnit) (i : ℕ) (x : SourceStatement) (p : SectionOffset) (rvc b : Bool) (bytes : ℕ) → StandsAt u i x p
+    → rvc ≡ (located_at (said u) i (statement_of x)).options.rvc → b ≡ (located_at (said u) i (statement_of x)).home.executable
+    → HasLength (λ e. value (tables (said u)) true (i + 1) (offset_of p) e) rvc (faults_in (tables (said u)) (i + 1) (offset_of p) (statement_of x))
+    (padding_of b (λ e. value (tables (said u)) true (i + 1) (offset_of p) e) (statement_of x).kind) (statement_of x).kind bytes
+    → HasLengthAt (tables (said u)) (located_at (said u) i (statement_of x)) bytes
+long_there u i x p rvc b bytes at on home h =
+    let t = tables (said u) in
+    let s = located_at (said u) i (statement_of x) in
+    let kind = (statement_of x).kind in
+    let there = subst (λ (q : Standing). HasLength (λ e. value t true (i + 1) q e) rvc (faults_in t (i + 1) q (statement_of x)) (padding_of b (λ e. value t true (i + 1) q e) kind) kind bytes) at.place h in
+    subst (λ c. HasLength (λ e. value_at t s e) s.options.rvc (code_faults_at t s) (padding_of c (λ e. value_at t s e) kind) kind bytes) home
+    (subst (λ r. HasLength (λ e. value_at t s e) r (code_faults_at t s) (padding_of b (λ e. value_at t s e) kind) kind bytes) on there)
+
+-- what sizes see of a statement of a unit, by its ordinal and its place
+abbrev pub SeenThere : SourceUnit → ℕ → Standing → ℕ → List SectionOffset → Bool → Bool → Statement → Item → Type 0
+SeenThere u ordinal q section places b rvc s item =
+    (bytes : ℕ)
+    × HasLength (λ e. value (tables (said u)) true ordinal q e) rvc (faults_in (tables (said u)) ordinal q s)
+    (padding_of b (λ e. value (tables (said u)) true ordinal q e) s.kind) s.kind bytes
+    × (item ≡ item_in (section_in places) section (tables (said u)) ordinal (λ e. value (tables (said u)) true ordinal q e) rvc bytes s.kind)
+
+pub measured_more : (u : SourceUnit) (i : ℕ) (x : SourceStatement) (p : SectionOffset) (rvc b : Bool) (old new : List Item) (item : Item) → IsFilled u → StandsAt u i x p
+    → rvc ≡ (located_at (said u) i (statement_of x)).options.rvc → b ≡ (located_at (said u) i (statement_of x)).home.executable
+    → SeenThere u (i + 1) (offset_of p) p.section u.places.items b rvc (statement_of x) item
     → MeasuredTo (said u) i old → new ≡ old ++ item ∷ [] → MeasuredTo (said u) (i + 1) new
-measured_more u i x p rvc old new item filled at on (bytes, is) (ls, same, so) more =
+measured_more u i x p rvc b old new item filled at on home (bytes, long, is) (ls, lengths, same, so) more =
     let ss = said u in
     let t = tables ss in
     let all = located_from 1 1 at_start ss in
@@ -232,6 +320,7 @@ measured_more u i x p rvc old new item filled at on (bytes, is) (ls, same, so) m
     let next : i + 1 ≡ suc i = omega arith in
     let longer : take (i + 1) all ≡ take i all ++ s ∷ [] = ap (λ n. take n all) next ∙ take_here all i s (drop (i + 1) all) at.next in (
       ls ++ bytes ∷ [],
+      subst (λ xs. HaveLengths t xs (ls ++ bytes ∷ [])) (sym longer) (lengths_more t (take i all) ls s bytes lengths (long_there u i x p rvc b bytes at on home long)),
       length-append ls (bytes ∷ []) ∙ ap (λ n. n + 1) same ∙ sym (length-append (take i all) (s ∷ [])) ∙ ap length (sym longer),
       more ∙ ap (λ l. l ++ item ∷ []) so ∙ ap (λ y. items_of t all (take i all) ls ++ y ∷ []) seen
           ∙ sym (items_more t all (take i all) ls s bytes same) ∙ ap (λ xs. items_of t all xs (ls ++ bytes ∷ [])) (sym longer),
@@ -244,11 +333,12 @@ take_whole (x ∷ xs) zero e = absurd (cc)
 take_whole (x ∷ xs) (suc i) e = ap (λ l. x ∷ l) (take_whole xs i e)
 
 pub measured_whole : (ss : List Statement) (i : ℕ) (items : List Item) → drop i (located_from 1 1 at_start ss) ≡ [] → MeasuredTo ss i items → IsMeasured ss items
-measured_whole ss i items none (ls, same, so) =
+measured_whole ss i items none (ls, lengths, same, so) =
     let all = located_from 1 1 at_start ss in
     let whole = take_whole all i none in
     record {
       lengths = ls;
+      told = subst (λ xs. HaveLengths (tables ss) xs ls) whole lengths;
       count = same ∙ ap length whole ∙ stated_length 1 1 at_start ss;
       seen = so ∙ ap (λ xs. items_of (tables ss) all xs ls) whole;
     }
@@ -263,3 +353,10 @@ measured_count ss items found m least =
     let all = located_from 1 1 at_start ss in
     let same = m.count ∙ sym (stated_length 1 1 at_start ss) in
     least.good.family.same_length ∙ ap length m.seen ∙ items_count (tables ss) all all m.lengths same ∙ stated_length 1 1 at_start ss
+
+-- each is long enough for its code
+pub measured_lengths : (ss : List Statement) (items : List Item) (found : List ℕ) → IsMeasured ss items → IsLeastGood items found → AreLengths (tables ss) (located_from 1 1 at_start ss) found
+measured_lengths ss items found m least =
+    let all = located_from 1 1 at_start ss in
+    let good = subst (λ l. IsLeastGood l found) m.seen least in
+    lengths_are (tables ss) all all m.lengths found m.told good.good.family.same_length good.good.family.offered

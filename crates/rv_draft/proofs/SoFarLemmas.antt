@@ -48,9 +48,9 @@ joined_by : (b : Bool) (old code rest : List ℕ) → (if b then old ++ code els
 joined_by true old code rest = append_assoc old code rest
 joined_by false old code rest = refl
 
-pub next_code : (t : Tables) (all : List Located) (s : Located) (next : List Located) (old new : Coder) → IsCodeSoFar t all (s ∷ next) old
-    → IsAdded old new s.section s.home.executable (code_faults_at t s) (λ e. value_at t s e) s.options.rvc (record { line = s.line; kind = s.kind }) → IsCodeSoFar t all next new
-next_code t all s next old new h a =
+pub next_code : (t : Tables) (all : List Located) (s : Located) (next : List Located) (old new : Coder) (wanted : ℕ) → IsCodeSoFar t all (s ∷ next) old
+    → IsAdded old new s.section s.home.executable (code_faults_at t s) (λ e. value_at t s e) s.options.rvc wanted (record { line = s.line; kind = s.kind }) → IsCodeSoFar t all next new
+next_code t all s next old new wanted h a =
     let f = λ (j : ℕ). length (bytes_in old.sections.items j) in
     let g = λ (j : ℕ). length (bytes_in new.sections.items j) in
     let code = code_bytes (padding_at t s) a.coded in

@@ -1,6 +1,8 @@
 -- The code of a whole source.
 
-use Rattle.std.proofs.Common.{◌≡◌, ℕ, ◌+◌, Bool, true, Option, List, [], ◌∷◌, drop, inl, inr, Some, Result, Ok, Err, sym, ap, ◌∙◌, subst, append-nil}
+use Rattle.std.proofs.Common.{◌≡◌, ℕ, zero, suc, ◌+◌, Bool, true, Option, List, [], ◌∷◌, ◌++◌, drop, inl, inr, Some, Result, Ok, Err, sym, ap, ◌∙◌, subst, append-nil}
+use Rattle.std.specs.Prelude.{slice_index}
+use Rattle.std.proofs.lemmas.List.{map-append}
 use Rattle.rv_lexer.specs.declared.fault.SourceFault.{SourceFault}
 use Rattle.rv_lexer.specs.declared.fault.SourceFault.TheVariants.{At, OutOfMemory}
 use Rattle.rv_lexer.specs.Fault.{number_of}
@@ -25,7 +27,11 @@ use Rattle.rv_draft.specs.declared.code.SectionCode.{SectionCode}
 use Rattle.rv_draft.proofs.SoFarLemmas.{next_code, wrong_code}
 use Rattle.rv_draft.specs.Measured.{IsExtentAt}
 use Rattle.rv_draft.proofs.ItemizedLemmas.{home_at}
-use Rattle.rv_draft.proofs.StandingLemmas.{StandsAt, located_at}
+use Rattle.rv_draft.specs.Code.{value_at, padding_at, size_of, bytes_of_sizes}
+use Rattle.rv_draft.specs.Measure.{HasLengthAt, IsLength, AreLengths}
+use Rattle.rv_draft.specs.declared.item.CodeSize.{CodeSize}
+use Rattle.rv_draft.proofs.LengthsLemmas.{added_length}
+use Rattle.rv_draft.proofs.StandingLemmas.{StandsAt, first_same, located_at}
 
 -- the code of the first `i` statements of a source
 abbrev pub CodeTo : List SpecStatement → ℕ → Coder → Type 0
@@ -45,23 +51,45 @@ pub code_there : (u : SourceUnit) (i : ℕ) (x : Statement) (p : SectionOffset) 
 code_there u i x p e at there = ap (λ (h : Section). h.executable) (home_at u i x p e at there)
 
 -- what is added where the statement stands
-added_there : (t : Tables) (o : ℕ) (rvc on a b : Bool) (c d : Coder) (s : SpecStatement) (p q : Standing) (faults others : List ℕ) → p ≡ q → faults ≡ others → rvc ≡ on → a ≡ b
-    → IsAdded c d p.section a faults (λ e. value t true o p e) rvc s → IsAdded c d q.section b others (λ e. value t true o q e) on s
-added_there t o rvc on a b c d s p q faults others e f g k h =
-    subst (λ r. IsAdded c d q.section b others (λ e. value t true o q e) r s) g
-    (subst (λ l. IsAdded c d q.section b l (λ e. value t true o q e) rvc s) f
-    (subst (λ x. IsAdded c d q.section x faults (λ e. value t true o q e) rvc s) k (subst (λ (r : Standing). IsAdded c d r.section a faults (λ e. value t true o r e) rvc s) e h)))
+added_there : (t : Tables) (o wanted : ℕ) (rvc on a b : Bool) (c d : Coder) (s : SpecStatement) (p q : Standing) (faults others : List ℕ) → p ≡ q → faults ≡ others → rvc ≡ on → a ≡ b
+    → IsAdded c d p.section a faults (λ e. value t true o p e) rvc wanted s → IsAdded c d q.section b others (λ e. value t true o q e) on wanted s
+added_there t o wanted rvc on a b c d s p q faults others e f g k h =
+    subst (λ r. IsAdded c d q.section b others (λ e. value t true o q e) r wanted s) g
+    (subst (λ l. IsAdded c d q.section b l (λ e. value t true o q e) rvc wanted s) f
+    (subst (λ x. IsAdded c d q.section x faults (λ e. value t true o q e) rvc wanted s) k (subst (λ (r : Standing). IsAdded c d r.section a faults (λ e. value t true o r e) rvc wanted s) e h)))
 
-pub code_more : (u : SourceUnit) (i : ℕ) (x : Statement) (p : SectionOffset) (rvc b : Bool) (c d : Coder) (faults : List ℕ) → StandsAt u i x p → CodeTo (said u) i c
+pub code_more : (u : SourceUnit) (i wanted : ℕ) (x : Statement) (p : SectionOffset) (rvc b : Bool) (c d : Coder) (faults : List ℕ) → StandsAt u i x p → CodeTo (said u) i c
     → faults ≡ code_faults_at (tables (said u)) (located_at (said u) i (statement_of x)) → rvc ≡ (located_at (said u) i (statement_of x)).options.rvc → b ≡ (located_at (said u) i (statement_of x)).home.executable
-    → IsAdded c d p.section b faults (λ e. value (tables (said u)) true (i + 1) (offset_of p) e) rvc (statement_of x) → CodeTo (said u) (i + 1) d
-code_more u i x p rvc b c d faults at h same on home added =
+    → IsAdded c d p.section b faults (λ e. value (tables (said u)) true (i + 1) (offset_of p) e) rvc wanted (statement_of x) → CodeTo (said u) (i + 1) d
+code_more u i wanted x p rvc b c d faults at h same on home added =
     let ss = said u in
     let all = located_from 1 1 at_start ss in
     let st = located_at ss i (statement_of x) in
-    next_code (tables ss) all st (drop (i + 1) all) c d
+    next_code (tables ss) all st (drop (i + 1) all) c d wanted
     (subst (λ rest. IsCodeSoFar (tables ss) all rest c) at.next h)
-    (added_there (tables ss) (i + 1) rvc st.options.rvc b st.home.executable c d (statement_of x) (offset_of p) (stood (passed ss i) (i + 1) (statement_of x).kind) faults _ at.place same on home added)
+    (added_there (tables ss) (i + 1) wanted rvc st.options.rvc b st.home.executable c d (statement_of x) (offset_of p) (stood (passed ss i) (i + 1) (statement_of x).kind) faults _ at.place same on home added)
+
+-- and how long it is
+pub told_more : (u : SourceUnit) (i wanted : ℕ) (x : Statement) (p : SectionOffset) (rvc b : Bool) (c d : Coder) (faults : List ℕ) → StandsAt u i x p
+    → faults ≡ code_faults_at (tables (said u)) (located_at (said u) i (statement_of x)) → rvc ≡ (located_at (said u) i (statement_of x)).options.rvc → b ≡ (located_at (said u) i (statement_of x)).home.executable
+    → IsAdded c d p.section b faults (λ e. value (tables (said u)) true (i + 1) (offset_of p) e) rvc wanted (statement_of x) → HasLengthAt (tables (said u)) (located_at (said u) i (statement_of x)) wanted
+    → bytes_of_sizes d.sizes.items ≡ bytes_of_sizes c.sizes.items ++ wanted ∷ []
+told_more u i wanted x p rvc b c d faults at same on home added told =
+    let t = tables (said u) in
+    let st = located_at (said u) i (statement_of x) in
+    let a = added_there t (i + 1) wanted rvc st.options.rvc b st.home.executable c d (statement_of x) (offset_of p) (stood (passed (said u) i) (i + 1) (statement_of x).kind) faults _ at.place same on home added in
+    let size : CodeSize = size_of (padding_at t st) a.coded in
+    ap bytes_of_sizes a.counts ∙ map-append (λ (size : CodeSize). size.bytes) c.sizes.items (size ∷ [])
+    ∙ ap (λ n. bytes_of_sizes c.sizes.items ++ n ∷ [])
+    (added_length (λ e. value_at t st e) st.options.rvc st.home.executable (code_faults_at t st) wanted st.kind a.coded a.sound a.is a.asked told)
+
+-- the length of a statement
+pub length_here : (t : Tables) (ls : List Located) (ns : List ℕ) (i : ℕ) (l : Located) (rest : List Located) → AreLengths t ls ns → drop i ls ≡ l ∷ rest → IsLength t l (slice_index ns i)
+length_here t [] ns zero l rest h e = absurd (cc)
+length_here t [] ns (suc i) l rest h e = absurd (cc)
+length_here t (y ∷ ys) [] i l rest h e = absurd h
+length_here t (y ∷ ys) (n ∷ ns) zero l rest h e = subst (λ l. IsLength t l n) (first_same y l ys rest e) h.0
+length_here t (y ∷ ys) (n ∷ ns) (suc i) l rest h e = length_here t ys ns i l rest h.1 e
 
 fault_first : (ss : List SpecStatement) (code line at : ℕ) → code_fault_from (tables ss) (located (ss ∷ [])) ≡ Some (record { code = code; line = line }) → at ≡ line → IsCodeFault ss (record { code = code; line = at })
 fault_first ss code line at e f = inl (e ∙ ap (λ n. fault_at code n) (sym f))
@@ -73,11 +101,11 @@ pub one_file : (ss : List SpecStatement) → located (ss ∷ []) ≡ located_fro
 one_file ss = append-nil (located_from 1 1 at_start ss)
 
 -- a statement with a fault is the first
-pub code_wrong : (u : SourceUnit) (i : ℕ) (x : Statement) (p : SectionOffset) (rvc b : Bool) (c d : Coder) (faults : List ℕ) (fault : SourceFault) → StandsAt u i x p → CodeTo (said u) i c
+pub code_wrong : (u : SourceUnit) (i wanted : ℕ) (x : Statement) (p : SectionOffset) (rvc b : Bool) (c d : Coder) (faults : List ℕ) (fault : SourceFault) → StandsAt u i x p → CodeTo (said u) i c
     → faults ≡ code_faults_at (tables (said u)) (located_at (said u) i (statement_of x))
-    → Adds c d p.section b faults (λ e. value (tables (said u)) true (i + 1) (offset_of p) e) rvc (statement_of x) (Err fault) → (lengths : List ℕ) → IsSourceCode (said u) lengths (Err fault)
-code_wrong u i x p rvc b c d faults OutOfMemory at h same wrong lengths = tt
-code_wrong u i x p rvc b c d faults (At code line) at h same wrong lengths =
+    → Adds c d p.section b faults (λ e. value (tables (said u)) true (i + 1) (offset_of p) e) rvc wanted (statement_of x) (Err fault) → (lengths : List ℕ) → IsSourceCode (said u) lengths (Err fault)
+code_wrong u i wanted x p rvc b c d faults OutOfMemory at h same wrong lengths = tt
+code_wrong u i wanted x p rvc b c d faults (At code line) at h same wrong lengths =
     let ss = said u in
     let all = located_from 1 1 at_start ss in
     fault_first ss (number_of code) x.line line

@@ -1,6 +1,6 @@
 -- The code of a source as its statements add to it, one after the other.
 
-use Rattle.std.specs.Prelude.{◌≡◌, ◌⊎◌, ℕ, Bool, List, [], ◌∷◌, ◌++◌, length, Result, Ok, Err, Some, None, ⊤}
+use Rattle.std.specs.Prelude.{◌≡◌, ◌⊎◌, ℕ, Bool, List, [], ◌∷◌, ◌++◌, length, Result, Ok, Err, Some, None, is_some, true, ⊤}
 use Rattle.std.specs.Global.{Vec}
 use Rattle.rv_text_laws.specs.Values as values
 use Rattle.rv_lexer.specs.declared.fault.SourceFault.{SourceFault}
@@ -14,17 +14,19 @@ use Rattle.rv_assemble_laws.specs.Refusals.{code_fault_from, size_fault_from, co
 use Rattle.rv_draft.specs.Code.{GrowsBy, bytes_in, padding_of, code_bytes, size_of, sizes_of, bytes_of_codes, section_code, full_fault, full_at}
 use Rattle.rv_draft.specs.Coded.{IsCoded, AreCoded}
 use Rattle.rv_instruction.specs.declared.encoded.Coded.{Coded}
+use Rattle.rv_instruction.specs.Code.{near_forms_of}
 use Rattle.rv_draft.specs.declared.code.Coder.{Coder}
 use Rattle.rv_draft.specs.declared.code.SectionCode.{SectionCode}
 use Rattle.rv_draft.specs.declared.item.CodeSize.{CodeSize}
 
 -- a statement without faults as code, in a section of code or not, by the values of its expressions,
--- where compressed code is on or off
+-- where compressed code is on or off, and so many bytes are wanted of one with several forms
 pub record IsAdded (old new : Coder) (section : ℕ) (executable : Bool) (faults : List ℕ)
-    (v : Expression → values.Value) (rvc : Bool) (s : Statement) : Type 0 where
+    (v : Expression → values.Value) (rvc : Bool) (wanted : ℕ) (s : Statement) : Type 0 where
   pub sound : faults ≡ []
   pub coded : List Coded
   pub is : IsCoded v rvc s.kind coded
+  pub asked : is_some (near_forms_of rvc s.kind) ≡ true → is.0 ≡ wanted
   pub grows : GrowsBy old.sections.items new.sections.items section
       (code_bytes (padding_of executable v s.kind) coded)
   pub counts : new.sizes.items
@@ -35,13 +37,13 @@ pub record IsAdded (old new : Coder) (section : ℕ) (executable : Bool) (faults
 
 -- a statement with these faults is added, where it has none, or refused by the lowest code of them
 abbrev pub Adds :
-    Coder → Coder → ℕ → Bool → List ℕ → (Expression → values.Value) → Bool → Statement
-    → Result ⊤ SourceFault → Type 0
-Adds old new section executable faults v rvc s (Ok done) =
-    IsAdded old new section executable faults v rvc s
-Adds old new section executable faults v rvc s (Err (At code at)) =
+    Coder → Coder → ℕ → Bool → List ℕ → (Expression → values.Value) → Bool → ℕ
+    → Statement → Result ⊤ SourceFault → Type 0
+Adds old new section executable faults v rvc wanted s (Ok done) =
+    IsAdded old new section executable faults v rvc wanted s
+Adds old new section executable faults v rvc wanted s (Err (At code at)) =
     (lowest faults ≡ Some (number_of code)) × (at ≡ s.line)
-Adds old new section executable faults v rvc s (Err OutOfMemory) = Unit {0}
+Adds old new section executable faults v rvc wanted s (Err OutOfMemory) = Unit {0}
 
 -- the code of the statements so far; with any code of the rest it makes up the whole
 pub record IsCodeSoFar (t : Tables) (all rest : List Located) (c : Coder) : Type 0 where

@@ -1,13 +1,13 @@
 -- The instructions of a source as its code has them.
 
-use Rattle.std.specs.Prelude.{ℕ, Bool, ⊤, List, [], ◌∷◌}
+use Rattle.std.specs.Prelude.{◌≡◌, ℕ, Bool, ⊤, List, [], ◌∷◌, length}
 use Rattle.rv_text_laws.specs.Values.{Value}
-use Rattle.rv_statement.specs.Statement.{StatementKind, Expression}
+use Rattle.rv_statement.specs.Statement.{StatementKind, Instruction, Expression}
 use Rattle.rv_unit_laws.specs.Tables.{Tables}
 use Rattle.rv_source_laws.specs.Located.{Located}
 use Rattle.rv_instruction.specs.declared.encoded.Coded.{Coded}
 use Rattle.rv_instruction.specs.Code.{HasCode}
-use Rattle.rv_draft.specs.Code.{value_at}
+use Rattle.rv_draft.specs.Code.{bytes_coded, value_at}
 
 -- the code of a statement, part by part, by constants, however long a branch is asked to be; what
 -- is no instruction has none
@@ -23,3 +23,8 @@ AreCoded t [] [] = ⊤
 AreCoded t [] (found ∷ codes) = ⊥
 AreCoded t (s ∷ ss) [] = ⊥
 AreCoded t (s ∷ ss) (found ∷ codes) = IsCodedAt t s found × AreCoded t ss codes
+
+-- an instruction has the bytes of its code
+abbrev pub HasBytes : List Coded → ℕ → StatementKind → Type 0
+HasBytes coded bytes (Instruction mnemonic operands) = bytes ≡ length (bytes_coded coded)
+HasBytes coded bytes kind = ⊤

@@ -1,13 +1,14 @@
 -- What the statements of a source contribute to sections of data: bytes, and fields that stay open.
 
-use Rattle.std.specs.Prelude.{◌≡◌, ℕ, ◌+◌, ◌*◌, ◌≤◌, Bool, true, false, not, ◌&&◌, List, [], ◌++◌, flat_map, map, drop, length, if◌then◌else◌}
+use Rattle.std.specs.Prelude.{◌≡◌, ℕ, ◌+◌, ◌*◌, ◌≤◌, Bool, true, false, not, ◌&&◌, ⊤, List, [], ◌∷◌, ◌++◌, flat_map, map, drop, length, if◌then◌else◌}
 use Rattle.std.specs.Global.{Vec}
 use Rattle.rv_text_laws.specs.Values.{Value}
 use Rattle.rv_statement.specs.Statement.{StatementKind, Label, Numbered, Instruction, Directs, Expression, Statement, Aligns_to_power, Aligns_to_bytes, Values}
 use Rattle.rv_unit_laws.specs.Contributions.{contribution}
 use Rattle.rv_unit_laws.specs.Sections.{Section, is_nobits}
 use Rattle.rv_unit_laws.specs.Tables.{Tables, at_start, tables, longest_section}
-use Rattle.rv_source_laws.specs.Located.{located_from}
+use Rattle.rv_source_laws.specs.Located.{Located, located_from}
+use Rattle.rv_assemble_laws.specs.Refusals.{code_faults_at}
 use Rattle.rv_assemble_laws.specs.Templates.{Template, padding_templates, contribution_templates}
 use Rattle.rv_assemble_laws.specs.Sites.{Site, Part, form, part_of, part_bytes, sites_in, templates}
 use Rattle.rv_assemble_laws.specs.Fields.{Field, fields_from}
@@ -16,7 +17,8 @@ use Rattle.rv_draft.specs.declared.item.CodeSize.{CodeSize}
 use Rattle.rv_draft.specs.declared.item.Item.{Item}
 use Rattle.rv_instruction.specs.declared.encoded.Coded.{Coded}
 use Rattle.rv_draft.specs.Code.{bytes_in, sizes_of}
-use Rattle.rv_draft.specs.Coded.{AreCoded}
+use Rattle.rv_instruction.specs.Code.{MayHave}
+use Rattle.rv_draft.specs.Coded.{AreCoded, IsCodedAt, HasBytes}
 use Rattle.rv_draft.specs.Draft.{field_of}
 use Rattle.rv_draft.specs.Items.{AreItems}
 use Rattle.rv_draft.specs.Seated.{sites_of}
@@ -104,6 +106,19 @@ pub record HaveCode (ss : List Statement) (is : List Item)
   pub coded : AreCoded (tables ss) (located_from 1 1 at_start ss) codes
   pub sized : AreSized (tables ss) 1 at_start ss is
       (sizes_of (tables ss) (located_from 1 1 at_start ss) codes)
+
+-- a statement has code of so many bytes, without a fault, and may be asked for it
+pub record IsMade (t : Tables) (s : Located) (bytes : ℕ) : Type 0 where
+  pub sound : code_faults_at t s ≡ []
+  pub offered : MayHave s.options.rvc s.kind bytes
+  pub coded : List Coded
+  pub is : IsCodedAt t s coded
+  pub long : HasBytes coded bytes s.kind
+
+-- each statement in the bytes of its item
+abbrev pub AreMade : Tables → List Located → List Item → Type 0
+AreMade t (s ∷ ss) (i ∷ is) = IsMade t s i.bytes × AreMade t ss is
+AreMade t ss is = ⊤
 
 -- what is there so far, from these sections on, and what the statements from an index on
 -- contribute, make up the whole

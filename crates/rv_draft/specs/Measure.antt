@@ -1,28 +1,124 @@
--- What branch sizes see of the statements of a source.
+-- What branch sizes see of the statements of a source, and how long these are as code.
 
-use Rattle.std.specs.Prelude.{◌≡◌, ℕ, ◌+◌, Bool, List, length}
-use Rattle.rv_statement.specs.Statement.{StatementKind, Statement}
+use Rattle.std.specs.Prelude.{◌≡◌, ℕ, ◌+◌, Bool, true, false, ⊤, List, [], ◌∷◌, length, None}
+use Rattle.rv_text_laws.specs.Values.{Value}
+use Rattle.rv_statement.specs.Statement.{StatementKind, Statement, Expression}
+use Rattle.rv_statement.specs.View.{with_expression, with_function}
+use Rattle.rv_statement.specs.declared.pseudo.Function.{Function}
+use Rattle.rv_statement.specs.declared.statement.Operation.{Operation}
+use Rattle.rv_statement.specs.declared.statement.Operation.TheVariants as operations
+use Rattle.rv_statement.specs.declared.statement.Plain.{Plain}
+use Rattle.rv_statement.specs.declared.statement.Plain.TheVariants.{Unary}
 use Rattle.rv_layout_laws.specs.declared.item.Item.{Item}
-use Rattle.rv_unit_laws.specs.Tables.{at_start, tables}
+use Rattle.rv_unit_laws.specs.Tables.{Tables, at_start, tables}
 use Rattle.rv_unit_tables.specs.declared.section_offset.SectionOffset.{SectionOffset}
 use Rattle.rv_unit.specs.declared.scope.Scope.{Scope}
 use Rattle.rv_unit.specs.Unit.{said}
-use Rattle.rv_source_laws.specs.Located.{located_from}
+use Rattle.rv_source_laws.specs.Located.{Located, located_from}
 use Rattle.rv_source_laws.specs.Sizes.{items_of}
+use Rattle.rv_assemble_laws.specs.Refusals.{code_faults_at}
+use Rattle.rv_instruction.specs.declared.encoded.Coded.{Coded}
+use Rattle.rv_instruction.specs.Code.{near_forms_of, MayHave}
 use Rattle.rv_instruction.specs.Near.{section_in, item_in}
-use Rattle.rv_instruction.specs.Scoped.{values_at}
+use Rattle.rv_instruction.specs.Scoped.{values_at, faults_at}
+use Rattle.rv_draft.specs.Code.{bytes_coded, padding_of, padding_at, value_at}
+use Rattle.rv_draft.specs.Coded.{IsCoded}
 
--- an item is what sizes see of a statement, by the index from 0 and what it has as code
+-- ---- how long a statement is as code
+
+-- a statement without forms of several lengths has so many bytes, whatever its expressions are
+-- worth
+abbrev pub HasOneLength : Bool → StatementKind → ℕ → Type 0
+HasOneLength rvc kind bytes =
+    near_forms_of rvc kind ≡ None → (v : Expression → Value) (found : List Coded)
+    → IsCoded v rvc kind found → length (bytes_coded found) ≡ bytes
+
+-- the same of an operation, with any expression
+abbrev pub HasLengthWith : Operation → Bool → ℕ → Type 0
+HasLengthWith operation rvc bytes =
+    (e : Expression)
+    → HasOneLength rvc (with_expression operation e) bytes
+    × ((function : Function) → HasOneLength rvc (with_function operation function e) bytes)
+
+-- it has so many bytes with its padding, where it has these faults
+abbrev pub HasLength :
+    (Expression → Value) → Bool → List ℕ → ℕ → StatementKind → ℕ → Type 0
+HasLength v rvc faults padding kind bytes =
+    faults ≡ [] → near_forms_of rvc kind ≡ None → (found : List Coded) → IsCoded v rvc kind found
+    → padding + length (bytes_coded found) ≡ bytes
+
+abbrev pub HasLengthAt : Tables → Located → ℕ → Type 0
+HasLengthAt t s bytes =
+    HasLength (λ e. value_at t s e) s.options.rvc (code_faults_at t s) (padding_at t s) s.kind bytes
+
+-- of statements, one after the other
+abbrev pub HaveLengths : Tables → List Located → List ℕ → Type 0
+HaveLengths t [] [] = ⊤
+HaveLengths t [] (bytes ∷ lengths) = ⊥
+HaveLengths t (s ∷ ss) [] = ⊥
+HaveLengths t (s ∷ ss) (bytes ∷ lengths) = HasLengthAt t s bytes × HaveLengths t ss lengths
+
+-- and each may be asked to be so long
+pub record IsLength (t : Tables) (s : Located) (bytes : ℕ) : Type 0 where
+  pub offered : MayHave s.options.rvc s.kind bytes
+  pub told : HasLengthAt t s bytes
+
+abbrev pub AreLengths : Tables → List Located → List ℕ → Type 0
+AreLengths t [] [] = ⊤
+AreLengths t [] (bytes ∷ lengths) = ⊥
+AreLengths t (s ∷ ss) [] = ⊥
+AreLengths t (s ∷ ss) (bytes ∷ lengths) = IsLength t s bytes × AreLengths t ss lengths
+
+-- ---- whose words alone tell it
+
+abbrev pub is_unary : Plain → Bool
+is_unary (Unary operation rd rs) = true
+is_unary _ = false
+
+-- one instruction, of four bytes where compressed code is off
+abbrev pub is_word : Operation → Bool
+is_word (operations.Registers operation rd rs1) = true
+is_word (operations.Immediate operation rd rs1) = true
+is_word (operations.Shift operation rd rs1) = true
+is_word (operations.Upper operation rd) = true
+is_word (operations.Load operation rd rs1) = true
+is_word (operations.Store operation rs2 rs1) = true
+is_word (operations.Jalr rd rs1) = true
+is_word (operations.JalrThen rd rs1) = true
+is_word (operations.JalrLinked rs1) = true
+is_word (operations.Jr rs) = true
+is_word _ = false
+
+abbrev pub is_jal : Operation → Bool
+is_jal (operations.Jal rd) = true
+is_jal operations.JalLinked = true
+is_jal _ = false
+
+-- several instructions, by their operands
+abbrev pub is_longer : Operation → Bool
+is_longer (operations.La rd) = true
+is_longer (operations.Li rd) = true
+is_longer (operations.LoadSymbol operation rd) = true
+is_longer (operations.StoreSymbol operation rs2 rt) = true
+is_longer _ = false
+
+-- ---- what sizes see
+
+-- an item is what sizes see of a statement, by the index from 0 and what it has as code, in a
+-- section of code or not
 abbrev pub IsSeenAs :
-    Scope → ℕ → List SectionOffset → SectionOffset → Bool → StatementKind → Item → Type 0
-IsSeenAs scope index places place rvc kind item =
+    Scope → ℕ → List SectionOffset → SectionOffset → Bool → Bool → StatementKind → Item → Type 0
+IsSeenAs scope index places place executable rvc kind item =
     (bytes : ℕ)
+    × HasLength (values_at scope index place) rvc (faults_at scope index place kind)
+    (padding_of executable (values_at scope index place) kind) kind bytes
     × (item ≡ item_in (section_in places) place.section (tables (said scope.unit.now))
     (index + 1) (values_at scope index place) rvc bytes kind)
 
--- items are what sizes see of a source's statements, by some lengths of those that are settled
+-- items are what sizes see of a source's statements, by lengths of those that are settled
 pub record IsMeasured (ss : List Statement) (items : List Item) : Type 0 where
   pub lengths : List ℕ
+  pub told : HaveLengths (tables ss) (located_from 1 1 at_start ss) lengths
   pub count : length lengths ≡ length ss
   pub seen : items
       ≡ items_of (tables ss) (located_from 1 1 at_start ss) (located_from 1 1 at_start ss) lengths

@@ -1,28 +1,29 @@
 -- What a statement of data adds where it stands.
 
-use Rattle.std.specs.Prelude.{◌≡◌, ℕ, ◌+◌, ◌==◌, ⊤, Bool, List, [], ◌∷◌, ◌++◌, flat_map, length, map, Option, Some, None, if◌then◌else◌}
+use Rattle.std.specs.Prelude.{◌≡◌, ℕ, ◌+◌, ◌==◌, Bool, List, [], ◌∷◌, ◌++◌, flat_map, length, map, Option, Some, None, if◌then◌else◌}
 use Rattle.std.specs.Global.{Vec}
 use Rattle.rv_isa.specs.declared.kind.Kind.{Kind}
 use Rattle.rv_text_laws.specs.Values.{Value}
-use Rattle.rv_statement.specs.Statement.{StatementKind, Instruction, Expression}
+use Rattle.rv_statement.specs.Statement.{StatementKind, Expression}
 use Rattle.rv_unit_laws.specs.Tables.{tables}
 use Rattle.rv_unit_tables.specs.Sections.{offset_of}
-use Rattle.rv_unit.specs.Unit.{said}
+use Rattle.rv_unit.specs.Unit.{said, IsFilled, IsScope}
 use Rattle.rv_source_laws.specs.Located.{Located}
 use Rattle.rv_source_laws.specs.Program.{place_of}
 use Rattle.rv_assemble_laws.specs.CodeFields.{relax_fields}
 use Rattle.rv_assemble_laws.specs.Templates.{Open, Datum, value_fields}
 use Rattle.rv_assemble_laws.specs.Sites.{Part, part_of, part_bytes}
 use Rattle.rv_assemble_laws.specs.Fields.{Field, field_at}
-use Rattle.rv_instruction.specs.Code.{Shape, encoded_bytes, shape_in}
+use Rattle.rv_instruction.specs.Code.{Shape, encoded_bytes, shape_in, MayHave}
 use Rattle.rv_instruction.specs.Opened.{fields_of}
-use Rattle.rv_instruction.specs.Scoped.{values_at, AtNext}
+use Rattle.rv_instruction.specs.Scoped.{values_at, faults_at, AtNext}
 use Rattle.rv_draft.specs.declared.data.Spot.{Spot}
 use Rattle.rv_draft.specs.declared.field.OpenField.{OpenField}
 use Rattle.rv_instruction.specs.declared.encoded.Coded.{Coded}
 use Rattle.rv_draft.specs.declared.fields.Choices.{Choices}
 use Rattle.rv_draft.specs.declared.item.Item.{Item}
-use Rattle.rv_draft.specs.Code.{GrowsBy, bytes_coded}
+use Rattle.rv_draft.specs.Code.{GrowsBy}
+use Rattle.rv_draft.specs.Coded.{IsCoded, HasBytes}
 use Rattle.rv_draft.specs.Seated.{site_of}
 use Rattle.rv_draft.specs.DataParts.{data_said, fields_said, code_said}
 use Rattle.rv_draft.specs.Draft.{field_of}
@@ -81,8 +82,19 @@ pub record IsAtSpot (spot : Spot) (index : ℕ) (says : StatementKind) (choices 
 
 -- an instruction has the bytes of its code
 abbrev pub HasBytesOf : List Coded → Item → StatementKind → Type 0
-HasBytesOf coded x (Instruction mnemonic operands) = x.bytes ≡ length (bytes_coded coded)
-HasBytesOf coded x kind = ⊤
+HasBytesOf coded x kind = HasBytes coded x.bytes kind
+
+-- the statement that is next there, which says this, has code of so many bytes, without a fault, and
+-- may be asked for it
+pub record IsMadeAt (spot : Spot) (says : StatementKind) (rvc : Bool) (bytes : ℕ) : Type 0 where
+  pub index : ℕ
+  pub filled : IsFilled spot.scope.now.unit.now
+  pub next : IsScope spot.scope.now index
+  pub sound : faults_at spot.scope.now index spot.place says ≡ []
+  pub offered : MayHave rvc says bytes
+  pub coded : List Coded
+  pub is : IsCoded (λ e. value_in spot index e) rvc says coded
+  pub long : HasBytes coded bytes says
 
 -- the open fields of a statement that stands as its item says and has this code
 abbrev pub code_fields : Spot → Located → Item → List Coded → List Field

@@ -1,15 +1,15 @@
 //! The code of a source's sections: its instructions as they lie in memory, one after another.
 //!
 //! The code of a statement is made three times: for the sizes of branches, here for the bytes, and for the open fields.
-//! To keep it would take memory for each statement. Most statements are one instruction with nothing open, so this pass
-//! asks for that first and needs no list for them.
+//! To keep it would take memory for each statement. It is the same each time: `HasCode` has one length for a statement, by
+//! its values and by the length that it is asked to have. Most statements are one instruction with nothing open, so this
+//! pass asks for that first and needs no list for them.
 
-ghost use Rattle.std.specs.Prelude.{◌≡◌, ◌<◌, ◌≤◌, ℕ, ◌+◌, ◌++◌, Bool, true, List, [], length, IfOk, IfSome, OnOk};
+ghost use Rattle.std.specs.Prelude.{◌≡◌, ◌<◌, ◌≤◌, ℕ, ◌+◌, ◌++◌, Bool, true, List, [], length, is_some, IfOk, OnOk};
 ghost use Rattle.rv_isa_laws.specs.Bytes.{little_endian};
 ghost use Rattle.rv_text_laws.specs.Values as values;
 ghost use Rattle.rv_statement.specs.Statement.{Expression};
-ghost use Rattle.rv_statement.specs.View.{statement_of, statement_kind};
-ghost use Rattle.rv_layout_laws.specs.Branches.{Offers};
+ghost use Rattle.rv_statement.specs.View.{statement_of};
 ghost use Rattle.rv_unit_laws.specs.Tables.{Tables, at_start, tables};
 ghost use Rattle.rv_unit.specs.Unit.{said, IsFilled, IsScope};
 ghost use Rattle.rv_source_laws.specs.Located.{Located, located_from};
@@ -17,18 +17,18 @@ ghost use Rattle.rv_assemble_laws.specs.Refusals.{else_fault};
 ghost use Rattle.rv_source_laws.specs.Sizes.{AreLeast};
 ghost use Rattle.rv_draft.specs.Added.{Adds, IsAllCode, IsCodeSoFar, IsSourceCode};
 ghost use Rattle.rv_draft.specs.Code as laws;
+ghost use Rattle.rv_draft.specs.Measure.{AreLengths};
 ghost use Rattle.rv_draft.specs.Sized.{bytes_of_sizes};
-ghost use Rattle.rv_instruction.specs.Code.{alone_coded, encoded_bytes, encoded_instructions, instructions_of, HasCode, MayHave};
+ghost use Rattle.rv_instruction.specs.Code.{alone_coded, encoded_bytes, encoded_instructions, instructions_of, near_forms_of, HasCode, MayHave};
 ghost use Rattle.rv_draft.specs.Code.{GrowsBy, full_fault, full_at};
 ghost use Rattle.rv_instruction.specs.Scoped.{values_at, faults_at};
 
 use crate::item::CodeSize;
 use crate::items::extent_at;
 use crate::paddings::padding_of;
-use rv_instruction::{Coded, Encoded, code as code_of, near_forms, one_code};
-use rv_layout_laws::Forms;
+use rv_instruction::{Coded, Encoded, code as code_of, one_code};
 use rv_object::{operations, put_no_operations};
-use rv_statement::{Statement, StatementKind};
+use rv_statement::Statement;
 use rv_text::{SourceCode, SourceFault};
 use rv_unit::{LONGEST_SECTION, Scope, SectionOffset, Unit};
 use std::alloc::{AllocError, Global};
@@ -194,33 +194,11 @@ fn size_of_one(padding: u32, encoded: Encoded) -> CodeSize
 
 // ---- the lengths of branches
 
-/// Whether forms have a length.
-fn offers(forms: Forms, length: u8) -> bool
-    ensures { result ≡ true → Offers forms length }
+/// A length that a branch, a jump or a call is asked to have: theirs are below 256.
+pub(crate) fn asked(length: u32) -> u8
+    ensures { length ≤ 255 → result ≡ length }
 {
-    match forms {
-        Forms::Settled(bytes) => u32::from(length) == bytes,
-        Forms::CompressedBranch => length == 2 || length == 4 || length == 8,
-        Forms::Branch => length == 4 || length == 8,
-        Forms::CompressedJump => length == 2 || length == 4,
-    }
-}
-
-/// A length in the forms of a statement, where it is one of them.
-pub(crate) fn asked(kind: &StatementKind<'_>, compressed: bool, length: u32) -> Option<u8>
-    ensures { IfSome result (λ bytes. MayHave compressed (statement_kind kind.now) bytes) }
-{
-    match near_forms(kind, compressed) {
-        None => Some(4),
-        Some(forms) => {
-            let bytes = (length % 256) as u8;
-            if offers(forms, bytes) {
-                Some(bytes)
-            } else {
-                None
-            }
-        }
-    }
+    length.min(255) as u8
 }
 
 /// `count` sections without code.
@@ -255,21 +233,6 @@ fn full_behind(full: Option<u32>, bytes: usize, line: u32) -> Option<u32>
     }
 }
 
-/// Whether statements have these lengths in code.
-fn have_lengths(sizes: &[CodeSize], lengths: &[u32]) -> bool
-    ensures { result ≡ true → bytes_of_sizes sizes.now ≡ lengths.now }
-{
-    if sizes.len() != lengths.len() {
-        return false;
-    }
-    for index in 0..sizes.len() {
-        if sizes[index].bytes != lengths[index] {
-            return false;
-        }
-    }
-    true
-}
-
 /// The code of a source.
 #[derive(Debug, Drop)]
 pub(crate) struct SectionCode {
@@ -297,6 +260,7 @@ impl Coder {
         ensures count { IfOk result (λ c. length c.sections.items ≡ sections) }
         ensures begun { IfOk result (λ c. (t : Tables) (all : List Located)
             → IsCodeSoFar t all all c) }
+        ensures none { IfOk result (λ c. c.sizes.items ≡ []) }
     {
         Ok(Coder {
             sections: empty_sections(alloc, sections)?,
@@ -305,18 +269,13 @@ impl Coder {
         })
     }
 
-    /// The code of all statements after the last, where no section is too long,
-    /// whose lengths have to be these.
-    pub(crate) fn finish(self, lengths: &[u32]) -> Result<SectionCode, SourceFault>
+    /// The code of all statements after the last, where no section is too long.
+    pub(crate) fn finish(self) -> Result<SectionCode, SourceFault>
         ensures count { IfOk result
             (λ c. length c.sections.items ≡ length self.sections.items) }
         ensures code { (t : Tables) (all : List Located) → IsCodeSoFar t all [] self
-            → IsAllCode t all lengths.now result }
+            → IsAllCode t all (bytes_of_sizes self.sizes.items) result }
     {
-        // no other lengths were asked for
-        if !have_lengths(self.sizes.as_slice(), lengths) {
-            return Err(SourceFault::OutOfMemory);
-        }
         match self.full {
             Some(line) => Err(SourceFault::At {
                 code: SourceCode::Limit,
@@ -341,20 +300,18 @@ impl Coder {
         compressed: bool,
         wanted: u32,
     ) -> Result<(), SourceFault>
-        requires { place.section < length self.old.sections.items }
+        requires asked { MayHave compressed (statement_of statement.now).kind wanted }
+        requires section { place.section < length self.old.sections.items }
         ensures { (index : ℕ) → IsFilled (scope.now).unit.now → IsScope scope.now index
             → Adds self.old self.new place.section executable
             (faults_at scope.now index place (statement_of statement.now).kind)
-            (values_at scope.now index place) compressed (statement_of statement.now) result }
+            (values_at scope.now index place) compressed wanted (statement_of statement.now)
+            result }
     {
-        // each length is offered, as the least sizes are a family
-        let Some(bytes) = asked(&statement.kind, compressed, wanted) else {
-            return Err(SourceFault::OutOfMemory);
-        };
         let padding = padding_of(statement, scope, place, executable);
         match one_code(statement, scope, place, compressed) {
             Some(encoded) => self.add_one(statement, place.section, padding, encoded),
-            None => self.add_code(statement, scope, place, padding, compressed, bytes),
+            None => self.add_code(statement, scope, place, padding, compressed, wanted),
         }
     }
 
@@ -366,9 +323,9 @@ impl Coder {
         place: SectionOffset,
         padding: u32,
         compressed: bool,
-        bytes: u8,
+        wanted: u32,
     ) -> Result<(), SourceFault>
-        requires asked { MayHave compressed (statement_of statement.now).kind bytes }
+        requires asked { MayHave compressed (statement_of statement.now).kind wanted }
         requires low { padding ≤ 65535 }
         requires section { place.section < length self.old.sections.items }
         ensures { (index : ℕ) → IsFilled (scope.now).unit.now → IsScope scope.now index
@@ -376,9 +333,10 @@ impl Coder {
             (values_at scope.now index place) (statement_of statement.now).kind
             → Adds self.old self.new place.section executable
             (faults_at scope.now index place (statement_of statement.now).kind)
-            (values_at scope.now index place) compressed (statement_of statement.now) result }
+            (values_at scope.now index place) compressed wanted (statement_of statement.now)
+            result }
     {
-        match code_of(statement, scope, place, compressed, bytes) {
+        match code_of(statement, scope, place, compressed, asked(wanted)) {
             Ok(found) => self.add_found(statement, place.section, padding, found.as_slice()),
             Err(fault) => Err(fault),
         }
@@ -395,10 +353,12 @@ impl Coder {
         requires low { padding ≤ 65535 }
         requires section { section < length self.old.sections.items }
         ensures { (executable : Bool) (faults : List ℕ) (v : Expression → values.Value)
-            (rvc : Bool) (bytes : ℕ) → faults ≡ []
+            (rvc : Bool) (bytes wanted : ℕ) → faults ≡ []
             → padding ≡ laws.padding_of executable v (statement_of statement.now).kind
             → HasCode v rvc bytes (statement_of statement.now).kind (alone_coded encoded).items
-            → Adds self.old self.new section executable faults v rvc
+            → (is_some (near_forms_of rvc (statement_of statement.now).kind) ≡ true
+            → bytes ≡ wanted)
+            → Adds self.old self.new section executable faults v rvc wanted
             (statement_of statement.now) result }
     {
         put_one_in(self.sections.as_mut_slice(), section, padding, encoded)?;
@@ -420,10 +380,12 @@ impl Coder {
         requires few { length found.now ≤ 8 }
         requires section { section < length self.old.sections.items }
         ensures { (executable : Bool) (faults : List ℕ) (v : Expression → values.Value)
-            (rvc : Bool) (bytes : ℕ) → faults ≡ []
+            (rvc : Bool) (bytes wanted : ℕ) → faults ≡ []
             → padding ≡ laws.padding_of executable v (statement_of statement.now).kind
             → HasCode v rvc bytes (statement_of statement.now).kind found.now
-            → Adds self.old self.new section executable faults v rvc
+            → (is_some (near_forms_of rvc (statement_of statement.now).kind) ≡ true
+            → bytes ≡ wanted)
+            → Adds self.old self.new section executable faults v rvc wanted
             (statement_of statement.now) result }
     {
         put_section(self.sections.as_mut_slice(), section, padding, found)?;
@@ -444,6 +406,8 @@ pub(crate) fn code(
     requires count { length lengths.now ≡ length (unit.now).statements.items }
     requires least { AreLeast (tables (said unit.now)) (located_from 1 1 at_start (said unit.now))
         lengths.now }
+    requires told { AreLengths (tables (said unit.now))
+        (located_from 1 1 at_start (said unit.now)) lengths.now }
     ensures count { IfOk result
         (λ c. length c.sections.items ≡ length (unit.now).tables.extents.items) }
     ensures code { IsSourceCode (said unit.now) lengths.now result }
@@ -469,5 +433,5 @@ pub(crate) fn code(
         )?;
         scope.pass();
     }
-    coder.finish(lengths)
+    coder.finish()
 }

@@ -10,7 +10,7 @@ use rv_statement::StatementKind;
 use rv_unit::Unit;
 
 /// Whether a statement is code: an instruction, or an alignment in a section of code.
-fn is_code(executable: bool, kind: &StatementKind<'_>) -> bool
+pub(crate) fn is_code(executable: bool, kind: &StatementKind<'_>) -> bool
     ensures { result ≡ is_code_kind executable kind.now }
 {
     match kind {

@@ -11,16 +11,17 @@ ghost use Rattle.rv_isa_laws.specs.Bytes.{little_endian, zeros};
 ghost use Rattle.rv_text.specs.Expr.{tree_of_expr};
 ghost use Rattle.rv_text.specs.Nodes.{symbol_of};
 ghost use Rattle.rv_statement.specs.View.{bytes_of, quoted, statement_kind};
-ghost use Rattle.rv_unit_laws.specs.Tables.{string_bytes, longest_section};
+ghost use Rattle.rv_unit_laws.specs.Tables.{at_start, tables, string_bytes, longest_section};
 ghost use Rattle.rv_unit_tables.specs.Sections.{section_of};
 ghost use Rattle.rv_unit.specs.Faults.{ForValue};
 ghost use Rattle.rv_unit.specs.Unit.{said, IsFilled, IsScope};
+ghost use Rattle.rv_source_laws.specs.Located.{located_from};
 ghost use Rattle.rv_assemble_laws.specs.Templates as laws;
 ghost use Rattle.rv_assemble_laws.specs.Templates.{opened, value_bytes};
 ghost use Rattle.rv_assemble_laws.specs.Sites.{part_bytes};
 ghost use Rattle.rv_assemble_laws.specs.Fields.{field_at};
 ghost use Rattle.rv_instruction.specs.declared.encoded.Coded.{Coded};
-ghost use Rattle.rv_draft.specs.DataParts.{is_filled, HasRoomFor, HaveCode, IsLaid, IsDataTo, IsData};
+ghost use Rattle.rv_draft.specs.DataParts.{is_filled, AreMade, HasRoomFor, HaveCode, IsLaid, IsDataTo, IsData};
 ghost use Rattle.rv_draft.specs.Draft.{field_of};
 ghost use Rattle.rv_draft.specs.Spots.{value_in, parts_in, said_in, own_fields, fields_in, AddsBytes, AddsFields, AddsParts};
 
@@ -421,15 +422,18 @@ fn put_next<'a>(
     index: usize,
     scope: &Scope<'_, 'a>,
     items: &[Item],
-) -> Result<(), SourceFault>
+) -> Result<(), AllocError>
     requires filled { IsFilled unit.now }
     requires within { index < length (unit.now).statements.items }
     requires few { length (unit.now).statements.items < 2 ^ 32 }
     requires item { index < length items.now }
     requires laid { IsLaid (said unit.now) items.now }
+    requires made { AreMade (tables (said unit.now)) (located_from 1 1 at_start (said unit.now))
+        items.now }
+    requires same { (scope.now).unit.now ≡ unit.now }
+    requires next { IsScope scope.now index }
     requires each { length sections.old ≡ length (unit.now).tables.extents.items }
     ensures data { OnOk result ((start : List (Vec ℕ)) (codes : List (List Coded))
-        → (scope.now).unit.now ≡ unit.now → IsScope scope.now index
         → HaveCode (said unit.now) items.now codes
         → IsDataTo (said unit.now) items.now codes start index sections.old fields.old.items
         → IsDataTo (said unit.now) items.now codes start (index + 1) sections.new
@@ -479,11 +483,13 @@ pub(crate) fn data<'a>(
     unit: &Unit<'a>,
     items: &[Item],
     code: Vec<Vec<u8>>,
-) -> Result<Filled<'a>, SourceFault>
+) -> Result<Filled<'a>, AllocError>
     requires filled { IsFilled unit.now }
     requires few { length (unit.now).statements.items < 2 ^ 32 }
     requires count { length items.now ≡ length (unit.now).statements.items }
     requires laid { IsLaid (said unit.now) items.now }
+    requires made { AreMade (tables (said unit.now)) (located_from 1 1 at_start (said unit.now))
+        items.now }
     requires each { length code.items ≡ length (unit.now).tables.extents.items }
     ensures count { IfOk result (λ r. length r.sections.items ≡ length code.items) }
     ensures data { IfOk result (λ r. (codes : List (List Coded))

@@ -1,9 +1,9 @@
 //! A source with its bytes and its open fields.
 //!
 //! The statements are gone over once for each question (sizes, code, items, data), so that each loop is proved by
-//! itself; code is made anew each time, because keeping it would take memory for each statement. Where a later look
-//! found another length, memory is said to have run out and no wrong bytes are written; that this cannot happen is read
-//! and tested, and not proved.
+//! itself; code is made anew each time, because keeping it would take memory for each statement. It is the same each
+//! time: it has the length that sizes saw (`HaveLengths`), and no later look finds a fault where an earlier one found code
+//! (`IsMade`).
 
 ghost use Rattle.std.specs.Prelude.{◌≡◌, None, IfOk, IfErr};
 ghost use Rattle.rv_unit_laws.specs.Faults.{first_fault};
@@ -48,20 +48,13 @@ impl<'a> Draft<'a> {
         ensures sound { IfOk result (λ _. code_fault (said unit.now) ≡ None) }
         ensures refuses { IfErr result (λ e. IsRefused (said unit.now) e) }
     {
-        // ordinals have 32 bits: as many statements need more memory than there is
-        if unit.statements().len() >= 1 << 32 {
-            return Err(SourceFault::OutOfMemory);
-        }
         let lengths = lengths(alloc, unit)?;
         let code = code(alloc, unit, lengths.as_slice())?;
         // the lengths make room for the items
         drop(lengths);
         let sizes = code.sizes.as_slice();
         let (items, ends) = items(alloc, unit, sizes)?;
-        // the code of each statement was found before
-        let Ok(filled) = data(alloc, unit, items.as_slice(), code.sections) else {
-            return Err(SourceFault::OutOfMemory);
-        };
+        let filled = data(alloc, unit, items.as_slice(), code.sections)?;
         let Filled { sections, fields } = filled;
         Ok(Draft {
             items,

@@ -1,11 +1,11 @@
 //! The open fields of code, in the order of the source.
 //!
-//! The code of each statement is made again, since to keep it would take memory for each statement. Where its length is
-//! not that of the pass before, the answer is want of memory, and never a field at a wrong place.
+//! The code of each statement is made again, since to keep it would take memory for each statement. It is the code that
+//! its section has.
 //!
 //! Source: System V gABI, "Relocation"; RISC-V ELF psABI, "Relocations", "Linker Relaxation".
 
-ghost use Rattle.std.specs.Prelude.{◌≡◌, ◌≤◌, true, false, ◌+◌, ◌++◌, List, [], ◌∷◌, map, length, None, IfOk, OnOk};
+ghost use Rattle.std.specs.Prelude.{◌≡◌, ◌≤◌, true, false, ◌+◌, ◌++◌, List, [], ◌∷◌, map, length, None, OnOk};
 ghost use Rattle.rv_isa.specs.declared.kind.Kind.TheVariants as kinds;
 ghost use Rattle.rv_statement.specs.View.{statement_kind};
 ghost use Rattle.rv_unit_laws.specs.Tables.{tables, longest_section};
@@ -18,20 +18,19 @@ ghost use Rattle.rv_instruction.specs.declared.encoded.Coded.{Coded as SpecCoded
 ghost use Rattle.rv_instruction.specs.Code.{encoded_instructions, shape_in};
 ghost use Rattle.rv_instruction.specs.Opened.{opens_of, open_of};
 ghost use Rattle.rv_draft.specs.Code.{bytes_coded};
-ghost use Rattle.rv_draft.specs.Coded.{IsCoded, IsCodedAt};
+ghost use Rattle.rv_draft.specs.Coded.{IsCoded, IsCodedAt, HasBytes};
 ghost use Rattle.rv_draft.specs.DataParts as parts;
 ghost use Rattle.rv_draft.specs.Draft.{field_of};
 ghost use Rattle.rv_draft.specs.Seated.{site_of};
-ghost use Rattle.rv_draft.specs.Spots.{value_in, kind_opens, pair_opens, own_opens, opens_in, fields_coded, code_fields, AddsAt, AtOwn, AtSpot, HasBytesOf, IsAtSpot};
+ghost use Rattle.rv_draft.specs.Spots.{value_in, kind_opens, pair_opens, own_opens, opens_in, fields_coded, code_fields, AddsAt, AtOwn, AtSpot, HasBytesOf, IsAtSpot, IsMadeAt};
 
-use crate::code::{asked, bytes_of, width};
+use crate::code::{asked, width};
 use crate::data::Spot;
 use crate::field::OpenField;
 use crate::item::Item;
 use rv_instruction::{Code, Coded, Encoded, Reference, code as code_of, is_closed, open_field};
 use rv_isa::Kind;
 use rv_statement::{Statement, StatementKind};
-use rv_text::SourceFault;
 use std::alloc::AllocError;
 
 /// How the code of a statement is written: whether compressed code is on, and whether the linker
@@ -74,7 +73,7 @@ fn put_found<'a>(
     place: u32,
     kind: Kind,
     found: Option<Reference<'a>>,
-) -> Result<(), SourceFault>
+) -> Result<(), AllocError>
     ensures { OnOk result (map field_of fields.new.items
         ≡ map field_of fields.old.items
         ++ map (field_at section place) (opens_of kind found.entry)) }
@@ -96,7 +95,7 @@ fn put_field<'a>(
     statement: &Statement<'a>,
     place: u32,
     kind: Kind,
-) -> Result<(), SourceFault>
+) -> Result<(), AllocError>
     ensures { OnOk result (AtOwn spot.now (λ index. AddsAt spot.now place fields.old.items
         fields.new.items (own_opens spot.now index (statement_kind (statement.now).kind) kind))) }
 {
@@ -111,7 +110,7 @@ fn put_kind<'a>(
     statement: &Statement<'a>,
     place: u32,
     kind: Option<Kind>,
-) -> Result<(), SourceFault>
+) -> Result<(), AllocError>
     ensures { OnOk result (AtOwn spot.now (λ index. AddsAt spot.now place fields.old.items
         fields.new.items
         (kind_opens (own_opens spot.now index (statement_kind (statement.now).kind)) kind))) }
@@ -183,7 +182,7 @@ fn put_part<'a>(
     relax: bool,
     place: u32,
     part: &Coded,
-) -> Result<(), SourceFault>
+) -> Result<(), AllocError>
     ensures { OnOk result (AtOwn spot.now (λ index. AddsAt spot.now place fields.old.items
         fields.new.items
         (opens_in spot.now index (statement_kind (statement.now).kind) relax
@@ -202,7 +201,7 @@ fn put_parts<'a>(
     relax: bool,
     offset: u32,
     code: &[Coded],
-) -> Result<(), SourceFault>
+) -> Result<(), AllocError>
     requires { offset + length (bytes_coded code.now) ≤ longest_section }
     ensures { OnOk result (AtOwn spot.now (λ index. map field_of fields.new.items
         ≡ map field_of fields.old.items
@@ -217,27 +216,23 @@ fn put_parts<'a>(
     Ok(())
 }
 
-/// The code of a statement in a section of code, which has so many bytes.
+/// The code of a statement in a section of code, which was made in so many bytes before.
 fn code_in_bytes<'a>(
     statement: &Statement<'a>,
     spot: &Spot<'_, '_, 'a>,
     compressed: bool,
     bytes: u32,
-) -> Result<Code, SourceFault>
-    ensures long { IfOk result (λ c. length (bytes_coded c.items) ≡ bytes) }
-    ensures code { IfOk result (λ c. AtSpot spot.now (λ index.
-        IsCoded (λ e. value_in spot.now index e) compressed
-        (statement_kind (statement.now).kind) c.items)) }
+) -> Code
+    requires made { IsMadeAt spot.now (statement_kind (statement.now).kind) compressed bytes }
+    ensures long { HasBytes result.items bytes (statement_kind (statement.now).kind) }
+    ensures fits { length (bytes_coded result.items) ≤ bytes }
+    ensures code { AtSpot spot.now (λ index. IsCoded (λ e. value_in spot.now index e) compressed
+        (statement_kind (statement.now).kind) result.items) }
 {
-    // each length is offered, and has the bytes that it had before
-    let Some(length) = asked(&statement.kind, compressed, bytes) else {
-        return Err(SourceFault::OutOfMemory);
-    };
-    let found = code_of(statement, spot.scope, spot.place, compressed, length)?;
-    if u32::from(bytes_of(found.as_slice())) != bytes {
-        return Err(SourceFault::OutOfMemory);
+    match code_of(statement, spot.scope, spot.place, compressed, asked(bytes)) {
+        Ok(found) => found,
+        Err(_) => unreachable!(),
     }
-    Ok(found)
 }
 
 /// Whether a statement is an alignment.
@@ -288,8 +283,10 @@ fn put_instruction<'a>(
     statement: &Statement<'a>,
     choices: Choices,
     item: Item,
-) -> Result<(), SourceFault>
-    requires { item.offset + item.bytes ≤ longest_section }
+) -> Result<(), AllocError>
+    requires fits { item.offset + item.bytes ≤ longest_section }
+    requires made { IsMadeAt spot.now (statement_kind (statement.now).kind) choices.compressed
+        item.bytes }
     ensures { OnOk result (AtSpot spot.now (λ index. (l : Located) (coded : List SpecCoded)
         → IsAtSpot spot.now index (statement_kind (statement.now).kind) choices l
         → parts.is_alignment l.kind ≡ false → HasBytesOf coded item l.kind
@@ -302,7 +299,7 @@ fn put_instruction<'a>(
     if is_closed(&statement.kind) {
         return Ok(());
     }
-    let found = code_in_bytes(statement, spot, choices.compressed, item.bytes)?;
+    let found = code_in_bytes(statement, spot, choices.compressed, item.bytes);
     put_parts(
         fields,
         spot,
@@ -320,8 +317,10 @@ pub(crate) fn put_code<'a>(
     statement: &Statement<'a>,
     choices: Choices,
     item: Item,
-) -> Result<(), SourceFault>
-    requires { item.offset + item.bytes ≤ longest_section }
+) -> Result<(), AllocError>
+    requires fits { item.offset + item.bytes ≤ longest_section }
+    requires made { IsMadeAt spot.now (statement_kind (statement.now).kind) choices.compressed
+        item.bytes }
     ensures { OnOk result (AtSpot spot.now (λ index. (l : Located) (coded : List SpecCoded)
         → IsAtSpot spot.now index (statement_kind (statement.now).kind) choices l
         → HasBytesOf coded item l.kind

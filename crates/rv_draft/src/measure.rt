@@ -2,110 +2,184 @@
 //!
 //! Source: GNU as, "RISC-V-Directives"; RISC-V Unprivileged ISA 20191213, chapters 2.5 and 16.
 
-ghost use Rattle.std.specs.Prelude.{◌≡◌, ◌<◌, ◌^◌, length, IfOk, IfErr, IfSome};
-ghost use Rattle.rv_lexer.specs.declared.fault.SourceFault.TheVariants.{OutOfMemory};
-ghost use Rattle.rv_statement.specs.View.{statement_kind};
+ghost use Rattle.std.specs.Prelude.{◌≡◌, ◌<◌, ◌^◌, ◌+◌, ℕ, true, None, length, IfOk, IfSome};
+ghost use Rattle.rv_statement.specs.View.{plain_of, statement_kind};
 ghost use Rattle.rv_unit_laws.specs.Tables.{at_start, tables};
 ghost use Rattle.rv_unit.specs.Unit.{said, IsFilled};
 ghost use Rattle.rv_source_laws.specs.Located.{located_from};
 ghost use Rattle.rv_source_laws.specs.Sizes.{AreLeast};
-ghost use Rattle.rv_instruction.specs.Code.{MayHave};
-ghost use Rattle.rv_instruction.specs.Scoped.{AtNext};
-ghost use Rattle.rv_draft.specs.Measure.{IsSeenAs, IsMeasured};
+ghost use Rattle.rv_instruction.specs.Code.{near_forms_of};
+ghost use Rattle.rv_instruction.specs.Scoped.{values_at, faults_at, AtNext};
+ghost use Rattle.rv_draft.specs.Measure as laws;
+ghost use Rattle.rv_draft.specs.Measure.{AreLengths, HasLength, HasLengthWith, HasOneLength, IsSeenAs, IsMeasured};
 
-use crate::code::{asked, bytes_of, width};
+use crate::code::{bytes_of, width};
+use crate::compressed::is_code;
 use crate::items::extent_at;
 use crate::paddings::padding_of;
-use rv_instruction::{code as code_of, item, one_code};
-use rv_layout::{Layout, is_input};
+use rv_instruction::{code as code_of, item, near_forms, one_code};
+use rv_layout::Layout;
 use rv_layout_laws::Item as LayoutItem;
 use rv_statement::{Operation, Plain, Statement, StatementKind};
-use rv_text::SourceFault;
 use rv_unit::{Scope, SectionOffset, Unit};
 use std::alloc::{AllocError, Global};
 
-/// The bytes of an instruction that may have a form of two bytes where compressed code is on.
-fn word_length(compressed: bool) -> Option<u8> {
-    if compressed { None } else { Some(4) }
+/// Whether a statement without an expression may be two instructions.
+fn is_unary(statement: &Plain) -> bool
+    ensures { result ≡ laws.is_unary statement.now }
+{
+    matches!(statement, Plain::Unary(..))
+}
+
+/// Whether an operation with an expression is one instruction, which may have a form of two bytes.
+fn is_word(operation: &Operation) -> bool
+    ensures { result ≡ laws.is_word operation.now }
+{
+    matches!(
+        operation,
+        Operation::Registers(..)
+            | Operation::Immediate(..)
+            | Operation::Shift(..)
+            | Operation::Upper(..)
+            | Operation::Load(..)
+            | Operation::Store(..)
+            | Operation::Jalr(..)
+            | Operation::JalrThen(..)
+            | Operation::JalrLinked(_)
+            | Operation::Jr(_)
+    )
+}
+
+/// Whether an operation is a jump that may write where it came from, which no form of two bytes does.
+fn is_jal(operation: &Operation) -> bool
+    ensures { result ≡ laws.is_jal operation.now }
+{
+    matches!(operation, Operation::Jal(_) | Operation::JalLinked)
+}
+
+/// Whether the operands of an operation tell how many instructions it is.
+fn is_longer(operation: &Operation) -> bool
+    ensures { result ≡ laws.is_longer operation.now }
+{
+    matches!(
+        operation,
+        Operation::La(_) | Operation::Li(_) | Operation::LoadSymbol(..) | Operation::StoreSymbol(..)
+    )
 }
 
 /// The bytes of a statement without an expression, where its words alone tell them.
-fn plain_length(statement: &Plain, compressed: bool) -> Option<u8> {
-    match statement {
-        Plain::Unary(..) => None,
-        _ => word_length(compressed),
+fn plain_length(statement: &Plain, compressed: bool) -> Option<u8>
+    ensures { IfSome result (λ n. HasOneLength compressed (plain_of statement.now) n) }
+{
+    if compressed {
+        return None;
     }
+    if is_unary(statement) {
+        return None;
+    }
+    Some(4)
 }
 
-/// The bytes of an operation with an expression, where its words alone tell them.
-fn operation_length(operation: &Operation, compressed: bool) -> Option<u8> {
-    match operation {
-        Operation::Registers(..)
-        | Operation::Immediate(..)
-        | Operation::Shift(..)
-        | Operation::Upper(..)
-        | Operation::Load(..)
-        | Operation::Store(..)
-        | Operation::Jalr(..)
-        | Operation::JalrThen(..)
-        | Operation::JalrLinked(_)
-        | Operation::Jr(_) => word_length(compressed),
-        // no form of two bytes writes where it came from
-        Operation::Jal(_) | Operation::JalLinked => Some(4),
-        Operation::La(_)
-        | Operation::Li(_)
-        | Operation::LoadSymbol(..)
-        | Operation::StoreSymbol(..) => None,
-        // their forms tell it
-        Operation::Branch(..)
-        | Operation::ZeroBranch(..)
-        | Operation::SwappedBranch(..)
-        | Operation::J
-        | Operation::Call(_)
-        | Operation::CallLinked
-        | Operation::Tail
-        | Operation::Jump(_) => Some(0),
+/// The bytes of an operation of one instruction that may have a form of two bytes, where its words
+/// alone tell them.
+fn word_length(operation: &Operation, compressed: bool) -> Option<u8>
+    requires { laws.is_word operation.now ≡ true }
+    ensures { IfSome result (λ n. HasLengthWith operation.now compressed n) }
+{
+    if compressed {
+        return None;
     }
+    Some(4)
+}
+
+/// The bytes of an operation with an expression, where its words alone tell them; of branches, jumps
+/// and calls their forms do.
+fn operation_length(operation: &Operation, compressed: bool) -> Option<u8>
+    ensures { IfSome result (λ n. HasLengthWith operation.now compressed n) }
+{
+    if is_word(operation) {
+        return word_length(operation, compressed);
+    }
+    if is_jal(operation) {
+        return Some(4);
+    }
+    if is_longer(operation) {
+        return None;
+    }
+    Some(0)
 }
 
 /// The bytes of a statement as code, where its words alone tell them. They do not matter where it has
 /// forms of several lengths, or is faulty: its fault comes first.
-fn told_length(kind: &StatementKind<'_>, compressed: bool) -> Option<u8> {
+fn told_length(kind: &StatementKind<'_>, compressed: bool) -> Option<u8>
+    ensures { IfSome result (λ n. HasOneLength compressed (statement_kind kind.now) n) }
+{
+    if !is_code(false, kind) {
+        return Some(0);
+    }
     match kind {
         StatementKind::Plain(statement) => plain_length(statement, compressed),
         StatementKind::With(operation, _) => operation_length(operation, compressed),
         StatementKind::WithFunction(operation, ..) => operation_length(operation, compressed),
-        _ => Some(0),
+        _ => None,
     }
 }
 
-/// How many bytes the instruction that is next has as code; none where it is faulty.
-fn made_length<'a>(
+/// How many bytes the instruction that is next has as code, where it has no forms of several lengths
+/// and no fault. Such a one is not asked for a length.
+fn listed_length<'a>(
     statement: &Statement<'a>,
     scope: &Scope<'_, 'a>,
     place: SectionOffset,
     compressed: bool,
-) -> u8 {
-    if let Some(encoded) = one_code(statement, scope, place, compressed) {
-        return width(encoded);
-    }
-    let Some(bytes) = asked(&statement.kind, compressed, 4) else {
-        return 0;
-    };
-    match code_of(statement, scope, place, compressed, bytes) {
+) -> u8
+    requires { near_forms_of compressed (statement_kind (statement.now).kind) ≡ None }
+    ensures { AtNext scope.now (λ index. (padding : ℕ)
+        → HasLength (values_at scope.now index place) compressed
+        (faults_at scope.now index place (statement_kind (statement.now).kind)) padding
+        (statement_kind (statement.now).kind) (padding + result)) }
+{
+    match code_of(statement, scope, place, compressed, 4) {
         Ok(found) => bytes_of(found.as_slice()),
         Err(_) => 0,
     }
 }
 
-/// How many bytes the instruction that is next has as code, and another statement none. The code is
-/// made where its words do not tell them.
+/// How many bytes the instruction that is next has as code, where it has no forms of several lengths
+/// and no fault.
+fn made_length<'a>(
+    statement: &Statement<'a>,
+    scope: &Scope<'_, 'a>,
+    place: SectionOffset,
+    compressed: bool,
+) -> u8
+    ensures { AtNext scope.now (λ index. (padding : ℕ)
+        → HasLength (values_at scope.now index place) compressed
+        (faults_at scope.now index place (statement_kind (statement.now).kind)) padding
+        (statement_kind (statement.now).kind) (padding + result)) }
+{
+    if let Some(encoded) = one_code(statement, scope, place, compressed) {
+        return width(encoded);
+    }
+    match near_forms(&statement.kind, compressed) {
+        None => listed_length(statement, scope, place, compressed),
+        Some(_) => 0,
+    }
+}
+
+/// How many bytes the instruction that is next has as code, where it has no forms of several lengths
+/// and no fault, and another statement none. The code is made where its words do not tell them.
 fn code_length<'a>(
     statement: &Statement<'a>,
     scope: &Scope<'_, 'a>,
     place: SectionOffset,
     compressed: bool,
-) -> u8 {
+) -> u8
+    ensures { AtNext scope.now (λ index. (padding : ℕ)
+        → HasLength (values_at scope.now index place) compressed
+        (faults_at scope.now index place (statement_kind (statement.now).kind)) padding
+        (statement_kind (statement.now).kind) (padding + result)) }
+{
     match told_length(&statement.kind, compressed) {
         Some(bytes) => bytes,
         None => made_length(statement, scope, place, compressed),
@@ -122,8 +196,8 @@ fn seen<'a>(
     compressed: bool,
 ) -> LayoutItem
     requires { length places.now < 2 ^ 32 }
-    ensures { AtNext scope.now (λ index. IsSeenAs scope.now index places.now place compressed
-        (statement_kind (statement.now).kind) result) }
+    ensures { AtNext scope.now (λ index. IsSeenAs scope.now index places.now place executable
+        compressed (statement_kind (statement.now).kind) result) }
 {
     let bytes = code_length(statement, scope, place, compressed);
     let padding = padding_of(statement, scope, place, executable);
@@ -140,7 +214,7 @@ fn seen<'a>(
 /// What sizes see of a source.
 fn measured(alloc: Global, unit: &Unit<'_>) -> Result<Vec<LayoutItem>, AllocError>
     requires filled { IsFilled unit.now }
-    requires few { length (unit.now).statements.items < 2 ^ 32 }
+    requires few { length (unit.now).statements.items < 2 ^ 30 }
     ensures { IfOk result (λ items. IsMeasured (said unit.now) items.items) }
 {
     let mut scope = Scope::new(unit);
@@ -162,21 +236,17 @@ fn measured(alloc: Global, unit: &Unit<'_>) -> Result<Vec<LayoutItem>, AllocErro
 
 /// The least lengths of a source's statements as code, with which each form below the largest
 /// reaches.
-pub(crate) fn lengths(alloc: Global, unit: &Unit<'_>) -> Result<Vec<u32>, SourceFault>
+pub(crate) fn lengths(alloc: Global, unit: &Unit<'_>) -> Result<Vec<u32>, AllocError>
     requires filled { IsFilled unit.now }
-    requires few { length (unit.now).statements.items < 2 ^ 32 }
+    requires few { length (unit.now).statements.items < 2 ^ 30 }
     ensures count { IfOk result
         (λ found. length found.items ≡ length (unit.now).statements.items) }
     ensures least { IfOk result (λ found. AreLeast (tables (said unit.now))
         (located_from 1 1 at_start (said unit.now)) found.items) }
-    ensures memory { IfErr result (λ e. e ≡ OutOfMemory) }
+    ensures told { IfOk result (λ found. AreLengths (tables (said unit.now))
+        (located_from 1 1 at_start (said unit.now)) found.items) }
 {
     let items = measured(alloc, unit)?;
-    let sections = unit.sections().len();
-    // as many statements need more memory than there is, and each leads to one of its section
-    if !is_input(items.as_slice(), sections) {
-        return Err(SourceFault::OutOfMemory);
-    }
-    let found = Layout::of(alloc, items.as_slice(), sections)?;
+    let found = Layout::of(alloc, items.as_slice(), unit.sections().len())?;
     Ok(found.sizes)
 }

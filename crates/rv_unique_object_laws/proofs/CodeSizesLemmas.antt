@@ -12,7 +12,8 @@ use Rattle.rv_source_laws.specs.Located.{Located}
 use Rattle.rv_source_laws.specs.Sizes.{near_forms, item_by, item_by_kind, items_of, settled, AreLeast}
 use Rattle.rv_assemble_laws.specs.Sites.{form}
 use Rattle.rv_assemble_laws.specs.Refusals.{HasCodeSize, AreCodeSizes}
-use Rattle.rv_unique_object_laws.proofs.OneCodeLemmas.{code_one, code_fixed}
+use Rattle.rv_draft.proofs.FixedLemmas.{code_fixed}
+use Rattle.rv_unique_object_laws.proofs.OneCodeLemmas.{code_one}
 
 module _ (t : Tables) (all : List Located) where
   form_one : (l : Located) (n m : ℕ) (os : List Operand) (forms : Option Forms) → (forms ≡ None → n ≡ m) → item_by t all l n os forms ≡ item_by t all l m os forms

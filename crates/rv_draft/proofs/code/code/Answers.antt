@@ -1,23 +1,27 @@
-use Rattle.std.proofs.Common.{◌≡◌, ◌+◌, ◌<◌, ◌≤◌, length, map, get_or, sym, ap, subst, ◌∙◌, true, Err}
-use Rattle.std.specs.Prelude.{slice_index_or, IfOk}
+use Rattle.std.proofs.Common.{◌≡◌, suc, ◌+◌, ◌<◌, ◌≤◌, [], ◌∷◌, ◌++◌, length, map, take, drop, get_or, sym, ap, subst, ◌∙◌, true, Err, arith}
+use Rattle.std.specs.Prelude.{slice_index, slice_index_or, IfOk}
 use Rattle.std.proofs.lemmas.Result.{err_from_is_err_and}
 use Rattle.std.proofs.lemmas.List.{length-map}
 use Rattle.rv_statement.specs.View.{statement_of}
 use Rattle.rv_unit_tables.specs.declared.section_offset.SectionOffset.{SectionOffset}
 use Rattle.rv_unit.specs.Unit.{said, IsFilled}
 use Rattle.rv_unit_tables.specs.Sections.{extent_section, offset_of}
-use Rattle.rv_unit_laws.specs.Tables.{tables, value as value_of}
+use Rattle.rv_unit_laws.specs.Tables.{at_start, tables, value as value_of}
+use Rattle.rv_source_laws.specs.Located.{located_from}
+use Rattle.rv_instruction.specs.Code.{MayHave}
 use Rattle.rv_unit_laws.specs.Options.{Options}
-use Rattle.rv_draft.specs.Added.{IsAdded, Adds}
+use Rattle.rv_draft.specs.Added.{IsAdded, IsAllCode, Adds}
+use Rattle.rv_draft.specs.Sized.{bytes_of_sizes}
+use Rattle.rv_draft.proofs.JoinedLemmas.{take_next, take_none, take_past}
 use Rattle.rv_draft.proofs.StandingLemmas.{StandsAt, stands_at, places_count, got_inside, located_at, stated_none}
 use Rattle.rv_draft.specs.Measured.{IsExtentAt}
 use Rattle.rv_draft.proofs.ItemizedLemmas.{place_inside}
 use Rattle.rv_draft.specs.declared.code.SectionCode.{SectionCode}
-use Rattle.rv_draft.proofs.WholeLemmas.{faults_in, faults_there, code_there, code_more, code_wrong, code_whole}
+use Rattle.rv_draft.proofs.WholeLemmas.{faults_in, faults_there, code_there, code_more, code_wrong, code_whole, length_here, told_more}
 use Rattle.rv_draft.proofs.code.code.Goals as goal
 
 pub loop-index-init : goal.loop-index-init
-loop-index-init c = (c.new-scope.ensures.unit, c.new-scope.ensures.start, c.in_ok-coder.ensures.begun _ _, c.in_ok-coder.ensures.count ∙ ap length c.sections.ensures)
+loop-index-init c = (c.new-scope.ensures.unit, c.new-scope.ensures.start, c.in_ok-coder.ensures.begun _ _, c.in_ok-coder.ensures.count ∙ ap length c.sections.ensures, ap bytes_of_sizes c.in_ok-coder.ensures.none ∙ sym (take_none c.args.lengths.now))
 
 pub bounds-places-index : goal.bounds-places-index
 bounds-places-index c =
@@ -36,7 +40,15 @@ add-requires c =
     let is : x ≡ get_or u.statements.items i x = c.index-statements-index.is ∙ ap (λ l. get_or l i x) c.statements-statements.ensures in
     let at : StandsAt u i x p = stands_at u i x x (record { section = 0; offset = 0 }) p c.requires.filled inside is (ap (λ l. get_or l i (record { section = 0; offset = 0 })) c.places-places.ensures) in
     let stands = got_inside (map extent_section u.tables.extents.items) p.section (located_at (said u) i (statement_of x)).home at.home in
-    subst (λ n. p.section < n) (length-map u.tables.extents.items extent_section ∙ sym c.loop-index.invariant.3) stands
+    let within = subst (λ n. i < n) (sym (length-map u.statements.items statement_of)) inside in
+    let on : c.rvc-compressed.result ≡ (located_at (said u) i (statement_of x)).options.rvc =
+    c.rvc-compressed.ensures ∙ ap (λ (o : Options). o.rvc) (c.options_at.ensures c.requires.filled within) in
+    let all = located_from 1 1 at_start (said u) in
+    let told = length_here (tables (said u)) all c.args.lengths.now i (located_at (said u) i (statement_of x)) (drop (i + 1) all) c.requires.told at.next in
+    record {
+      asked = subst (λ b. MayHave b (statement_of x).kind (slice_index c.args.lengths.now i)) (sym on) told.offered;
+      section = subst (λ n. p.section < n) (length-map u.tables.extents.items extent_section ∙ sym c.loop-index.invariant.3) stands;
+    }
 
 pub extent_at-extent-requires : goal.extent_at-extent-requires
 extent_at-extent-requires c =
@@ -67,14 +79,22 @@ loop-index-preserved c =
     let known = faults_there u i x p at in
     let on : rvc ≡ (located_at (said u) i (statement_of x)).options.rvc =
     c.rvc-compressed.ensures ∙ ap (λ (o : Options). o.rvc) (c.options_at.ensures c.requires.filled within) in
-    let added : IsAdded c.loop-index.coder c.add.new.self p.section e.section.executable faults (λ e. value_of (tables (said u)) true (i + 1) (offset_of p) e) rvc (statement_of x) =
-    subst (λ w. IsAdded c.loop-index.coder c.add.new.self p.section e.section.executable (faults_in (tables (said w)) (i + 1) (offset_of p) (statement_of x)) (λ e. value_of (tables (said w)) true (i + 1) (offset_of p) e) rvc (statement_of x)) same
+    let lengths = c.args.lengths.now in
+    let wanted = slice_index lengths i in
+    let all = located_from 1 1 at_start (said u) in
+    let told = length_here (tables (said u)) all lengths i (located_at (said u) i (statement_of x)) (drop (i + 1) all) c.requires.told at.next in
+    let long : i < length lengths = subst (λ n. i < n) (sym c.requires.count) inside in
+    let next : suc i ≡ i + 1 = omega arith in
+    let added : IsAdded c.loop-index.coder c.add.new.self p.section e.section.executable faults (λ e. value_of (tables (said u)) true (i + 1) (offset_of p) e) rvc wanted (statement_of x) =
+    subst (λ w. IsAdded c.loop-index.coder c.add.new.self p.section e.section.executable (faults_in (tables (said w)) (i + 1) (offset_of p) (statement_of x)) (λ e. value_of (tables (said w)) true (i + 1) (offset_of p) e) rvc wanted (statement_of x)) same
     (c.in_ok-add.ensures i filled c.loop-index.invariant.1) in
     let within' = subst (λ w. i < length (said w)) (sym same) within in (
       ap (λ b. b.now) c.pass.ensures.unit ∙ same,
       c.pass.ensures.passes i within' c.loop-index.invariant.1,
-      code_more u i x p rvc e.section.executable c.loop-index.coder c.add.new.self faults at c.loop-index.invariant.2 known on (code_there u i x p e at there) added,
+      code_more u i wanted x p rvc e.section.executable c.loop-index.coder c.add.new.self faults at c.loop-index.invariant.2 known on (code_there u i x p e at there) added,
       added.grows.0 ∙ c.loop-index.invariant.3,
+      told_more u i wanted x p rvc e.section.executable c.loop-index.coder c.add.new.self faults at known on (code_there u i x p e at there) added told.told
+          ∙ ap (λ l. l ++ wanted ∷ []) c.loop-index.invariant.4 ∙ sym (take_next lengths i 0 long) ∙ ap (λ n. take n lengths) next,
     )
 
 pub returns-in_err-add-clause-code : goal.returns-in_err-add-clause-code
@@ -95,18 +115,21 @@ returns-in_err-add-clause-code c =
     let faults = faults_in (tables (said u)) (i + 1) (offset_of p) (statement_of x) in
     let known = faults_there u i x p at in
     let wrong =
-    subst (λ w. Adds c.loop-index.coder c.add.new.self p.section e.section.executable (faults_in (tables (said w)) (i + 1) (offset_of p) (statement_of x)) (λ e. value_of (tables (said w)) true (i + 1) (offset_of p) e) rvc (statement_of x) (Err c.in_err-add.field-0.0)) same
+    subst (λ w. Adds c.loop-index.coder c.add.new.self p.section e.section.executable (faults_in (tables (said w)) (i + 1) (offset_of p) (statement_of x)) (λ e. value_of (tables (said w)) true (i + 1) (offset_of p) e) rvc (slice_index c.args.lengths.now i) (statement_of x) (Err c.in_err-add.field-0.0)) same
     (c.in_err-add.ensures i filled c.loop-index.invariant.1) in
     let found = err_from_is_err_and c.from_residual-in_err-add.result c.from_residual-in_err-add.ensures.1 in
     rw (found.1, found.2)
-    (code_wrong u i x p rvc e.section.executable c.loop-index.coder c.add.new.self faults c.in_err-add.field-0.0 at c.loop-index.invariant.2 known wrong c.args.lengths.now)
+    (code_wrong u i (slice_index c.args.lengths.now i) x p rvc e.section.executable c.loop-index.coder c.add.new.self faults c.in_err-add.field-0.0 at c.loop-index.invariant.2 known wrong c.args.lengths.now)
 
 pub returns-clause-code : goal.returns-clause-code
 returns-clause-code c =
     let u = c.args.unit.now in
     let i = c.loop-index.index in
     let past = subst (λ l. length l ≤ i) c.statements-statements.ensures c.loop-index-test.false in
-    code_whole (said u) c.args.lengths.now i c.loop-index.coder c.finish.result (stated_none (said u) i (subst (λ n. n ≤ i) (sym (length-map u.statements.items statement_of)) past)) c.loop-index.invariant.2 c.requires.least c.finish.ensures.code
+    let lengths = c.args.lengths.now in
+    let told : bytes_of_sizes c.loop-index.coder.sizes.items ≡ lengths = c.loop-index.invariant.4 ∙ take_past lengths i (subst (λ n. n ≤ i) (sym c.requires.count) past) in
+    code_whole (said u) lengths i c.loop-index.coder c.finish.result (stated_none (said u) i (subst (λ n. n ≤ i) (sym (length-map u.statements.items statement_of)) past)) c.loop-index.invariant.2 c.requires.least
+    (λ t all so_far. subst (λ l. IsAllCode t all l c.finish.result) told (c.finish.ensures.code t all so_far))
 
 pub returns-clause-count : goal.returns-clause-count
 returns-clause-count c = subst (λ n. IfOk c.finish.result (λ (found : SectionCode). length found.sections.items ≡ n)) c.loop-index.invariant.3 c.finish.ensures.count

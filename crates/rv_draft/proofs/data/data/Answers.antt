@@ -23,6 +23,9 @@ put_next-requires c =
       few = c.requires.few;
       item = subst (λ n. i < n) (sym c.requires.count) within;
       laid = c.requires.laid;
+      made = c.requires.made;
+      same = c.loop-index.invariant.0;
+      next = c.loop-index.invariant.1;
       each = ap length c.as_mut_slice.ensures.value ∙ c.loop-index.invariant.3 ∙ c.requires.each;
     }
 
@@ -44,7 +47,7 @@ loop-index-preserved c =
       c.pass.ensures.passes i within' c.loop-index.invariant.1,
       (λ codes have.
           subst (λ l. IsDataTo (said u) c.args.items.now codes c.args.code.items (i + 1) l found) (sym back)
-          (c.in_ok-put_next.ensures.data c.args.code.items codes same c.loop-index.invariant.1 have
+          (c.in_ok-put_next.ensures.data c.args.code.items codes have
           (subst (λ l. IsDataTo (said u) c.args.items.now codes c.args.code.items i l c.loop-index.fields.items) (sym value) (c.loop-index.invariant.2 codes have)))),
       ap length back ∙ count ∙ ap length value ∙ c.loop-index.invariant.3,
     )

@@ -1,4 +1,4 @@
-use Rattle.std.proofs.Common.{◌≡◌, ◌+◌, ◌<◌, length, map, get_or, refl, sym, ap, subst, ◌∙◌, false, Some, arith}
+use Rattle.std.proofs.Common.{◌≡◌, ◌+◌, ◌<◌, length, map, drop, get_or, refl, sym, ap, subst, ◌∙◌, false, Some, arith}
 use Rattle.std.specs.Prelude.{slice_index_or, slice_get}
 use Rattle.std.proofs.lemmas.List.{drop_more, length-map}
 use Rattle.std.proofs.lemmas.Result.{on_ok_weaker}
@@ -8,13 +8,15 @@ use Rattle.rv_unit.specs.Unit.{said, passed, IsFilled}
 use Rattle.rv_unit_tables.specs.Sections.{extent_section, offset_of}
 use Rattle.rv_unit_laws.specs.Options.{Options}
 use Rattle.rv_unit_laws.specs.Sections.{Section}
-use Rattle.rv_unit_laws.specs.Tables.{tables, stood}
+use Rattle.rv_unit_laws.specs.Tables.{at_start, tables, stood}
+use Rattle.rv_source_laws.specs.Located.{located_from}
 use Rattle.rv_draft.specs.declared.item.Item.{Item}
 use Rattle.rv_draft.specs.Coded.{IsCodedAt}
 use Rattle.rv_draft.specs.DataParts.{is_filled}
 use Rattle.rv_draft.specs.Draft.{field_of}
 use Rattle.rv_draft.proofs.StandingLemmas.{StandsAt, stands_at, places_count, got_inside, located_at}
 use Rattle.rv_draft.proofs.DataSoFarLemmas.{got_as, puts_at, code_at, code_of, coded_here, bytes_here, data_more, code_more, room_for, item_low}
+use Rattle.rv_draft.proofs.MadeLemmas.{made_left, made_spot}
 use Rattle.rv_draft.proofs.data.put_next.Goals as goal
 
 pub bounds-places-index : goal.bounds-places-index
@@ -65,7 +67,15 @@ put_code-requires c =
     let item : Item = slice_index_or c.args.items.now i none in
     let is : x ≡ get_or u.statements.items i x = c.index-statements-index.is ∙ ap (λ l. get_or l i x) c.statements.ensures in
     let at : StandsAt u i x p = stands_at u i x x (record { section = 0; offset = 0 }) p c.requires.filled c.requires.within is (ap (λ l. get_or l i (record { section = 0; offset = 0 })) c.places.ensures) in
-    item_low ss c.args.items.now i (statement_of x) item c.requires.laid at.here (drop_more c.args.items.now i none c.requires.item)
+    let next = drop_more c.args.items.now i none c.requires.item in
+    let within = subst (λ n. i < n) (sym (length-map u.statements.items statement_of)) c.requires.within in
+    let options = c.options_at-options.ensures c.requires.filled within in
+    let all = located_from 1 1 at_start ss in
+    record {
+      fits = item_low ss c.args.items.now i (statement_of x) item c.requires.laid at.here next;
+      made = made_spot _ u i x c.rvc.result item.bytes c.requires.same c.requires.filled c.requires.next at (c.rvc.ensures ∙ ap (λ (o : Options). o.rvc) options)
+          (made_left (tables ss) all c.args.items.now i (located_at ss i (statement_of x)) (drop (i + 1) all) item (drop (i + 1) c.args.items.now) c.requires.made at.next next);
+    }
 
 pub returns-then-extent-clause-data : goal.returns-then-extent-clause-data
 returns-then-extent-clause-data c =
@@ -85,10 +95,11 @@ returns-then-extent-clause-data c =
     let within = subst (λ n. i < n) (sym (length-map u.statements.items statement_of)) c.requires.within in
     let options = c.options_at-options.ensures c.requires.filled within in
     on_ok_weaker c.put_code.result
-    (λ told start codes same scope have so_far.
+    (λ told start codes have so_far.
+    let same = c.requires.same in
     let coded = code_of i codes in
     let filled = subst IsFilled (sym same) c.requires.filled in
-    let own = told i filled scope st coded
+    let own = told i filled c.requires.next st coded
     (record {
       ordinal = c.ordinal.ensures;
       own = refl;
@@ -121,7 +132,9 @@ returns-clause-data c =
     let here : slice_get (map extent_section c.sections.result.now) p.section ≡ Some st.home = ap (λ l. slice_get (map extent_section l) p.section) c.sections.ensures ∙ at.home in
     let home = got_as extent_section c.sections.result.now p.section _ st.home here in
     let told = c.in_ok-put_statement.ensures in
-    λ start codes same scope have so_far.
+    let same = c.requires.same in
+    let scope = c.requires.next in
+    λ start codes have so_far.
     let filled = subst IsFilled (sym same) c.requires.filled in
     data_more ss c.args.items.now codes start i (statement_of x) item c.args.sections.now c.put_statement.new.sections c.args.fields.now.items c.put_statement.new.fields.items
     at.here (drop_more c.args.items.now i none c.requires.item)

@@ -4,6 +4,7 @@ use Rattle.rv_statement.specs.View.{statement_kind}
 use Rattle.rv_unit_laws.specs.Tables.{tables}
 use Rattle.rv_unit.specs.Unit.{said}
 use Rattle.rv_instruction.specs.Opened.{LeavesNone}
+use Rattle.rv_draft.specs.Coded.{HasBytes}
 use Rattle.rv_draft.specs.Draft.{field_of}
 use Rattle.rv_draft.specs.Spots.{fields_coded}
 use Rattle.rv_draft.proofs.CodeFieldsLemmas.{free_fields, spot_fields}
@@ -22,12 +23,12 @@ returns c =
     let spot = c.args.spot.now in
     let says = statement_kind c.args.statement.now.kind in
     let x = c.args.item in
-    let found = c.in_ok-found.found.items in
+    let found = c.code_in_bytes-found.result.items in
     let same : c.as_slice.result.now ≡ found = search rules in
     on_ok_weaker c.put_parts.result
     (λ told index f s l coded at plain size is.
     told index f s at.ordinal
     ∙ ap (λ g. map field_of c.args.fields.now.items ++ g)
     (ap (λ cs. fields_coded spot index says c.args.choices.relax x.offset cs) same
-    ∙ spot_fields spot index says c.args.choices l x found coded at plain size is (c.in_ok-found.ensures.code index f s) c.in_ok-found.ensures.long))
+    ∙ spot_fields spot index says c.args.choices l x found coded at plain size is (c.code_in_bytes-found.ensures.code index f s) (subst (λ k. HasBytes found x.bytes k) (sym at.kind) c.code_in_bytes-found.ensures.long)))
     c.put_parts.ensures

@@ -1,18 +1,17 @@
-use Rattle.rv_instruction.specs.Near.{section_in, item_in}
-use Rattle.rv_draft.proofs.SeenLemmas.{MeasuredTo, measured_begin, measured_more, measured_whole}
-use Rattle.std.proofs.Common.{rules, ℕ, [], ◌^◌}
-use Rattle.rv_unit_laws.specs.Tables.{value as value_of}
-use Rattle.std.proofs.Common.{◌≡◌, ◌+◌, ◌<◌, ◌≤◌, length, get_or, sym, ap, subst, ◌∙◌, true}
+use Rattle.rv_draft.proofs.SeenLemmas.{MeasuredTo, SeenThere, measured_begin, measured_more, measured_whole}
+use Rattle.std.proofs.Common.{rules, [], arith}
+use Rattle.std.proofs.Common.{◌≡◌, ◌+◌, ◌<◌, ◌≤◌, length, get_or, sym, ap, subst, ◌∙◌}
 use Rattle.std.specs.Prelude.{slice_index_or}
 use Rattle.std.proofs.lemmas.List.{length-map}
 use Rattle.rv_statement.specs.View.{statement_of}
 use Rattle.rv_unit_tables.specs.declared.section_offset.SectionOffset.{SectionOffset}
 use Rattle.rv_unit.specs.Unit.{said, IsFilled}
 use Rattle.rv_unit_tables.specs.Sections.{offset_of}
-use Rattle.rv_unit_laws.specs.Tables.{tables}
 use Rattle.rv_unit_laws.specs.Options.{Options}
 use Rattle.rv_draft.proofs.StandingLemmas.{StandsAt, stands_at, places_count, located_at, stated_none}
+use Rattle.rv_draft.specs.Measured.{IsExtentAt}
 use Rattle.rv_draft.proofs.ItemizedLemmas.{place_inside}
+use Rattle.rv_draft.proofs.WholeLemmas.{code_there}
 use Rattle.rv_draft.proofs.measure.measured.Goals as goal
 
 pub loop-index-init : goal.loop-index-init
@@ -22,7 +21,9 @@ loop-index-init c =
 
 pub seen-requires : goal.seen-requires
 seen-requires c =
-    subst (λ l. length l < 2 ^ 32) (sym c.places-places.ensures) (subst (λ n. n < 2 ^ 32) (sym (places_count c.args.unit.now c.requires.filled)) c.requires.few)
+    let count : length c.places-places.result.now ≡ length c.args.unit.now.statements.items = ap length c.places-places.ensures ∙ places_count c.args.unit.now c.requires.filled in
+    let few = c.requires.few in
+    omega (arith, count, few)
 
 pub bounds-places-index : goal.bounds-places-index
 bounds-places-index c =
@@ -56,14 +57,16 @@ loop-index-preserved c =
     let filled = subst IsFilled (sym same) c.requires.filled in
     let on : rvc ≡ (located_at (said u) i (statement_of x)).options.rvc =
     c.rvc-compressed.ensures ∙ ap (λ (o : Options). o.rvc) (c.options_at.ensures c.requires.filled within) in
-    let seen : (bytes : ℕ) × (c.seen.result ≡ item_in (section_in u.places.items) p.section (tables (said u)) (i + 1) (λ e. value_of (tables (said u)) true (i + 1) (offset_of p) e) rvc bytes (statement_of x).kind) =
-    subst (λ w. (bytes : ℕ) × (c.seen.result ≡ item_in (section_in u.places.items) p.section (tables (said w)) (i + 1) (λ e. value_of (tables (said w)) true (i + 1) (offset_of p) e) rvc bytes (statement_of x).kind)) same
-    (subst (λ l. (bytes : ℕ) × (c.seen.result ≡ item_in (section_in l) p.section (tables (said c.loop-index.scope.unit.now)) (i + 1) (λ e. value_of (tables (said c.loop-index.scope.unit.now)) true (i + 1) (offset_of p) e) rvc bytes (statement_of x).kind)) c.places-places.ensures
+    let e = c.extent_at-extent.result in
+    let there : IsExtentAt u.tables.extents.items p.section e = subst (λ l. IsExtentAt l p.section e) c.sections-extents.ensures c.extent_at-extent.ensures in
+    let seen : SeenThere u (i + 1) (offset_of p) p.section u.places.items e.section.executable rvc (statement_of x) c.seen.result =
+    subst (λ w. SeenThere w (i + 1) (offset_of p) p.section u.places.items e.section.executable rvc (statement_of x) c.seen.result) same
+    (subst (λ l. SeenThere c.loop-index.scope.unit.now (i + 1) (offset_of p) p.section l e.section.executable rvc (statement_of x) c.seen.result) c.places-places.ensures
     (c.seen.ensures i filled c.loop-index.invariant.1)) in
     let within' = subst (λ w. i < length (said w)) (sym same) within in (
       ap (λ b. b.now) c.pass.ensures.unit ∙ same,
       c.pass.ensures.passes i within' c.loop-index.invariant.1,
-      measured_more u i x p rvc c.loop-index.items.items c.push.new.self.items c.seen.result c.requires.filled at on seen c.loop-index.invariant.2 c.in_ok-push.ensures.items,
+      measured_more u i x p rvc e.section.executable c.loop-index.items.items c.push.new.self.items c.seen.result c.requires.filled at on (code_there u i x p e at there) seen c.loop-index.invariant.2 c.in_ok-push.ensures.items,
     )
 
 pub returns : goal.returns

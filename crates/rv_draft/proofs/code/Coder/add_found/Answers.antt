@@ -5,6 +5,6 @@ use Rattle.rv_draft.proofs.AddingLemmas.{added_by}
 use Rattle.rv_draft.proofs.code.Coder.add_found.Goals as goal
 
 pub returns : goal.returns
-returns c = λ executable faults v rvc bytes none pads has.
-    added_by c.args.self.now _ c.args.section executable faults v rvc bytes c.args.padding (statement_of c.args.statement.now) c.args.found.now none pads has
+returns c = λ executable faults v rvc bytes wanted none pads has asked.
+    added_by c.args.self.now _ c.args.section executable faults v rvc bytes wanted c.args.padding (statement_of c.args.statement.now) c.args.found.now none pads has asked
     (grind (arith, common_steps)) (search rules) (search rules)

@@ -1,25 +1,42 @@
-use Rattle.std.proofs.Common.{rules, List, ◌<◌, ◌^◌, [], ◌∷◌, length, sym, ap, subst, ◌∙◌}
+use Rattle.std.proofs.Common.{◌≡◌, ◌≤◌, ◌^◌, List, [], ◌∷◌, length, sym, ap, subst, ◌∙◌, arith}
 use Rattle.std.proofs.lemmas.Result.{err_from_is_err_and}
 use Rattle.std.proofs.lemmas.List.{length-map}
 use Rattle.rv_statement.specs.View.{statement_of}
 use Rattle.rv_unit_tables.specs.Sections.{extent_section}
 use Rattle.rv_unit_tables.proofs.LookupsLemmas.{sections_are}
+use Rattle.rv_unit_laws.proofs.FewLemmas.{few as few_of}
 use Rattle.rv_unit_laws.specs.Tables.{Tables, at_start, tables, opened_of}
 use Rattle.rv_source_laws.specs.Located.{located, located_from}
 use Rattle.rv_unit.specs.Unit.{said}
 use Rattle.rv_instruction.specs.declared.encoded.Coded.{Coded}
 use Rattle.rv_draft.specs.declared.draft.Draft.{Draft}
-use Rattle.rv_draft.specs.DataParts.{HaveCode, IsData}
+use Rattle.rv_draft.specs.DataParts.{AreMade, HaveCode, IsData}
+use Rattle.rv_draft.specs.Measure.{AreLengths}
 use Rattle.rv_draft.specs.Draft.{IsRefused}
 use Rattle.rv_draft.specs.Sized.{AreSized, bytes_of_sizes}
 use Rattle.rv_assemble_laws.specs.Refusals.{size_fault_from}
 use Rattle.rv_source_laws.specs.Sizes.{AreLeast}
 use Rattle.rv_draft.proofs.DraftedLemmas.{is_draft}
+use Rattle.rv_draft.proofs.MadeLemmas.{made_all}
 use Rattle.rv_draft.proofs.SoFarLemmas.{sizes_count, sizes_short}
 use Rattle.rv_draft.proofs.StandingLemmas.{stated_length}
 use Rattle.rv_draft.proofs.WholeLemmas.{one_file}
 use Rattle.rv_draft.proofs.WidthsLemmas.{all_wide}
 use Rattle.rv_draft.proofs.draft.Draft.of.Goals as goal
+
+pub lengths-requires-clause-few : goal.lengths-requires-clause-few
+lengths-requires-clause-few c =
+    let u = c.args.unit.now in
+    let few : length (said u) ≤ 2 ^ 22 = few_of (said u) c.requires.good in
+    let count : length (said u) ≡ length u.statements.items = length-map u.statements.items statement_of in
+    omega (arith, few, count)
+
+pub data-requires-clause-few : goal.data-requires-clause-few
+data-requires-clause-few c =
+    let u = c.args.unit.now in
+    let few : length (said u) ≤ 2 ^ 22 = few_of (said u) c.requires.good in
+    let count : length (said u) ≡ length u.statements.items = length-map u.statements.items statement_of in
+    omega (arith, few, count)
 
 pub items-requires-clause-sizes : goal.items-requires-clause-sizes
 items-requires-clause-sizes c =
@@ -28,12 +45,6 @@ items-requires-clause-sizes c =
     let code = c.in_ok-code.code in
     ap length c.as_slice-sizes.ensures.value ∙ sizes_count (tables ss) (located (ss ∷ [])) _ code.sections.items code.sizes.items c.in_ok-code.ensures.code
     ∙ ap length (one_file ss) ∙ stated_length 1 1 at_start ss ∙ length-map u.statements.items statement_of
-
-pub returns-in_err-lengths-clause-refuses : goal.returns-in_err-lengths-clause-refuses
-returns-in_err-lengths-clause-refuses c =
-    let ss = said c.args.unit.now in
-    let found = err_from_is_err_and c.from_residual.result c.from_residual.ensures.1 in
-    rw (found.1, found.2) (subst (λ e. IsRefused ss e) (sym c.in_err-lengths.ensures.memory) tt)
 
 pub returns-in_err-items-clause-refuses : goal.returns-in_err-items-clause-refuses
 returns-in_err-items-clause-refuses c =
@@ -47,14 +58,25 @@ returns-in_err-items-clause-refuses c =
     let found = err_from_is_err_and c.from_residual-in_err-items.result c.from_residual-in_err-items.ensures.1 in
     rw (found.1, found.2) (subst (λ e. IsRefused ss e) (sym memory) tt)
 
+pub data-requires-clause-made : goal.data-requires-clause-made
+data-requires-clause-made c =
+    let ss = said c.args.unit.now in
+    let t = tables ss in
+    let all = located_from 1 1 at_start ss in
+    let code = c.in_ok-code.code in
+    let sized = subst (λ l. AreSized t 1 at_start ss c.in_ok-items.items.items l) c.as_slice-sizes.ensures.value c.in_ok-items.ensures.sized in
+    subst (AreMade t all) (sym c.as_slice-2.ensures.value)
+    (made_all ss c.as_slice.result.now code.sections.items code.sizes.items c.in_ok-items.items.items c.in_ok-code.ensures.code sized
+    (subst (AreLengths t all) (sym c.as_slice.ensures.value) c.in_ok-lengths.ensures.told))
+
 pub returns-clause-draft : goal.returns-clause-draft
 returns-clause-draft c =
     let u = c.args.unit.now in
     let ss = said u in
-    let found = c.in-Ok.filled in
+    let found = c.in_ok-filled.filled in
     let d : Draft = record { items = c.in_ok-items.items; sections = found.sections; ends = c.in_ok-items.ends; fields = found.fields; rvc = c.has_compressed.result } in
     let sections = sym (length-map u.tables.extents.items extent_section) ∙ ap length (sections_are u.tables.extents.items ∙ ap (λ (t : Tables). (opened_of t).sections) c.requires.filled.tables) in
-    let few : length c.statements.result.now < 2 ^ 32 = search rules in
+    let few : length ss ≤ 2 ^ 22 = few_of ss c.requires.good in
     is_draft ss _ c.in_ok-code.code.sections.items c.in_ok-code.code.sizes.items d
     (record {
       good = c.requires.good;
@@ -63,10 +85,10 @@ returns-clause-draft c =
       items = c.in_ok-items.ensures.items;
       sized = subst (λ l. AreSized (tables ss) 1 at_start ss c.in_ok-items.items.items l) c.as_slice-sizes.ensures.value c.in_ok-items.ensures.sized;
       low = c.in_ok-items.ensures.low;
-      figures = subst (λ is. (codes : List (List Coded)) → HaveCode ss is codes → IsData ss is codes c.in_ok-code.code.sections.items found.sections.items found.fields.items) c.as_slice-2.ensures.value c.in-Ok.ensures.data;
+      figures = subst (λ is. (codes : List (List Coded)) → HaveCode ss is codes → IsData ss is codes c.in_ok-code.code.sections.items found.sections.items found.fields.items) c.as_slice-2.ensures.value c.in_ok-filled.ensures.data;
       least = subst (AreLeast (tables ss) (located_from 1 1 at_start ss)) (sym c.as_slice.ensures.value) c.in_ok-lengths.ensures.least;
-      counted = c.in-Ok.ensures.count ∙ c.in_ok-code.ensures.count ∙ sections;
+      counted = c.in_ok-filled.ensures.count ∙ c.in_ok-code.ensures.count ∙ sections;
       ended = c.in_ok-items.ensures.sections ∙ sections;
-      few = subst (λ n. n < 2 ^ 32) (ap length c.statements.ensures ∙ sym (length-map u.statements.items statement_of)) few;
+      few = omega (arith, few);
       compressed = c.has_compressed.ensures;
     })
