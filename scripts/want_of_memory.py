@@ -6,9 +6,8 @@ The answer of a growth is handed on by `?`. So no line of crates/*/src makes an 
 whose pattern names want of memory in each of its alternatives: `Err(SourceFault::OutOfMemory) => Err(Fault::Memory)`.
 Types, patterns, comparisons, `use`, ghost code, contracts and comments make none; test crates are not looked at.
 
-Lists each line that breaks this, first of all those of its own cases (`CASES`) that it takes wrongly. In the files of
-`OPEN` so many lines may still do so: these answers are read not to occur, and that is not proved. Standard library alone;
-the last line is 'N passed, M failed', where a source file counts once for each line that fails, or once without any.
+Lists each line that breaks this, first of all those of its own cases (`CASES`) that it takes wrongly. Standard library
+alone; the last line is 'N passed, M failed', where a source file counts once for each such line, or once without any.
 """
 
 import re
@@ -24,13 +23,6 @@ TOKEN = re.compile(
     |(?P<sign>::|=>|->|==|!=|<=|>=|&&|\|\||\.\.=?|.)""",
     re.X | re.S,
 )
-# (the code of a statement is made again, and might have another length)
-OPEN = {
-    "crates/rv_draft/src/code.rt": 2,
-    "crates/rv_draft/src/draft.rt": 2,
-    "crates/rv_draft/src/fields.rt": 2,
-    "crates/rv_draft/src/measure.rt": 1,
-}
 CLOSED_BY = {"(": ")", "[": "]", "{": "}"}
 OF_TYPES = {"<", "->", ":", "for", "as"}
 OF_TRAITS = {"impl", ">", "::"}
@@ -285,14 +277,11 @@ def main():
     for path in files:
         source = path.read_text(encoding="utf-8")
         lines = made(items_of(source))
-        text, name = source.split("\n"), str(path.relative_to(TOP))
-        if len(lines) == OPEN.get(name, 0):
-            passed += 1
-            continue
-        broken += [f"{name}:{it}: want of memory by name: {text[it - 1].strip()}" for it in lines]
-        broken += [f"{name}: no line makes want of memory by name any more"] * (not lines)
+        text = source.split("\n")
+        broken += [f"{path.relative_to(TOP)}:{it}: want of memory by name: {text[it - 1].strip()}" for it in lines]
+        passed += not lines
     print("\n".join(broken), end="\n" if broken else "")
-    print(f"want of memory in {len(files)} source files; {sum(OPEN.values())} open lines in {len(OPEN)} of them")
+    print(f"want of memory in {len(files)} source files")
     print(f"{passed} passed, {len(broken)} failed")
     return 1 if broken or not files else 0
 
