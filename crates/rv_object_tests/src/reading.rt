@@ -10,14 +10,18 @@ use std::test::Fail;
 
 const SOURCES: [&[u8]; 2] = [HELLO, KINDS];
 
+/// Whether the object in a file is that of a source.
+fn is_object_of<'a>(alloc: Global, file: &'a [u8], source: &'a [u8]) -> Result<bool, Fail> {
+    Ok(read(alloc, file)? == assemble(alloc, source)?)
+}
+
 /// What is written is read again.
 #[test]
 fn reads_what_is_written(rt: HostRuntime) -> Result<(), Fail> {
     let alloc = rt.alloc();
     for source in SOURCES.iter() {
-        let object = assemble(alloc, *source)?;
-        let file = write(alloc, &object)?;
-        assert!(rt; read(alloc, file.as_slice())? == object);
+        let file = write(alloc, &assemble(alloc, *source)?)?;
+        assert!(rt; is_object_of(alloc, file.as_slice(), *source)?);
     }
     Ok(())
 }
