@@ -3,11 +3,10 @@
 //! Strings lie over each other, so many may have the same long rest. The ends of all are found once, and each name asks
 //! for the first of them from its own offset on.
 
-ghost use Rattle.std.specs.Prelude.{◌≡◌, [], unwrap_or, IfOk};
+ghost use Rattle.std.specs.Prelude.{◌≡◌, ◌<◌, [], not, length, slice_index, unwrap_or, IfOk};
 ghost use Rattle.memchr.specs.Find.{is_byte, places};
 ghost use Rattle.rv_object_file_laws.specs.Parts.{name_at};
 
-use memchr::memchr_iter;
 use rv_object_checks::first_from;
 use std::alloc::{AllocError, Global};
 
@@ -26,8 +25,10 @@ impl<'a> Strings<'a> {
     pub(crate) fn of(alloc: Global, table: &'a [u8]) -> Result<Strings<'a>, AllocError>
         ensures { IfOk result (λ strings. strings.table.now ≡ table.now) }
     {
-        let ends: Vec<usize> = memchr_iter(0, table).collect(alloc)?;
-        Ok(Strings { table, ends })
+        Ok(Strings {
+            table,
+            ends: ends(alloc, table)?,
+        })
     }
 
     /// The name at an offset; none where it has no end.
@@ -43,4 +44,26 @@ impl<'a> Strings<'a> {
             None => &[],
         }
     }
+}
+
+/// The positions of the zero bytes of a table. A growth that is refused is told, where `collect` would ask again for less.
+fn ends(alloc: Global, table: &[u8]) -> Result<Vec<usize>, AllocError>
+    ensures { IfOk result (λ ends. ends.items ≡ places (is_byte 0) table.now) }
+{
+    let mut ends = Vec::new(alloc);
+    for offset in 0..table.len() {
+        if is_inside(table, offset) {
+            continue;
+        }
+        ends.push(offset)?;
+    }
+    Ok(ends)
+}
+
+/// Whether the byte at an offset ends no string.
+fn is_inside(table: &[u8], offset: usize) -> bool
+    requires { offset < length table.now }
+    ensures { not result ≡ is_byte 0 (slice_index table.now offset) }
+{
+    table[offset] != 0
 }
