@@ -29,4 +29,5 @@ mod writing;
 pub use calculation::value;
 pub use fault::PatchFault;
 pub use laws::{immediates_are_held, refusals_are_exact};
+pub use rv_isa::Kind;
 pub use writing::patch;
