@@ -76,14 +76,14 @@ token_step old new k n kind e rest at line same gap =
     ∙ ap (λ q. record { kind = q; start = old.at; stop = new.at; line = old.line } ∷ tokens_left new) same
     ∙ ap (λ t. record { kind = kind_of kind; start = old.at; stop = new.at; line = old.line } ∷ cond t [] (tokens_left new)) (sym more)
 
-last_one : (lexer : Lexer) → None ≡ lexeme_at lexer.rest.now → tokens_left lexer ≡ record { kind = last_kind lexer.rest.now; start = lexer.at; stop = lexer.at; line = lexer.line } ∷ []
+last_one : (lexer : Lexer) → None ≡ lexeme_at lexer.rest.now → tokens_left lexer ≡ record { kind = last_kind lexer.rest.now; start = lexer.at; stop = lexer.at + length lexer.rest.now; line = lexer.line } ∷ []
 unfolding tokens_left
 last_one lexer e = tokens_stop lexer.at lexer.line lexer.rest.now (sym e)
 
 pub stop_step : (lexer : Lexer) (kind : TokenKind) → None ≡ lexeme_at lexer.rest.now → kind_of kind ≡ last_kind lexer.rest.now
-    → tokens_left lexer ≡ record { kind = kind_of kind; start = lexer.at; stop = lexer.at; line = lexer.line } ∷ cond (is_last (kind_of kind)) [] (tokens_left lexer)
+    → tokens_left lexer ≡ record { kind = kind_of kind; start = lexer.at; stop = lexer.at + length lexer.rest.now; line = lexer.line } ∷ cond (is_last (kind_of kind)) [] (tokens_left lexer)
 stop_step lexer kind e same =
     let ends : is_last (kind_of kind) ≡ true = ap is_last same ∙ last_is_last lexer.rest.now in
     last_one lexer e
-    ∙ ap (λ q. record { kind = q; start = lexer.at; stop = lexer.at; line = lexer.line } ∷ []) (sym same)
-    ∙ ap (λ t. record { kind = kind_of kind; start = lexer.at; stop = lexer.at; line = lexer.line } ∷ cond t [] (tokens_left lexer)) (sym ends)
+    ∙ ap (λ q. record { kind = q; start = lexer.at; stop = lexer.at + length lexer.rest.now; line = lexer.line } ∷ []) (sym same)
+    ∙ ap (λ t. record { kind = kind_of kind; start = lexer.at; stop = lexer.at + length lexer.rest.now; line = lexer.line } ∷ cond t [] (tokens_left lexer)) (sym ends)

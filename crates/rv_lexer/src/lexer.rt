@@ -116,7 +116,7 @@ impl<'a> Lexer<'a> {
         Token {
             kind: last_kind(self.rest),
             start: self.at,
-            stop: self.at,
+            stop: self.at + self.rest.len() as u32,
             line: self.line,
         }
     }

@@ -21,9 +21,9 @@ pub enum TokenKind<'a> {
     Text(&'a [u8]),
     /// A character's byte.
     Character(u8),
-    /// The last token: a byte that stands in strings and comments alone.
+    /// The last token: a byte that stands in strings and comments alone, and all after it.
     BadByte,
-    /// The last token: one that the language does not have, as an unclosed string.
+    /// The last token: one that the language does not have, as an unclosed string, and all after it.
     BadToken,
     /// The last token: the source's end.
     End,

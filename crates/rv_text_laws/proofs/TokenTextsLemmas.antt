@@ -63,7 +63,7 @@ behind_gap at bytes text rest t ts whole s = record {
 -- where no lexeme stands, the token is the last
 no_lexeme : (at line : ℕ) (bytes : List ℕ) (t : Token) (ts : List Token) → lexeme_at bytes ≡ None → tokens_from at line bytes ≡ t ∷ ts → is_last t.kind ≡ false → ⊥
 no_lexeme at line bytes t ts none e on =
-    let last : Token = record { kind = last_kind bytes; start = at; stop = at; line = line } in
+    let last : Token = record { kind = last_kind bytes; start = at; stop = at + length bytes; line = line } in
     let same : last ≡ t = (heads last t [] ts (sym (tokens_stop at line bytes none) ∙ e)).0 in
     let ends : is_last t.kind ≡ true = ap (λ (u : Token). is_last u.kind) (sym same) ∙ last_is_last bytes in
     absurd (cc)

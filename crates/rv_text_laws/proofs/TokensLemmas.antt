@@ -2,7 +2,6 @@
 
 use Rattle.std.proofs.Common.{◌≡◌, ℕ, suc, ◌+◌, ◌≤◌, Bool, true, false, cond, ◌==◌, List, [], ◌∷◌, ◌++◌, length, take, drop, refl, sym, ◌∙◌, ap, arith, append_assoc, length-append, add_assoc, zero-add, Some, None}
 use Rattle.std.proofs.lemmas.List.{append-nil}
-use Rattle.std.proofs.Math.Nat.{add-zero}
 use Rattle.rv_text_laws.specs.Cut.{Piece, texts, cut}
 use Rattle.rv_text_laws.specs.Grammar.{Kind}
 use Rattle.rv_text_laws.specs.Lexing.{Token, newlines, placed, is_gap, tokens_of, last_kind, last, Lexes}
@@ -25,7 +24,7 @@ newlines-within (x ∷ xs) = go (x == 10) (newlines-within xs)
 -- the tokens of lexemes, by offsets as numbers
 placed_same : (before : List ℕ) (ps : List (Piece Kind ℕ)) (rest : List ℕ) (at line : ℕ) → at ≡ length before → line ≡ 1 + newlines before
     → tokens_at at line ps rest ≡ tokens_of before ps ++ last (before ++ texts ps) rest ∷ []
-placed_same before [] rest at line e f = rw (append-nil before, add-zero, e, f) refl
+placed_same before [] rest at line e f = rw (append-nil before, e, f) refl
 placed_same before (p ∷ ps) rest at line e f =
     let here : at + length p.text ≡ length (before ++ p.text) = omega (arith, length-append before p.text) in
     let lines : line + newlines p.text ≡ 1 + newlines (before ++ p.text) = omega (arith, newlines-append before p.text) in
@@ -71,6 +70,6 @@ tokens_more at line bytes k n e =
     ∙ ap (λ m. cond (is_gap k) (tokens_at (at + m) (line + newlines (take n bytes)) (cut lexeme_at (drop n bytes)).0 (cut lexeme_at (drop n bytes)).1)
     (record { kind = k; start = at; stop = at + m; line = line } ∷ tokens_at (at + m) (line + newlines (take n bytes)) (cut lexeme_at (drop n bytes)).0 (cut lexeme_at (drop n bytes)).1)) f.is_length
 
-pub tokens_stop : (at line : ℕ) (bytes : List ℕ) → lexeme_at bytes ≡ None → tokens_from at line bytes ≡ record { kind = last_kind bytes; start = at; stop = at; line = line } ∷ []
+pub tokens_stop : (at line : ℕ) (bytes : List ℕ) → lexeme_at bytes ≡ None → tokens_from at line bytes ≡ record { kind = last_kind bytes; start = at; stop = at + length bytes; line = line } ∷ []
 unfolding tokens_from
 tokens_stop at line bytes e = ap (λ c. tokens_at at line c.0 c.1) (cut-none lexemes bytes e)

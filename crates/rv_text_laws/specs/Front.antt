@@ -152,7 +152,7 @@ lexeme_at (b ∷ bs) = lexeme_by (class b) b bs
 -- the tokens of lexemes and of the rest, from an offset and a line on
 abbrev pub tokens_at : ℕ → ℕ → List (Piece Kind ℕ) → List ℕ → List Token
 tokens_at at line [] rest =
-    record { kind = last_kind rest; start = at; stop = at; line = line } ∷ []
+    record { kind = last_kind rest; start = at; stop = at + length rest; line = line } ∷ []
 tokens_at at line (p ∷ ps) rest =
     let after = tokens_at (at + length p.text) (line + newlines p.text) ps rest in
     if is_gap p.kind

@@ -67,9 +67,9 @@ ended [] = false
 ended (t ∷ []) = is_last t.kind
 ended (t ∷ u ∷ ts) = ended (u ∷ ts)
 
--- the last token, after these bytes and before the rest
+-- the last token, after these bytes: it has all the rest
 abbrev pub last : List ℕ → List ℕ → Token
-last before rest = placed before (record { kind = last_kind rest; text = [] })
+last before rest = placed before (record { kind = last_kind rest; text = rest })
 
 -- the bytes are cut as far as lexemes go
 abbrev pub CutInto : List ℕ → List (Piece Kind ℕ) → List ℕ → Type 0
