@@ -1,6 +1,6 @@
 -- The inside of a string: what its atoms are, up to the quote.
 
-use Rattle.std.proofs.Common.{◌≡◌, ℕ, suc, ◌+◌, ◌<◌, ◌≤◌, Bool, true, false, cond, ◌==◌, List, [], ◌∷◌, ◌++◌, length, take, drop, map, refl, sym, ◌∙◌, ap, arith, append_assoc, length-append, Option, Some, None, option_map}
+use Rattle.std.proofs.Common.{◌≡◌, ℕ, suc, ◌+◌, ◌<◌, ◌≤◌, Bool, true, false, cond, ◌==◌, List, [], ◌∷◌, ◌++◌, length, take, drop, map, refl, sym, ◌∙◌, ap, arith, length-append, Option, Some, None, option_map}
 use Rattle.std.proofs.lemmas.List.{append-nil}
 use Rattle.std.proofs.lemmas.Option.{some_pair_parts}
 use Rattle.std.proofs.Math.Seq.{take-append_seam}
@@ -142,7 +142,3 @@ string_none bytes e = go (atom_at bytes) refl e
     go : (o : Option (Atom × ℕ)) → atom_at bytes ≡ o → ◌≡◌ {A = Option (ℕ × ℕ)} None (option_map (λ f. (byte_of f.0, f.1)) o) → map (λ a. byte_of a.kind) (cut atom_at bytes).0 ≡ []
     go None at is = ap (λ c. map (λ (p : Piece Atom ℕ). byte_of p.kind) c.0) (cut-none atoms bytes at)
     go (Some f) at is = cc
-
-pub string_on : (out new all rest : List ℕ) (b : ℕ) (after : List ℕ) → out ++ string_bytes rest ≡ all → string_bytes rest ≡ b ∷ string_bytes after → new ≡ out ++ b ∷ [] → new ++ string_bytes after ≡ all
-string_on out new all rest b after so more pushed =
-    ap (λ (l : List ℕ). l ++ string_bytes after) pushed ∙ append_assoc out (b ∷ []) (string_bytes after) ∙ ap (λ (l : List ℕ). out ++ l) (sym more) ∙ so

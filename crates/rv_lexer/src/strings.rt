@@ -1,6 +1,6 @@
 //! Strings and characters.
 
-ghost use Rattle.std.specs.Prelude.{◌≡◌, ◌==◌, ◌+◌, ◌%◌, ◌<◌, ◌≤◌, None, false, length, take, option_map, if◌then◌else◌, IfOk, ◌++◌};
+ghost use Rattle.std.specs.Prelude.{◌≡◌, ℕ, List, ◌==◌, ◌+◌, ◌%◌, ◌<◌, ◌≤◌, None, false, length, take, option_map, if◌then◌else◌, OnOk, OnErr, ◌++◌};
 ghost use Rattle.std.specs.List.{prefix_len, list_any};
 ghost use Rattle.rv_text_laws.specs.Cut.{cut};
 ghost use Rattle.rv_text_laws.specs.Bytes.{is_digit};
@@ -145,9 +145,11 @@ pub(crate) fn string_length(bytes: &[u8]) -> Option<usize>
     }
 }
 
-/// Appends the bytes that a string has, by what stands between its quotes.
+/// Appends the bytes that a string has, by what stands between its quotes; an error leaves the first of them appended.
 pub fn append_string(text: &[u8], bytes: &mut Vec<u8>) -> Result<(), AllocError>
-    ensures { IfOk result (λ _. bytes.new.items ≡ bytes.old.items ++ string_bytes text.now) }
+    ensures ok { OnOk result (bytes.new.items ≡ bytes.old.items ++ string_bytes text.now) }
+    ensures err { OnErr result ((first more : List ℕ)
+        × (bytes.new.items ≡ bytes.old.items ++ first) × (string_bytes text.now ≡ first ++ more)) }
 {
     let mut rest = text;
     while let Some((byte, length)) = atom_at(rest) {

@@ -1,9 +1,17 @@
 -- Atom by atom.
-use Rattle.std.proofs.Common.{◌∷◌, ◌++◌, sym, ◌∙◌, ap, arith}
+use Rattle.std.proofs.Common.{[], ◌∷◌, ◌++◌, refl, sym, ◌∙◌, ap, append_assoc, arith, Result, Ok, Err}
+use Rattle.std.specs.Prelude.{OnErr}
 use Rattle.std.proofs.lemmas.List.{append-nil}
 use Rattle.rv_lexer.specs.Token.{string_bytes}
-use Rattle.rv_lexer.proofs.InsideLemmas.{atom_within, string_more, string_none, string_on}
+use Rattle.rv_lexer.proofs.InsideLemmas.{atom_within, string_more, string_none}
 use Rattle.rv_lexer.proofs.strings.append_string.Goals as goal
+
+on_err : {T E P : Type 0} (r : Result T E) → P → OnErr r P
+on_err (Ok x) p = tt
+on_err (Err e) p = p
+
+pub loop-byte-init : goal.loop-byte-init
+loop-byte-init c = ([], sym (append-nil _), refl)
 
 pub split_at-requires : goal.split_at-requires
 split_at-requires c = (atom_within c.loop-byte.rest.now c.in-Some.byte c.in-Some.length c.in-Some.ensures).1
@@ -15,9 +23,21 @@ loop-byte-smaller c =
 
 pub loop-byte-preserved : goal.loop-byte-preserved
 loop-byte-preserved c =
-    string_on _ _ _ c.loop-byte.rest.now c.in-Some.byte _ c.loop-byte.invariant
-    (string_more c.loop-byte.rest.now c.in-Some.byte c.in-Some.length c.in-Some.ensures ∙ ap (λ r. c.in-Some.byte ∷ string_bytes r) (sym c.split_at.ensures.back))
-    c.in_ok-push.ensures.items
+    let so = c.loop-byte.invariant in
+    let byte = c.in-Some.byte in (
+      so.0 ++ byte ∷ [],
+      c.in_ok-push.ensures.items ∙ ap (λ l. l ++ byte ∷ []) so.1 ∙ append_assoc _ so.0 (byte ∷ []),
+      so.2
+          ∙ ap (λ l. so.0 ++ l) (string_more c.loop-byte.rest.now byte c.in-Some.length c.in-Some.ensures ∙ ap (λ r. byte ∷ string_bytes r) (sym c.split_at.ensures.back))
+          ∙ sym (append_assoc so.0 (byte ∷ []) _),
+    )
 
-pub returns : goal.returns
-returns c = sym (append-nil _) ∙ ap (λ r. c.loop-byte.bytes.items ++ r) (sym (string_none c.loop-byte.rest.now c.in_default.ensures)) ∙ c.loop-byte.invariant
+pub returns-clause-ok : goal.returns-clause-ok
+returns-clause-ok c =
+    let so = c.loop-byte.invariant in
+    so.1 ∙ ap (λ l. c.args.bytes.now.items ++ l) (sym (so.2 ∙ ap (λ l. so.0 ++ l) (string_none c.loop-byte.rest.now c.in_default.ensures) ∙ append-nil so.0))
+
+pub returns-in_err-push-clause-err : goal.returns-in_err-push-clause-err
+returns-in_err-push-clause-err c =
+    let so = c.loop-byte.invariant in
+    on_err c.from_residual.result (so.0, string_bytes c.loop-byte.rest.now, c.in_err-push.ensures.items ∙ so.1, so.2)

@@ -1,10 +1,11 @@
--- The bytes so far and those of the rest are all.
-use Rattle.std.proofs.Common.{◌≡◌, ◌++◌, length}
+-- The bytes appended so far and those of the rest are the string's.
+use Rattle.std.proofs.Common.{◌≡◌, ℕ, List, ◌++◌, length}
 use Rattle.rv_lexer.specs.Token.{string_bytes}
 use Rattle.rv_lexer.proofs.strings.append_string.Given as goal
 
 abbrev pub invariant-loop-byte : goal.invariant-loop-byte
-invariant-loop-byte l = l.bytes.items ++ string_bytes l.rest ≡ l.initial.bytes.items ++ string_bytes l.text
+invariant-loop-byte l =
+    (first : List ℕ) × (l.bytes.items ≡ l.initial.bytes.items ++ first) × (string_bytes l.text ≡ first ++ string_bytes l.rest)
 
 abbrev pub decreases-loop-byte : goal.decreases-loop-byte
 decreases-loop-byte l = length l.rest
