@@ -12,4 +12,5 @@ pub mod ExpressionValuesLemmas
 pub mod TreesLemmas
 pub mod ExpressionWrongLemmas
 pub mod TokenTextsLemmas
+pub mod SpansLemmas
 pub mod JoinsLemmas

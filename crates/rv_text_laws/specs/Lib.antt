@@ -4,6 +4,7 @@ pub mod Bytes
 pub mod Strings
 pub mod Grammar
 pub mod Lexing
+pub mod Spans
 pub mod SyntaxError
 pub mod Front
 pub mod Expression

@@ -3,6 +3,7 @@
 ghost use Rattle.std.specs.Prelude.{◌≡◌, ℕ, ◌≤◌, Bool, true, List, [], ◌∷◌, ◌++◌, Some};
 ghost use Rattle.rv_text_laws.specs.Grammar.{Kind, Spells, Stops};
 ghost use Rattle.rv_text_laws.specs.Lexing.{Token, Lexes, ended};
+ghost use Rattle.rv_text_laws.specs.Spans.{Spans};
 ghost use Rattle.rv_text_laws.specs.SyntaxError.{SyntaxError, wrong};
 ghost use Rattle.rv_text_laws.specs.Front.{tokens_from};
 ghost use Rattle.rv_text_laws.specs.Expression.{Primary, Tree, Node, IsAt, nesting, deepest, postfix, SpellsTree, ReadsTree, tree_of, bare};
@@ -25,6 +26,11 @@ pub fn one_list()
 /// Every source has a list of tokens.
 pub fn some_list()
     ensures { (bytes : List ℕ) → Lexes bytes (tokens_from 0 1 bytes) }
+{}
+
+/// The tokens of every source, a bad one too, stand one after the other in it, with blanks and comments alone outside.
+pub fn spans()
+    ensures { (bytes : List ℕ) (ts : List Token) → Lexes bytes ts → Spans 0 bytes ts }
 {}
 
 /// What spells an expression is read as it.

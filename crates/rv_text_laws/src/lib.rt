@@ -2,12 +2,14 @@
 //! their values. Definitions and their laws; nothing here runs.
 //!
 //! Takes nothing. Gives the codes of faults (`specs/Codes`), the lexemes of a source and how each is spelled
-//! (`specs/{Cut, Bytes, Strings, Grammar}`), its tokens (`Lexing`), expressions and how tokens spell them (`Expression`),
-//! their values (`Values`), a section's name (`Joined`), and the functions that find each (`Front`, `ExpressionAt`).
+//! (`specs/{Cut, Bytes, Strings, Grammar}`), its tokens and where they stand (`{Lexing, Spans}`), expressions and how
+//! tokens spell them (`Expression`), their values (`Values`), a section's name (`Joined`), and the functions that find
+//! each (`Front`, `ExpressionAt`).
 //!
-//! Its main laws: a source has exactly one list of tokens (`one_list`, `some_list`); what is read as an expression is one,
-//! and the only one (`expression_is`, `expression_found`); a reading names the first token with which no expression goes
-//! on (`wrong_token`). It knows nothing of mnemonics, directives, registers or sections.
+//! Its main laws: a source has exactly one list of tokens (`one_list`, `some_list`), and outside their spans stand
+//! blanks and comments alone (`spans`); what is read as an expression is one, and the only one (`expression_is`,
+//! `expression_found`); a reading names the first token with which no expression goes on (`wrong_token`). It knows
+//! nothing of mnemonics, directives, registers or sections.
 //!
 //! ```text
 //! bytes    "lw a0, 4(sp)"
@@ -28,8 +30,8 @@ mod punct;
 pub use class::Class;
 pub use laws::{
     bare_value, expression_end, expression_found, expression_is, joined_name, nodes_value,
-    one_lexeme, one_list, postfix_fits, postfix_tree, postfix_value, some_list, taken_goes_on,
-    wrong_token,
+    one_lexeme, one_list, postfix_fits, postfix_tree, postfix_value, some_list, spans,
+    taken_goes_on, wrong_token,
 };
 pub use operator::{BinaryOperator, Frame, UnaryOperator};
 pub use punct::Punct;
