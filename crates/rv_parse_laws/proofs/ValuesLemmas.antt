@@ -8,9 +8,11 @@ use Rattle.rv_text_laws.specs.Grammar.{Kind, Punctuation}
 use Rattle.rv_text_laws.specs.Lexing.{Token, ended}
 use Rattle.rv_text_laws.specs.SyntaxError.{SyntaxError, wrong, Read}
 use Rattle.rv_text_laws.specs.Expression.{Tree, Leaf, Unary, Paren, Binary, Symbol, A_primary, begins, follows, No_operand, Nothing_more, SpellsTree, Node, postfix, IsAt, nesting, deepest, EndsBefore, tree_of, bare}
-use Rattle.rv_text_laws.specs.ExpressionAt.{Wants, Fails, step, read_from, expression_at, FailsAt, EndsAt}
+use Rattle.rv_text_laws.specs.ExpressionAt.{Wants, Fails, step, read_from, expression_at, EndsAt}
+use Rattle.rv_text_laws.specs.ExpressionFault.{FailsAt}
 use Rattle.rv_text_laws.proofs.ExpressionsLemmas.{fails, expression_is}
-use Rattle.rv_text_laws.proofs.ExpressionWrongLemmas.{can_go_on, fails_there, wrong_at, ends_there, end_at, whole_there}
+use Rattle.rv_text_laws.proofs.ExpressionWrongLemmas.{can_go_on, ends_there, end_at, whole_there}
+use Rattle.rv_text_laws.proofs.ExpressionFaultsLemmas.{stuck, fails_there, wrong_at}
 use Rattle.rv_text_laws.proofs.TreesLemmas.{postfix_tree}
 use Rattle.rv_statement.specs.Statement.{Expression}
 use Rattle.rv_parse_laws.specs.Syntax.{is_register, is_comma, is_opening, is_end, is_percent, is_number, IsValue}
@@ -166,7 +168,7 @@ no_opening (Punctuation _) code h = refl
 no_opening _ code h = refl
 
 fails_first : (front : List Token) (at : Token) (code : ℕ) → FailsAt is_register front at code → front ≡ [] → is_opening at.kind ≡ false
-fails_first [] at code f e = go f.stage f.taken f.fails
+fails_first [] at code f e = let s = stuck is_register [] at code f in go s.stage s.taken s.fails
   where
     go : (s : _) → Some (Wants [] []) ≡ Some s → step is_register s at.kind ≡ Fails code → is_opening at.kind ≡ false
     go s same h = let is : s ≡ Wants [] [] = cc in no_opening at.kind code (ap (λ x. step is_register x at.kind) (sym is) ∙ h)
@@ -187,7 +189,8 @@ pub record Unread (ts : List Token) (w : SyntaxError) : Type 0 where
 pub value_unread : (ts : List Token) (w : SyntaxError) → ended ts ≡ true → value_at ts ≡ Err w → Unread ts w
 value_unread ts w end e =
     let f = wrong_at is_register ts w end (seen_err tree_of (expression_at is_register ts) w e) in
-    let g = can_go_on is_register f.0 f.5.stage f.5.taken in
+    let s = stuck is_register f.0 f.1 f.3 f.5 in
+    let g = can_go_on is_register f.0 s.stage s.taken in
     record {
       before = f.0;
       at = f.1;

@@ -8,7 +8,8 @@ use Rattle.rv_text_laws.specs.Expression.{tree_of, EndsBefore}
 use Rattle.rv_text_laws.specs.ExpressionAt.{expression_at}
 use Rattle.rv_text_laws.specs.Codes.{bad_operands, unsupported_here}
 use Rattle.rv_text_laws.proofs.ExpressionFoundLemmas.{expression_found}
-use Rattle.rv_text_laws.proofs.ExpressionWrongLemmas.{ended_more, fails_there, wrong_at}
+use Rattle.rv_text_laws.proofs.ExpressionWrongLemmas.{ended_more}
+use Rattle.rv_text_laws.proofs.ExpressionFaultsLemmas.{fails_there, wrong_at}
 use Rattle.rv_statement.specs.Statement.{Expression, Operand, Applied, Value, Target}
 use Rattle.rv_statement.specs.declared.pseudo.Function.{Function}
 use Rattle.rv_statement.specs.declared.pseudo.Function.TheVariants.{Hi, Lo, PcrelHi, PcrelLo}

@@ -10,7 +10,7 @@ use Rattle.rv_text_laws.specs.Codes.{bad_operands, limit}
 use Rattle.rv_text_laws.specs.SyntaxError.{longest_name}
 use Rattle.rv_text_laws.specs.Joined.{IsJoined, ReadsJoined, first_name}
 use Rattle.rv_text_laws.specs.Expression.{EndsBefore}
-use Rattle.rv_text_laws.specs.ExpressionAt.{FailsAt}
+use Rattle.rv_text_laws.specs.ExpressionFault.{FailsAt}
 use Rattle.rv_statement.specs.Statement.{Expression, Operand, Applied, Word}
 use Rattle.rv_statement.specs.declared.pseudo.Function.{Function}
 use Rattle.rv_statement.specs.declared.pseudo.Function.TheVariants.{PcrelLo}

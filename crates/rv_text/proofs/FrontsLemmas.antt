@@ -8,7 +8,8 @@ use Rattle.rv_text_laws.specs.declared.operator.UnaryOperator.TheVariants.{Negat
 use Rattle.rv_text_laws.specs.Grammar.{Kind}
 use Rattle.rv_text_laws.specs.Lexing as lexing
 use Rattle.rv_text_laws.specs.Expression.{Node, Primary, Primary_node, Binary_node, Follow, Begin, A_primary, A_prefix, An_operator, A_closing, A_comparison, Nothing_more, begins, follows, level_of}
-use Rattle.rv_text_laws.specs.ExpressionAt.{Stage, Wants, Has, Goes, Ends, step, step_wants, step_has, settle, end, close, unclosed, read_from, expression_at}
+use Rattle.rv_text_laws.specs.ExpressionAt.{Stage, Wants, Has, Goes, Ends, step, step_wants, step_has, settle, end, close, read_from, expression_at}
+use Rattle.rv_text_laws.specs.ExpressionFault.{unclosed}
 use Rattle.rv_text_laws.proofs.ExpressionsLemmas.{goes, ends, le_true}
 use Rattle.rv_lexer.specs.declared.cursor.Cursor.{Cursor}
 use Rattle.rv_lexer.specs.Token.{token_of, kind_of}

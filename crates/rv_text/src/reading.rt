@@ -8,6 +8,7 @@
 ghost use Rattle.std.specs.Prelude.{◌≡◌, ℕ, Bool, List, [], ◌∷◌, ◌++◌, IfOk, IfErr};
 ghost use Rattle.rv_text_laws.specs.Expression.{Tree, ReadsTree, postfix, begins, follows, level_of, named_operand, punct_begins};
 ghost use Rattle.rv_text_laws.specs.ExpressionAt as reading;
+ghost use Rattle.rv_text_laws.specs.ExpressionFault.{unclosed};
 ghost use Rattle.rv_text_laws.specs.Lexing.{Token};
 ghost use Rattle.rv_text_laws.specs.declared.operator.Frame.TheVariants.{Infix};
 ghost use Rattle.rv_lexer.specs.Fault.{number_of};
@@ -182,7 +183,7 @@ pub(crate) fn follows(kind: TokenKind<'_>) -> Follow
 
 /// The code of a token that stands where an open parenthesis wants its other.
 fn unclosed(kind: TokenKind<'_>) -> SourceCode
-    ensures { number_of result ≡ reading.unclosed (kind_of kind.entry) }
+    ensures { number_of result ≡ unclosed (kind_of kind.entry) }
 {
     match kind {
         TokenKind::BadByte => SourceCode::BadByte,

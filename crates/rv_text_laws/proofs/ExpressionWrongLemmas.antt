@@ -1,7 +1,7 @@
 -- The first token with which no expression goes on.
 
 use Rattle.std.proofs.Common.{◌≡◌, ℕ, ◌≤◌, Bool, true, false, List, [], ◌∷◌, ◌++◌, append_assoc, Some, None, Ok, Err, refl, sym, ◌∙◌, ap, subst, arith, ◌⊎◌, inl, inr}
-use Rattle.std.proofs.lemmas.List.{append-nil, append_cancel_right}
+use Rattle.std.proofs.lemmas.List.{append_cancel_right}
 use Rattle.rv_text_laws.specs.declared.punct.Punct.TheVariants.{Close}
 use Rattle.rv_text_laws.specs.declared.operator.Frame.{Frame}
 use Rattle.rv_text_laws.specs.declared.operator.Frame.TheVariants.{Parenthesis, Prefix, Infix}
@@ -9,7 +9,8 @@ use Rattle.rv_text_laws.specs.Grammar.{Kind, Punctuation, Number, End}
 use Rattle.rv_text_laws.specs.Lexing.{Token, is_last, ended}
 use Rattle.rv_text_laws.specs.SyntaxError.{SyntaxError, wrong, Read}
 use Rattle.rv_text_laws.specs.Expression.{Literal, Tree, level_of, follows, A_closing, Nothing_more, SpellsTree, IsAt, nesting, deepest, Node, Primary_node, Unary_node, Binary_node, postfix, EndsBefore, ReadsTree}
-use Rattle.rv_text_laws.specs.ExpressionAt.{Stage, Wants, Has, settle, Step, Goes, Ends, Fails, step, step_has, close, end, unclosed, read_from, expression_at, after_tokens, FailsAt, EndsAt}
+use Rattle.rv_text_laws.specs.ExpressionAt.{Stage, Wants, Has, settle, Step, Goes, Ends, Fails, step, step_has, close, end, read_from, expression_at, after_tokens, EndsAt}
+use Rattle.rv_text_laws.specs.ExpressionFault.{unclosed}
 use Rattle.rv_text_laws.proofs.ExpressionsLemmas.{le_true, goes, ends, fails, expression_is, taken_no_last}
 use Rattle.rv_text_laws.proofs.ExpressionFoundLemmas.{expression_found}
 
@@ -54,6 +55,12 @@ some_close [] = (placed End, [], refl, inr refl)
 some_close (Parenthesis ∷ fs) = (placed (Punctuation Close), closings fs ++ placed End ∷ [], refl, inl refl)
 some_close (Prefix o ∷ fs) = some_close fs
 some_close (Infix o ∷ fs) = some_close fs
+
+-- the tokens are taken, and the one after them is wrong with this code
+pub record StuckAt (r : List ℕ → Bool) (front : List Token) (at : Token) (code : ℕ) : Type 0 where
+  pub stage : Stage
+  pub taken : after_tokens r (Wants [] []) front ≡ Some stage
+  pub fails : step r stage at.kind ≡ Fails code
 
 module _ (r : List ℕ → Bool) where
   -- the tokens that are taken, and then the others
@@ -113,25 +120,25 @@ module _ (r : List ℕ → Bool) where
       (finish s, found.0, subst (SpellsTree r found.0) (sym same) reads.spelled, reads.ordered, reads.within)
 
   -- the reading is wrong at that token, whatever stands after it
-  pub fails_there : (front : List Token) (at : Token) (code : ℕ) (more : List Token) → FailsAt r front at code → expression_at r (front ++ at ∷ more) ≡ Err (wrong at code)
+  pub stuck_there : (front : List Token) (at : Token) (code : ℕ) (more : List Token) → StuckAt r front at code → expression_at r (front ++ at ∷ more) ≡ Err (wrong at code)
   unfolding expression_at
-  fails_there front at code more f = onward front (at ∷ more) (Wants [] []) f.stage f.taken ∙ fails r f.stage code at more f.fails
+  stuck_there front at code more f = onward front (at ∷ more) (Wants [] []) f.stage f.taken ∙ fails r f.stage code at more f.fails
 
   pub ends_there : (front : List Token) (at : Token) (nodes : List Node) (more : List Token) → EndsAt r front at nodes → expression_at r (front ++ at ∷ more) ≡ Ok (nodes, at ∷ more)
   unfolding expression_at
   ends_there front at nodes more f = onward front (at ∷ more) (Wants [] []) f.stage f.taken ∙ ends r f.stage nodes at more f.ends
 
   -- so no expression stands there
-  pub never_read : (front : List Token) (at : Token) (code : ℕ) (more : List Token) → FailsAt r front at code
+  pub never_read : (front : List Token) (at : Token) (code : ℕ) (more : List Token) → StuckAt r front at code
       → (tree : Tree) (rest : List Token) → ReadsTree r (front ++ at ∷ more) tree rest → ⊥
   never_read front at code more f tree rest reads =
-      no_both (postfix tree, rest) (wrong at code) (sym (expression_is r (front ++ at ∷ more) tree rest reads) ∙ fails_there front at code more f)
+      no_both (postfix tree, rest) (wrong at code) (sym (expression_is r (front ++ at ∷ more) tree rest reads) ∙ stuck_there front at code more f)
 
   -- and none goes on with that token
-  pub stops_there : (front : List Token) (at : Token) (code : ℕ) (more : List Token) → FailsAt r front at code
+  pub stuck_stops : (front : List Token) (at : Token) (code : ℕ) (more : List Token) → StuckAt r front at code
       → (tree : Tree) → SpellsTree r tree (front ++ at ∷ more) → IsAt 0 tree → nesting tree ≤ deepest → ⊥
   unfolding placed
-  stops_there front at code more f tree spelled ordered within =
+  stuck_stops front at code more f tree spelled ordered within =
       never_read front at code (more ++ placed End ∷ []) f tree (placed End ∷ [])
       (record { tokens = front ++ at ∷ more; whole = sym (append_assoc front (at ∷ more) (placed End ∷ [])); spelled = spelled; ordered = ordered; within = within; ends = the_end })
     where
@@ -155,7 +162,7 @@ module _ (r : List ℕ → Bool) where
       (ap (λ (q : List Node × List Token). q.1) both, sym (ap (λ (q : List Node × List Token). q.0) both))
 
   -- one token more at the front
-  taken_first : (s u : Stage) (t : Token) (front : List Token) → step r s t.kind ≡ Goes u → after_tokens r s (t ∷ front) ≡ after_tokens r u front
+  pub taken_first : (s u : Stage) (t : Token) (front : List Token) → step r s t.kind ≡ Goes u → after_tokens r s (t ∷ front) ≡ after_tokens r u front
   taken_first s u t front e = rw (e, after_tokens) refl
 
   -- where a reading from a stage on is wrong
@@ -203,10 +210,10 @@ module _ (r : List ℕ → Bool) where
           }
 
   -- a reading is wrong at a token
-  pub wrong_at : (ts : List Token) (w : SyntaxError) → ended ts ≡ true → expression_at r ts ≡ Err w
-      → (front : List Token) × (at : Token) × (more : List Token) × (code : ℕ) × (ts ≡ front ++ at ∷ more) × FailsAt r front at code × (w ≡ wrong at code)
+  pub stuck_found : (ts : List Token) (w : SyntaxError) → ended ts ≡ true → expression_at r ts ≡ Err w
+      → (front : List Token) × (at : Token) × (more : List Token) × (code : ℕ) × (ts ≡ front ++ at ∷ more) × StuckAt r front at code × (w ≡ wrong at code)
   unfolding expression_at
-  wrong_at ts w end e =
+  stuck_found ts w end e =
       let f = wrong_from ts (Wants [] []) w end e in
       (f.front, f.at, f.more, f.code, f.whole, record { stage = f.stage; taken = f.taken; fails = f.fails }, f.is)
 

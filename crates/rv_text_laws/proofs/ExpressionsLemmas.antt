@@ -9,7 +9,8 @@ use Rattle.rv_text_laws.specs.declared.operator.Frame.TheVariants.{Parenthesis, 
 use Rattle.rv_text_laws.specs.Grammar.{Kind, Bad_byte, Bad_token, End}
 use Rattle.rv_text_laws.specs.Lexing.{Token, is_last}
 use Rattle.rv_text_laws.specs.Expression.{Tree, Leaf, Unary, Paren, Binary, level_of, begins, follows, No_operand, Nothing_more, SpellsTree, IsAt, nesting, deepest, Node, Primary_node, Unary_node, Binary_node, postfix, EndsBefore, ReadsTree}
-use Rattle.rv_text_laws.specs.ExpressionAt.{Stage, Wants, Has, depth, settle, Goes, Ends, Fails, step, step_wants, step_has, end, unclosed, read_from, expression_at}
+use Rattle.rv_text_laws.specs.ExpressionAt.{Stage, Wants, Has, depth, settle, Goes, Ends, Fails, step, step_wants, step_has, end, read_from, expression_at}
+use Rattle.rv_text_laws.specs.ExpressionFault.{unclosed}
 use Rattle.rv_text_laws.specs.SyntaxError.{wrong}
 
 pub level_small : (o : BinaryOperator) → level_of o < 3
@@ -129,7 +130,7 @@ module _ (r : List ℕ → Bool) where
       ∙ ended _ _ (postfix t) rest (settled t 0 [] [] reads.ordered (omega arith)) reads.ends
 
   -- a token that is taken is not the last
-  end_goes : (code : ℕ) (fs : List Frame) (ns : List Node) (u : Stage) → end code fs ns ≡ Goes u → ⊥
+  pub end_goes : (code : ℕ) (fs : List Frame) (ns : List Node) (u : Stage) → end code fs ns ≡ Goes u → ⊥
   end_goes code [] ns u e = cc
   end_goes code (f ∷ fs) ns u e = cc
 

@@ -11,6 +11,7 @@ pub mod ExpressionFoundLemmas
 pub mod ExpressionValuesLemmas
 pub mod TreesLemmas
 pub mod ExpressionWrongLemmas
+pub mod ExpressionFaultsLemmas
 pub mod TokenTextsLemmas
 pub mod SpansLemmas
 pub mod JoinsLemmas

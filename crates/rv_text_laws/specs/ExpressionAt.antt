@@ -1,17 +1,17 @@
 -- The expression at the front of tokens, going over them once: where an expression stands there,
 -- its nodes and the tokens after it (`expression_is`, `expression_found`: the definitions of
 -- Expression leave room for one); else the first token with which no expression goes on, with its
--- code (`taken_goes_on`, `wrong_token`).
+-- code, as ExpressionFault has it (`taken_begins`, `wrong_token`).
 
 use Rattle.std.specs.Prelude.{◌≡◌, ℕ, suc, Bool, true, false, nat_le, nat_lt, List, [], ◌∷◌, ◌++◌, Option, Some, None, Ok, Err, if◌then◌else◌}
-use Rattle.rv_text_laws.specs.declared.punct.Punct.TheVariants.{DoubleSlash}
 use Rattle.rv_text_laws.specs.declared.operator.Frame.{Frame}
 use Rattle.rv_text_laws.specs.declared.operator.Frame.TheVariants.{Parenthesis, Prefix, Infix}
-use Rattle.rv_text_laws.specs.Grammar.{Kind, Punctuation, Bad_word, Bad_byte, Bad_token}
+use Rattle.rv_text_laws.specs.Grammar.{Kind}
 use Rattle.rv_text_laws.specs.Lexing.{Token}
-use Rattle.rv_text_laws.specs.Codes.{bad_byte, bad_token, nesting_too_deep, bad_operands, unsupported_here}
+use Rattle.rv_text_laws.specs.Codes.{nesting_too_deep, unsupported_here}
 use Rattle.rv_text_laws.specs.SyntaxError.{wrong, Read, nowhere}
 use Rattle.rv_text_laws.specs.Expression.{Begin, A_primary, A_prefix, An_opening, No_operand, begins, Follow, An_operator, A_closing, A_comparison, Nothing_more, follows, level_of, deepest, Node, Primary_node, Unary_node, Binary_node}
+use Rattle.rv_text_laws.specs.ExpressionFault.{unclosed}
 
 -- what is read so far: what waits for an operand, the last one first, and the nodes; and whether an
 -- operand comes next
@@ -65,14 +65,6 @@ step_wants fs ns (A_prefix o) = deeper (Prefix o) fs ns
 step_wants fs ns An_opening = deeper Parenthesis fs ns
 step_wants fs ns (No_operand code) = Fails code
 
--- the code of a token that stands where an open parenthesis wants its other
-abbrev pub unclosed : Kind → ℕ
-unclosed Bad_byte = bad_byte
-unclosed Bad_token = bad_token
-unclosed (Bad_word word) = bad_token
-unclosed (Punctuation DoubleSlash) = unsupported_here
-unclosed _ = bad_operands
-
 -- after a `)`: it closes the last open parenthesis, or belongs to no expression
 abbrev pub close : List Frame → List Node → Step
 close [] ns = Ends ns
@@ -115,13 +107,6 @@ after_tokens is_register s (t ∷ ts) = elim (step is_register s t.kind) [
   | Ends ns ↦ None
   | Fails code ↦ None
 ]
-
--- the tokens are taken, and the one after them is wrong with this code
-pub record FailsAt (is_register : List ℕ → Bool) (front : List Token) (at : Token)
-    (code : ℕ) : Type 0 where
-  pub stage : Stage
-  pub taken : after_tokens is_register (Wants [] []) front ≡ Some stage
-  pub fails : step is_register stage at.kind ≡ Fails code
 
 -- the tokens are taken, and the expression of these nodes ends before the one after them
 pub record EndsAt (is_register : List ℕ → Bool) (front : List Token) (at : Token)

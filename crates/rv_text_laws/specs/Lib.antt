@@ -8,6 +8,7 @@ pub mod Spans
 pub mod SyntaxError
 pub mod Front
 pub mod Expression
+pub mod ExpressionFault
 pub mod ExpressionAt
 pub mod Values
 pub mod Joined

@@ -9,7 +9,8 @@ ghost use Rattle.rv_text_laws.specs.Front.{tokens_from};
 ghost use Rattle.rv_text_laws.specs.Expression.{Primary, Tree, Node, IsAt, nesting, deepest, postfix, SpellsTree, ReadsTree, tree_of, bare};
 ghost use Rattle.rv_text_laws.specs.Values.{Meaning, Value, value_of, after_nodes, nodes_fit};
 ghost use Rattle.rv_text_laws.specs.Joined.{ReadsJoined, joined_at};
-ghost use Rattle.rv_text_laws.specs.ExpressionAt.{Stage, Wants, after_tokens, expression_at, FailsAt, EndsAt};
+ghost use Rattle.rv_text_laws.specs.ExpressionAt.{Stage, Wants, after_tokens, expression_at, EndsAt};
+ghost use Rattle.rv_text_laws.specs.ExpressionFault.{Begins, FailsAt};
 
 /// At most one lexeme stands at the front of bytes, and it has one kind.
 pub fn one_lexeme()
@@ -77,15 +78,15 @@ pub fn nodes_value()
         × (after_nodes meanings nodes [] ≡ value_of meanings (tree_of nodes) ∷ others) }
 {}
 
-/// Tokens that are taken can go on as an expression.
-pub fn taken_goes_on()
-    ensures { (is_register : List ℕ → Bool) (front : List Token) (stage : Stage) →
-        after_tokens is_register (Wants [] []) front ≡ Some stage
-        → (more : List Token) × (tree : Tree) × SpellsTree is_register tree (front ++ more)
-        × IsAt 0 tree × (nesting tree ≤ deepest) }
+/// A reading takes the tokens that an expression begins with, and no others.
+pub fn taken_begins()
+    ensures goes_on { (is_register : List ℕ → Bool) (front : List Token) (stage : Stage) →
+        after_tokens is_register (Wants [] []) front ≡ Some stage → Begins is_register front }
+    ensures taken { (is_register : List ℕ → Bool) (front : List Token) → Begins is_register front
+        → (stage : Stage) × (after_tokens is_register (Wants [] []) front ≡ Some stage) }
 {}
 
-/// A reading names the token at which it is wrong, and with this token no expression goes on.
+/// A reading names the first token with which no expression goes on, and the code of its fault.
 pub fn wrong_token()
     ensures is { (is_register : List ℕ → Bool) (front : List Token) (at : Token) (code : ℕ)
         (more : List Token) → FailsAt is_register front at code

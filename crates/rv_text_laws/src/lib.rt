@@ -3,8 +3,8 @@
 //!
 //! Takes nothing. Gives the codes of faults (`specs/Codes`), the lexemes of a source and how each is spelled
 //! (`specs/{Cut, Bytes, Strings, Grammar}`), its tokens and where they stand (`{Lexing, Spans}`), expressions and how
-//! tokens spell them (`Expression`), their values (`Values`), a section's name (`Joined`), and the functions that find
-//! each (`Front`, `ExpressionAt`).
+//! tokens spell them (`Expression`), the first token with which none goes on (`ExpressionFault`), their values (`Values`),
+//! a section's name (`Joined`), and the functions that find each (`Front`, `ExpressionAt`).
 //!
 //! Its main laws: a source has exactly one list of tokens (`one_list`, `some_list`), and outside their spans stand
 //! blanks and comments alone (`spans`); what is read as an expression is one, and the only one (`expression_is`,
@@ -31,7 +31,7 @@ pub use class::Class;
 pub use laws::{
     bare_value, expression_end, expression_found, expression_is, joined_name, nodes_value,
     one_lexeme, one_list, postfix_fits, postfix_tree, postfix_value, some_list, spans,
-    taken_goes_on, wrong_token,
+    taken_begins, wrong_token,
 };
 pub use operator::{BinaryOperator, Frame, UnaryOperator};
 pub use punct::Punct;

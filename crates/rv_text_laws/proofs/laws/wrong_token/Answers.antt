@@ -1,4 +1,4 @@
-use Rattle.rv_text_laws.proofs.ExpressionWrongLemmas.{fails_there, wrong_at, stops_there}
+use Rattle.rv_text_laws.proofs.ExpressionFaultsLemmas.{fails_there, wrong_at, stops_there}
 use Rattle.rv_text_laws.proofs.laws.wrong_token.Goals as goal
 
 pub returns-clause-is : goal.returns-clause-is
