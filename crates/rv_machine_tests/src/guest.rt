@@ -1,4 +1,4 @@
-//! Guests: executables of a few words, and the guest that compares what instructions give.
+//! Guests: executables of a few words.
 
 use rv_image::load;
 use rv_machine::{End, Machine, Outcome, run};
@@ -13,23 +13,12 @@ pub const WRITE: u32 = 2;
 
 pub const READ: u32 = 4;
 
-/// Where the text, the rows of a table and the bytes that instructions work on stand.
+/// Where the text stands.
 pub const TEXT: u64 = 0x1_0000;
-
-pub const ROWS: u64 = 0x1_1000;
-
-pub const PLACE: u64 = 0x1_2000;
-
-/// `nop`
-pub const NOP: u32 = 0x0000_0013;
 
 /// An ELF header up to its count of segments: an executable for RISC-V that begins at 10000h.
 const HEADER: [u8; 56] = *b"\x7fELF\x02\x01\x01\0\0\0\0\0\0\0\0\0\x02\0\xf3\0\x01\0\0\0\
 \0\0\x01\0\0\0\0\0\x40\0\0\0\0\0\0\0\0\0\0\0\0\0\0\0\0\0\0\0\x40\0\x38\0";
-
-/// What stands at the place before a table's instruction is run.
-const PLACE_BYTES: [u8; 24] = *b"\x7f\x80\xff\x00\xfe\xff\x01\x80\xff\xff\xff\x7f\x00\x00\x00\x80\
-\x01\x80\xff\x7f\x12\x34\x56\x78";
 
 /// A segment of a guest.
 #[derive(Clone, Copy, Drop)]
@@ -128,49 +117,4 @@ pub(super) fn ran(
     } else {
         Err(Fail::from("the memories differ"))
     }
-}
-
-/// What a table's guest comes to. For each row it takes a1 and a2, sets a3 to 0, does three instructions
-/// with s2 at the place, and compares a0 and a3. It exits with 1 where all are as the rows say, and comes
-/// to a breakpoint at the first that is not.
-pub(super) fn compared(alloc: Global, body: [u32; 3], rows: &[[i64; 4]]) -> Result<Outcome, Fail> {
-    let [first, second, third] = body;
-    let words = [
-        0x0001_1437, // lui s0, 0x11
-        0x0001_2937, // lui s2, 0x12
-        0x0004_3483, // ld s1, 0(s0)
-        0x0084_0413, // addi s0, s0, 8
-        0x0004_3583, // 1: ld a1, 0(s0)
-        0x0084_3603, // ld a2, 8(s0)
-        0x0000_0693, // li a3, 0
-        first,
-        second,
-        third,
-        0x0104_3703, // ld a4, 16(s0)
-        0x02e5_1063, // bne a0, a4, 2f
-        0x0184_3703, // ld a4, 24(s0)
-        0x00e6_9c63, // bne a3, a4, 2f
-        0x0204_0413, // addi s0, s0, 32
-        0xfc94_1ae3, // bne s0, s1, 1b
-        0x0010_0513, // li a0, 1
-        0x05d0_0893, // li a7, 93
-        0x0000_0073, // ecall
-        0x0010_0073, // 2: ebreak
-    ];
-    let end = ROWS
-        .wrapping_add(8)
-        .wrapping_add((rows.len() as u64).wrapping_mul(32));
-    let mut table = Vec::from_slice(alloc, &end.to_le_bytes())?;
-    for row in rows {
-        for value in row {
-            table.extend_from_slice(&value.to_le_bytes())?;
-        }
-    }
-    let bytes = code(alloc, &words)?;
-    let parts = [
-        text(&bytes),
-        variables(ROWS, &table),
-        variables(PLACE, &PLACE_BYTES),
-    ];
-    ran(alloc, &parts, &[], 10_000)
 }

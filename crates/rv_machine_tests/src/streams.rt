@@ -311,18 +311,21 @@ fn stores_over_two_pages(rt: HostRuntime) -> Result<(), Fail> {
     Ok(())
 }
 
-/// The same guest with a console in memory.
+/// The same guests with an input and a console in memory.
 #[test]
-fn writes_to_a_console_in_memory(rt: HostRuntime) -> Result<(), Fail> {
+fn reads_and_writes_in_memory(rt: HostRuntime) -> Result<(), Fail> {
     let alloc = rt.alloc();
-    let words = code(alloc, &HELLO)?;
     let constants = Part {
         address: 0x1_1000,
         flags: READ,
         bytes: b"hello",
     };
-    let outcome = ran(alloc, &[text(&words), constants], b"", 1000)?;
-    assert_eq!(rt; outcome.end, End::Exited(0));
-    assert_eq!(rt; outcome.console.as_slice(), b"hello".as_slice());
+    for (words, _, _, _, console) in &MOVES {
+        let words = code(alloc, words)?;
+        let parts = [text(&words), constants, variables(0x1_1ff0, &[0; 32])];
+        let outcome = ran(alloc, &parts, b"abcdef", 1000)?;
+        assert_eq!(rt; outcome.end, End::Exited(0));
+        assert_eq!(rt; outcome.console.as_slice(), *console);
+    }
     Ok(())
 }
