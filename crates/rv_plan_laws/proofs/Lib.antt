@@ -1,0 +1,15 @@
+pub mod DropsLemmas
+pub mod PlannedLemmas
+pub mod KeptLemmas
+pub mod SortedLemmas
+pub mod SectionsLemmas
+pub mod EvenlyLemmas
+pub mod AppendedLemmas
+pub mod WalkedLemmas
+pub mod WholeLemmas
+pub mod FarLemmas
+pub mod LeftLemmas
+pub mod TextLemmas
+pub mod CallsLemmas
+pub mod UnrelaxedLemmas
+pub mod LinkedLemmas
