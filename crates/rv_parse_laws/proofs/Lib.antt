@@ -27,3 +27,4 @@ pub mod WrongStatementsLemmas
 pub mod WrongPlacesLemmas
 pub mod FirstFaultLemmas
 pub mod WorkedLemmas
+pub mod NamesLemmas

@@ -1,4 +1,5 @@
 pub mod Words
+pub mod Names
 pub mod Syntax
 pub mod Faults
 pub mod Content

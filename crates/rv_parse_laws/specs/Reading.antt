@@ -3,7 +3,7 @@
 use Rattle.std.specs.Prelude.{◌≡◌, ℕ, ◌+◌, ◌^◌, ◌≤◌, true, List, [], ◌∷◌, ◌++◌, length}
 use Rattle.std.specs.List.{list_all}
 use Rattle.rv_text_laws.specs.Bytes.{in_line}
-use Rattle.rv_text_laws.specs.Cut.{Piece, texts, Cuts}
+use Rattle.rv_text_laws.specs.Cut.{Piece, Cuts}
 use Rattle.rv_text_laws.specs.Lexing.{Token, Lexes}
 use Rattle.rv_statement.specs.Limits.{most_statements}
 use Rattle.rv_statement.specs.Statement.{Statement}
