@@ -18,11 +18,11 @@ use Rattle.rv_pseudo_laws.specs.Filled.{FieldValue, filled}
 use Rattle.rv_source_laws.specs.Program.{Mapped, Program, form, resolved, address, number, has_values}
 use Rattle.rv_source_laws.specs.Lines.{Line, Lie, AreLines, constant_of, constants, no_operation, parts_of, parts, other_operand, operand_of, is_low_part, operand_value, field_value, expansion}
 use Rattle.rv_source_laws.specs.Meaning.{statement_effect, meaning, is_untaken, cost}
-use Rattle.rv_source_laws.specs.Fits.{IsRowOf, IsCodeRow, CodeFits, StatementFits, SizeFits}
-use Rattle.rv_chain_laws.proofs.ShapesLemmas.{insts, walked, Does, does_as, go_on, ends_above}
+use Rattle.rv_source_laws.specs.Fits.{IsRowOf, IsCodeRow, CodeFits, StatementFits}
+use Rattle.rv_chain_laws.specs.Walks.{then_walk, walk, Does, LinesDoAsMeant}
+use Rattle.rv_chain_laws.proofs.ShapesLemmas.{insts, walked, does_as, go_on, ends_above}
 use Rattle.rv_chain_laws.proofs.RowsLemmas.{Leads}
 use Rattle.rv_chain_laws.proofs.TableLemmas.{unpassed, comes}
-use Rattle.rv_chain_laws.proofs.WalkLemmas.{then_walk, walk}
 
 -- a statement without instructions has no bytes
 no_lines : (meant : Hart → Effect) (count : Hart → ℕ) (address bytes : ℕ) (lines : List Line) → [] ≡ insts lines → Lie address lines (address + bytes) → 0 < bytes → Does meant count address lines
@@ -179,7 +179,6 @@ module _ (p : Program) (s : Mapped) (lines : List Line) (are : AreLines p s line
   does_kind (Instruction mnemonic operands) is fits small = does_instruction mnemonic operands is (has_parts p s (parts p s) refl fits) small
   does_kind (Directs d) is fits small = does_directive d is
 
--- the lines of each statement, of at most four bytes each, come to its meaning and its cost
-pub does : (p : Program) (s : Mapped) (lines : List Line) → AreLines p s lines → SizeFits p s → IsRowOf (expansion p s) s.row → AllByRecursion (λ l. l.bytes ≤ 4) lines
-    → 0 < s.row.bytes → s.row.address + s.row.bytes < 2 ^ 64 → Does (meaning p s) (cost p s) s.row.address lines
-does p s lines are fits row small some below = does_kind p s lines are row some below s.located.kind refl fits small
+-- the law
+pub does : LinesDoAsMeant
+does p s lines h = does_kind p s lines h.are_lines h.row h.some h.below s.located.kind refl h.fits h.short

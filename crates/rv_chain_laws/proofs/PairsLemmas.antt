@@ -30,7 +30,8 @@ use Rattle.rv_pseudo_laws.proofs.SequencesLemmas.{again, register_set, put, put_
 use Rattle.rv_source_laws.specs.Lines.{distance, Line}
 use Rattle.rv_source_laws.specs.Meaning.{on_the_way, loads_from, stores_to, goes_by}
 use Rattle.rv_chain_laws.proofs.NumbersLemmas.{leads, even_target, halfway, leads_on, on_way}
-use Rattle.rv_chain_laws.proofs.ShapesLemmas.{insts, Does, does_as, two_lines}
+use Rattle.rv_chain_laws.specs.Walks.{Does}
+use Rattle.rv_chain_laws.proofs.ShapesLemmas.{insts, does_as, two_lines}
 use Rattle.rv_chain_laws.proofs.RowsLemmas.{Row, Leads, SetsTo, below_mod, two_sets, row_jump, valid_parts}
 
 -- the first instruction

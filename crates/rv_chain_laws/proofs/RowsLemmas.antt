@@ -34,7 +34,8 @@ use Rattle.rv_pseudo_laws.proofs.SequencesLemmas.{again, with_same, register_set
 use Rattle.rv_source_laws.specs.Lines.{distance, is_low_part, Line, Lie}
 use Rattle.rv_source_laws.specs.Meaning.{unary_result, compare_result, zero_taken, swapped_taken, goes_if, alone_effect}
 use Rattle.rv_chain_laws.proofs.NumbersLemmas.{leads, complement, low_byte, none_below_one, some_above, signed_byte, signed_half, low_half, low_word}
-use Rattle.rv_chain_laws.proofs.ShapesLemmas.{insts, Ready, Does, one_line, two_lines, branch_effect, over_jump}
+use Rattle.rv_chain_laws.specs.Walks.{Ready, Does}
+use Rattle.rv_chain_laws.proofs.ShapesLemmas.{insts, one_line, two_lines, branch_effect, over_jump}
 
 -- the row of a statement at an address: its lines are its parts with their fields filled
 pub record Row (f : FieldValue) (address size : ℕ) (ps : List Part) (lines : List Line) : Type 0 where

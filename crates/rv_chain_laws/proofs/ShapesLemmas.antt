@@ -14,36 +14,19 @@ use Rattle.rv_isa.specs.Operations.{of_branch}
 use Rattle.rv_isa_laws.specs.Arithmetic.{wrapped}
 use Rattle.rv_isa_laws.specs.Hart.{Hart, register}
 use Rattle.rv_isa_laws.specs.Effect.{Effect, Goes}
-use Rattle.rv_isa_laws.specs.Kept.{InRange}
 use Rattle.rv_isa_laws.specs.Meaning.{effect, sets, branches, with_result, is_taken}
 use Rattle.rv_pseudo_laws.specs.Code.{inverted, b_type}
 use Rattle.rv_pseudo_laws.specs.Runs.{Sized, goes_on, after}
 use Rattle.rv_source_laws.specs.Lines.{distance, Line, Lie}
 use Rattle.rv_source_laws.specs.Meaning.{goes_if}
-use Rattle.rv_chain_laws.proofs.EvenLemmas.{IsEven}
+use Rattle.rv_chain_laws.specs.Walks.{Walked, once, more, then_walk, walk, Ready, Does}
 use Rattle.rv_chain_laws.proofs.NumbersLemmas.{leads}
-use Rattle.rv_chain_laws.proofs.WalkLemmas.{Walked, once, more, then_walk, walk}
 
 abbrev pub walked : Effect → ℕ → Walked
 walked e count = record { effect = e; count = count }
 
 abbrev pub insts : List Line → List Inst
 insts lines = map (λ l. l.instruction) lines
-
--- a hart at an address as it is on the way of a run
-pub record Ready (address : ℕ) (h : Hart) : Type 0 where
-  pub at : h.pc ≡ address
-  pub whole : length h.registers ≡ 32
-  pub inside : InRange h
-  pub even : IsEven h
-
--- the lines of a statement at an address: a first one, others, and what a walk over them comes to
-pub record Does (meant : Hart → Effect) (count : Hart → ℕ) (address : ℕ) (lines : List Line) : Type 0 where
-  pub first : Line
-  pub others : List Line
-  pub are : lines ≡ first ∷ others
-  pub starts : first.address ≡ address
-  pub walks : (h : Hart) → Ready address h → walk first others h ≡ record { effect = meant h; count = count h }
 
 -- the same meaning and cost
 pub does_as : (meant wanted : Hart → Effect) (count cost : Hart → ℕ) (address : ℕ) (lines : List Line) → Does meant count address lines

@@ -23,12 +23,12 @@ use Rattle.rv_source_laws.specs.Start.{right_at, is_in, first_memory}
 use Rattle.rv_source_laws.specs.SourceRun.{Place, Starts, Inside, Gap, Outside, starts_or_inside, found, place, step_at, cost_at, steps, source_run}
 use Rattle.rv_chain_laws.specs.Realizes.{Realizes, HoldsLines, StandsIn}
 use Rattle.rv_chain_laws.specs.Agrees.{IsFront, Agrees}
+use Rattle.rv_chain_laws.specs.Walks.{Walked, Ready, Does}
 use Rattle.rv_chain_laws.proofs.EvenLemmas.{IsEven}
 use Rattle.rv_chain_laws.proofs.AlikeLemmas.{Beside, Alike, apply_alike}
 use Rattle.rv_chain_laws.proofs.OnwardLemmas.{OnNext, IsAnswer, IsKept, apply_on, both_goes}
 use Rattle.rv_chain_laws.proofs.FetchLemmas.{Text, no_right, fetched}
-use Rattle.rv_chain_laws.proofs.WalkLemmas.{Walked, Steady, short_lines, walk_one, walk_steady, walk_runs, walk_limits}
-use Rattle.rv_chain_laws.proofs.ShapesLemmas.{Ready, Does}
+use Rattle.rv_chain_laws.proofs.WalkLemmas.{Steady, short_lines, walk_one, walk_steady, walk_runs, walk_limits}
 use Rattle.rv_chain_laws.proofs.ObligationsLemmas.{does}
 
 front_self : (xs : List ℕ) → IsFront xs xs
@@ -215,7 +215,14 @@ module _ {Spells StandsFor : ℕ → Inst → Type 0} (reader : Reader Spells St
         let some : 0 < site.row.bytes = ltb-true 0 site.row.bytes parts.0 in
         let holds = r.rows h.pc site fine.pc e in
         starts_turn most left le ih h m s b fine site some (eqb-true site.row.address h.pc parts.1) holds
-        (does p site holds.lines holds.are_lines holds.fits holds.row (short_lines reader first holds.lines holds.stand) some holds.below)
+        (does p site holds.lines (record {
+          are_lines = holds.are_lines;
+          fits = holds.fits;
+          row = holds.row;
+          short = short_lines reader first holds.lines holds.stand;
+          some = some;
+          below = holds.below;
+        }))
 
     pub simulates : (most : ℕ) → AgreeWithin most
     simulates zero zero le h m s b fine = inl refl

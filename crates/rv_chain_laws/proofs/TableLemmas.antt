@@ -19,7 +19,8 @@ use Rattle.rv_pseudo_laws.specs.Code.{Part, Closed, Constants, by_number, by_par
 use Rattle.rv_pseudo_laws.specs.Filled.{FieldValue}
 use Rattle.rv_source_laws.specs.Lines.{Line, other_operand, operand_number}
 use Rattle.rv_source_laws.specs.Meaning.{taken, pseudo_effect, else_alone, else_goes_if, is_passed, number_in}
-use Rattle.rv_chain_laws.proofs.ShapesLemmas.{insts, Does, does_as}
+use Rattle.rv_chain_laws.specs.Walks.{Does}
+use Rattle.rv_chain_laws.proofs.ShapesLemmas.{insts, does_as}
 use Rattle.rv_chain_laws.proofs.RowsLemmas.{Row, row_as, Leads, SetsTo, IsOne, row_alone, row_unary, row_compare, row_branch, row_zero_branch, row_swapped_branch}
 use Rattle.rv_chain_laws.proofs.PairsLemmas.{row_near, row_load, row_store, row_call, row_far}
 use Rattle.rv_chain_laws.proofs.LoadImmediateLemmas.{row_li, signed_fits, low_fits}

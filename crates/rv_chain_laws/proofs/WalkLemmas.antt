@@ -15,35 +15,10 @@ use Rattle.rv_isa_laws.specs.Reader.{Reader}
 use Rattle.rv_isa_laws.specs.Run.{NoRight, Got, spelled, length_at, fetch, step, run, done}
 use Rattle.rv_source_laws.specs.Lines.{Line}
 use Rattle.rv_chain_laws.specs.Realizes.{StandsIn}
+use Rattle.rv_chain_laws.specs.Walks.{Walked, once, more, then_walk, walk}
 use Rattle.rv_chain_laws.proofs.EvenLemmas.{IsEven, effect_even}
 use Rattle.rv_chain_laws.proofs.FetchLemmas.{Text, fetched, even_bytes}
 use Rattle.rv_chain_laws.proofs.OnwardLemmas.{both_goes}
-
--- the effect of the line that a walk ends with, and how many lines it runs
-pub record Walked : Type 0 where
-  pub effect : Effect
-  pub count : ℕ
-
-abbrev pub once : Effect → Walked
-once e = record { effect = e; count = 1 }
-
-abbrev pub more : Walked → Walked
-more w = record { effect = w.effect; count = suc w.count }
-
--- a walk goes on while the hart goes to the next line
-abbrev pub then_walk : Effect → ℕ → (Hart → Walked) → Walked
-then_walk (Goes g) next go = if g.pc == next then more (go g) else once (Goes g)
-then_walk (Loads a n next) _ go = once (Loads a n next)
-then_walk (Stores a n v next) _ go = once (Stores a n v next)
-then_walk (Reserves a n next) _ go = once (Reserves a n next)
-then_walk (Conditional a n v reserved next) _ go = once (Conditional a n v reserved next)
-then_walk (Updates a n new next) _ go = once (Updates a n new next)
-then_walk (Calls next) _ go = once (Calls next)
-then_walk Breaks _ go = once Breaks
-
-abbrev pub walk : Line → List Line → Hart → Walked
-walk l [] h = once (effect l.instruction l.bytes h)
-walk l (k ∷ ls) h = then_walk (effect l.instruction l.bytes h) k.address (walk k ls)
 
 one_more : (t : Bool) (w : Walked) (e : Effect) → 1 ≤ (if t then more w else once e).count
 one_more true w e = omega arith

@@ -3,3 +3,4 @@ pub mod Agrees
 pub mod Headline
 pub mod Contents
 pub mod SourceListing
+pub mod Walks

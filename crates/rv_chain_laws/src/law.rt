@@ -11,6 +11,7 @@ ghost use Rattle.rv_isa_laws.specs.Reader.{Reader};
 ghost use Rattle.rv_isa_laws.specs.Run.{machine_run};
 ghost use Rattle.rv_chain_laws.specs.Agrees.{Agrees};
 ghost use Rattle.rv_chain_laws.specs.Realizes.{Realizes};
+ghost use Rattle.rv_chain_laws.specs.Walks.{LinesDoAsMeant};
 ghost use Rattle.rv_source_laws.specs.Program.{program};
 ghost use Rattle.rv_source_laws.specs.SourceRun.{source_run};
 ghost use Rattle.rv_chain_laws.specs.Headline.{RunsAgree};
@@ -22,6 +23,13 @@ ghost use Rattle.rv_image.specs.Executable.{linked_image};
 /// spelled there, or none. So what holds for every reader is never said of nothing.
 pub fn code_has_a_reader()
     ensures { Reader Spells StandsFor }
+{}
+
+/// The lines of each statement, run one after another by the meanings of their instructions from any
+/// hart of 32 registers, do what the statement means, at its cost. So each pseudo-instruction's
+/// sequence does what its name says. `runs_agree` rests on this.
+pub fn lines_do_as_meant()
+    ensures { LinesDoAsMeant }
 {}
 
 /// Where memory holds the statements of the sources at the rows of a map, and the map's entry is an

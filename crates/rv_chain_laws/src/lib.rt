@@ -7,8 +7,9 @@
 //!
 //! Its main contract is the law `linked_runs_agree`: where the regions of a linked program hold the sections of its sources
 //! (`IsLinked`), the image's run agrees with the sources' run for every input and every limit. `code_has_a_reader` says that
-//! this speaks of some reading of code. Beside it, `listing_is_the_sources`: the listing of a linked program's image is the
-//! sources' own listing (`specs/SourceListing`), in which no byte occurs, and there is one alone (`one_source_listing`). Nothing
+//! this speaks of some reading of code, and `lines_do_as_meant` is its core: the instructions of each statement do what it
+//! means (`specs/Walks`). Beside it, `listing_is_the_sources`: the listing of a linked program's image is the sources' own
+//! listing (`specs/SourceListing`), in which no byte occurs, and there is one alone (`one_source_listing`). Nothing
 //! here runs, and nothing here knows how a source is read or linked.
 //!
 //! A contract that cites it:
@@ -26,5 +27,5 @@
 mod law;
 mod listing;
 
-pub use law::{code_has_a_reader, linked_runs_agree, runs_agree};
+pub use law::{code_has_a_reader, lines_do_as_meant, linked_runs_agree, runs_agree};
 pub use listing::{listing_is_the_sources, one_source_listing};
