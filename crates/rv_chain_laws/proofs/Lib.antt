@@ -25,4 +25,5 @@ pub mod EncodingsLemmas
 pub mod EntriesLemmas
 pub mod ListedLemmas
 pub mod OneListingLemmas
+pub mod NamedLemmas
 pub mod SegmentsLemmas

@@ -4,3 +4,4 @@ pub mod Headline
 pub mod Contents
 pub mod SourceListing
 pub mod Walks
+pub mod Named

@@ -9,8 +9,8 @@
 //! (`IsLinked`), the image's run agrees with the sources' run for every input and every limit. `code_has_a_reader` says that
 //! this speaks of some reading of code, and `lines_do_as_meant` is its core: the instructions of each statement do what it
 //! means (`specs/Walks`). Beside it, `listing_is_the_sources`: the listing of a linked program's image is the sources' own
-//! listing (`specs/SourceListing`), in which no byte occurs, and there is one alone (`one_source_listing`). Nothing
-//! here runs, and nothing here knows how a source is read or linked.
+//! listing (`specs/SourceListing`), in which no byte occurs, and there is one alone (`one_source_listing`); it names
+//! instructions as sources do (`listings_name_alike`). Nothing here runs, and nothing here knows how a source is read or linked.
 //!
 //! A contract that cites it:
 //!
@@ -28,4 +28,4 @@ mod law;
 mod listing;
 
 pub use law::{code_has_a_reader, lines_do_as_meant, linked_runs_agree, runs_agree};
-pub use listing::{listing_is_the_sources, one_source_listing};
+pub use listing::{listing_is_the_sources, listings_name_alike, one_source_listing};

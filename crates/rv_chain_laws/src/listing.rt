@@ -1,4 +1,5 @@
-//! The law: the listing of a linked program's image is that of its sources at the map.
+//! The laws of listings: that of a linked program's image is that of its sources at the map, and it names instructions as
+//! sources do.
 
 ghost use Rattle.std.specs.Prelude.{◌≡◌, ◌↔◌, ℕ, Bool, List};
 ghost use Rattle.rv_encode.specs.Word.{Spells};
@@ -10,6 +11,7 @@ ghost use Rattle.rv_image.specs.Executable.{linked_image};
 ghost use Rattle.rv_source_laws.specs.Program.{Program, program};
 ghost use Rattle.rv_disasm.specs.Listing.{IsListing};
 ghost use Rattle.rv_chain_laws.specs.Contents.{IsLinked};
+ghost use Rattle.rv_chain_laws.specs.Named.{ListingsNameAlike};
 ghost use Rattle.rv_chain_laws.specs.SourceListing.{IsSourceListing};
 
 /// Where a linked program is that of sources, the listing of its image with its map, by whatever reading of words and
@@ -25,4 +27,10 @@ pub fn listing_is_the_sources()
 pub fn one_source_listing()
     ensures { (p : Program) (text other : List ℕ)
         → IsSourceListing p text → IsSourceListing p other → text ≡ other }
+{}
+
+/// The text of each instruction begins with the word that means it in sources; but a fence that no source spells is shown
+/// as unknown.
+pub fn listings_name_alike()
+    ensures { ListingsNameAlike }
 {}
