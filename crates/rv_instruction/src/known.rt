@@ -23,62 +23,15 @@ use rv_text::Value;
 /// The registers of a statement without an expression are x0 to x31.
 fn plain_registers(statement: Plain)
     ensures { (v : Constants) → AreInRange v (plain_of statement) }
-{
-    match statement {
-        Plain::Registers(..) => {}
-        Plain::Load(..) => {}
-        Plain::Store(..) => {}
-        Plain::Jalr(..) => {}
-        Plain::JalrLinked(..) => {}
-        Plain::LoadReserved(..) => {}
-        Plain::Atomic(..) => {}
-        Plain::Fence => {}
-        Plain::FenceBetween(..) => {}
-        Plain::FenceTso => {}
-        Plain::Ecall => {}
-        Plain::Ebreak => {}
-        Plain::Nop => {}
-        Plain::Unary(..) => {}
-        Plain::Compare(..) => {}
-        Plain::Jr(..) => {}
-        Plain::Ret => {}
-    }
-}
+{}
 
 /// The registers of an operation are x0 to x31.
 fn operation_registers(operation: Operation)
     ensures { (v : Constants) (o : Operand) → IsOperandOf v (mnemonic_of operation) o
         → AreInRange v (with_operand operation o) }
-{
-    match operation {
-        Operation::Registers(..) => {}
-        Operation::Immediate(..) => {}
-        Operation::Shift(..) => {}
-        Operation::Upper(..) => {}
-        Operation::Load(..) => {}
-        Operation::Store(..) => {}
-        Operation::Jalr(..) => {}
-        Operation::JalrThen(..) => {}
-        Operation::JalrLinked(..) => {}
-        Operation::Branch(..) => {}
-        Operation::Jal(..) => {}
-        Operation::JalLinked => {}
-        Operation::LoadSymbol(..) => {}
-        Operation::StoreSymbol(..) => {}
-        Operation::ZeroBranch(..) => {}
-        Operation::SwappedBranch(..) => {}
-        Operation::J => {}
-        Operation::Jr(..) => {}
-        Operation::La(..) => {}
-        Operation::Li(..) => {}
-        Operation::Call(..) => {}
-        Operation::CallLinked => {}
-        Operation::Tail => {}
-        Operation::Jump(..) => {}
-    }
-}
+{}
 
-/// The same of a statement that is lent.
+/// The same of a statement that is lent, as a caller that uses it again has to give it.
 fn plain_in_range(statement: &Plain)
     ensures { (v : Constants) → AreInRange v (plain_of statement.now) }
 {
