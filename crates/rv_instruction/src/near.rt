@@ -5,7 +5,7 @@
 //!
 //! Source: RISC-V Unprivileged ISA 20191213, chapters 2.5 and 16; GNU as, "RISC-V-Directives".
 
-ghost use Rattle.std.specs.Prelude.{◌≡◌, ◌==◌, ◌+◌, ◌<◌, ◌≤◌, ◌^◌, pos, length, Some, IfSome};
+ghost use Rattle.std.specs.Prelude.{◌≡◌, ◌==◌, ◌+◌, ◌≤◌, pos, Some, IfSome};
 ghost use Rattle.std.specs.Int.{w64, int_wrap};
 ghost use Rattle.rv_text_laws.specs.Values as values;
 ghost use Rattle.rv_statement.specs.Statement.{Expression};
@@ -155,7 +155,6 @@ pub fn near_forms(kind: &StatementKind<'_>, compressed: bool) -> Option<Forms>
 fn section_at(places: &[SectionOffset], ordinal: u32) -> Option<u32>
     ensures is { result ≡ laws.section_in places.now ordinal }
     ensures some { IfSome result (λ _. 1 ≤ ordinal) }
-    ensures inside { IfSome result (λ _. ordinal ≤ length places.now) }
 {
     if ordinal == 0 {
         return None;
@@ -204,7 +203,6 @@ fn leading(
     definition: Definition,
     plus: u64,
 ) -> Item
-    requires { length places.now < 2 ^ 32 }
     ensures { result ≡ laws.branch_in section forms
         (laws.near_in (laws.section_in places.now) section (Some (definition_of definition)) plus) }
 {
@@ -229,7 +227,6 @@ fn target_item<'a>(
     forms: Forms,
     value: &Outcome<'a>,
 ) -> Item
-    requires { length places.now < 2 ^ 32 }
     ensures { AtNext scope.now (λ index. ForValue value.now (λ v.
         result ≡ laws.branch_in section forms
         (laws.near_value_in (laws.section_in places.now) section
@@ -254,7 +251,6 @@ pub fn item<'a>(
     compressed: bool,
     bytes: u32,
 ) -> Item
-    requires { length places.now < 2 ^ 32 }
     ensures { AtNext scope.now (λ index. result ≡ laws.item_in (laws.section_in places.now)
         place.section (tables (said (scope.now).unit.now)) (index + 1)
         (values_at scope.now index place) compressed bytes (statement_kind (statement.now).kind)) }
