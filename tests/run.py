@@ -22,7 +22,7 @@ TESTS = Path(__file__).resolve().parent
 RV = TESTS.parent / "rv"
 SECONDS = 60
 LINE = re.compile(r"# (?P<key>[a-z]+(?: has| at [0-9a-f]+| [.\w$-]+(?: \w+)?)?|no map): ?(?P<value>.*)")
-KEYS = "rv options input limit exit end console fault status error errors out text rodata data map listing section size same patch cut".split()
+KEYS = "rv options input limit exit end console fault status error errors out text rodata data map listing section alignment size same patch cut".split()
 SEGMENTS = {"text": 1, "rodata": 4, "data": 6}
 BEGIN_RUN = {"exit", "end", "console"}
 
@@ -121,7 +121,7 @@ def calls(files, head):
         return found
     keys = {key.split()[0] for key, _ in head}
     options = [word for key, value in head if key == "options" for word in shlex.split(value)]
-    if "section" in keys or "size" in keys and "obj" in keys:
+    if keys & {"section", "alignment"} or "size" in keys and "obj" in keys:
         return [(["as", "-o", "obj", *files], head)]
     word = "ld" if all(name.endswith(".o") for name in files) else "build"
     build = [word, "-o", "exe", "--map", "map", *options, *files]
@@ -146,14 +146,14 @@ def segments(exe):
 
 
 def section(obj, name):
-    """The bytes of the section of this name of an object (gABI, "Sections")."""
+    """The alignment and the bytes of the section of this name of an object (gABI, "Sections")."""
     at, count, strings = struct.unpack_from("<Q", obj, 40)[0], *struct.unpack_from("<HH", obj, 60)
     headers = [struct.unpack_from("<IIQQQQIIQQ", obj, at + 64 * index) for index in range(count)]
     names = headers[strings][4]
     for it in headers:
         end = obj.index(b"\0", names + it[0])
         if obj[names + it[0] : end].decode() == name:
-            return b"" if it[1] == 8 else obj[it[4] : it[4] + it[5]]
+            return it[8], b"" if it[1] == 8 else obj[it[4] : it[4] + it[5]]
     raise Failed(f"no section {name}")
 
 
@@ -174,7 +174,9 @@ def look_at_files(folder, words, key, value):
         if key == "map" and value not in lines or key == "no map" and any(it.startswith(value) for it in lines):
             raise Failed(f"{key}: {value}\n  came   {lines}")
     elif first == "section":
-        same(key, bytes.fromhex(value).hex(), section(written("-o").read_bytes(), rest).hex())
+        same(key, bytes.fromhex(value).hex(), section(written("-o").read_bytes(), rest)[1].hex())
+    elif first == "alignment":
+        same(key, int(value), section(written("-o").read_bytes(), rest)[0])
     elif key == "size":
         same(key, int(value), written("-o").stat().st_size)
     elif key == "same":

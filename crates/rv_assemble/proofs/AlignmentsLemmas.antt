@@ -65,7 +65,7 @@ either false t u h k = k
 
 low_section : (t : Tables) (found : Option Section) → IsLow t → IsLow (with_section t found)
 low_section t None h = h
-low_section t (Some s) h = entering (λ (u : Tables). IsLow u) t s (λ n at. h) (λ room j. subst (λ n. n ≤ 4096) (sym (alignment_new t s j)) (h j)) h
+low_section t (Some s) h = entering (λ (u : Tables). IsLow u) t s (λ n at. h) (λ room j. alignment_new (λ n. n ≤ 4096) t s j (omega arith) (omega arith) (h j)) h
 
 low_set : (t : Tables) (found : Option Assignment) → IsLow t → IsLow (with_assignment t found)
 low_set t None h = h

@@ -82,7 +82,7 @@ pub record IsSectionOf (t : Tables) (all : List Site) (number : Numbering) (symb
   pub loaded : x.loaded ≡ section.loaded
   pub executable : x.executable ≡ section.executable
   pub writable : x.writable ≡ section.writable
-  -- the greatest of its alignments
+  -- the greatest of its alignments, of code 2 at least
   pub alignment : x.alignment ≡ alignment_at t index
   pub some : 1 ≤ x.alignment
   -- its statements follow one another

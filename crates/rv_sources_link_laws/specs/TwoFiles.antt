@@ -143,7 +143,7 @@ row line ordinal section offset bytes instructions = record {
 
 abbrev pub first_object : Object
 first_object = record {
-  sections = text (0x73 ∷ 0 ∷ 0 ∷ 0 ∷ []) 1 []
+  sections = text (0x73 ∷ 0 ∷ 0 ∷ 0 ∷ []) 2 []
       ∷ variables
       (0 ∷ 0 ∷ 0 ∷ 0 ∷ 0 ∷ 0 ∷ 0 ∷ 0 ∷ 0 ∷ 0 ∷ 0 ∷ 0 ∷ 0 ∷ 0 ∷ 0 ∷ 0 ∷ 0 ∷ 0 ∷ 0 ∷ 0 ∷ 0 ∷ 0 ∷
       0 ∷ 0 ∷ [])

@@ -12,7 +12,7 @@ use Rattle.rv_statement.specs.Statement.{StatementKind, Label, Numbered, Instruc
 use Rattle.rv_statement.specs.declared.directive.Choice.{Choice}
 use Rattle.rv_unit_laws.specs.Sections.{Section, text_section, current_section, entered_by}
 use Rattle.rv_unit_laws.specs.Contributions.{AlignmentForm, As_power, As_bytes, Contribution, Nothing, Bytes, Zero_bytes, Alignment, contribution}
-use Rattle.rv_unit_laws.specs.Tables.{Tables, Assignment, at_start, here, value, is_power, is_power_below, greatest_alignment, alignment_of, power_alignment, byte_alignment, alignment_as, contribution_alignment, or_none, data_bytes, contributed, counted_in, changed_at, is_defined, may_set, with_assignment, with_section, with_data, with_contribution, with_choice, with_chosen, with_bindings, with_numeric_label, assigned_by, chosen, after, after_directive, after_all, opened_of, ends_of, alignments_of, Extent, empty_extent, extended}
+use Rattle.rv_unit_laws.specs.Tables.{Tables, Assignment, at_start, here, value, is_power, is_power_below, greatest_alignment, alignment_of, power_alignment, byte_alignment, alignment_as, contribution_alignment, or_none, data_bytes, contributed, counted_in, changed_at, is_defined, may_set, with_assignment, with_section, with_data, with_contribution, with_choice, with_chosen, with_bindings, with_numeric_label, assigned_by, chosen, after, after_directive, after_all, opened_of, ends_of, alignments_of, Extent, least_alignment, empty_extent, extended}
 use Rattle.rv_unit_laws.proofs.EnteringLemmas.{with_new, sections_count, entering}
 
 -- ---- powers of two
@@ -113,6 +113,19 @@ one_more [] d (suc (suc j)) = refl
 one_more (n ∷ ns) d zero = refl
 one_more (n ∷ ns) d (suc j) = one_more ns d j
 
+-- one number more makes none less, and what is so of it and of the others is so of all
+more_least : (ns : List ℕ) (n d j : ℕ) → d ≤ n → slice_index_or ns j d ≤ slice_index_or (ns ++ n ∷ []) j d
+more_least [] n d zero least = least
+more_least [] n d (suc j) least = omega arith
+more_least (m ∷ ms) n d zero least = omega arith
+more_least (m ∷ ms) n d (suc j) least = more_least ms n d j least
+
+more_all : (P : ℕ → Type 0) (ns : List ℕ) (n d j : ℕ) → P n → P (slice_index_or ns j d) → P (slice_index_or (ns ++ n ∷ []) j d)
+more_all P [] n d zero own others = own
+more_all P [] n d (suc j) own others = others
+more_all P (m ∷ ms) n d zero own others = others
+more_all P (m ∷ ms) n d (suc j) own others = more_all P ms n d j own others
+
 changed_here : (i : ℕ) (change : ℕ → ℕ) (ns : List ℕ) (d : ℕ) → i < length ns → slice_index_or (changed_at i change ns) i d ≡ change (slice_index_or ns i d)
 changed_here i change [] d inside = absurd (omega arith)
 changed_here zero change (n ∷ ns) d inside = refl
@@ -193,18 +206,31 @@ grows_set : (t : Tables) (found : Option Assignment) → Grows t (with_assignmen
 grows_set t None = grows_same t t refl
 grows_set t (Some s) = grows_if (may_set t s.ordinal s.name s.meaning) t (record t { assignments = s ∷ t.assignments }) t (grows_same t (record t { assignments = s ∷ t.assignments }) refl) (grows_same t t refl)
 
--- a new section has no bytes and the least alignment, as one that isn't open
+-- a new section has no bytes, as one that isn't open, and its least alignment
 pub end_new : (t : Tables) (s : Section) (j : ℕ) → slice_index_or (ends_of (with_new t s)) j 0 ≡ slice_index_or (ends_of t) j 0
 end_new t s j = ap (λ l. slice_index_or l j 0) (map-append (λ (e : Extent). e.bytes) t.extents (empty_extent s ∷ [])) ∙ one_more (ends_of t) 0 j
 
-pub alignment_new : (t : Tables) (s : Section) (j : ℕ) → slice_index_or (alignments_of (with_new t s)) j 1 ≡ slice_index_or (alignments_of t) j 1
-alignment_new t s j = ap (λ l. slice_index_or l j 1) (map-append (λ (e : Extent). e.alignment) t.extents (empty_extent s ∷ [])) ∙ one_more (alignments_of t) 1 j
+alignments_new : (t : Tables) (s : Section) → alignments_of (with_new t s) ≡ alignments_of t ++ least_alignment s ∷ []
+alignments_new t s = map-append (λ (e : Extent). e.alignment) t.extents (empty_extent s ∷ [])
+
+pub alignment_new : (P : ℕ → Type 0) (t : Tables) (s : Section) (j : ℕ) → P 1 → P 2 → P (slice_index_or (alignments_of t) j 1) → P (slice_index_or (alignments_of (with_new t s)) j 1)
+alignment_new P t s j one two others =
+    subst (λ l. P (slice_index_or l j 1)) (sym (alignments_new t s)) (more_all P (alignments_of t) (least_alignment s) 1 j (own s.executable) others)
+  where
+    own : (b : Bool) → P (if b then 2 else 1)
+    own true = two
+    own false = one
+
+least_some : (b : Bool) → 1 ≤ (if b then 2 else 1)
+least_some true = omega arith
+least_some false = omega arith
 
 grows_new : (t : Tables) (s : Section) → Grows t (with_new t s)
 grows_new t s = record {
   ends = λ j. let f = end_new t s j in omega (arith, f);
-  alignments = λ j. let f = alignment_new t s j in omega (arith, f);
-  powers = λ h j. subst IsPower (sym (alignment_new t s j)) (h j);
+  alignments = λ j. subst (λ l. slice_index_or (alignments_of t) j 1 ≤ slice_index_or l j 1) (sym (alignments_new t s))
+      (more_least (alignments_of t) (least_alignment s) 1 j (least_some s.executable));
+  powers = λ h j. alignment_new IsPower t s j (0, refl) (1, refl) (h j);
 }
 
 grows_section : (t : Tables) (section : Option Section) → Grows t (with_section t section)
@@ -261,7 +287,7 @@ grows_all t o [] = grows_same t t refl
 grows_all t o (s ∷ ss) = grows_then t (after t o s.kind) (after_all (after t o s.kind) (suc o) ss) (grows_after t o s.kind) (grows_all (after t o s.kind) (suc o) ss)
 
 start_powers : (j : ℕ) → IsPower (slice_index_or (alignments_of at_start) j 1)
-start_powers zero = (0, refl)
+start_powers zero = (1, refl)
 start_powers (suc zero) = (0, refl)
 start_powers (suc (suc j)) = (0, refl)
 

@@ -46,15 +46,20 @@ pub record Assignment : Type 0 where
   pub meaning : Meaning
   pub plus : ℕ
 
--- a section, the bytes of its data, and the greatest of its statements' alignments
+-- a section, the bytes of its data, and its alignment
 pub record Extent : Type 0 where
   pub section : Section
   pub bytes : ℕ
   pub alignment : ℕ
 
--- a section without statements
+-- the alignment of a section without statements: code has parcels of two bytes
+abbrev pub least_alignment : Section → ℕ
+least_alignment section = if section.executable then 2 else 1
+
+-- a section without statements; each may raise the alignment
 abbrev pub empty_extent : Section → Extent
-empty_extent section = record { section = section; bytes = 0; alignment = 1 }
+empty_extent section =
+    record { section = section; bytes = 0; alignment = least_alignment section }
 
 -- what the statements so far define; of assignments and numeric labels the latest stand first
 pub record Tables : Type 0 where

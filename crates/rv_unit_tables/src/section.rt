@@ -5,7 +5,7 @@ ghost use Rattle.rv_statement.specs.Sections.{standard_name};
 ghost use Rattle.rv_statement.specs.View.{now_of, quoted};
 ghost use Rattle.rv_unit_laws.specs.Sections as laws;
 ghost use Rattle.rv_unit_laws.specs.Tables as tables;
-ghost use Rattle.rv_unit_tables.specs.Sections.{section_of};
+ghost use Rattle.rv_unit_tables.specs.Sections.{extent_of, section_of};
 
 use crate::align::end_within;
 use rv_statement::Standard;
@@ -31,11 +31,22 @@ pub struct Extent<'a> {
     pub section: Section<'a>,
     /// The bytes of its data; those of code are not counted.
     pub bytes: u32,
-    /// The greatest of its statements' alignments, in bytes.
+    /// The greatest of its statements' alignments, in bytes; of code 2 at least.
     pub alignment: u32,
 }
 
 impl<'a> Extent<'a> {
+    /// A section without statements.
+    pub(crate) fn empty(section: Section<'a>) -> Self
+        ensures { extent_of result ≡ tables.empty_extent (section_of section.entry) }
+    {
+        Extent {
+            section,
+            bytes: 0,
+            alignment: if section.executable { 2 } else { 1 },
+        }
+    }
+
     /// Its end with so many bytes more, which one of code does not count, where they do not pass the longest section.
     pub(crate) fn end_after(&self, bytes: u64) -> u32
         ensures { result ≡ (self.now).bytes

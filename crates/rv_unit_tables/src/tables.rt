@@ -102,11 +102,7 @@ impl<'a> Tables<'a> {
     {
         let section = Section::text();
         let mut extents = Vec::new(alloc);
-        extents.push(Extent {
-            section,
-            bytes: 0,
-            alignment: 1,
-        })?;
+        extents.push(Extent::empty(section))?;
         let mut numbers = IndexMap::new(alloc);
         numbers.insert(section.name, 0)?;
         Ok(Tables {
@@ -366,11 +362,7 @@ impl<'a> Tables<'a> {
             return Ok(());
         }
         let number = count as u32;
-        self.extents.push(Extent {
-            section,
-            bytes: 0,
-            alignment: 1,
-        })?;
+        self.extents.push(Extent::empty(section))?;
         self.numbers.insert(section.name, number)?;
         self.current = number;
         Ok(())

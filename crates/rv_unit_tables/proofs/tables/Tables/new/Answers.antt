@@ -6,6 +6,7 @@ use Rattle.std.specs.Map.{lookup}
 use Rattle.std.specs.Str.{bytes_eq}
 use Rattle.indexmap.specs.IndexMap.{insert_entry}
 use Rattle.rv_text_laws.specs.Bytes.{value}
+use Rattle.rv_unit_laws.specs.Tables as laws
 use Rattle.rv_unit_laws.specs.Tables.{NumericLabel}
 use Rattle.rv_unit_tables.specs.declared.number.Number.{Number}
 use Rattle.rv_unit_tables.specs.declared.tables.Assignment.{Assignment}
@@ -19,7 +20,7 @@ pub returns-clause-indexed : goal.returns-clause-indexed
 returns-clause-indexed c = record {
   numbers = indexed_first c.insert.new.self.entries c.text-section.result.name (sections_in c.push.new.self.items) (section_of c.text-section.result)
       (c.in_ok-insert.ensures.entries ∙ ap (λ es. insert_entry (λ (a b : Bor (List _)). bytes_eq a.now b.now) es c.text-section.result.name 0) c.new-numbers.ensures.empty)
-      (ap sections_in (c.in_ok-push.ensures.items ∙ ap (λ (l : List Extent). l ++ record { section = c.text-section.result; bytes = 0; alignment = 1 } ∷ []) c.new-extents.ensures.items))
+      (ap sections_in (c.in_ok-push.ensures.items ∙ ap (λ (l : List Extent). l ++ c.empty.result ∷ []) c.new-extents.ensures.items) ∙ ap (λ (e : laws.Extent). e.section ∷ []) c.empty.ensures)
       (λ i. c.text-section.result.name.now);
   assignments = λ name. ap (λ es. option_map_or (λ v. v.items) (lookup (λ (k : Bor (List _)). bytes_eq name k.now) es) []) c.new-4.ensures.empty ∙ sym (ap (filter (λ (g : Assignment). bytes_eq g.name.now name)) c.new-3.ensures.items);
   numbered = λ digits.
