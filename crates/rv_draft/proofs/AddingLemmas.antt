@@ -12,7 +12,8 @@ use Rattle.rv_assemble_laws.specs.Refusals.{else_fault}
 use Rattle.rv_instruction.specs.declared.encoded.Coded.{Coded}
 use Rattle.rv_instruction.specs.Code.{near_forms_of, HasCode, Codes}
 use Rattle.rv_draft.specs.Added.{IsAdded, Adds}
-use Rattle.rv_draft.specs.Code.{GrowsBy, bytes_in, padding_of, code_bytes, size_of, full_fault, full_at}
+use Rattle.rv_draft.specs.Code.{GrowsBy, bytes_in, code_bytes, size_of, full_fault, full_at}
+use Rattle.rv_layout.specs.Code.{padding_of}
 use Rattle.rv_draft.specs.declared.code.Coder.{Coder}
 
 pub adds_fault : (old new : Coder) (section : ℕ) (executable rvc : Bool) (bytes wanted : ℕ) (v : Expression → values.Value) (l : Primary → Bool) (s : Statement) (fault : SourceFault)

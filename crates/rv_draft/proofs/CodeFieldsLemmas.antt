@@ -1,26 +1,22 @@
 -- The open fields of a statement's code, by the shapes and the bytes of its parts.
 
-use Rattle.std.proofs.Common.{◌≡◌, ◌≢◌, ℕ, zero, suc, ◌+◌, ◌≤◌, Bool, true, false, List, [], ◌∷◌, ◌++◌, length, refl, sym, ap, ◌∙◌, subst, arith, map, drop, append-nil, append_assoc, length-append, Option, Some, None, inl, inr}
+use Rattle.std.proofs.Common.{◌≡◌, ◌≢◌, ℕ, zero, suc, ◌+◌, ◌≤◌, Bool, true, false, List, [], ◌∷◌, ◌++◌, length, refl, sym, ap, ◌∙◌, subst, map, drop, append-nil, append_assoc, Option, Some, None}
 use Rattle.std.specs.Prelude.{◌&&◌, unwrap_or, if◌then◌else◌}
 use Rattle.std.proofs.lemmas.List.{at_drop_all, map-append}
 use Rattle.rv_isa.specs.declared.instruction.Inst.{Inst}
 use Rattle.rv_isa.specs.declared.kind.Kind.{Kind}
-use Rattle.rv_isa.specs.Kinds.{width_of}
-use Rattle.rv_isa_laws.specs.Bytes.{little_endian}
-use Rattle.rv_encode.specs.Word.{word, form}
 use Rattle.rv_text_laws.specs.Values.{Value}
 use Rattle.rv_statement.specs.declared.mnemonic.Mnemonic.{Mnemonic}
 use Rattle.rv_statement.specs.Statement.{StatementKind, Label, Numbered, Instruction, Directs, Expression, Operand}
 use Rattle.rv_pseudo_laws.specs.Code.{Part as CodePart, Closed, Open as OpenPart, Joined, code}
 use Rattle.rv_pseudo_laws.specs.Filled.{are_closed}
-use Rattle.rv_compress.specs.Encoded.{IsLeast, IsEncodedIn}
 use Rattle.rv_unit_laws.specs.Tables.{Tables, tables, value}
 use Rattle.rv_unit.specs.Unit.{said}
 use Rattle.rv_source_laws.specs.Located.{Located}
 use Rattle.rv_source_laws.specs.Program.{place_of}
 use Rattle.rv_source_laws.specs.Lines.{operand_of}
 use Rattle.rv_assemble_laws.specs.CodeFields.{field_of, relax_fields, part_fields}
-use Rattle.rv_assemble_laws.specs.Coded.{IsCodedPart, AreCodedParts, constants}
+use Rattle.rv_assemble_laws.specs.Coded.{AreCodedParts, constants}
 use Rattle.rv_assemble_laws.specs.Templates.{Open, align_field}
 use Rattle.rv_assemble_laws.specs.Sites.{Site, part_of, coded_templates}
 use Rattle.rv_assemble_laws.specs.Fields.{Field, field_at, fields_from}
@@ -30,41 +26,12 @@ use Rattle.rv_instruction.specs.Opened.{are_free, LeavesNone}
 use Rattle.rv_draft.specs.declared.data.Spot.{Spot}
 use Rattle.rv_draft.specs.declared.fields.Choices.{Choices}
 use Rattle.rv_draft.specs.declared.item.Item.{Item}
-use Rattle.rv_draft.specs.Code.{bytes_coded, value_at}
-use Rattle.rv_draft.specs.Coded.{IsCoded, IsCodedAt, HasBytes}
+use Rattle.rv_layout.specs.Code.{bytes_coded, value_at, IsCoded}
+use Rattle.rv_layout.proofs.LengthsLemmas.{part_long, some_parts}
+use Rattle.rv_draft.specs.Coded.{IsCodedAt, HasBytes}
 use Rattle.rv_draft.specs.DataParts.{is_alignment, padding_said, code_said}
 use Rattle.rv_draft.specs.Seated.{site_of}
 use Rattle.rv_draft.specs.Spots.{value_in, shape_opens, coded_fields, fields_coded, HasBytesOf, IsAtSpot}
-
--- ---- the bytes of a part have one length
-
-little_long : (width n : ℕ) → length (little_endian width n) ≡ width
-little_long zero n = refl
-little_long (suc width) n = ap suc (little_long width _)
-
-pub encoded_long : (i : Inst) (n : ℕ) (bytes : List ℕ) → IsEncodedIn i n bytes → length bytes ≡ n
-encoded_long i n bytes (inl (e, f)) = ap length f ∙ little_long 4 (word (form i)) ∙ sym e
-encoded_long i n bytes (inr (e, (q, h, f))) = ap length f ∙ little_long 2 q ∙ sym e
-
-least_one : (rvc : Bool) (i : Inst) (m n : ℕ) → IsLeast rvc i m → IsLeast rvc i n → m ≡ n
-least_one true i m n (inl (e, h)) (inl (f, g)) = e ∙ sym f
-least_one true i m n (inl (e, h)) (inr (f, g)) = absurd (g h)
-least_one true i m n (inr (e, h)) (inl (f, g)) = absurd (h g)
-least_one true i m n (inr (e, h)) (inr (f, g)) = e ∙ sym f
-least_one false i m n e f = e ∙ sym f
-
-pair_long : (i j : Inst) (bytes first second : List ℕ) → IsEncodedIn i 4 first → IsEncodedIn j 4 second → bytes ≡ first ++ second → length bytes ≡ 8
-pair_long i j bytes first second a b e =
-    let all : length bytes ≡ length first + length second = ap length e ∙ length-append first second in
-    let one : length first ≡ 4 = encoded_long i 4 first a in
-    let two : length second ≡ 4 = encoded_long j 4 second b in
-    omega (arith, all, one, two)
-
-pub part_long : (rvc : Bool) (p : CodePart) (a b : List ℕ) → IsCodedPart rvc p a → IsCodedPart rvc p b → length a ≡ length b
-part_long rvc (Closed i) a b (v, m, x) (w, n, y) = least_one rvc i (length a) (length b) m n
-part_long rvc (OpenPart k i) a b (v, x) (w, y) = encoded_long i (width_of k) a x ∙ sym (encoded_long i (width_of k) b y)
-part_long rvc (Joined k i j) a b (v, w, (f, (s, x, y, e))) (v', w', (f', (s', x', y', e'))) =
-    pair_long i j a f s x y e ∙ sym (pair_long i j b f' s' x' y' e')
 
 -- ---- two codes of the same parts
 
@@ -93,9 +60,6 @@ module _ (fields : Kind → List Open) (more : List Open) (own : CodePart → Li
       ∙ ap (λ r. map (field_at section place) (own p) ++ r) (parts_fields are ps found coded (place + length x) rest as' bs)
 
 -- ---- two codes of a statement
-
-pub some_parts : (ps qs : List CodePart) → Some ps ≡ Some qs → ps ≡ qs
-some_parts ps qs e = ap (λ o. unwrap_or o []) e
 
 code_fields_of : (v : Expression → Value) (rvc : Bool) (m n bytes : ℕ) (mnemonic : Mnemonic) (operands : List Operand) (found coded : List Coded)
     → IsCodeOf v rvc m mnemonic operands found → IsCodeOf v rvc n mnemonic operands coded → length (bytes_coded found) ≡ bytes → bytes ≡ length (bytes_coded coded)

@@ -17,7 +17,8 @@ use Rattle.rv_assemble_laws.proofs.FilledLemmas.{bytes_append}
 use Rattle.rv_draft.specs.declared.field.OpenField.{OpenField}
 use Rattle.rv_draft.specs.declared.item.CodeSize.{CodeSize}
 use Rattle.rv_draft.specs.declared.item.Item.{Item}
-use Rattle.rv_draft.specs.Code.{GrowsBy, bytes_in, padding_of, padding_at, bytes_coded, size_of, sizes_of, value_at}
+use Rattle.rv_draft.specs.Code.{GrowsBy, bytes_in, size_of, sizes_of}
+use Rattle.rv_layout.specs.Code.{padding_of, padding_at, bytes_coded, value_at}
 use Rattle.rv_draft.specs.Coded.{IsCodedAt, AreCoded}
 use Rattle.rv_draft.specs.DataParts.{is_filled, data_said, fields_said, data_parts, code_said, open_fields, data_bytes, sites, HasRoomFor, HaveCode, IsLaid, IsDataTo, IsData}
 use Rattle.rv_draft.specs.Draft.{field_of}
@@ -26,7 +27,7 @@ use Rattle.rv_draft.specs.Seated.{site_of, first_code, other_codes, sites_of}
 use Rattle.rv_draft.specs.Sized.{IsSized, AreSized, first_size, other_sizes}
 use Rattle.rv_draft.specs.Spots.{HasBytesOf}
 use Rattle.rv_draft.proofs.EvensLemmas.{none_more}
-use Rattle.rv_draft.proofs.StandingLemmas.{located_at, stated_next, first_same}
+use Rattle.rv_layout.proofs.StandingLemmas.{located_at, stated_next, first_same}
 
 -- ---- the bytes of sections never fall
 

@@ -1,42 +1,20 @@
 -- The padding of an alignment in code has an even count of bytes.
 
-use Rattle.std.proofs.Common.{◌≡◌, ℕ, zero, suc, ◌+◌, ◌*◌, ◌%◌, ◌^◌, ◌<◌, ◌≤◌, Bool, true, false, List, length, Option, Some, None, refl, ap, ◌∙◌, arith}
-use Rattle.std.specs.Prelude.{if◌then◌else◌, nat_lt, nat_le, ◌&&◌}
+use Rattle.std.proofs.Common.{◌≡◌, ℕ, zero, suc, ◌+◌, ◌*◌, ◌%◌, ◌^◌, Bool, true, false, List, length, Option, Some, None, refl, ap, ◌∙◌, arith}
+use Rattle.std.specs.Prelude.{if◌then◌else◌}
 use Rattle.std.proofs.Math.Nat.{pow-succ'}
-use Rattle.std.proofs.Math.Pow.{pow_mono}
-use Rattle.std.proofs.lemmas.Bool.{ltb-true, leb-true, and_parts}
 use Rattle.std.proofs.lemmas.List.{length-append}
-use Rattle.rv_text_laws.specs.Values.{Value, Constant, Symbolic, Difference, Faulty}
+use Rattle.rv_text_laws.specs.Values.{Value}
 use Rattle.rv_statement.specs.Statement.{StatementKind, Label, Numbered, Instruction, Directs, Expression}
-use Rattle.rv_unit_laws.specs.Tables.{Tables, is_power, greatest_alignment, or_none, power_alignment, byte_alignment, alignment_of}
+use Rattle.rv_unit_laws.specs.Tables.{Tables, alignment_of}
 use Rattle.rv_unit_laws.proofs.GrownLemmas.{AlignsToPower, directive_aligned}
 use Rattle.rv_source_laws.specs.Located.{Located}
 use Rattle.rv_object.specs.Padding.{no_operations}
 use Rattle.rv_source_laws.specs.Sizes.{code_padding}
 use Rattle.rv_instruction.specs.declared.encoded.Coded.{Coded}
-use Rattle.rv_draft.specs.Code.{value_at, padding_of, padding_at, bytes_coded, code_bytes}
+use Rattle.rv_layout.specs.Code.{value_at, padding_of, padding_at, bytes_coded}
+use Rattle.rv_draft.specs.Code.{code_bytes}
 use Rattle.rv_object.proofs.NopsLemmas.{length_even}
-
--- ---- alignments are no greater than 4096
-
-low_if : (b : Bool) (n : ℕ) → (b ≡ true → n ≤ 4096) → or_none (if b then Some n else None) ≤ 4096
-low_if true n h = h refl
-low_if false n h = omega arith
-
-low_power : (k : ℕ) → k < 13 → 2 ^ k ≤ 4096
-low_power k h = let less : k ≤ 12 = omega (arith, h) in let most : 2 ^ k ≤ 2 ^ 12 = pow_mono less in most
-
-pub power_low : (v : Value) → or_none (power_alignment v) ≤ 4096
-power_low (Constant k) = low_if (nat_lt k 13) (2 ^ k) (λ e. low_power k (ltb-true k 13 e))
-power_low (Symbolic p at k) = omega arith
-power_low (Difference p q k) = omega arith
-power_low (Faulty c) = omega arith
-
-pub bytes_low : (v : Value) → or_none (byte_alignment v) ≤ 4096
-bytes_low (Constant n) = low_if (is_power n && nat_le n greatest_alignment) n (λ e. leb-true n greatest_alignment (and_parts (is_power n) (nat_le n greatest_alignment) e).1)
-bytes_low (Symbolic p at k) = omega arith
-bytes_low (Difference p q k) = omega arith
-bytes_low (Faulty c) = omega arith
 
 -- ---- and powers of two
 

@@ -22,9 +22,9 @@ use Rattle.rv_unit.specs.Unit.{said}
 use Rattle.rv_source_laws.specs.Located.{Located, located_from}
 use Rattle.rv_source_laws.specs.Compressed.{is_code, is_compressed_code, is_compressed}
 use Rattle.rv_draft.specs.Compressed.{is_code_kind}
-use Rattle.rv_draft.specs.Measured.{IsExtentAt}
-use Rattle.rv_draft.proofs.ItemizedLemmas.{home_at}
-use Rattle.rv_draft.proofs.StandingLemmas.{StandsAt, located_at}
+use Rattle.rv_layout.specs.Code.{IsExtentAt}
+use Rattle.rv_layout.proofs.ExtentsLemmas.{home_at}
+use Rattle.rv_layout.proofs.StandingLemmas.{StandsAt, located_at}
 use Rattle.rv_draft.proofs.WholeLemmas.{one_file}
 
 -- ---- what is code

@@ -29,8 +29,9 @@ use Rattle.rv_assemble_laws.specs.Fields.{Field, fields_from, fields_at}
 use Rattle.rv_instruction.specs.declared.encoded.Coded.{Coded as CodedPart}
 use Rattle.rv_instruction.specs.Code.{coded_by, instructions_of, IsCodeOf}
 use Rattle.rv_draft.specs.declared.item.Item.{Item}
-use Rattle.rv_draft.specs.Code.{value_at, padding_of, padding_at, code_bytes as bytes_of_code, size_of, sizes_of}
-use Rattle.rv_draft.specs.Coded.{IsCoded, AreCoded}
+use Rattle.rv_layout.specs.Code.{value_at, padding_of, padding_at, IsCoded}
+use Rattle.rv_draft.specs.Code.{code_bytes as bytes_of_code, size_of, sizes_of}
+use Rattle.rv_draft.specs.Coded.{AreCoded}
 use Rattle.rv_draft.specs.DataParts.{is_filled, data_said, fields_said, data_parts, code_said, open_fields}
 use Rattle.rv_draft.specs.Items.{AreItems, grown}
 use Rattle.rv_draft.specs.Seated.{site_of, sites_of}

@@ -1,8 +1,8 @@
 -- The item of a unit's statement at an index, and the bytes of each section after it.
 
-use Rattle.std.proofs.Common.{◌≡◌, ℕ, zero, suc, ◌+◌, ◌<◌, ◌≤◌, ◌^◌, ◌≢◌, ◌==◌, ◌&&◌, Bool, true, false, List, [], ◌∷◌, ◌++◌, length, map, set, get_or, inl, inr, Some, refl, sym, ap, ◌∙◌, subst, arith}
-use Rattle.std.specs.Prelude.{if◌then◌else◌, slice_index, slice_index_or, slice_get}
-use Rattle.std.proofs.lemmas.List.{length-map, get_or-set_same, get_or-set_other}
+use Rattle.std.proofs.Common.{◌≡◌, ℕ, zero, suc, ◌+◌, ◌<◌, ◌≤◌, ◌^◌, ◌≢◌, ◌==◌, ◌&&◌, Bool, true, false, List, [], ◌∷◌, ◌++◌, length, set, get_or, inl, inr, refl, sym, ap, ◌∙◌, subst}
+use Rattle.std.specs.Prelude.{if◌then◌else◌, slice_index, slice_index_or}
+use Rattle.std.proofs.lemmas.List.{get_or-set_same, get_or-set_other}
 use Rattle.std.proofs.lemmas.Bool.{eqb-true, eqb-false, cases_eq}
 use Rattle.rv_statement.specs.View.{statement_of, statement_kind}
 use Rattle.rv_statement.specs.declared.statement.Statement.{Statement}
@@ -20,10 +20,11 @@ use Rattle.rv_draft.specs.declared.item.CodeSize.{CodeSize}
 use Rattle.rv_draft.specs.declared.item.Item.{Item}
 use Rattle.rv_draft.specs.Items.{IsItem, grown}
 use Rattle.rv_draft.specs.Sized.{IsSized}
-use Rattle.rv_draft.specs.Code.{value_at}
-use Rattle.rv_draft.specs.Measured.{IsExtentAt, HasRoom}
+use Rattle.rv_layout.specs.Code.{value_at, IsExtentAt}
+use Rattle.rv_layout.proofs.ExtentsLemmas.{home_at}
+use Rattle.rv_draft.specs.Measured.{HasRoom}
 use Rattle.rv_draft.proofs.RoomyLemmas.{IsRoomy}
-use Rattle.rv_draft.proofs.StandingLemmas.{StandsAt, stands_at, located_at, got_inside}
+use Rattle.rv_layout.proofs.StandingLemmas.{StandsAt, located_at}
 use Rattle.rv_draft.proofs.SoFarSizedLemmas.{IsSizedAt}
 
 -- ---- the bytes of each section
@@ -53,24 +54,6 @@ none_behind [] zero h = refl
 none_behind [] (suc j) h = refl
 none_behind (y ∷ ys) zero h = h 0
 none_behind (y ∷ ys) (suc j) h = none_behind ys j (λ i. h (suc i))
-
--- ---- the section of an item
-
-pub got_map : {A B : Type 0} (f : A → B) (xs : List A) (i : ℕ) (d : A) → i < length xs → slice_get (map f xs) i ≡ Some (f (get_or xs i d))
-got_map f [] i d h = absurd (omega arith)
-got_map f (x ∷ xs) zero d h = refl
-got_map f (x ∷ xs) (suc i) d h = got_map f xs i d (omega arith)
-
-pub read_map : {A B : Type 0} (f : A → B) (xs : List A) (i : ℕ) (d : A) (e : B) → i < length xs → slice_index_or (map f xs) i e ≡ f (get_or xs i d)
-read_map f [] i d e h = absurd (omega arith)
-read_map f (x ∷ xs) zero d e h = refl
-read_map f (x ∷ xs) (suc i) d e h = read_map f xs i d e (omega arith)
-
-some_same : {A : Type 0} (a b : A) → Some a ≡ Some b → a ≡ b
-some_same a b e = cc
-
-pub home_at : (u : SourceUnit) (i : ℕ) (s : Statement) (p : SectionOffset) (e : Extent) → StandsAt u i s p → IsExtentAt u.tables.extents.items p.section e → extent_section e ≡ (located_at (said u) i (statement_of s)).home
-home_at u i s p e at there = some_same (extent_section e) (located_at (said u) i (statement_of s)).home (sym there.section ∙ at.home)
 
 -- ---- the item of a statement
 
@@ -116,15 +99,3 @@ room_at u i s p e size ends stop filled at there roomy =
     subst (RoomAt (offset_of p) (extent_section e)) begins
     (subst (λ h. RoomAt (offset_of p) h (slice_index_or (alignments_of all) p.section 1)) (sym (home_at u i s p e at there))
     (subst (λ q. RoomAt q st.home (slice_index_or (alignments_of all) q.section 1)) (sym at.place) room))
-
--- the section of a statement is one of the unit's
-pub stands_inside : (u : SourceUnit) (i : ℕ) (s : Statement) (p : SectionOffset) → StandsAt u i s p → p.section < length u.tables.extents.items
-stands_inside u i s p at =
-    subst (λ n. p.section < n) (length-map u.tables.extents.items extent_section)
-    (got_inside (map extent_section u.tables.extents.items) p.section (located_at (said u) i (statement_of s)).home at.home)
-
-pub place_inside : (u : SourceUnit) (i : ℕ) (d p : SectionOffset) → IsFilled u → i < length u.statements.items → p ≡ get_or u.places.items i d → p.section < length u.tables.extents.items
-place_inside u i d p filled inside is =
-    let none : Statement = record { kind = kinds.Ignored; line = 0 } in
-    let x : Statement = get_or u.statements.items i none in
-    stands_inside u i x p (stands_at u i none x d p filled inside refl is)

@@ -1,9 +1,9 @@
 -- What one more of a list gives.
 
-use Rattle.std.proofs.Common.{append_assoc, append-nil, length-append, ◌≡◌, ℕ, ◌+◌, ◌<◌, ◌≤◌, zero, suc, refl, take, List, [], ◌∷◌, ◌++◌, length, map, drop, get_or, subst, sym, ap, ◌∙◌, arith}
+use Rattle.std.proofs.Common.{append_assoc, append-nil, ◌≡◌, ℕ, ◌+◌, ◌<◌, ◌≤◌, zero, suc, refl, take, List, [], ◌∷◌, ◌++◌, length, map, drop, get_or, sym, ap, ◌∙◌, arith}
 use Rattle.std.specs.List.{drop-map}
 use Rattle.std.proofs.Math.Seq.{drop-cons}
-use Rattle.std.proofs.lemmas.List.{at_drop_all, drop_more, get_or-map, length-map}
+use Rattle.std.proofs.lemmas.List.{at_drop_all}
 use Rattle.std.specs.Prelude.{flat_map}
 use Rattle.rv_object.specs.Padding.{operations_in}
 use Rattle.rv_instruction.specs.declared.encoded.Encoded.{Encoded}
@@ -21,19 +21,6 @@ pub flat_done : {X : Type 0} (f : X → List ℕ) (xs : List X) (i : ℕ) (out a
 flat_done f xs i out all past h =
     let none : drop i xs ≡ [] = at_drop_all (λ l. l) xs i past in
     sym (append-nil out) ∙ ap (λ l. out ++ flat_map f l) (sym none) ∙ h
-
--- the same of lengths
-pub long_more : (rest next : List (List ℕ)) (x : List ℕ) (old more all : ℕ) → rest ≡ x ∷ next → more ≡ length x
-    → old + length (flat_map (λ l. l) rest) ≡ all → old + more + length (flat_map (λ l. l) next) ≡ all
-long_more rest next x old more all here size h =
-    let joined : length (flat_map (λ l. l) rest) ≡ length x + length (flat_map (λ l. l) next) =
-    ap (λ l. length (flat_map (λ k. k) l)) here ∙ length-append x (flat_map (λ l. l) next) in
-    omega (arith, joined, size, h)
-
--- what is left of a list, from an element on
-pub left_at : {X Y : Type 0} (f : X → Y) (xs : List X) (i : ℕ) (d : X) → i < length xs → drop i (map f xs) ≡ f (get_or xs i d) ∷ drop (i + 1) (map f xs)
-left_at f xs i d inside =
-    drop_more (map f xs) i (f d) (subst (λ n. i < n) (sym (length-map xs f)) inside) ∙ ap (λ y. y ∷ drop (i + 1) (map f xs)) (get_or-map f xs i d (f d) inside)
 
 pub left_map : {X Y : Type 0} (f : X → Y) (xs : List X) (i : ℕ) (x : X) → i < length xs → x ≡ get_or xs i x → drop i (map f xs) ≡ f x ∷ drop (i + 1) (map f xs)
 left_map f xs i x inside is =

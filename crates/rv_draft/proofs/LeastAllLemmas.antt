@@ -4,18 +4,19 @@ use Rattle.std.proofs.Common.{◌≡◌, ◌⊎◌, inl, inr, ℕ, zero, suc, �
 use Rattle.std.specs.Prelude.{if◌then◌else◌, ◌==◌, ⊤, slice_get}
 use Rattle.std.specs.List.{AllByRecursion}
 use Rattle.std.proofs.lemmas.Bool.{eqb-true}
-use Rattle.rv_statement.specs.Statement.{StatementKind, Label, Numbered, Instruction, Directs, Operand}
+use Rattle.rv_statement.specs.Statement.{StatementKind, Label, Numbered, Instruction, Directs}
 use Rattle.rv_layout_laws.specs.declared.item.Forms.{Forms}
-use Rattle.rv_layout_laws.specs.declared.item.Forms.TheVariants.{Settled, CompressedBranch, Branch, CompressedJump}
+use Rattle.rv_layout_laws.specs.declared.item.Forms.TheVariants.{Settled}
 use Rattle.rv_layout_laws.specs.declared.item.Item.{Item}
 use Rattle.rv_layout_laws.specs.Offsets.{Reaches, distance}
 use Rattle.rv_layout_laws.specs.Branches.{Offers, largest, half, item_at, of_section, IsGood, IsLeastGood}
 use Rattle.rv_unit_laws.specs.Sections.{Section}
 use Rattle.rv_unit_laws.specs.Tables.{Tables}
 use Rattle.rv_source_laws.specs.Located.{Located}
-use Rattle.rv_source_laws.specs.Sizes.{Near, near_forms, near_target, settled, branch_item, item_by, item_by_kind, items_of, AreLeast}
+use Rattle.rv_source_laws.specs.Sizes.{near_forms, settled, item_by_kind, items_of, AreLeast}
 use Rattle.rv_source_laws.proofs.HeldLemmas.{IsHeld, Held}
 use Rattle.rv_source_laws.proofs.HomesLemmas.{IsHomeIn}
+use Rattle.rv_layout.proofs.InputLemmas.{item_section}
 
 -- ---- items that differ outside sections of code alone
 
@@ -208,18 +209,6 @@ is_code_in sections k = elim (slice_get sections k) [ None ↦ false | Some home
 
 code_of : (o : Option Section) (home : Section) → o ≡ Some home → elim o [ None ↦ false | Some s ↦ s.executable ] ≡ home.executable
 code_of o home e = ap (λ (p : Option Section). elim p [ None ↦ false | Some s ↦ s.executable ]) e
-
--- each statement has an item of its own section
-branch_section : (s : Located) (forms : Forms) (near : Option Near) → (branch_item s forms near).section ≡ s.section
-branch_section s forms None = refl
-branch_section s forms (Some near) = refl
-
-pub item_section : (t : Tables) (all : List Located) (s : Located) (n : ℕ) (os : List Operand) (forms : Option Forms) → (item_by t all s n os forms).section ≡ s.section
-item_section t all s n os None = refl
-item_section t all s n os (Some (Settled size)) = refl
-item_section t all s n os (Some CompressedBranch) = branch_section s CompressedBranch (near_target t all s os)
-item_section t all s n os (Some Branch) = branch_section s Branch (near_target t all s os)
-item_section t all s n os (Some CompressedJump) = branch_section s CompressedJump (near_target t all s os)
 
 module _ (t : Tables) (all : List Located) (sections : List Section) where
   settled_alike : (s : Located) (n b : ℕ) (code : Bool) → s.home.executable ≡ code → is_code_in sections s.section ≡ s.home.executable

@@ -1,59 +1,20 @@
 -- How long the code of a statement is: two codes of one statement have as many bytes.
 
-use Rattle.std.proofs.Common.{◌≡◌, ℕ, ◌+◌, ◌≤◌, Bool, true, List, [], ◌∷◌, length, Option, Some, None, Err, refl, sym, ap, ◌∙◌, subst, arith, length-append}
-use Rattle.std.specs.Prelude.{◌&&◌, is_some}
+use Rattle.std.proofs.Common.{◌≡◌, ℕ, ◌+◌, ◌≤◌, Bool, true, List, [], ◌∷◌, length, Option, Some, None, refl, sym, ap, ◌∙◌, arith}
+use Rattle.std.specs.Prelude.{is_some}
 use Rattle.rv_text_laws.specs.Values.{Value}
-use Rattle.rv_text_laws.specs.Expression.{Primary}
 use Rattle.rv_lexer.specs.declared.fault.SourceFault.{SourceFault}
-use Rattle.rv_lexer.specs.declared.fault.SourceFault.TheVariants.{At, OutOfMemory}
-use Rattle.rv_lexer.specs.Fault.{number_of}
 use Rattle.rv_statement.specs.declared.mnemonic.Mnemonic.{Mnemonic}
-use Rattle.rv_statement.specs.Statement.{StatementKind, Label, Numbered, Instruction, Directs, Statement, Expression, Operand}
+use Rattle.rv_statement.specs.Statement.{StatementKind, Label, Numbered, Instruction, Directs, Statement, Expression}
 use Rattle.rv_layout_laws.specs.declared.item.Forms.{Forms}
-use Rattle.rv_pseudo_laws.specs.Code.{Part, code}
-use Rattle.rv_pseudo_laws.specs.Filled.{are_closed}
-use Rattle.rv_unit_laws.specs.Faults.{lowest}
+use Rattle.rv_pseudo_laws.specs.Code.{code}
 use Rattle.rv_source_laws.specs.Sizes.{near_forms}
-use Rattle.rv_assemble_laws.specs.Coded.{AreCodedParts, constants, joined}
-use Rattle.rv_assemble_laws.specs.InstructionFaults.{instruction_faults}
 use Rattle.rv_instruction.specs.declared.encoded.Coded.{Coded}
-use Rattle.rv_instruction.specs.Code.{IsCodeOf, HasCode, Codes, coded_by, near_forms_of}
-use Rattle.rv_draft.specs.Code.{bytes_coded, padding_of}
-use Rattle.rv_draft.specs.Coded.{IsCoded, HasBytes}
-use Rattle.rv_draft.specs.Measure.{HasLength}
-use Rattle.rv_draft.proofs.CodeFieldsLemmas.{part_long, some_parts}
-use Rattle.rv_draft.proofs.FixedLemmas.{code_fixed}
-
-parts_long : (rvc : Bool) (ps : List Part) (xs ys : List (List ℕ)) → AreCodedParts rvc ps xs → AreCodedParts rvc ps ys → length (joined xs) ≡ length (joined ys)
-parts_long rvc [] [] [] h k = refl
-parts_long rvc [] [] (y ∷ ys) h k = absurd k
-parts_long rvc [] (x ∷ xs) ys h k = absurd h
-parts_long rvc (p ∷ ps) [] ys h k = absurd h
-parts_long rvc (p ∷ ps) (x ∷ xs) [] h k = absurd k
-parts_long rvc (p ∷ ps) (x ∷ xs) (y ∷ ys) (h, hs) (k, ks) =
-    let one : length x ≡ length y = part_long rvc p x y h k in
-    let rest : length (joined xs) ≡ length (joined ys) = parts_long rvc ps xs ys hs ks in
-    length-append x (joined xs) ∙ ap (λ n. n + length (joined xs)) one ∙ ap (λ n. length y + n) rest ∙ sym (length-append y (joined ys))
-
-code_long : (v : Expression → Value) (rvc : Bool) (n k : ℕ) (m : Mnemonic) (os : List Operand) (found coded : List Coded) → near_forms rvc m os ≡ None
-    → IsCodeOf v rvc n m os found → IsCodeOf v rvc k m os coded → length (bytes_coded found) ≡ length (bytes_coded coded)
-code_long v rvc n k m os found coded none f g =
-    let fixed : code (constants v) rvc (length (bytes_coded found)) m os ≡ code (constants v) rvc (length (bytes_coded coded)) m os =
-    code_fixed (constants v) rvc (length (bytes_coded found)) (length (bytes_coded coded)) m os none in
-    let same : f.is.ps ≡ g.is.ps = some_parts f.is.ps g.is.ps (sym f.is.parts ∙ fixed ∙ g.is.parts) in
-    parts_long (rvc && are_closed g.is.ps) g.is.ps (coded_by found) (coded_by coded)
-    (subst (λ ps. AreCodedParts (rvc && are_closed ps) ps (coded_by found)) same f.is.coded_as) g.is.coded_as
-
-none_long : (found coded : List Coded) → found ≡ [] → coded ≡ [] → length (bytes_coded found) ≡ length (bytes_coded coded)
-none_long found coded e f = ap (λ l. length (bytes_coded l)) (e ∙ sym f)
-
--- without forms of several lengths
-pub same_length : (v : Expression → Value) (rvc : Bool) (kind : StatementKind) (found coded : List Coded) → near_forms_of rvc kind ≡ None
-    → IsCoded v rvc kind found → IsCoded v rvc kind coded → length (bytes_coded found) ≡ length (bytes_coded coded)
-same_length v rvc (Label name) found coded none (n, h) (m, k) = none_long found coded h k
-same_length v rvc (Numbered number) found coded none (n, h) (m, k) = none_long found coded h k
-same_length v rvc (Instruction mnemonic operands) found coded none (n, h) (m, k) = code_long v rvc n m mnemonic operands found coded none h k
-same_length v rvc (Directs directive) found coded none (n, h) (m, k) = none_long found coded h k
+use Rattle.rv_instruction.specs.Code.{HasCode, near_forms_of}
+use Rattle.rv_layout.specs.Code.{bytes_coded, padding_of, IsCoded}
+use Rattle.rv_layout.proofs.LengthsLemmas.{code_long}
+use Rattle.rv_draft.specs.Coded.{HasBytes}
+use Rattle.rv_layout.specs.Measure.{HasLength}
 
 -- ---- of one that was added
 
@@ -103,10 +64,3 @@ made_again v rvc asked bytes (Instruction mnemonic operands) found coded h same 
         let low : length (bytes_coded found) ≤ bytes = omega (arith, one) in
         (one, low)
 made_again v rvc asked bytes (Directs directive) found coded h same is long = (tt, none_fits found bytes h)
-
--- a statement without a fault has code
-pub not_refused : (rvc : Bool) (bytes : ℕ) (v : Expression → Value) (l : Primary → Bool) (s : Statement) (fault : SourceFault)
-    → Codes rvc bytes v l s (Err fault) → instruction_faults v l s.kind ≡ [] → ⊥
-not_refused rvc bytes v l s (At code at) (low, line) none =
-    let both : None ≡ Some (number_of code) = sym (ap lowest none) ∙ low in cc
-not_refused rvc bytes v l s OutOfMemory h none = h

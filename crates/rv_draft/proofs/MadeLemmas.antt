@@ -20,14 +20,16 @@ use Rattle.rv_draft.specs.declared.data.Spot.{Spot}
 use Rattle.rv_draft.specs.declared.item.CodeSize.{CodeSize}
 use Rattle.rv_draft.specs.declared.item.Item.{Item}
 use Rattle.rv_draft.specs.Added.{IsWhole}
-use Rattle.rv_draft.specs.Code.{bytes_coded, bytes_of_codes, padding_of, padding_at, size_of, sizes_of, value_at}
-use Rattle.rv_draft.specs.Coded.{AreCoded, HasBytes, IsCoded}
+use Rattle.rv_layout.specs.Code.{bytes_coded, padding_of, padding_at, value_at, IsCoded}
+use Rattle.rv_draft.specs.Code.{bytes_of_codes, size_of, sizes_of}
+use Rattle.rv_draft.specs.Coded.{AreCoded, HasBytes}
 use Rattle.rv_draft.specs.DataParts.{AreMade, IsMade}
-use Rattle.rv_draft.specs.Measure.{AreLengths}
+use Rattle.rv_draft.specs.Lengths.{AreLengths}
 use Rattle.rv_draft.specs.Sized.{AreSized, IsSized}
 use Rattle.rv_draft.specs.Spots.{value_in, IsMadeAt}
-use Rattle.rv_draft.proofs.StandingLemmas.{StandsAt, first_same, located_at}
-use Rattle.rv_draft.proofs.WholeLemmas.{faults_in, faults_there, one_file}
+use Rattle.rv_layout.proofs.StandingLemmas.{StandsAt, first_same, located_at}
+use Rattle.rv_layout.proofs.ExtentsLemmas.{faults_in, faults_there}
+use Rattle.rv_draft.proofs.WholeLemmas.{one_file}
 
 -- an instruction has the bytes of its code, which it was asked for
 kind_offered : (t : Tables) (k : ℕ) (v : Expression → Value) (b rvc : Bool) (x : Item) (begins : ℕ) (coded : List Coded) (n : ℕ) (kind : StatementKind)

@@ -20,10 +20,10 @@ use Rattle.rv_assemble_laws.specs.Refusals.{grown as grown_by, size_fault_from}
 use Rattle.rv_draft.specs.declared.item.CodeSize.{CodeSize}
 use Rattle.rv_draft.specs.declared.item.Item.{Item}
 use Rattle.rv_draft.specs.Items.{IsItem, grown}
-use Rattle.rv_draft.specs.Code.{value_at}
+use Rattle.rv_layout.specs.Code.{value_at}
 use Rattle.rv_draft.specs.Sized.{IsPadded, IsSizedDirective, IsSized, bytes_of_sizes}
 use Rattle.rv_draft.specs.Measured.{stretch, IsSize}
-use Rattle.rv_draft.proofs.StandingLemmas.{all_at, got_or, located_at, stated_next}
+use Rattle.rv_layout.proofs.StandingLemmas.{all_at, got_or, located_at, stated_next}
 use Rattle.rv_draft.proofs.SoFarItemsLemmas.{passed_next}
 use Rattle.rv_draft.proofs.SoFarSizedLemmas.{IsSizedAt}
 use Rattle.rv_draft.proofs.SoundLemmas.{sound_at}

@@ -12,8 +12,9 @@ use Rattle.rv_instruction.specs.declared.encoded.Coded.{Coded}
 use Rattle.rv_instruction.specs.Code.{coded_by, instructions_of}
 use Rattle.rv_assemble_laws.specs.Coded.{IsCode}
 use Rattle.rv_assemble_laws.specs.Refusals.{code_faults_at, code_fault_from, size_fault_from, else_fault, grown, HasCodeSize, AreCodeSizes}
-use Rattle.rv_draft.specs.Code.{bytes_in, bytes_coded, value_at, padding_of, padding_at, code_bytes, size_of, sizes_of, bytes_of_sizes, bytes_of_codes, section_code, full_fault, full_at}
-use Rattle.rv_draft.specs.Coded.{IsCoded, AreCoded}
+use Rattle.rv_draft.specs.Code.{bytes_in, code_bytes, size_of, sizes_of, bytes_of_sizes, bytes_of_codes, section_code, full_fault, full_at}
+use Rattle.rv_layout.specs.Code.{bytes_coded, value_at, padding_of, padding_at, IsCoded}
+use Rattle.rv_draft.specs.Coded.{AreCoded}
 use Rattle.rv_draft.specs.Added.{IsAdded, IsCodeSoFar, IsWhole, IsLong}
 use Rattle.rv_draft.specs.declared.code.Coder.{Coder}
 use Rattle.rv_draft.specs.declared.item.CodeSize.{CodeSize}

@@ -7,9 +7,9 @@ use Rattle.rv_unit_laws.specs.Tables.{Tables, at_start, after, alignments_of}
 use Rattle.rv_unit.specs.Unit.{passed}
 use Rattle.rv_draft.specs.declared.item.CodeSize.{CodeSize}
 use Rattle.rv_draft.specs.declared.item.Item.{Item}
-use Rattle.rv_draft.specs.Code.{value_at}
+use Rattle.rv_layout.specs.Code.{value_at}
 use Rattle.rv_draft.specs.Sized.{IsSized, AreSized}
-use Rattle.rv_draft.proofs.StandingLemmas.{located_at}
+use Rattle.rv_layout.proofs.StandingLemmas.{located_at}
 use Rattle.rv_draft.proofs.SoFarItemsLemmas.{passed_next}
 
 -- the sizes of the items so far, with those of what is left, are those of all items

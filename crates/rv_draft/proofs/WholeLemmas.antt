@@ -1,54 +1,41 @@
 -- The code of a whole source.
 
 use Rattle.std.proofs.Common.{◌≡◌, ℕ, zero, suc, ◌+◌, Bool, true, Option, List, [], ◌∷◌, ◌++◌, drop, inl, inr, Some, Result, Ok, Err, sym, ap, ◌∙◌, subst, append-nil}
-use Rattle.std.specs.Prelude.{slice_index}
+use Rattle.std.specs.Prelude.{slice_index, is_some}
 use Rattle.std.proofs.lemmas.List.{map-append}
+use Rattle.rv_instruction.specs.Code.{near_forms_of}
+use Rattle.rv_text_laws.specs.Values.{Value}
 use Rattle.rv_lexer.specs.declared.fault.SourceFault.{SourceFault}
 use Rattle.rv_lexer.specs.declared.fault.SourceFault.TheVariants.{At, OutOfMemory}
 use Rattle.rv_lexer.specs.Fault.{number_of}
-use Rattle.rv_statement.specs.Statement.{Statement as SpecStatement}
+use Rattle.rv_statement.specs.Statement.{Expression, Statement as SpecStatement}
 use Rattle.rv_statement.specs.View.{statement_of}
 use Rattle.rv_statement.specs.declared.statement.Statement.{Statement}
 use Rattle.rv_unit_laws.specs.Faults.{Fault, lowest}
-use Rattle.rv_unit_laws.specs.Sections.{Section}
 use Rattle.rv_unit_laws.specs.Tables.{Tables, SectionOffset as Standing, at_start, tables, value, stood}
 use Rattle.rv_unit_tables.specs.declared.section_offset.SectionOffset.{SectionOffset}
 use Rattle.rv_unit.specs.declared.unit.Unit.{Unit as SourceUnit}
 use Rattle.rv_unit_tables.specs.declared.section.Extent.{Extent}
-use Rattle.rv_unit_tables.specs.Sections.{offset_of, extent_section}
+use Rattle.rv_unit_tables.specs.Sections.{offset_of}
 use Rattle.rv_unit.specs.Unit.{said, passed}
 use Rattle.rv_source_laws.specs.Located.{Located, located, located_from}
-use Rattle.rv_assemble_laws.specs.InstructionFaults.{instruction_faults, is_label}
 use Rattle.rv_source_laws.specs.Sizes.{AreLeast}
 use Rattle.rv_assemble_laws.specs.Refusals.{code_faults_at, code_fault_from}
 use Rattle.rv_draft.specs.Added.{IsAdded, IsAllCode, IsCodeFault, IsCodeSoFar, IsSourceCode, Adds}
 use Rattle.rv_draft.specs.declared.code.Coder.{Coder}
 use Rattle.rv_draft.specs.declared.code.SectionCode.{SectionCode}
 use Rattle.rv_draft.proofs.SoFarLemmas.{next_code, wrong_code}
-use Rattle.rv_draft.specs.Measured.{IsExtentAt}
-use Rattle.rv_draft.proofs.ItemizedLemmas.{home_at}
-use Rattle.rv_draft.specs.Code.{value_at, padding_at, size_of, bytes_of_sizes}
-use Rattle.rv_draft.specs.Measure.{HasLengthAt, IsLength, AreLengths}
+use Rattle.rv_layout.specs.Code.{value_at, padding_at}
+use Rattle.rv_draft.specs.Code.{size_of, bytes_of_sizes}
+use Rattle.rv_draft.specs.Lengths.{HasLengthAt}
+use Rattle.rv_layout.specs.Measure.{IsSize, AreSizes}
 use Rattle.rv_draft.specs.declared.item.CodeSize.{CodeSize}
 use Rattle.rv_draft.proofs.LengthsLemmas.{added_length}
-use Rattle.rv_draft.proofs.StandingLemmas.{StandsAt, first_same, located_at}
+use Rattle.rv_layout.proofs.StandingLemmas.{StandsAt, first_same, located_at}
 
 -- the code of the first `i` statements of a source
 abbrev pub CodeTo : List SpecStatement → ℕ → Coder → Type 0
 CodeTo ss i c = IsCodeSoFar (tables ss) (located_from 1 1 at_start ss) (drop i (located_from 1 1 at_start ss)) c
-
--- the faults of a statement as code, by where it stands
-abbrev pub faults_in : Tables → ℕ → Standing → SpecStatement → List ℕ
-faults_in t o p s = instruction_faults (λ e. value t true o p e) (is_label t o) s.kind
-
-pub faults_there : (u : SourceUnit) (i : ℕ) (x : Statement) (p : SectionOffset) → StandsAt u i x p
-    → faults_in (tables (said u)) (i + 1) (offset_of p) (statement_of x) ≡ code_faults_at (tables (said u)) (located_at (said u) i (statement_of x))
-faults_there u i x p at = ap (λ (r : Standing). faults_in (tables (said u)) (i + 1) r (statement_of x)) at.place
-
--- whether its section is one of code
-pub code_there : (u : SourceUnit) (i : ℕ) (x : Statement) (p : SectionOffset) (e : Extent) → StandsAt u i x p → IsExtentAt u.tables.extents.items p.section e
-    → (extent_section e).executable ≡ (located_at (said u) i (statement_of x)).home.executable
-code_there u i x p e at there = ap (λ (h : Section). h.executable) (home_at u i x p e at there)
 
 -- what is added where the statement stands
 added_there : (t : Tables) (o wanted : ℕ) (rvc on a b : Bool) (c d : Coder) (s : SpecStatement) (p q : Standing) (faults others : List ℕ) → p ≡ q → faults ≡ others → rvc ≡ on → a ≡ b
@@ -83,13 +70,26 @@ told_more u i wanted x p rvc b c d faults at same on home added told =
     ∙ ap (λ n. bytes_of_sizes c.sizes.items ++ n ∷ [])
     (added_length (λ e. value_at t st e) st.options.rvc st.home.executable (code_faults_at t st) wanted st.kind a.coded a.sound a.is a.asked told)
 
--- the length of a statement
-pub length_here : (t : Tables) (ls : List Located) (ns : List ℕ) (i : ℕ) (l : Located) (rest : List Located) → AreLengths t ls ns → drop i ls ≡ l ∷ rest → IsLength t l (slice_index ns i)
-length_here t [] ns zero l rest h e = absurd (cc)
-length_here t [] ns (suc i) l rest h e = absurd (cc)
-length_here t (y ∷ ys) [] i l rest h e = absurd h
-length_here t (y ∷ ys) (n ∷ ns) zero l rest h e = subst (λ l. IsLength t l n) (first_same y l ys rest e) h.0
-length_here t (y ∷ ys) (n ∷ ns) (suc i) l rest h e = length_here t ys ns i l rest h.1 e
+-- the size of a statement
+pub size_here : (t : Tables) (ls : List Located) (ns : List ℕ) (i : ℕ) (l : Located) (rest : List Located) → AreSizes t ls ns → drop i ls ≡ l ∷ rest → IsSize t l (slice_index ns i)
+size_here t [] ns zero l rest h e = absurd (cc)
+size_here t [] ns (suc i) l rest h e = absurd (cc)
+size_here t (y ∷ ys) [] i l rest h e = absurd h
+size_here t (y ∷ ys) (n ∷ ns) zero l rest h e = subst (λ l. IsSize t l n) (first_same y l ys rest e) h.0
+size_here t (y ∷ ys) (n ∷ ns) (suc i) l rest h e = size_here t ys ns i l rest h.1 e
+
+-- what is wanted of a statement without forms of several lengths does not matter
+pub added_as : (c d : Coder) (section : ℕ) (b : Bool) (faults : List ℕ) (v : Expression → Value) (rvc : Bool) (m n : ℕ) (s : SpecStatement) → (is_some (near_forms_of rvc s.kind) ≡ true → m ≡ n)
+    → IsAdded c d section b faults v rvc m s → IsAdded c d section b faults v rvc n s
+added_as c d section b faults v rvc m n s same a = record {
+  sound = a.sound;
+  coded = a.coded;
+  is = a.is;
+  asked = λ near. a.asked near ∙ same near;
+  grows = a.grows;
+  counts = a.counts;
+  full = a.full;
+}
 
 fault_first : (ss : List SpecStatement) (code line at : ℕ) → code_fault_from (tables ss) (located (ss ∷ [])) ≡ Some (record { code = code; line = line }) → at ≡ line → IsCodeFault ss (record { code = code; line = at })
 fault_first ss code line at e f = inl (e ∙ ap (λ n. fault_at code n) (sym f))

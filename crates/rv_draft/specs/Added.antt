@@ -11,8 +11,9 @@ use Rattle.rv_unit_laws.specs.Faults.{Fault, lowest}
 use Rattle.rv_unit_laws.specs.Tables.{Tables, tables}
 use Rattle.rv_source_laws.specs.Located.{Located, located}
 use Rattle.rv_assemble_laws.specs.Refusals.{code_fault_from, size_fault_from, code_fault, else_fault, AreCodeSizes, IsTooLong}
-use Rattle.rv_draft.specs.Code.{GrowsBy, bytes_in, padding_of, code_bytes, size_of, sizes_of, bytes_of_codes, section_code, full_fault, full_at}
-use Rattle.rv_draft.specs.Coded.{IsCoded, AreCoded}
+use Rattle.rv_draft.specs.Code.{GrowsBy, bytes_in, code_bytes, size_of, sizes_of, bytes_of_codes, section_code, full_fault, full_at}
+use Rattle.rv_layout.specs.Code.{padding_of, IsCoded}
+use Rattle.rv_draft.specs.Coded.{AreCoded}
 use Rattle.rv_instruction.specs.declared.encoded.Coded.{Coded}
 use Rattle.rv_instruction.specs.Code.{near_forms_of}
 use Rattle.rv_draft.specs.declared.code.Coder.{Coder}

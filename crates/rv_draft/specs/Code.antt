@@ -1,19 +1,15 @@
 -- The bytes of code of each section.
 
-use Rattle.std.specs.Prelude.{◌≡◌, ℕ, ◌+◌, Bool, true, ◌==◌, List, [], ◌∷◌, ◌++◌, map, Option, Some, None, length, nat_lt, slice_get, if◌then◌else◌}
+use Rattle.std.specs.Prelude.{◌≡◌, ℕ, ◌+◌, ◌==◌, List, [], ◌∷◌, ◌++◌, map, Option, Some, None, length, nat_lt, slice_get, if◌then◌else◌}
 use Rattle.std.specs.Global.{Vec}
 use Rattle.rv_text_laws.specs.Codes.{limit}
-use Rattle.rv_text_laws.specs.Values as values
-use Rattle.rv_statement.specs.Statement.{StatementKind, Directs, Expression}
 use Rattle.rv_unit_laws.specs.Faults.{Fault, at_line}
-use Rattle.rv_unit_laws.specs.Tables.{Tables, value, alignment_of, longest_section}
+use Rattle.rv_unit_laws.specs.Tables.{Tables, longest_section}
 use Rattle.rv_object.specs.Padding.{no_operations, operations_in}
 use Rattle.rv_source_laws.specs.Located.{Located}
-use Rattle.rv_source_laws.specs.Program.{place_of}
-use Rattle.rv_assemble_laws.specs.Coded.{joined}
-use Rattle.rv_source_laws.specs.Sizes.{code_padding}
 use Rattle.rv_instruction.specs.declared.encoded.Coded.{Coded}
-use Rattle.rv_instruction.specs.Code.{coded_by, instructions_of}
+use Rattle.rv_instruction.specs.Code.{instructions_of}
+use Rattle.rv_layout.specs.Code.{bytes_coded, padding_at}
 use Rattle.rv_draft.specs.declared.item.CodeSize.{CodeSize}
 
 -- the bytes of a section by its place among the sections
@@ -32,22 +28,6 @@ GrowsBy old new section more =
     ≡ (if j == section then bytes_in old j ++ more else bytes_in old j))
 
 -- ---- the code of a statement
-
-abbrev pub value_at : Tables → Located → Expression → values.Value
-value_at t s e = value t true s.ordinal (place_of s) e
-
--- the bytes of the padding of an alignment in a section of code
-abbrev pub padding_of : Bool → (Expression → values.Value) → StatementKind → ℕ
-padding_of executable v (Directs directive) =
-    if executable then code_padding (alignment_of v directive) else 0
-padding_of executable v kind = 0
-
-abbrev pub padding_at : Tables → Located → ℕ
-padding_at t s = padding_of s.home.executable (λ e. value_at t s e) s.kind
-
--- the bytes of an instruction's parts
-abbrev pub bytes_coded : List Coded → List ℕ
-bytes_coded found = joined (coded_by found)
 
 -- what a statement has as code: its padding, or its parts
 abbrev pub code_bytes : ℕ → List Coded → List ℕ

@@ -1,19 +1,13 @@
 -- The instructions of a source as its code has them.
 
-use Rattle.std.specs.Prelude.{◌≡◌, ℕ, Bool, ⊤, List, [], ◌∷◌, length}
-use Rattle.rv_text_laws.specs.Values.{Value}
-use Rattle.rv_statement.specs.Statement.{StatementKind, Instruction, Expression}
+use Rattle.std.specs.Prelude.{◌≡◌, ℕ, ⊤, List, [], ◌∷◌, length}
+use Rattle.rv_statement.specs.Statement.{StatementKind, Instruction}
 use Rattle.rv_unit_laws.specs.Tables.{Tables}
 use Rattle.rv_source_laws.specs.Located.{Located}
 use Rattle.rv_instruction.specs.declared.encoded.Coded.{Coded}
-use Rattle.rv_instruction.specs.Code.{HasCode}
-use Rattle.rv_draft.specs.Code.{bytes_coded, value_at}
+use Rattle.rv_layout.specs.Code.{bytes_coded, value_at, IsCoded}
 
--- the code of a statement, part by part, by constants, however long a branch is asked to be; what
--- is no instruction has none
-abbrev pub IsCoded : (Expression → Value) → Bool → StatementKind → List Coded → Type 0
-IsCoded v rvc kind found = (asked : ℕ) × HasCode v rvc asked kind found
-
+-- the code of a statement where it stands
 abbrev pub IsCodedAt : Tables → Located → List Coded → Type 0
 IsCodedAt t s found = IsCoded (λ e. value_at t s e) s.options.rvc s.kind found
 

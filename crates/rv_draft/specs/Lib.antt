@@ -5,7 +5,7 @@ pub mod Compressed
 pub mod DataParts
 pub mod Draft
 pub mod Items
-pub mod Measure
+pub mod Lengths
 pub mod Measured
 pub mod Seated
 pub mod Sized

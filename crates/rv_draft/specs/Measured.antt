@@ -1,11 +1,10 @@
 -- How many bytes one statement has, after others of its section.
 
-use Rattle.std.specs.Prelude.{◌≡◌, ℕ, ◌+◌, ◌*◌, ◌≤◌, Bool, true, false, ⊤, List, length, map, Option, Some, slice_get, slice_index_or}
+use Rattle.std.specs.Prelude.{◌≡◌, ℕ, ◌+◌, ◌*◌, ◌≤◌, Bool, true, false, ⊤, length, Option}
 use Rattle.rv_text_laws.specs.Values.{Value, Constant}
 use Rattle.rv_statement.specs.Statement.{StatementKind, Label, Numbered, Instruction, Directs, Expression, Directive, Aligns_to_power, Aligns_to_bytes, Values, Strings, Zeros}
 use Rattle.rv_unit_laws.specs.Tables.{alignment_of, padding, string_bytes, longest_section}
 use Rattle.rv_unit_tables.specs.declared.section.Extent.{Extent}
-use Rattle.rv_unit_tables.specs.Sections.{extent_section}
 use Rattle.rv_assemble_laws.specs.Coded.{is_constant}
 use Rattle.rv_draft.specs.declared.item.CodeSize.{CodeSize}
 use Rattle.rv_draft.specs.declared.item.Item.{Item}
@@ -32,11 +31,6 @@ IsSize v executable begins offset size (Numbered number) bytes = bytes ≡ 0
 IsSize v executable begins offset size (Instruction mnemonic operands) bytes = bytes ≡ size.bytes
 IsSize v executable begins offset size (Directs directive) bytes =
     IsSizedDirective v executable size (stretch offset bytes) begins directive
-
--- the section at a place, with the multiple at which it asks to begin
-pub record IsExtentAt (extents : List Extent) (place : ℕ) (e : Extent) : Type 0 where
-  pub section : slice_get (map extent_section extents) place ≡ Some (extent_section e)
-  pub alignment : slice_index_or (map (λ (x : Extent). x.alignment) extents) place 1 ≡ e.alignment
 
 -- an alignment can be had: its section begins at a multiple of it, and one of data has the padding
 abbrev pub CanPad : Bool → ℕ → ℕ → Option ℕ → Type 0

@@ -9,7 +9,7 @@ use Rattle.rv_assemble_laws.specs.Coded.{is_constant}
 use Rattle.rv_draft.specs.declared.item.CodeSize.{CodeSize}
 use Rattle.rv_draft.specs.declared.item.Item.{Item}
 use Rattle.rv_assemble_laws.specs.Sites.{IsMultiple}
-use Rattle.rv_draft.specs.Code.{value_at}
+use Rattle.rv_layout.specs.Code.{value_at}
 pub use Rattle.rv_draft.specs.Code.{bytes_of_sizes}
 
 -- the padding of an alignment, in a section that asks for a multiple of it: in code that of its

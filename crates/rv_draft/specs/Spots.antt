@@ -23,7 +23,8 @@ use Rattle.rv_instruction.specs.declared.encoded.Coded.{Coded}
 use Rattle.rv_draft.specs.declared.fields.Choices.{Choices}
 use Rattle.rv_draft.specs.declared.item.Item.{Item}
 use Rattle.rv_draft.specs.Code.{GrowsBy}
-use Rattle.rv_draft.specs.Coded.{IsCoded, HasBytes}
+use Rattle.rv_layout.specs.Code.{IsCoded}
+use Rattle.rv_draft.specs.Coded.{HasBytes}
 use Rattle.rv_draft.specs.Seated.{site_of}
 use Rattle.rv_draft.specs.DataParts.{data_said, fields_said, code_said}
 use Rattle.rv_draft.specs.Draft.{field_of}

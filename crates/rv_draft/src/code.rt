@@ -1,6 +1,6 @@
 //! The code of a source's sections: its instructions as they lie in memory, one after another.
 //!
-//! The code of a statement is made three times: for the sizes of branches, here for the bytes, and for the open fields.
+//! The code of a statement is made three times: for the sizes of statements, here for the bytes, and for the open fields.
 //! To keep it would take memory for each statement. It is the same each time: `HasCode` has one length for a statement, by
 //! its values and by the length that it is asked to have. Most statements are one instruction with nothing open, so this
 //! pass asks for that first and needs no list for them.
@@ -17,16 +17,17 @@ ghost use Rattle.rv_assemble_laws.specs.Refusals.{else_fault};
 ghost use Rattle.rv_source_laws.specs.Sizes.{AreLeast};
 ghost use Rattle.rv_draft.specs.Added.{Adds, IsAllCode, IsCodeSoFar, IsSourceCode};
 ghost use Rattle.rv_draft.specs.Code as laws;
-ghost use Rattle.rv_draft.specs.Measure.{AreLengths};
+ghost use Rattle.rv_draft.specs.Lengths.{code_lengths};
+ghost use Rattle.rv_layout.specs.Code as sizes;
+ghost use Rattle.rv_layout.specs.Measure.{AreSizes};
 ghost use Rattle.rv_draft.specs.Sized.{bytes_of_sizes};
 ghost use Rattle.rv_instruction.specs.Code.{alone_coded, encoded_bytes, encoded_instructions, instructions_of, near_forms_of, HasCode, MayHave};
 ghost use Rattle.rv_draft.specs.Code.{GrowsBy, full_fault, full_at};
 ghost use Rattle.rv_instruction.specs.Scoped.{values_at, faults_at};
 
 use crate::item::CodeSize;
-use crate::items::extent_at;
-use crate::paddings::padding_of;
 use rv_instruction::{Coded, Encoded, code as code_of, one_code};
+use rv_layout::{Layout, bytes_of, extent_at, padding_of, width};
 use rv_object::{operations, put_no_operations};
 use rv_statement::Statement;
 use rv_text::{SourceCode, SourceFault};
@@ -57,7 +58,7 @@ fn put_pair(bytes: &mut Vec<u8>, first: u32, second: u32) -> Result<(), AllocErr
 
 /// Adds the parts of a statement's code.
 fn put_all(bytes: &mut Vec<u8>, code: &[Coded]) -> Result<(), AllocError>
-    ensures { OnOk result (bytes.new.items ≡ bytes.old.items ++ laws.bytes_coded code.now) }
+    ensures { OnOk result (bytes.new.items ≡ bytes.old.items ++ sizes.bytes_coded code.now) }
 {
     for coded in code {
         put(bytes, coded.encoded)?;
@@ -120,18 +121,6 @@ fn put_one_in(
     put_one(&mut sections[section as usize], padding, encoded)
 }
 
-/// How many bytes a part has in memory.
-pub(crate) fn width(encoded: Encoded) -> u8
-    ensures size { result ≡ length (encoded_bytes encoded) }
-    ensures low { result ≤ 8 }
-{
-    match encoded {
-        Encoded::Parcel(_) => 2,
-        Encoded::Word(_) => 4,
-        Encoded::Pair(..) => 8,
-    }
-}
-
 /// How many instructions a part is.
 fn count(encoded: Encoded) -> u8
     ensures count { result ≡ encoded_instructions encoded }
@@ -142,18 +131,6 @@ fn count(encoded: Encoded) -> u8
         Encoded::Word(_) => 1,
         Encoded::Pair(..) => 2,
     }
-}
-
-/// How many bytes the parts of a statement have.
-pub(crate) fn bytes_of(code: &[Coded]) -> u8
-    requires { length code.now ≤ 8 }
-    ensures { result ≡ length (laws.bytes_coded code.now) }
-{
-    let mut bytes = 0;
-    for coded in code {
-        bytes += width(coded.encoded);
-    }
-    bytes
 }
 
 /// How many instructions the parts of a statement are.
@@ -329,7 +306,7 @@ impl Coder {
         requires low { padding ≤ 65535 }
         requires section { place.section < length self.old.sections.items }
         ensures { (index : ℕ) → IsFilled (scope.now).unit.now → IsScope scope.now index
-            → (executable : Bool) → padding ≡ laws.padding_of executable
+            → (executable : Bool) → padding ≡ sizes.padding_of executable
             (values_at scope.now index place) (statement_of statement.now).kind
             → Adds self.old self.new place.section executable
             (faults_at scope.now index place (statement_of statement.now).kind)
@@ -354,7 +331,7 @@ impl Coder {
         requires section { section < length self.old.sections.items }
         ensures { (executable : Bool) (faults : List ℕ) (v : Expression → values.Value)
             (rvc : Bool) (bytes wanted : ℕ) → faults ≡ []
-            → padding ≡ laws.padding_of executable v (statement_of statement.now).kind
+            → padding ≡ sizes.padding_of executable v (statement_of statement.now).kind
             → HasCode v rvc bytes (statement_of statement.now).kind (alone_coded encoded).items
             → (is_some (near_forms_of rvc (statement_of statement.now).kind) ≡ true
             → bytes ≡ wanted)
@@ -381,7 +358,7 @@ impl Coder {
         requires section { section < length self.old.sections.items }
         ensures { (executable : Bool) (faults : List ℕ) (v : Expression → values.Value)
             (rvc : Bool) (bytes wanted : ℕ) → faults ≡ []
-            → padding ≡ laws.padding_of executable v (statement_of statement.now).kind
+            → padding ≡ sizes.padding_of executable v (statement_of statement.now).kind
             → HasCode v rvc bytes (statement_of statement.now).kind found.now
             → (is_some (near_forms_of rvc (statement_of statement.now).kind) ≡ true
             → bytes ≡ wanted)
@@ -396,21 +373,25 @@ impl Coder {
     }
 }
 
-/// The code of each section of a unit, and how much of it each statement has, by the least lengths.
+/// The code of each section of a unit, and how much of it each statement has, by the sizes of the statements.
 pub(crate) fn code(
     alloc: Global,
     unit: &Unit<'_>,
-    lengths: &[u32],
+    layout: &Layout,
 ) -> Result<SectionCode, SourceFault>
     requires filled { IsFilled unit.now }
-    requires count { length lengths.now ≡ length (unit.now).statements.items }
+    requires count { length (layout.now).sizes.items ≡ length (unit.now).statements.items }
+    requires sizes { AreSizes (tables (said unit.now))
+        (located_from 1 1 at_start (said unit.now)) (layout.now).sizes.items }
     requires least { AreLeast (tables (said unit.now)) (located_from 1 1 at_start (said unit.now))
-        lengths.now }
-    requires told { AreLengths (tables (said unit.now))
-        (located_from 1 1 at_start (said unit.now)) lengths.now }
+        (code_lengths (tables (said unit.now)) (located_from 1 1 at_start (said unit.now))
+        (layout.now).sizes.items) }
     ensures count { IfOk result
         (λ c. length c.sections.items ≡ length (unit.now).tables.extents.items) }
-    ensures code { IsSourceCode (said unit.now) lengths.now result }
+    ensures code { IsSourceCode (said unit.now)
+        (code_lengths (tables (said unit.now)) (located_from 1 1 at_start (said unit.now))
+        (layout.now).sizes.items)
+        result }
 {
     let statements = unit.statements();
     let mut coder = Coder::new(alloc, unit.sections().len(), statements.len())?;
@@ -422,7 +403,7 @@ pub(crate) fn code(
         let extent = extent_at(extents, place.section);
         let compressed = unit.options_at(index).rvc();
         let executable = extent.section.executable;
-        let wanted = lengths[index];
+        let wanted = layout.size(index);
         coder.add(
             &statements[index],
             &scope,

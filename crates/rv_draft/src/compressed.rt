@@ -5,12 +5,12 @@ ghost use Rattle.rv_unit.specs.Unit.{said, IsFilled};
 ghost use Rattle.rv_source_laws.specs.Compressed as laws;
 ghost use Rattle.rv_draft.specs.Compressed.{is_code_kind};
 
-use crate::items::extent_at;
+use rv_layout::extent_at;
 use rv_statement::StatementKind;
 use rv_unit::Unit;
 
 /// Whether a statement is code: an instruction, or an alignment in a section of code.
-pub(crate) fn is_code(executable: bool, kind: &StatementKind<'_>) -> bool
+fn is_code(executable: bool, kind: &StatementKind<'_>) -> bool
     ensures { result ≡ is_code_kind executable kind.now }
 {
     match kind {

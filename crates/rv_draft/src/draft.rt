@@ -2,7 +2,7 @@
 //!
 //! The statements are gone over once for each question (sizes, code, items, data), so that each loop is proved by
 //! itself; code is made anew each time, because keeping it would take memory for each statement. It is the same each
-//! time: it has the length that sizes saw (`HaveLengths`), and no later look finds a fault where an earlier one found code
+//! time: it has the length that sizes saw (`AreLengths`), and no later look finds a fault where an earlier one found code
 //! (`IsMade`).
 
 ghost use Rattle.std.specs.Prelude.{◌≡◌, None, IfOk, IfErr};
@@ -16,7 +16,7 @@ use crate::data::{Filled, data};
 use crate::field::OpenField;
 use crate::item::Item;
 use crate::items::items;
-use crate::measure::lengths;
+use rv_layout::Layout;
 use rv_text::SourceFault;
 use rv_unit::Unit;
 use std::alloc::Global;
@@ -48,10 +48,10 @@ impl<'a> Draft<'a> {
         ensures sound { IfOk result (λ _. code_fault (said unit.now) ≡ None) }
         ensures refuses { IfErr result (λ e. IsRefused (said unit.now) e) }
     {
-        let lengths = lengths(alloc, unit)?;
-        let code = code(alloc, unit, lengths.as_slice())?;
-        // the lengths make room for the items
-        drop(lengths);
+        let layout = Layout::of(alloc, unit)?;
+        let code = code(alloc, unit, &layout)?;
+        // the layout makes room for the items
+        drop(layout);
         let sizes = code.sizes.as_slice();
         let (items, ends) = items(alloc, unit, sizes)?;
         let filled = data(alloc, unit, items.as_slice(), code.sections)?;

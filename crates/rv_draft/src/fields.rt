@@ -17,19 +17,20 @@ ghost use Rattle.rv_assemble_laws.specs.Templates.{align_field, open_at};
 ghost use Rattle.rv_instruction.specs.declared.encoded.Coded.{Coded as SpecCoded};
 ghost use Rattle.rv_instruction.specs.Code.{encoded_instructions, shape_in};
 ghost use Rattle.rv_instruction.specs.Opened.{opens_of, open_of};
-ghost use Rattle.rv_draft.specs.Code.{bytes_coded};
-ghost use Rattle.rv_draft.specs.Coded.{IsCoded, IsCodedAt, HasBytes};
+ghost use Rattle.rv_layout.specs.Code.{bytes_coded, IsCoded};
+ghost use Rattle.rv_draft.specs.Coded.{IsCodedAt, HasBytes};
 ghost use Rattle.rv_draft.specs.DataParts as parts;
 ghost use Rattle.rv_draft.specs.Draft.{field_of};
 ghost use Rattle.rv_draft.specs.Seated.{site_of};
 ghost use Rattle.rv_draft.specs.Spots.{value_in, kind_opens, pair_opens, own_opens, opens_in, fields_coded, code_fields, AddsAt, AtOwn, AtSpot, HasBytesOf, IsAtSpot, IsMadeAt};
 
-use crate::code::{asked, width};
+use crate::code::asked;
 use crate::data::Spot;
 use crate::field::OpenField;
 use crate::item::Item;
 use rv_instruction::{Code, Coded, Encoded, Reference, code as code_of, is_closed, open_field};
 use rv_isa::Kind;
+use rv_layout::width;
 use rv_statement::{Statement, StatementKind};
 use std::alloc::AllocError;
 

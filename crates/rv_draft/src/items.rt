@@ -17,10 +17,11 @@ ghost use Rattle.rv_draft.specs.Items.{AreItems};
 ghost use Rattle.rv_assemble_laws.specs.Sites.{IsMultiple};
 ghost use Rattle.rv_instruction.specs.Scoped.{values_at, is_placed_at, AtNext, StandsHere, ForOutcome};
 ghost use Rattle.rv_draft.specs.Sized.{AreSized, bytes_of_sizes};
-ghost use Rattle.rv_draft.specs.Measured.{IsExtentAt, CanCount, PadsIn, CanPadIn, AlignsIn, CanAlignIn, IsSizeIn, HasSizeIn, HasRoomIn, IsSizedIn};
+ghost use Rattle.rv_draft.specs.Measured.{CanCount, PadsIn, CanPadIn, AlignsIn, CanAlignIn, IsSizeIn, HasSizeIn, HasRoomIn, IsSizedIn};
 
 use crate::item::{CodeSize, Item};
 use rv_instruction::constant;
+use rv_layout::extent_at;
 use rv_statement::{Statement, StatementKind, Width};
 use rv_text::{SourceCode, SourceFault, Value};
 use rv_unit::{
@@ -261,15 +262,6 @@ fn no_bytes(alloc: Global, count: usize) -> Result<Vec<u32>, AllocError>
     ensures none { IfOk result (λ ends. (j : ℕ) → slice_index ends.items j ≡ 0) }
 {
     vec![in alloc; 0; count]
-}
-
-/// The section at a place.
-#[tactic(auto, using(crate::proofs::ItemizedLemmas::got_map, crate::proofs::ItemizedLemmas::read_map))]
-pub(crate) fn extent_at<'a>(extents: &[Extent<'a>], section: u32) -> Extent<'a>
-    requires { section < length extents.now }
-    ensures { IsExtentAt extents.now section result }
-{
-    extents[section as usize]
 }
 
 /// The item of the statement that is next, after `offset` bytes of its section, where its code has

@@ -27,8 +27,6 @@ mod field;
 mod fields;
 mod item;
 mod items;
-mod measure;
-mod paddings;
 
 pub use draft::Draft;
 pub use field::OpenField;

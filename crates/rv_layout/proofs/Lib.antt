@@ -1,2 +1,9 @@
-pub mod PlacesLemmas
-pub mod GoingLemmas
+pub mod BesideLemmas
+pub mod ExtentsLemmas
+pub mod FixedLemmas
+pub mod InputLemmas
+pub mod LeftLemmas
+pub mod LengthsLemmas
+pub mod SeenLemmas
+pub mod StandingLemmas
+pub mod WordsLemmas

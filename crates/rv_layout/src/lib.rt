@@ -1,24 +1,32 @@
-//! The least sizes of branches, found by passes over the statements.
+//! The sizes of a source's statements.
 //!
-//! It takes statements as their sizes go by them (`Item`: a section, forms, a target in that section), and gives the bytes
-//! of each and the number of passes. The main contract is that of `Layout::of`: the sizes are the least with which each
-//! form below a statement's largest reaches (`rv_layout_laws`, `IsLeastGood`), and the passes are at most twice the
-//! branches and one. Passes go forwards and backwards in turn, each over all statements once.
+//! It takes a source with its tables (`rv_unit`), and gives the bytes of each statement ([`Layout`]): of a branch or a
+//! jump the least that reach, of other code the bytes of its instructions or of its padding, of data what it says. The
+//! main contract is that of [`Layout::of`]: clause `least` says that the sizes are the least family of `rv_source_laws`
+//! (`Sizes`), clause `sizes` what all other statements have. Calls count 8, and an alignment in code the padding that it may
+//! ever need.
 //!
-//! It must not know what statements say, nor objects, nor addresses.
+//! Sizes of branches depend on one another, and on nothing but the bytes of the rest. So statements become abstract ones
+//! here, of which `rv_sizes` finds the least sizes: it need not know what statements say.
+//!
+//! It knows no bytes of code, no object and no address.
 //!
 //! ```text
-//! let layout = Layout::of(alloc, &items, sections)?;
-//! let bytes = layout.size(4);
+//! let unit = Unit::build(alloc, statements)?;
+//! let layout = Layout::of(alloc, &unit)?;
+//! let bytes = layout.size(0);
 //! ```
 //!
-//! Source: ISA manual, "Control Transfer Instructions"; GNU as, "RISC-V-Directives".
+//! Source: GNU as, "RISC-V-Directives"; RISC-V Unprivileged ISA 20191213, chapters 2.5 and 16.
 #![tactic(auto)]
 
-mod input;
-mod passes;
-mod reach;
-mod sizes;
+mod beside;
+mod extents;
+mod layout;
+mod measure;
+mod widths;
 
-pub use input::is_input;
-pub use sizes::Layout;
+pub use beside::padding_of;
+pub use extents::extent_at;
+pub use layout::Layout;
+pub use widths::{bytes_of, width};

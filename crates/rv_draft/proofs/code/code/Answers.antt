@@ -11,17 +11,19 @@ use Rattle.rv_source_laws.specs.Located.{located_from}
 use Rattle.rv_instruction.specs.Code.{MayHave}
 use Rattle.rv_unit_laws.specs.Options.{Options}
 use Rattle.rv_draft.specs.Added.{IsAdded, IsAllCode, Adds}
+use Rattle.rv_draft.specs.Lengths.{code_length, code_lengths}
 use Rattle.rv_draft.specs.Sized.{bytes_of_sizes}
+use Rattle.rv_draft.proofs.CodeLengthsLemmas.{length_of_size, lengths_count, length_there, near_same}
 use Rattle.rv_draft.proofs.JoinedLemmas.{take_next, take_none, take_past}
-use Rattle.rv_draft.proofs.StandingLemmas.{StandsAt, stands_at, places_count, got_inside, located_at, stated_none}
-use Rattle.rv_draft.specs.Measured.{IsExtentAt}
-use Rattle.rv_draft.proofs.ItemizedLemmas.{place_inside}
+use Rattle.rv_layout.proofs.StandingLemmas.{StandsAt, stands_at, places_count, got_inside, located_at, stated_none}
+use Rattle.rv_layout.specs.Code.{IsExtentAt}
+use Rattle.rv_layout.proofs.ExtentsLemmas.{place_inside, faults_in, faults_there, code_there}
 use Rattle.rv_draft.specs.declared.code.SectionCode.{SectionCode}
-use Rattle.rv_draft.proofs.WholeLemmas.{faults_in, faults_there, code_there, code_more, code_wrong, code_whole, length_here, told_more}
+use Rattle.rv_draft.proofs.WholeLemmas.{code_more, code_wrong, code_whole, size_here, added_as, told_more}
 use Rattle.rv_draft.proofs.code.code.Goals as goal
 
 pub loop-index-init : goal.loop-index-init
-loop-index-init c = (c.new-scope.ensures.unit, c.new-scope.ensures.start, c.in_ok-coder.ensures.begun _ _, c.in_ok-coder.ensures.count ∙ ap length c.sections.ensures, ap bytes_of_sizes c.in_ok-coder.ensures.none ∙ sym (take_none c.args.lengths.now))
+loop-index-init c = (c.new-scope.ensures.unit, c.new-scope.ensures.start, c.in_ok-coder.ensures.begun _ _, c.in_ok-coder.ensures.count ∙ ap length c.sections.ensures, ap bytes_of_sizes c.in_ok-coder.ensures.none ∙ sym (take_none (code_lengths (tables (said c.args.unit.now)) (located_from 1 1 at_start (said c.args.unit.now)) c.args.layout.now.sizes.items)))
 
 pub bounds-places-index : goal.bounds-places-index
 bounds-places-index c =
@@ -44,11 +46,19 @@ add-requires c =
     let on : c.rvc-compressed.result ≡ (located_at (said u) i (statement_of x)).options.rvc =
     c.rvc-compressed.ensures ∙ ap (λ (o : Options). o.rvc) (c.options_at.ensures c.requires.filled within) in
     let all = located_from 1 1 at_start (said u) in
-    let told = length_here (tables (said u)) all c.args.lengths.now i (located_at (said u) i (statement_of x)) (drop (i + 1) all) c.requires.told at.next in
+    let told = size_here (tables (said u)) all c.args.layout.now.sizes.items i (located_at (said u) i (statement_of x)) (drop (i + 1) all) c.requires.sizes at.next in
     record {
-      asked = subst (λ b. MayHave b (statement_of x).kind (slice_index c.args.lengths.now i)) (sym on) told.offered;
+      asked =
+          subst (λ n. MayHave c.rvc-compressed.result (statement_of x).kind n) (sym c.size-wanted.ensures)
+          (subst (λ b. MayHave b (statement_of x).kind (slice_index c.args.layout.now.sizes.items i)) (sym on) told.offered);
       section = subst (λ n. p.section < n) (length-map u.tables.extents.items extent_section ∙ sym c.loop-index.invariant.3) stands;
     }
+
+pub size-wanted-requires : goal.size-wanted-requires
+size-wanted-requires c =
+    let i = c.loop-index.index in
+    let inside = subst (λ l. i < length l) c.statements-statements.ensures c.loop-index-test.true in
+    subst (λ n. i < n) (sym c.requires.count) inside
 
 pub extent_at-extent-requires : goal.extent_at-extent-requires
 extent_at-extent-requires c =
@@ -79,22 +89,30 @@ loop-index-preserved c =
     let known = faults_there u i x p at in
     let on : rvc ≡ (located_at (said u) i (statement_of x)).options.rvc =
     c.rvc-compressed.ensures ∙ ap (λ (o : Options). o.rvc) (c.options_at.ensures c.requires.filled within) in
-    let lengths = c.args.lengths.now in
-    let wanted = slice_index lengths i in
+    let t = tables (said u) in
     let all = located_from 1 1 at_start (said u) in
-    let told = length_here (tables (said u)) all lengths i (located_at (said u) i (statement_of x)) (drop (i + 1) all) c.requires.told at.next in
-    let long : i < length lengths = subst (λ n. i < n) (sym c.requires.count) inside in
+    let st = located_at (said u) i (statement_of x) in
+    let sizes = c.args.layout.now.sizes.items in
+    let asked = c.size-wanted.result in
+    let lengths = code_lengths t all sizes in
+    let wanted = code_length t st (slice_index sizes i) in
+    let told = length_of_size t st (slice_index sizes i) (size_here t all sizes i st (drop (i + 1) all) c.requires.sizes at.next) in
+    let here : slice_index lengths i ≡ wanted = length_there t all sizes i st (drop (i + 1) all) c.requires.sizes at.next in
+    let long : i < length lengths = subst (λ n. i < n) (sym (lengths_count t all sizes c.requires.sizes ∙ c.requires.count)) inside in
     let next : suc i ≡ i + 1 = omega arith in
-    let added : IsAdded c.loop-index.coder c.add.new.self p.section e.section.executable faults (λ e. value_of (tables (said u)) true (i + 1) (offset_of p) e) rvc wanted (statement_of x) =
-    subst (λ w. IsAdded c.loop-index.coder c.add.new.self p.section e.section.executable (faults_in (tables (said w)) (i + 1) (offset_of p) (statement_of x)) (λ e. value_of (tables (said w)) true (i + 1) (offset_of p) e) rvc wanted (statement_of x)) same
+    let first : IsAdded c.loop-index.coder c.add.new.self p.section e.section.executable faults (λ e. value_of t true (i + 1) (offset_of p) e) rvc asked (statement_of x) =
+    subst (λ w. IsAdded c.loop-index.coder c.add.new.self p.section e.section.executable (faults_in (tables (said w)) (i + 1) (offset_of p) (statement_of x)) (λ e. value_of (tables (said w)) true (i + 1) (offset_of p) e) rvc asked (statement_of x)) same
     (c.in_ok-add.ensures i filled c.loop-index.invariant.1) in
+    let added : IsAdded c.loop-index.coder c.add.new.self p.section e.section.executable faults (λ e. value_of t true (i + 1) (offset_of p) e) rvc wanted (statement_of x) =
+    added_as c.loop-index.coder c.add.new.self p.section e.section.executable faults (λ e. value_of t true (i + 1) (offset_of p) e) rvc asked wanted (statement_of x)
+    (λ near. c.size-wanted.ensures ∙ sym (near_same t st rvc st.home.executable (slice_index sizes i) (statement_of x).kind near)) first in
     let within' = subst (λ w. i < length (said w)) (sym same) within in (
       ap (λ b. b.now) c.pass.ensures.unit ∙ same,
       c.pass.ensures.passes i within' c.loop-index.invariant.1,
       code_more u i wanted x p rvc e.section.executable c.loop-index.coder c.add.new.self faults at c.loop-index.invariant.2 known on (code_there u i x p e at there) added,
       added.grows.0 ∙ c.loop-index.invariant.3,
       told_more u i wanted x p rvc e.section.executable c.loop-index.coder c.add.new.self faults at known on (code_there u i x p e at there) added told.told
-          ∙ ap (λ l. l ++ wanted ∷ []) c.loop-index.invariant.4 ∙ sym (take_next lengths i 0 long) ∙ ap (λ n. take n lengths) next,
+          ∙ ap (λ l. l ++ wanted ∷ []) c.loop-index.invariant.4 ∙ ap (λ n. take i lengths ++ n ∷ []) (sym here) ∙ sym (take_next lengths i 0 long) ∙ ap (λ n. take n lengths) next,
     )
 
 pub returns-in_err-add-clause-code : goal.returns-in_err-add-clause-code
@@ -115,19 +133,22 @@ returns-in_err-add-clause-code c =
     let faults = faults_in (tables (said u)) (i + 1) (offset_of p) (statement_of x) in
     let known = faults_there u i x p at in
     let wrong =
-    subst (λ w. Adds c.loop-index.coder c.add.new.self p.section e.section.executable (faults_in (tables (said w)) (i + 1) (offset_of p) (statement_of x)) (λ e. value_of (tables (said w)) true (i + 1) (offset_of p) e) rvc (slice_index c.args.lengths.now i) (statement_of x) (Err c.in_err-add.field-0.0)) same
+    subst (λ w. Adds c.loop-index.coder c.add.new.self p.section e.section.executable (faults_in (tables (said w)) (i + 1) (offset_of p) (statement_of x)) (λ e. value_of (tables (said w)) true (i + 1) (offset_of p) e) rvc c.size-wanted.result (statement_of x) (Err c.in_err-add.field-0.0)) same
     (c.in_err-add.ensures i filled c.loop-index.invariant.1) in
     let found = err_from_is_err_and c.from_residual-in_err-add.result c.from_residual-in_err-add.ensures.1 in
     rw (found.1, found.2)
-    (code_wrong u i (slice_index c.args.lengths.now i) x p rvc e.section.executable c.loop-index.coder c.add.new.self faults c.in_err-add.field-0.0 at c.loop-index.invariant.2 known wrong c.args.lengths.now)
+    (code_wrong u i c.size-wanted.result x p rvc e.section.executable c.loop-index.coder c.add.new.self faults c.in_err-add.field-0.0 at c.loop-index.invariant.2 known wrong (code_lengths (tables (said u)) (located_from 1 1 at_start (said u)) c.args.layout.now.sizes.items))
 
 pub returns-clause-code : goal.returns-clause-code
 returns-clause-code c =
     let u = c.args.unit.now in
     let i = c.loop-index.index in
     let past = subst (λ l. length l ≤ i) c.statements-statements.ensures c.loop-index-test.false in
-    let lengths = c.args.lengths.now in
-    let told : bytes_of_sizes c.loop-index.coder.sizes.items ≡ lengths = c.loop-index.invariant.4 ∙ take_past lengths i (subst (λ n. n ≤ i) (sym c.requires.count) past) in
+    let t = tables (said u) in
+    let all = located_from 1 1 at_start (said u) in
+    let sizes = c.args.layout.now.sizes.items in
+    let lengths = code_lengths t all sizes in
+    let told : bytes_of_sizes c.loop-index.coder.sizes.items ≡ lengths = c.loop-index.invariant.4 ∙ take_past lengths i (subst (λ n. n ≤ i) (sym (lengths_count t all sizes c.requires.sizes ∙ c.requires.count)) past) in
     code_whole (said u) lengths i c.loop-index.coder c.finish.result (stated_none (said u) i (subst (λ n. n ≤ i) (sym (length-map u.statements.items statement_of)) past)) c.loop-index.invariant.2 c.requires.least
     (λ t all so_far. subst (λ l. IsAllCode t all l c.finish.result) told (c.finish.ensures.code t all so_far))
 

@@ -1,7 +1,8 @@
 use Rattle.std.proofs.Common.{rules, ◌++◌, ◌+◌, ◌<◌, ◌∙◌, length, drop, sym, ap, append-nil}
 use Rattle.rv_instruction.specs.declared.encoded.Coded.{Coded}
 use Rattle.rv_instruction.specs.Code.{encoded_bytes, coded_by}
-use Rattle.rv_draft.proofs.JoinedLemmas.{flat_more, left_at}
+use Rattle.rv_draft.proofs.JoinedLemmas.{flat_more}
+use Rattle.rv_layout.proofs.LeftLemmas.{left_at}
 use Rattle.rv_draft.proofs.code.put_all.Goals as goal
 
 pub loop-coded-preserved : goal.loop-coded-preserved

@@ -14,7 +14,7 @@ use Rattle.rv_draft.specs.declared.item.Item.{Item}
 use Rattle.rv_draft.specs.Coded.{IsCodedAt}
 use Rattle.rv_draft.specs.DataParts.{is_filled}
 use Rattle.rv_draft.specs.Draft.{field_of}
-use Rattle.rv_draft.proofs.StandingLemmas.{StandsAt, stands_at, places_count, got_inside, located_at}
+use Rattle.rv_layout.proofs.StandingLemmas.{StandsAt, stands_at, places_count, got_inside, located_at}
 use Rattle.rv_draft.proofs.DataSoFarLemmas.{got_as, puts_at, code_at, code_of, coded_here, bytes_here, data_more, code_more, room_for, item_low}
 use Rattle.rv_draft.proofs.MadeLemmas.{made_left, made_spot}
 use Rattle.rv_draft.proofs.data.put_next.Goals as goal

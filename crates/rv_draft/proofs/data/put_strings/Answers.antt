@@ -1,6 +1,7 @@
 use Rattle.std.proofs.Common.{rules, ◌++◌, ◌+◌, ◌<◌, length, map, drop, if◌then◌else◌, [], ◌∷◌, get_or, Bor, List, ℕ}
 use Rattle.rv_statement.specs.View.{quoted}
-use Rattle.rv_draft.proofs.JoinedLemmas.{flat_more, left_at}
+use Rattle.rv_draft.proofs.JoinedLemmas.{flat_more}
+use Rattle.rv_layout.proofs.LeftLemmas.{left_at}
 use Rattle.rv_draft.proofs.data.put_strings.Goals as goal
 
 pub loop-text-preserved : goal.loop-text-preserved

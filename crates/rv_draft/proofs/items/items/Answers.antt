@@ -10,10 +10,12 @@ use Rattle.rv_source_laws.specs.Located.{is_placed}
 use Rattle.rv_draft.specs.Items.{IsItem, grown}
 use Rattle.rv_draft.specs.declared.item.CodeSize.{CodeSize}
 use Rattle.rv_draft.specs.Sized.{IsSized, bytes_of_sizes}
-use Rattle.rv_draft.specs.Measured.{IsExtentAt, HasRoom}
-use Rattle.rv_draft.proofs.StandingLemmas.{StandsAt, stands_at, places_count, located_at}
-use Rattle.rv_draft.proofs.JoinedLemmas.{left_at}
-use Rattle.rv_draft.proofs.ItemizedLemmas.{item_at, room_at, sized_at, grown_by, low_by, stands_inside, place_inside}
+use Rattle.rv_layout.specs.Code.{IsExtentAt}
+use Rattle.rv_draft.specs.Measured.{HasRoom}
+use Rattle.rv_layout.proofs.StandingLemmas.{StandsAt, stands_at, places_count, located_at}
+use Rattle.rv_layout.proofs.LeftLemmas.{left_at}
+use Rattle.rv_draft.proofs.ItemizedLemmas.{item_at, room_at, sized_at, grown_by, low_by}
+use Rattle.rv_layout.proofs.ExtentsLemmas.{stands_inside, place_inside}
 use Rattle.rv_draft.proofs.RoomyLemmas.{err_always}
 use Rattle.rv_draft.proofs.RoomsLemmas.{rooms_begin, rooms_more, roomy_now}
 use Rattle.rv_draft.proofs.SoFarItemsLemmas.{AreItemsSoFar, items_begin, items_more, items_all}

@@ -11,25 +11,23 @@ use Rattle.rv_unit.specs.Unit.{said}
 use Rattle.rv_instruction.specs.declared.encoded.Coded.{Coded}
 use Rattle.rv_draft.specs.declared.draft.Draft.{Draft}
 use Rattle.rv_draft.specs.DataParts.{AreMade, HaveCode, IsData}
-use Rattle.rv_draft.specs.Measure.{AreLengths}
+use Rattle.rv_draft.specs.Lengths.{code_lengths}
 use Rattle.rv_draft.specs.Draft.{IsRefused}
 use Rattle.rv_draft.specs.Sized.{AreSized, bytes_of_sizes}
 use Rattle.rv_assemble_laws.specs.Refusals.{size_fault_from}
-use Rattle.rv_source_laws.specs.Sizes.{AreLeast}
+use Rattle.rv_draft.proofs.CodeLengthsLemmas.{least_lengths, lengths_of_sizes}
 use Rattle.rv_draft.proofs.DraftedLemmas.{is_draft}
 use Rattle.rv_draft.proofs.MadeLemmas.{made_all}
 use Rattle.rv_draft.proofs.SoFarLemmas.{sizes_count, sizes_short}
-use Rattle.rv_draft.proofs.StandingLemmas.{stated_length}
+use Rattle.rv_layout.proofs.StandingLemmas.{stated_length}
 use Rattle.rv_draft.proofs.WholeLemmas.{one_file}
 use Rattle.rv_draft.proofs.WidthsLemmas.{all_wide}
 use Rattle.rv_draft.proofs.draft.Draft.of.Goals as goal
 
-pub lengths-requires-clause-few : goal.lengths-requires-clause-few
-lengths-requires-clause-few c =
-    let u = c.args.unit.now in
-    let few : length (said u) ≤ 2 ^ 22 = few_of (said u) c.requires.good in
-    let count : length (said u) ≡ length u.statements.items = length-map u.statements.items statement_of in
-    omega (arith, few, count)
+pub code-requires-clause-least : goal.code-requires-clause-least
+code-requires-clause-least c =
+    let sizes = c.in_ok-layout.layout.sizes.items in
+    least_lengths (said c.args.unit.now) sizes c.requires.good c.in_ok-layout.ensures.sizes c.in_ok-layout.ensures.least
 
 pub data-requires-clause-few : goal.data-requires-clause-few
 data-requires-clause-few c =
@@ -65,9 +63,9 @@ data-requires-clause-made c =
     let all = located_from 1 1 at_start ss in
     let code = c.in_ok-code.code in
     let sized = subst (λ l. AreSized t 1 at_start ss c.in_ok-items.items.items l) c.as_slice-sizes.ensures.value c.in_ok-items.ensures.sized in
-    subst (AreMade t all) (sym c.as_slice-2.ensures.value)
-    (made_all ss c.as_slice.result.now code.sections.items code.sizes.items c.in_ok-items.items.items c.in_ok-code.ensures.code sized
-    (subst (AreLengths t all) (sym c.as_slice.ensures.value) c.in_ok-lengths.ensures.told))
+    subst (AreMade t all) (sym c.as_slice.ensures.value)
+    (made_all ss (code_lengths t all c.in_ok-layout.layout.sizes.items) code.sections.items code.sizes.items c.in_ok-items.items.items c.in_ok-code.ensures.code sized
+    (lengths_of_sizes t all c.in_ok-layout.layout.sizes.items c.in_ok-layout.ensures.sizes))
 
 pub returns-clause-draft : goal.returns-clause-draft
 returns-clause-draft c =
@@ -85,8 +83,8 @@ returns-clause-draft c =
       items = c.in_ok-items.ensures.items;
       sized = subst (λ l. AreSized (tables ss) 1 at_start ss c.in_ok-items.items.items l) c.as_slice-sizes.ensures.value c.in_ok-items.ensures.sized;
       low = c.in_ok-items.ensures.low;
-      figures = subst (λ is. (codes : List (List Coded)) → HaveCode ss is codes → IsData ss is codes c.in_ok-code.code.sections.items found.sections.items found.fields.items) c.as_slice-2.ensures.value c.in_ok-filled.ensures.data;
-      least = subst (AreLeast (tables ss) (located_from 1 1 at_start ss)) (sym c.as_slice.ensures.value) c.in_ok-lengths.ensures.least;
+      figures = subst (λ is. (codes : List (List Coded)) → HaveCode ss is codes → IsData ss is codes c.in_ok-code.code.sections.items found.sections.items found.fields.items) c.as_slice.ensures.value c.in_ok-filled.ensures.data;
+      least = least_lengths ss c.in_ok-layout.layout.sizes.items c.requires.good c.in_ok-layout.ensures.sizes c.in_ok-layout.ensures.least;
       counted = c.in_ok-filled.ensures.count ∙ c.in_ok-code.ensures.count ∙ sections;
       ended = c.in_ok-items.ensures.sections ∙ sections;
       few = omega (arith, few);

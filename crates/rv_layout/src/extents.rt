@@ -1,0 +1,15 @@
+//! The section of a statement.
+
+ghost use Rattle.std.specs.Prelude.{◌<◌, length};
+ghost use Rattle.rv_layout.specs.Code.{IsExtentAt};
+
+use rv_unit::Extent;
+
+/// The section at a place.
+#[tactic(auto, using(crate::proofs::ExtentsLemmas::got_map, crate::proofs::ExtentsLemmas::read_map))]
+pub fn extent_at<'a>(extents: &[Extent<'a>], section: u32) -> Extent<'a>
+    requires { section < length extents.now }
+    ensures { IsExtentAt extents.now section result }
+{
+    extents[section as usize]
+}

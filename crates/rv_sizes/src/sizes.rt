@@ -1,0 +1,67 @@
+//! The sizes of all statements.
+
+ghost use Rattle.std.specs.Prelude.{◌≡◌, ◌+◌, ◌*◌, ◌≤◌, ◌<◌, length, slice_index, IfOk};
+ghost use Rattle.rv_layout_laws.specs.Branches.{IsLeastGood, branches, smallest_sizes};
+ghost use Rattle.rv_sizes.specs.Passes.{IsInput};
+
+use crate::passes::settle;
+use crate::reach::smallest_size;
+use rv_layout_laws::Item;
+use std::alloc::{AllocError, Global};
+
+/// A size for each statement, and how long it took to find them.
+#[derive(Debug, Drop)]
+pub struct Family {
+    /// The bytes of each statement.
+    pub sizes: Vec<u32>,
+    /// How many passes over the statements there were, the last of which widened nothing.
+    pub rounds: usize,
+}
+
+/// The smallest size of each statement.
+fn smallest(alloc: Global, items: &[Item]) -> Result<Vec<u32>, AllocError>
+    ensures { IfOk result (λ sizes. sizes.items ≡ smallest_sizes items.now) }
+{
+    let mut sizes = Vec::with_capacity(alloc, items.len())?;
+    for item in items {
+        sizes.push(smallest_size(item.forms))?;
+    }
+    Ok(sizes)
+}
+
+impl Family {
+    /// The least sizes of statements with which each form below a statement's largest reaches.
+    ///
+    /// `items` are the statements of a source, in the order of the source, and `sections` is the number of their sections;
+    /// targets are indices of `items`.
+    ///
+    /// # Errors
+    ///
+    /// `AllocError` where there is no memory for some 12 bytes a statement.
+    pub fn least(alloc: Global, items: &[Item], sections: usize) -> Result<Family, AllocError>
+        requires { IsInput items.now sections }
+        ensures least { IfOk result (λ found. IsLeastGood items.now found.sizes.items) }
+        ensures rounds { IfOk result (λ found. found.rounds ≤ 2 * branches items.now + 1) }
+    {
+        let mut sizes = smallest(alloc, items)?;
+        let mut stands = vec![in alloc; 0; items.len()]?;
+        let mut ends = vec![in alloc; 0; sections]?;
+        let rounds = settle(items, &mut sizes, &mut stands, &mut ends);
+        Ok(Family { sizes, rounds })
+    }
+
+    /// The bytes of the statement of an index, from 0.
+    pub fn size(&self, index: usize) -> u32
+        requires { index < length (self.now).sizes.items }
+        ensures { result ≡ slice_index (self.now).sizes.items index }
+    {
+        self.sizes[index]
+    }
+
+    /// How many passes over the statements there were.
+    pub fn rounds(&self) -> usize
+        ensures { result ≡ (self.now).rounds }
+    {
+        self.rounds
+    }
+}
