@@ -1,0 +1,34 @@
+//! The sizes of a source's statements, as the listing of GNU as (Binutils 2.40) has them.
+
+use rv_layout::Layout;
+use rv_parse::parse;
+use rv_unit::Unit;
+use std::test::Fail;
+
+/// A branch out of reach and one in reach, paddings of code and of data, and data.
+const SOURCE: &[u8] = b"bne a0, a1, far
+bnez a0, near
+near: nop
+.balign 4096
+.balign 4096
+far: ret
+.data
+.byte 1, 2
+.balign 8
+.asciz \"ab\"
+.zero 5
+";
+
+#[test]
+fn sizes_of_statements(rt: HostRuntime) -> Result<(), Fail> {
+    let alloc = rt.alloc();
+    let unit = Unit::build(alloc, parse(alloc, SOURCE)?)?;
+    let layout = Layout::of(alloc, &unit)?;
+    let mut sizes = Vec::new(alloc);
+    for index in 0..unit.statements().len() {
+        sizes.push(layout.size(index))?;
+    }
+    assert!(rt; sizes.as_slice() == [8, 2, 0, 2, 4094, 4094, 0, 2, 0, 2, 6, 3, 5].as_slice());
+    assert!(rt; layout.rounds() <= 5);
+    Ok(())
+}
