@@ -1,6 +1,6 @@
 -- The walk along the sections of text of objects.
 
-use Rattle.std.proofs.Common.{◌≡◌, ℕ, suc, ◌+◌, ◌≤◌, inl, inr, true, false, cond, List, [], ◌∷◌, ◌++◌, length, drop, refl, arith, Bool}
+use Rattle.std.proofs.Common.{◌≡◌, ℕ, suc, ◌+◌, ◌≤◌, true, false, cond, List, [], ◌∷◌, ◌++◌, length, drop, refl, arith, Bool}
 use Rattle.std.specs.Prelude.{⊤}
 use Rattle.rv_layout_laws.specs.Calls.{InOrder}
 use Rattle.rv_object.specs.Object.{Section, Object, size_of}
@@ -8,8 +8,7 @@ use Rattle.rv_object_laws.specs.Inputs.{InputSection, goes_to_text, inputs, inpu
 use Rattle.rv_object_laws.specs.CallSites.{changes, sites_from, sites_of, start_padding}
 use Rattle.rv_object_laws.specs.Shortened.{sizes_by}
 use Rattle.rv_shorten.proofs.ChangesLemmas.{IsSound}
-use Rattle.rv_shorten.proofs.LineLemmas.{Stands, Later, AreSound, AllSound}
-use Rattle.rv_plan_laws.proofs.SectionsLemmas.{IsHere, here}
+use Rattle.rv_shorten.proofs.LineLemmas.{IsHere, Stands, AreSound, AllSound, here, next_index, next_file}
 
 pub record IsText (os : List Object) (kept : List ℕ) (at : ℕ) (i : InputSection) (ks : List ℕ) (is : List InputSection) : Type 0 where
   pub sound : IsSound i.section
@@ -22,30 +21,6 @@ abbrev pub AllHere : List Object → List ℕ → ℕ → List InputSection → 
 AllHere os kept at [] ks = ⊤
 AllHere os kept at (i ∷ is) [] = ⊥
 AllHere os kept at (i ∷ is) (k ∷ ks) = IsText os kept at i ks is × AllHere os kept (at + start_padding i.section + size_of i.section.contents) is (drop (length (changes os i)) ks)
-
-next_index : (os : List Object) (kept : List ℕ) (f x at : ℕ) (is : List InputSection) (ks : List ℕ) → Stands os kept f x at is ks → Stands os kept f (suc x) at is ks
-next_index os kept f x at is ks stands = record {
-  base_is = λ g y later. stands.base_is g y (before g y later);
-  size_is = stands.size_is;
-  many = stands.many;
-  order = stands.order;
-}
-  where
-    before : (g y : ℕ) → Later f (suc x) g y → Later f x g y
-    before g y (inl file) = inl file
-    before g y (inr both) = let le = both.1 in inr (both.0, omega (arith, le))
-
-next_file : (os : List Object) (kept : List ℕ) (f x at : ℕ) (is : List InputSection) (ks : List ℕ) → Stands os kept f x at is ks → Stands os kept (suc f) 0 at is ks
-next_file os kept f x at is ks stands = record {
-  base_is = λ g y later. stands.base_is g y (before g y later);
-  size_is = stands.size_is;
-  many = stands.many;
-  order = stands.order;
-}
-  where
-    before : (g y : ℕ) → Later (suc f) 0 g y → Later f x g y
-    before g y (inl file) = inl (omega (arith, file))
-    before g y (inr both) = let same = both.0 in inl (omega (arith, same))
 
 no_sites : (n : ℕ) → 1 ≤ 0 → ⊥
 no_sites n le = absurd (omega (arith, le))

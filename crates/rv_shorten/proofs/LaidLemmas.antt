@@ -1,6 +1,6 @@
 -- The walk along the sites of all objects, one after another, gives the objects of the definition.
 
-use Rattle.std.proofs.Common.{◌≡◌, ℕ, zero, suc, ◌+◌, inl, inr, Bool, true, false, cond, List, [], ◌∷◌, ◌++◌, length, map, take, drop, refl, sym, ap, subst, ◌∙◌, arith}
+use Rattle.std.proofs.Common.{◌≡◌, ℕ, zero, suc, ◌+◌, Bool, true, false, cond, List, [], ◌∷◌, ◌++◌, length, map, take, drop, refl, sym, ap, subst, ◌∙◌, arith}
 use Rattle.std.specs.List.{slice_get}
 use Rattle.std.proofs.lemmas.List.{drop-drop}
 use Rattle.rv_layout_laws.specs.declared.site.Site.{Site}
@@ -16,7 +16,7 @@ use Rattle.rv_shorten.specs.Cutting.{AreCuts, AllCut, cut_section, cut_sections,
 use Rattle.rv_shorten.specs.Walk.{own_moves, passed, passed_at, object_moves, passed_all, walked, AreWalked}
 use Rattle.rv_shorten.proofs.ShortLemmas.{nothing_cut}
 use Rattle.rv_shorten.proofs.SectionsLemmas.{cuts_elsewhere, same_text}
-use Rattle.rv_shorten.proofs.LineLemmas.{AreSound, AllSound, Later, Stands, Step, text_step}
+use Rattle.rv_shorten.proofs.LineLemmas.{AreSound, AllSound, Stands, Step, next_index, next_file, text_step}
 
 -- ---- sections of other regions
 
@@ -30,20 +30,11 @@ other_step os kept f x at s is ks other stands = record {
   allowed = subst (AreCuts s) (sym (cuts_elsewhere (sizes_by os kept f x) s other)) (none_cut s);
   end = at;
   rest = ap (λ n. drop n (sites_from os at is)) none;
-  stands = subst (λ (n : ℕ). Stands os kept f (suc x) at is (drop n ks)) (sym none) (record {
-    base_is = λ g y later. stands.base_is g y (before g y later);
-    size_is = stands.size_is;
-    many = stands.many;
-    order = stands.order;
-  });
+  stands = subst (λ (n : ℕ). Stands os kept f (suc x) at is (drop n ks)) (sym none) (next_index os kept f x at is ks stands);
 }
   where
     none : passed s (sites_from os at is) ≡ 0
     none = ap (λ b. cond b (passed_at (size_of s.contents) (sites_from os at is)) 0) other
-
-    before : (g y : ℕ) → Later f (suc x) g y → Later f x g y
-    before g y (inl file) = inl file
-    before g y (inr both) = let le = both.1 in inr (both.0, omega (arith, le))
 
 -- ---- the sections of an object
 
@@ -57,18 +48,6 @@ pub record Steps (os : List Object) (kept : List ℕ) (f x : ℕ) (ss : List Sec
   pub end : ℕ
   pub rest : drop (passed_all ss sites) sites ≡ sites_from os end is
   pub stands : Stands os kept (suc f) 0 end is (drop (passed_all ss sites) ks)
-
-next_file : (os : List Object) (kept : List ℕ) (f x at : ℕ) (is : List InputSection) (ks : List ℕ) → Stands os kept f x at is ks → Stands os kept (suc f) 0 at is ks
-next_file os kept f x at is ks stands = record {
-  base_is = λ g y later. stands.base_is g y (before g y later);
-  size_is = stands.size_is;
-  many = stands.many;
-  order = stands.order;
-}
-  where
-    before : (g y : ℕ) → Later (suc f) 0 g y → Later f x g y
-    before g y (inl file) = inl (omega (arith, file))
-    before g y (inr both) = let same = both.0 in inl (omega (arith, same))
 
 -- one section, and then the others
 joined : (os : List Object) (kept : List ℕ) (f x : ℕ) (s : Section) (ss : List Section) (sites : List Site) (ks : List ℕ) (is tail : List InputSection) (one : Step os kept f x s sites ks is)
