@@ -1,7 +1,8 @@
 -- The objects of texts, one after another, and the statements of all of them.
 
-use Rattle.std.proofs.Common.{◌≡◌, ℕ, Bool, zero, suc, ◌+◌, ◌<◌, List, [], ◌∷◌, ◌++◌, length, take, drop, map, get_or, sym, ap, subst, ◌∙◌, refl, inr, arith}
+use Rattle.std.proofs.Common.{◌≡◌, ℕ, Bool, zero, suc, ◌+◌, ◌<◌, List, [], ◌∷◌, ◌++◌, length, take, drop, map, get_or, sym, ap, subst, ◌∙◌, refl, inl, inr, arith}
 use Rattle.std.specs.Prelude.{Result, Ok, Err, IfErr}
+use Rattle.std.proofs.lemmas.Bool.{or_cases}
 use Rattle.std.specs.Result.{IsErrAnd}
 use Rattle.std.specs.Borrow.{Bor}
 use Rattle.rv_statement.specs.View.{now_of}
@@ -9,7 +10,10 @@ use Rattle.rv_chain.specs.declared.fault.Fault.{Fault}
 use Rattle.rv_chain.specs.declared.fault.Fault.TheVariants as cases
 use Rattle.rv_lexer.specs.declared.fault.SourceFault.{SourceFault}
 use Rattle.rv_statement.specs.Statement.{Statement}
+use Rattle.rv_object.specs.declared.object.Object.{Object as DeclaredObject}
 use Rattle.rv_object.specs.Object.{Object}
+use Rattle.rv_object.specs.View.{object_of}
+use Rattle.rv_object_laws.specs.Shortened.{Relaxes}
 use Rattle.rv_chain_laws.specs.Headline.{AllRead}
 use Rattle.rv_sources_link_laws.specs.Joins.{AreObjectsOf}
 use Rattle.rv_assemble.specs.FirstFault.{IsFirstFault}
@@ -17,6 +21,8 @@ use Rattle.rv_chain.specs.Objects.{AreEach, AreObjectsFrom}
 use Rattle.rv_link.specs.declared.fault.LinkFault.{LinkFault}
 use Rattle.rv_link.specs.declared.fault.LinkFault.TheVariants as faults
 use Rattle.rv_chain.specs.Fault.{of_link}
+use Rattle.rv_link.specs.Refusals.{IsTextStart}
+use Rattle.rv_reach_laws.specs.Reach.{is_short_call, is_short_branch, ShortCallsReach, ShortBranchesReach, ShortFormsReach}
 use Rattle.rv_chain.specs.Refusals.{IsRefusedAt, IsFirstRefused, IsRefusedIn, AreUnlinked, IsRefusedFor}
 
 pub one_more : (Is : List ℕ → Object → Type 0) (all : List (List ℕ)) (os : List Object) (bytes : List ℕ) (o : Object) → AreEach Is all os → Is bytes o → AreEach Is (all ++ bytes ∷ []) (os ++ o ∷ [])
@@ -77,6 +83,15 @@ refused_there texts i os fault number h good is refused = record {
   good = good;
   refused = refused;
 }
+
+-- no short form is out of reach in what is left of the objects of sources
+pub short_forms_reach : ShortCallsReach → ShortBranchesReach → (sources : List (List Statement)) (objects : List DeclaredObject) (left : List Object) (start : ℕ) (relax : Bool)
+    → AreObjectsOf sources (map object_of objects) → Relaxes relax (map object_of objects) left → IsTextStart start → ShortFormsReach (map object_of objects) left start
+short_forms_reach calls branches sources objects left start relax of relaxed at p placed section place i j before now ii jj was is short =
+    elim (or_cases (is_short_call before.kind now.kind) (is_short_branch before.kind) short) [
+      | inl call ↦ calls objects left start relax p relaxed at placed section place i j before now ii jj was is call
+      | inr branch ↦ branches sources objects left start relax p of relaxed at placed section place i j before now ii jj was is branch
+    ]
 
 -- a refused link of assembled sources
 pub link_refused : (texts : List (List ℕ)) (start : ℕ) (relax : Bool) (fault : LinkFault) → AreUnlinked texts start relax fault → IsRefusedFor texts start relax (of_link fault)

@@ -1,6 +1,6 @@
 -- The objects of sources, and why sources are refused.
 
-use Rattle.std.proofs.Common.{◌≡◌, ℕ, ◌+◌, Bool, ◌≤◌, ◌⊎◌, inl, inr, true, ◌&&◌, List, length, refl, sym, ap, subst, ◌∙◌, arith, None, Some}
+use Rattle.std.proofs.Common.{◌≡◌, ℕ, ◌+◌, Bool, ◌≤◌, ◌⊎◌, inl, inr, true, ◌&&◌, List, length, map, refl, sym, ap, subst, ◌∙◌, arith, None, Some}
 use Rattle.std.specs.Prelude.{if◌then◌else◌, ◌==◌}
 use Rattle.std.specs.List.{AllByRecursion}
 use Rattle.rv_lexer.specs.Fault.{number_of}
@@ -15,6 +15,7 @@ use Rattle.rv_unit_laws.specs.Sections.{most_sections}
 use Rattle.rv_unit_laws.specs.Tables.{longest_section}
 use Rattle.rv_unit_laws.specs.Faults.{Fault as StatementsFault}
 use Rattle.rv_object.specs.Object.{Object, size_of}
+use Rattle.rv_object.specs.View.{object_of}
 use Rattle.rv_assemble_laws.specs.Refusals.{statements_fault, IsTooLong, IsStatementsFault}
 use Rattle.rv_assemble_laws.specs.ShownNames.{HasNames}
 use Rattle.rv_assemble_laws.specs.IsObjectOf.{IsObjectOf}
@@ -155,14 +156,14 @@ module _ (laws : SourceLaws) where
   pub refusal_from : (texts : List (List ℕ)) (os : List Object) (start : ℕ) (relax : Bool) (fault : LinkFault) → AreObjectsFrom texts os
       → ArePast (length texts) start fault ⊎ AreUnlinked texts start relax fault → IsRefusal os start relax fault
   refusal_from texts os start relax fault from (inl past) = inl (subst (λ n. ArePast n start fault) (count_each IsObjectFrom texts os from) past)
-  refusal_from texts os start relax fault from (inr (ps, were, un)) =
-      inr (subst (λ l. HasNoProgram l start relax fault) (same_each IsObjectFrom one_from texts ps os were from) un)
+  refusal_from texts os start relax fault from (inr un) =
+      inr (subst (λ l. HasNoProgram l start relax fault) (same_each IsObjectFrom one_from texts (map object_of un.objects) os un.are from) un.unlinked)
 
   -- a source is refused before its objects are linked
   source_first : (texts : List (List ℕ)) (start : ℕ) (relax : Bool) (number : ℕ) (fault : SourceFault) (other : LinkFault) → IsNamed (Source number fault) → AreWithin (length texts) start → IsFirstRefused texts number fault
       → ArePast (length texts) start other ⊎ AreUnlinked texts start relax other → ⊥
   source_first texts start relax number fault other named within first (inl past) = within_past (length texts) start other within past
-  source_first texts start relax number fault other named within first (inr (os, from, un)) = no_source texts os number fault from named first
+  source_first texts start relax number fault other named within first (inr un) = no_source texts (map object_of un.objects) number fault un.are named first
 
   -- ---- the laws
 
@@ -177,10 +178,12 @@ module _ (laws : SourceLaws) where
     both_unlinked : (texts : List (List ℕ)) (start : ℕ) (relax : Bool) (fault other : LinkFault) → IsNamed (Link fault) → IsNamed (Link other)
         → ArePast (length texts) start fault ⊎ AreUnlinked texts start relax fault → ArePast (length texts) start other ⊎ AreUnlinked texts start relax other → IsSameFault fault other
     both_unlinked texts start relax fault other named called (inl past) (inl again) = past_once (length texts) start fault other past again
-    both_unlinked texts start relax fault other named called (inl past) (inr (os, from, un)) =
-        one_reason linking os start relax fault other (are_sound texts os from) (are_small texts os from) named called (refusal_from texts os start relax fault from (inl past)) (inr un)
-    both_unlinked texts start relax fault other named called (inr (os, from, un)) again =
-        one_reason linking os start relax fault other (are_sound texts os from) (are_small texts os from) named called (inr un) (refusal_from texts os start relax other from again)
+    both_unlinked texts start relax fault other named called (inl past) (inr un) =
+        let os = map object_of un.objects in
+        one_reason linking os start relax fault other (are_sound texts os un.are) (are_small texts os un.are) named called (refusal_from texts os start relax fault un.are (inl past)) (inr un.unlinked)
+    both_unlinked texts start relax fault other named called (inr un) again =
+        let os = map object_of un.objects in
+        one_reason linking os start relax fault other (are_sound texts os un.are) (are_small texts os un.are) named called (inr un.unlinked) (refusal_from texts os start relax other un.are again)
 
     for_one : SourcesForOne
     for_one texts start relax Memory other h k = inl refl

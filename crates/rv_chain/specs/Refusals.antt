@@ -1,12 +1,15 @@
 -- Why a build is refused, by the texts of its sources and the address at which the text starts:
 -- memory runs out, or a fault names its cause.
 
-use Rattle.std.specs.Prelude.{◌≡◌, ℕ, ◌+◌, Bool, ⊤, ◌⊎◌, List, ◌∷◌, ◌++◌, length}
+use Rattle.std.specs.Prelude.{◌≡◌, ℕ, ◌+◌, Bool, ⊤, ◌⊎◌, List, ◌∷◌, ◌++◌, length, map}
 use Rattle.rv_lexer.specs.declared.fault.SourceFault.{SourceFault}
+use Rattle.rv_object.specs.declared.object.Object.{Object as DeclaredObject}
 use Rattle.rv_object.specs.Object.{Object}
+use Rattle.rv_object.specs.View.{object_of}
 use Rattle.rv_assemble.specs.FirstFault.{IsFirstFault}
 use Rattle.rv_link.specs.declared.fault.LinkFault.{LinkFault}
 use Rattle.rv_link.specs.Refusals.{AreWithin, ArePast, HasNoProgram}
+use Rattle.rv_reach_laws.specs.Reach.{ShortFormsReach}
 use Rattle.rv_chain.specs.declared.fault.Fault.{Fault}
 use Rattle.rv_chain.specs.declared.fault.Fault.TheVariants.{Source, File, Link, Memory}
 use Rattle.rv_chain.specs.Fault.{IsNamed}
@@ -42,10 +45,14 @@ IsRefusedIn texts Memory = ⊤
 abbrev pub AreAssembled : List (List ℕ) → Type 0
 AreAssembled texts = (os : List Object) × AreObjectsFrom texts os
 
--- and they have no program
-abbrev pub AreUnlinked : List (List ℕ) → ℕ → Bool → LinkFault → Type 0
-AreUnlinked texts start relax fault =
-    (os : List Object) × AreObjectsFrom texts os × HasNoProgram os start relax fault
+-- and they have no program; a field that does not take its value is none of a form that was chosen
+-- because it reaches
+pub record AreUnlinked (texts : List (List ℕ)) (start : ℕ) (relax : Bool)
+    (fault : LinkFault) : Type 0 where
+  pub objects : List DeclaredObject
+  pub are : AreObjectsFrom texts (map object_of objects)
+  pub unlinked : HasNoProgram (map object_of objects) start relax fault
+  pub reached : ShortFormsReach (map object_of objects) unlinked.left start
 
 -- files and a start of the text that can be linked, and sources without a fault
 abbrev pub AreGood : List (List ℕ) → ℕ → Type 0

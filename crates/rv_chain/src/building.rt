@@ -18,6 +18,7 @@ use rv_assemble::assemble;
 use rv_image::{Linked, write_exec};
 use rv_link::{LinkOptions, link, within_limits};
 use rv_object::Object;
+use rv_reach_laws::{short_branches_reach, short_calls_reach};
 use rv_sources_link_laws::{linked_objects_are_flagged, objects_of_sources_link};
 use rv_text::SourceFault;
 use std::alloc::Global;
@@ -41,7 +42,8 @@ pub fn build(alloc: Global, sources: &[&[u8]], options: LinkOptions) -> Result<B
         (λ built. AreBuilt (map now_of sources.now)
         options.text_start options.relax built.exe.items built.map.items) }
     ensures good { IfOk result (λ _. AreGood (map now_of sources.now) options.text_start) }
-    // The first fault: too many files, the text's start, then the sources one by one, then the link.
+    // The first fault: too many files, the text's start, then the sources one by one, then the link, where no form that
+    // was chosen because it reaches is out of reach.
     ensures refuses { IfErr result
         (IsRefusedFor (map now_of sources.now) options.text_start options.relax) }
 {
@@ -81,6 +83,9 @@ fn linked(alloc: Global, sources: &[&[u8]], options: LinkOptions) -> Result<Link
     // what they are linked to is the program of the sources
     objects_of_sources_link();
     linked_objects_are_flagged();
+    // and a refusal is never for a form that was chosen too short
+    short_calls_reach();
+    short_branches_reach();
     let linked = link(alloc, &objects, options)?;
     Ok(linked)
 }

@@ -3,7 +3,7 @@
 -- largest (RISC-V ELF psABI, "Linker Relaxation", function call relaxation, and "Relocations"; ISA,
 -- "Conditional Branches", "Unconditional Jumps").
 
-use Rattle.std.specs.Prelude.{◌≡◌, ℕ, Bool, true, false, not, ◌&&◌, List, map, Some}
+use Rattle.std.specs.Prelude.{◌≡◌, ℕ, Bool, true, false, not, ◌&&◌, ◌||◌, List, map, Some}
 use Rattle.std.specs.List.{slice_get}
 use Rattle.rv_isa.specs.declared.kind.Kind.{Kind}
 use Rattle.rv_isa.specs.declared.kind.Kind.TheVariants as kinds
@@ -62,3 +62,11 @@ ShortBranchesReach =
     → IsTextStart start → IsPlacement left start p
     → ForEachLeft (map object_of objects) left
     (λ before now i. is_short_branch before.kind ≡ true → IsTaken left p i now)
+
+-- both, where what relaxation leaves of objects is placed: a build has no fault at such a field
+abbrev pub ShortFormsReach : List Object → List Object → ℕ → Type 0
+ShortFormsReach os left start =
+    (p : Placement) → IsPlacement left start p
+    → ForEachLeft os left
+    (λ before now i. (is_short_call before.kind now.kind || is_short_branch before.kind) ≡ true
+    → IsTaken left p i now)

@@ -5,8 +5,8 @@ use Rattle.rv_image.specs.Linked.{linked_of}
 use Rattle.rv_object.specs.View.{object_of}
 use Rattle.rv_object_laws.specs.Shortened.{IsProgramOf}
 use Rattle.rv_link.specs.Refusals.{AreWithin, HasNoProgram}
-use Rattle.rv_chain.specs.Refusals.{IsRefusedFor}
-use Rattle.rv_chain.proofs.GatheredLemmas.{err_given, gathered, link_refused}
+use Rattle.rv_chain.specs.Refusals.{AreUnlinked, IsRefusedFor}
+use Rattle.rv_chain.proofs.GatheredLemmas.{err_given, gathered, link_refused, short_forms_reach}
 use Rattle.rv_chain.proofs.building.linked.Goals as goal
 
 pub returns-in_err-linked-clause-refuses : goal.returns-in_err-linked-clause-refuses
@@ -16,8 +16,15 @@ returns-in_err-linked-clause-refuses c =
     let relax = c.args.options.relax in
     let os = map object_of c.in_ok-objects.objects.items in
     let refused : HasNoProgram os start relax c.in_err-linked.field-0.0 = subst (λ l. HasNoProgram (map object_of l) start relax c.in_err-linked.field-0.0) c.deref.ensures.value c.in_err-linked.ensures.refuses in
+    let g = gathered texts os c.in_ok-objects.ensures.objects in
+    let unlinked : AreUnlinked texts start relax c.in_err-linked.field-0.0 = record {
+      objects = c.in_ok-objects.objects.items;
+      are = c.in_ok-objects.ensures.objects;
+      unlinked = refused;
+      reached = short_forms_reach c.short_calls_reach.ensures c.short_branches_reach.ensures g.0 c.in_ok-objects.objects.items refused.left start relax g.2 refused.relaxed c.in_ok-within_limits.ensures.within.1;
+    } in
     err_given c.from_residual-in_err-linked.result (IsRefusedFor texts start relax) _ c.from_residual-in_err-linked.ensures.1
-    (λ f is. subst (IsRefusedFor texts start relax) (sym is) (link_refused texts start relax c.in_err-linked.field-0.0 (os, c.in_ok-objects.ensures.objects, refused)))
+    (λ f is. subst (IsRefusedFor texts start relax) (sym is) (link_refused texts start relax c.in_err-linked.field-0.0 unlinked))
 
 pub returns-clause-program : goal.returns-clause-program
 returns-clause-program c =
