@@ -9,7 +9,7 @@ use Rattle.rv_statement.specs.Statement.{StatementKind, Label, Numbered, Instruc
 use Rattle.rv_statement.specs.declared.directive.Choice.{Choice}
 use Rattle.rv_unit_laws.specs.Contributions.{As_power, As_bytes, Contribution, Nothing, Bytes, Zero_bytes, Alignment, contribution}
 use Rattle.rv_unit_laws.specs.Sections.{Section as SourceSection, place_of_name, entered_by}
-use Rattle.rv_unit_laws.specs.Tables.{Tables, Extent, Assignment, at_start, after, after_all, tables, opened_of, here, value, contribution_alignment, changed_at, extended, entered_at, with_section, with_data, with_contribution, with_chosen, with_assignment, with_label, assigned_by, chosen, or_none, contributed, is_defined, may_set}
+use Rattle.rv_unit_laws.specs.Tables.{Tables, Extent, empty_extent, Assignment, at_start, after, after_all, tables, opened_of, here, value, contribution_alignment, changed_at, extended, entered_at, with_section, with_data, with_contribution, with_chosen, with_assignment, with_label, assigned_by, chosen, or_none, contributed, is_defined, may_set}
 use Rattle.rv_object.specs.Object.{Section, Symbol, Object, size_of}
 use Rattle.rv_object_laws.specs.CallSites.{start_padding, length_of, is_short_text}
 use Rattle.rv_object_laws.specs.Inputs.{InputSection, goes_to_text, inputs_from, inputs_of, inputs, begins_at}
@@ -56,17 +56,21 @@ appended : (es : List Extent) (e : Extent) → AllByRecursion IsSmall es → IsS
 appended [] e h k = (k, tt)
 appended (x ∷ es) e (h, hs) k = (h, appended es e hs k)
 
+least_small : (b : Bool) → (if b then 2 else 1) ≤ 4096
+least_small true = omega arith
+least_small false = omega arith
+
 module _ (t : Tables) (h : AreSmall t.extents) where
   entered_small : (s : SourceSection) (place : Option ℕ) → AreSmall (entered_at t s place).extents
   entered_small s (Some index) = h
   entered_small s None = go (nat_lt (length t.extents) 32000) refl
     where
       go : (b : Bool) → nat_lt (length t.extents) 32000 ≡ b
-          → AreSmall (if b then record t { extents = t.extents ++ record { section = s; bytes = 0; alignment = 1 } ∷ []; current = length t.extents } else t).extents
+          → AreSmall (if b then record t { extents = t.extents ++ empty_extent s ∷ []; current = length t.extents } else t).extents
       go true e =
-          let long : length (t.extents ++ record { section = s; bytes = 0; alignment = 1 } ∷ []) ≡ length t.extents + 1 = length-append t.extents (record { section = s; bytes = 0; alignment = 1 } ∷ []) in
+          let long : length (t.extents ++ empty_extent s ∷ []) ≡ length t.extents + 1 = length-append t.extents (empty_extent s ∷ []) in
           let low = ltb-true (length t.extents) 32000 e in
-          (omega (arith, long, low), appended t.extents (record { section = s; bytes = 0; alignment = 1 }) h.1 (omega arith))
+          (omega (arith, long, low), appended t.extents (empty_extent s) h.1 (least_small s.executable))
       go false e = h
 
   section_small : (s : Option SourceSection) → AreSmall (with_section t s).extents
