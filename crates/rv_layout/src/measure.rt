@@ -3,7 +3,7 @@
 //!
 //! Source: GNU as, "RISC-V-Directives"; RISC-V Unprivileged ISA 20191213, chapters 2.5 and 16.
 
-ghost use Rattle.std.specs.Prelude.{◌≡◌, ◌<◌, ◌^◌, ◌+◌, ℕ, true, None, length, IfOk, IfSome};
+ghost use Rattle.std.specs.Prelude.{◌≡◌, ◌+◌, ℕ, true, None, IfOk, IfSome};
 ghost use Rattle.rv_statement.specs.View.{plain_of, statement_kind};
 ghost use Rattle.rv_unit.specs.Unit.{said, IsFilled};
 ghost use Rattle.rv_instruction.specs.Code.{near_forms_of};
@@ -202,7 +202,6 @@ fn seen<'a>(
     executable: bool,
     compressed: bool,
 ) -> Item
-    requires { length places.now < 2 ^ 32 }
     ensures { AtNext scope.now (λ index. IsSeenAs scope.now index places.now place executable
         compressed (statement_kind (statement.now).kind) result) }
 {

@@ -1,6 +1,6 @@
 use Rattle.rv_layout.proofs.SeenLemmas.{MeasuredTo, SeenThere, measured_begin, measured_more, measured_whole}
-use Rattle.std.proofs.Common.{rules, [], arith}
-use Rattle.std.proofs.Common.{◌≡◌, ◌+◌, ◌<◌, ◌≤◌, ◌^◌, length, get_or, sym, ap, subst, ◌∙◌}
+use Rattle.std.proofs.Common.{rules, []}
+use Rattle.std.proofs.Common.{◌≡◌, ◌+◌, ◌<◌, ◌≤◌, length, get_or, sym, ap, subst, ◌∙◌}
 use Rattle.std.specs.Prelude.{slice_index_or}
 use Rattle.std.proofs.lemmas.List.{length-map}
 use Rattle.rv_statement.specs.View.{statement_of}
@@ -17,12 +17,6 @@ pub loop-index-init : goal.loop-index-init
 loop-index-init c =
     let none : c.in_ok-items.items.items ≡ [] = search rules in
     (c.new-scope.ensures.unit, c.new-scope.ensures.start, subst (λ l. MeasuredTo (said c.args.unit.now) 0 l) (sym none) (measured_begin (said c.args.unit.now)))
-
-pub seen-requires : goal.seen-requires
-seen-requires c =
-    let count : length c.places-places.result.now ≡ length c.args.unit.now.statements.items = ap length c.places-places.ensures ∙ places_count c.args.unit.now c.requires in
-    let few : length c.args.unit.now.statements.items ≤ 2 ^ 22 = c.args.unit.now.few in
-    omega (arith, count, few)
 
 pub bounds-places-index : goal.bounds-places-index
 bounds-places-index c =
