@@ -1,6 +1,6 @@
 -- What relaxation leaves of objects: as many, with the same names.
 
-use Rattle.std.proofs.Common.{◌≡◌, ℕ, suc, Bool, true, false, ◌&&◌, cond, List, [], ◌∷◌, ◌++◌, length, map, filter, refl, ap, sym, ◌∙◌, subst, arith}
+use Rattle.std.proofs.Common.{◌≡◌, ℕ, suc, Bool, true, false, ◌&&◌, List, [], ◌∷◌, length, map, refl, ap, sym, ◌∙◌, subst, arith}
 use Rattle.std.proofs.lemmas.List.{length-map}
 use Rattle.rv_layout_laws.proofs.ShorteningLemmas.{greatest_closed_exists}
 use Rattle.rv_object.specs.declared.object.Object.{Object as DeclaredObject}
@@ -8,11 +8,13 @@ use Rattle.rv_object.specs.declared.symbol.Definition.{Definition}
 use Rattle.rv_object.specs.declared.symbol.Definition.TheVariants as definitions
 use Rattle.rv_object.specs.Object.{Symbol, Object}
 use Rattle.rv_object.specs.View.{object_of}
-use Rattle.rv_object_laws.specs.Names.{is_defined, is_exported, is_global, exported, global_names}
+use Rattle.rv_object_laws.specs.Names.{is_defined, is_global}
 use Rattle.rv_object_laws.specs.CallSites.{is_short_text, sites_of}
 use Rattle.rv_object_laws.specs.Shortened.{Sizes, shortened_definition, shortened_symbol, shortened_from, shortened, IsRelaxed, Relaxes}
 use Rattle.rv_object_laws.proofs.TextLineLemmas.{sites_text}
+use Rattle.rv_resolve.specs.Chosen.{seen, seen_of}
 use Rattle.rv_resolve.specs.Exports.{first_again}
+use Rattle.rv_resolve.proofs.AlikeLemmas.{same_names}
 use Rattle.rv_link.specs.declared.fault.LinkFault.{LinkFault}
 use Rattle.rv_link.specs.declared.fault.LinkFault.TheVariants.{Overflow, OddTarget, DanglingPcrel, AlignmentShort, Undefined, Duplicate, EntryMissing, ImageTooLarge, BadTextStart, TooManyFiles, OutOfMemory}
 use Rattle.rv_link.specs.Refusals.{ArePast, AreWithin, AreDoubled, IsUnlinked, HasNoProgram}
@@ -25,27 +27,17 @@ same_defined sizes o (definitions.Absolute n) = refl
 same_defined sizes o (definitions.InSection section offset) = refl
 same_defined sizes o (definitions.Skipped n) = refl
 
-same_exported : (sizes : ℕ → Sizes) (o : Object) (s : Symbol) → is_exported (shortened_symbol sizes o s) ≡ is_exported s
-same_exported sizes o s = ap (λ b. is_global s.binding && b) (same_defined sizes o s.definition)
+same_seen : (sizes : ℕ → Sizes) (o : Object) (s : Symbol) → seen (shortened_symbol sizes o s) ≡ seen s
+same_seen sizes o s = ap (λ b. record { name = s.name; defined = b; exported = is_global s.binding && b }) (same_defined sizes o s.definition)
 
-one_more : (b c : Bool) (x y : Symbol) (xs ys : List Symbol) → b ≡ c → x.name ≡ y.name → map (λ s. s.name) xs ≡ map (λ s. s.name) ys
-    → map (λ s. s.name) (cond b (x ∷ xs) xs) ≡ map (λ s. s.name) (cond c (y ∷ ys) ys)
-one_more true true x y xs ys e name rest = ap (λ n. n ∷ map (λ s. s.name) xs) name ∙ ap (λ ns. y.name ∷ ns) rest
-one_more false false x y xs ys e name rest = rest
-one_more true false x y xs ys e name rest = absurd (cc)
-one_more false true x y xs ys e name rest = absurd (cc)
+seen_in : (sizes : ℕ → Sizes) (o : Object) (ss : List Symbol) → map seen (map (shortened_symbol sizes o) ss) ≡ map seen ss
+seen_in sizes o [] = refl
+seen_in sizes o (s ∷ ss) = ap (λ l. seen (shortened_symbol sizes o s) ∷ l) (seen_in sizes o ss) ∙ ap (λ x. x ∷ map seen ss) (same_seen sizes o s)
 
-names_in : (sizes : ℕ → Sizes) (o : Object) (ss : List Symbol) → map (λ s. s.name) (filter is_exported (map (shortened_symbol sizes o) ss)) ≡ map (λ s. s.name) (filter is_exported ss)
-names_in sizes o [] = refl
-names_in sizes o (s ∷ ss) =
-    one_more (is_exported (shortened_symbol sizes o s)) (is_exported s) (shortened_symbol sizes o s) s (filter is_exported (map (shortened_symbol sizes o) ss)) (filter is_exported ss)
-    (same_exported sizes o s) refl (names_in sizes o ss)
-
-names_from : (sizes : ℕ → ℕ → Sizes) (file : ℕ) (os : List Object) → global_names (shortened_from sizes file os) ≡ global_names os
-names_from sizes file [] = refl
-names_from sizes file (o ∷ os) =
-    ap (λ names. names ++ global_names (shortened_from sizes (suc file) os)) (names_in (sizes file) o o.symbols)
-    ∙ ap (λ names. map (λ s. s.name) (exported o) ++ names) (names_from sizes (suc file) os)
+seen_from : (sizes : ℕ → ℕ → Sizes) (file : ℕ) (os : List Object) → seen_of (shortened_from sizes file os) ≡ seen_of os
+seen_from sizes file [] = refl
+seen_from sizes file (o ∷ os) =
+    ap (λ l. l ∷ seen_of (shortened_from sizes (suc file) os)) (seen_in (sizes file) o o.symbols) ∙ ap (λ l. map seen o.symbols ∷ l) (seen_from sizes (suc file) os)
 
 many_from : (sizes : ℕ → ℕ → Sizes) (file : ℕ) (os : List Object) → length (shortened_from sizes file os) ≡ length os
 many_from sizes file [] = refl
@@ -53,16 +45,16 @@ many_from sizes file (o ∷ os) = let rest : length (shortened_from sizes (suc f
 
 pub record AreAlike (os left : List Object) : Type 0 where
   pub many : length left ≡ length os
-  pub names : global_names left ≡ global_names os
+  pub seen : seen_of left ≡ seen_of os
 
 same_objects : (os left : List Object) → left ≡ os → AreAlike os left
-same_objects os left e = record { many = ap length e; names = ap global_names e }
+same_objects os left e = record { many = ap length e; seen = ap seen_of e }
 
 alike_by : (short : Bool) (os left : List Object) → IsRelaxed short os left → AreAlike os left
 alike_by false os left h = same_objects os left h
 alike_by true os left h = record {
   many = ap length h.2 ∙ many_from _ 1 os;
-  names = ap global_names h.2 ∙ names_from _ 1 os;
+  seen = ap seen_of h.2 ∙ seen_from _ 1 os;
 }
 
 pub alike : (relax : Bool) (os left : List Object) → Relaxes relax os left → AreAlike os left
@@ -103,7 +95,7 @@ past ds start relax fault h =
     record { left = some.0; relaxed = some.1; unlinked = past_unlinked some.0 start fault (subst (λ n. ArePast n start fault) (sym same) h) }
 
 doubled_unlinked : (os left : List Object) (start : ℕ) (fault : LinkFault) → AreAlike os left → AreWithin (length os) start → AreDoubled os fault → IsUnlinked left start fault
-doubled_unlinked os left start (Duplicate name) same w h = (subst (λ n. AreWithin n start) (sym same.many) w, ap (first_again []) same.names ∙ h)
+doubled_unlinked os left start (Duplicate name) same w h = (subst (λ n. AreWithin n start) (sym same.many) w, ap (first_again []) (same_names os left same.seen) ∙ h)
 doubled_unlinked os left start OutOfMemory same w h = tt
 doubled_unlinked os left start TooManyFiles same w h = absurd h
 doubled_unlinked os left start BadTextStart same w h = absurd h

@@ -14,21 +14,7 @@ use Rattle.rv_link.specs.declared.fault.LinkFault.TheVariants.{Overflow, OddTarg
 use Rattle.rv_link.specs.Fault.{of_placement}
 use Rattle.rv_link.specs.Filled.{IsTaken}
 use Rattle.rv_link.specs.Untaken.{IsFirst, IsUntaken, AreTaken, AreUntaken, IsFirstUntaken, AreUnfilled}
-use Rattle.rv_link.specs.Refusals.{AreDoubled, AreUnnamed, AreUnplaced, ComesToPlaces, IsUnlinked}
-
--- a name with two definitions is a fault of names
-pub doubled_unnamed : (os : List Object) (fault : LinkFault) → AreDoubled os fault → AreUnnamed os fault
-doubled_unnamed os (Duplicate name) h = h
-doubled_unnamed os OutOfMemory h = tt
-doubled_unnamed os TooManyFiles h = absurd h
-doubled_unnamed os BadTextStart h = absurd h
-doubled_unnamed os (Undefined name) h = absurd h
-doubled_unnamed os EntryMissing h = absurd h
-doubled_unnamed os AlignmentShort h = absurd h
-doubled_unnamed os ImageTooLarge h = absurd h
-doubled_unnamed os Overflow h = absurd h
-doubled_unnamed os OddTarget h = absurd h
-doubled_unnamed os DanglingPcrel h = absurd h
+use Rattle.rv_link.specs.Refusals.{AreUnplaced, ComesToPlaces, IsUnlinked}
 
 -- why sections cannot be placed
 pub unplaced : (os : List Object) (start : ℕ) (fault : PlacementFault) → IsUnplaced os start fault → AreUnplaced os start (of_placement fault)

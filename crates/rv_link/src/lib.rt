@@ -4,10 +4,10 @@
 //! (`rv_image`): the bytes of its regions with each relocation applied, and its map. Nothing here knows of statements.
 //!
 //! Main contract: [`link`] answers only a program that `IsProgramOf` the objects (`rv_object_laws`): the link of what relaxation
-//! leaves of them, where it is on. First, calls become short: which may (`rv_link_sites`), which do (`rv_relax`), and what is left
-//! of the objects then (`rv_shorten`). No size changes after that, and the work is that of the crates below, pass by pass:
-//! names (`rv_resolve`), places (`rv_placement`), values (`rv_link_values`), fields (`rv_reloc`). The objects are lent: each byte
-//! moves once, from its object into the program.
+//! leaves of them, where it is on. First, names get their meaning, once (`rv_resolve`). Then calls become short: which may
+//! (`rv_link_sites`), which do (`rv_relax`), and what is left of the objects then (`rv_shorten`). No size changes after that, and
+//! the work is that of the crates below, pass by pass: places (`rv_placement`), values (`rv_link_values`), fields (`rv_reloc`). The
+//! objects are lent: each byte moves once, from its object into the program.
 //!
 //! ```text
 //! let options = LinkOptions { text_start: 0x1_0000, relax: true };

@@ -1,21 +1,22 @@
 //! The passes of a link of objects whose calls are as long as they will be.
 //!
-//! Each pass fixes one thing: first what names mean, then addresses, then bytes. The order of the faults is that of the passes,
+//! Each pass fixes one thing: what names mean was first, then come addresses, then bytes. The order of the faults is that of the passes,
 //! so what costs least to see is told first.
 
-ghost use Rattle.std.specs.Prelude.{◌≡◌, ◌%◌, ◌<◌, [], List, Some, map, IfOk, IfErr, OnOk};
+ghost use Rattle.std.specs.Prelude.{◌≡◌, ◌%◌, ◌<◌, [], List, Some, length, map, IfOk, IfErr, OnOk};
 ghost use Rattle.std.specs.List.{list_any};
 ghost use Rattle.rv_map.specs.Globals.{AreDistinct};
 ghost use Rattle.rv_isa_laws.specs.Platform.{stack_start};
 ghost use Rattle.rv_image.specs.Linked.{linked_of};
 ghost use Rattle.rv_object.specs.Object.{Object as SaidObject};
+ghost use Rattle.rv_object.specs.View.{object_of};
 ghost use Rattle.rv_object_laws.specs.IsLinkOf.{IsLinkOf};
 ghost use Rattle.rv_object_laws.specs.Names.{global_names, entry_of};
 ghost use Rattle.rv_shorten.specs.View.{short_object_of};
 ghost use Rattle.rv_placement.specs.Placement.{IsPlacement, starts_of};
 ghost use Rattle.rv_map.specs.Limits.{IsMap};
 ghost use Rattle.rv_link.specs.Made.{made};
-ghost use Rattle.rv_resolve.specs.Names.{IsDuplicate};
+ghost use Rattle.rv_resolve.specs.Names.{IsDuplicate, IsNames};
 ghost use Rattle.rv_resolve.specs.Exports.{first_duplicate};
 ghost use Rattle.rv_resolve.specs.Undefined.{first_undefined};
 ghost use Rattle.rv_link.specs.declared.fault.LinkFault.TheVariants.{EntryMissing, OutOfMemory};
@@ -29,6 +30,7 @@ use crate::regions::Regions;
 use rv_image::{Linked, STACK_START};
 use rv_link_values::Values;
 use rv_map::Map;
+use rv_object::Object;
 use rv_placement::Placement;
 use rv_resolve::{Names, ResolveFault};
 use rv_shorten::ShortObject;
@@ -37,32 +39,32 @@ use std::alloc::{AllocError, Global};
 /// The most files that are linked at once.
 pub const MOST_FILES: usize = 1024;
 
-/// Links objects with their calls as they are into a program, whose text starts at an address.
-pub(crate) fn link_as_they_are(
+/// Links objects with their calls as they are into a program, whose text starts at an address, and whose names mean this.
+pub(crate) fn link_as_they_are<'a>(
     alloc: Global,
-    objects: &[ShortObject<'_, '_>],
+    objects: &[ShortObject<'_, 'a>],
+    names: &Names<'a>,
     start: u64,
 ) -> Result<Linked, LinkFault>
+    requires within { AreWithin (length objects.now) start }
+    requires names { IsNames (map short_object_of objects.now) names.now }
     ensures links { IfOk result
         (λ l. IsLinkOf (map short_object_of objects.now) start (linked_of l)) }
     ensures refuses { IfErr result (IsUnlinked (map short_object_of objects.now) start) }
 {
-    within_limits(objects.len(), start)?;
-    // the start of the text is fixed from here on
-    let names = resolve(alloc, objects)?;
-    // what each name means is fixed: its definition, though not its address
+    resolve(alloc, objects, names)?;
     if !names.has_entry(objects) {
         return Err(LinkFault::EntryMissing);
     }
     let placement = place(alloc, objects, start)?;
-    let entry = entry(&names, objects, &placement)?;
+    let entry = entry(names, objects, &placement)?;
     if !placement.is_roomy() {
         return Err(LinkFault::AlignmentShort);
     }
     // all addresses are fixed: those of sections, of what is kept of them, and of names
-    let regions = fill(alloc, objects, &placement, &names)?;
+    let regions = fill(alloc, objects, &placement, names)?;
     // all bytes are fixed; what is left is to show them
-    let linked = finish(alloc, objects, &names, placement, entry, regions)?;
+    let linked = finish(alloc, objects, names, placement, entry, regions)?;
     Ok(linked)
 }
 
@@ -80,23 +82,35 @@ pub fn within_limits(files: usize, text_start: u64) -> Result<(), LinkFault>
     Ok(())
 }
 
-/// What the names of objects mean: each has one definition for all files at most, and no reference is without one.
-fn resolve<'a>(alloc: Global, objects: &[ShortObject<'_, 'a>]) -> Result<Names<'a>, LinkFault>
-    ensures named { IfOk result (IsNamed (map short_object_of objects.now)) }
+/// What the names of objects mean: each has one definition for all files at most.
+pub(crate) fn named<'a>(alloc: Global, objects: &[Object<'a>]) -> Result<Names<'a>, LinkFault>
+    ensures names { IfOk result (IsNames (map object_of objects.now)) }
+    ensures refuses { IfErr result (AreDoubled (map object_of objects.now)) }
+{
+    match Names::of(alloc, objects) {
+        Ok(names) => Ok(names),
+        Err(fault) => Err(of_names(alloc, fault)?),
+    }
+}
+
+/// No reference is to a name without a meaning.
+fn resolve<'a>(
+    alloc: Global,
+    objects: &[ShortObject<'_, 'a>],
+    names: &Names<'a>,
+) -> Result<(), LinkFault>
+    requires { IsNames (map short_object_of objects.now) names.now }
+    ensures named { OnOk result (IsNamed (map short_object_of objects.now) names.now) }
     ensures refuses { IfErr result (AreUnnamed (map short_object_of objects.now)) }
 {
-    let names = match Names::of(alloc, objects) {
-        Ok(names) => names,
-        Err(fault) => return Err(of_names(alloc, fault)?),
-    };
     match names.undefined(objects) {
         Some(name) => Err(undefined(alloc, name)?),
-        None => Ok(names),
+        None => Ok(()),
     }
 }
 
 /// The fault of names.
-pub(crate) fn of_names(alloc: Global, fault: ResolveFault<'_>) -> Result<LinkFault, AllocError>
+fn of_names(alloc: Global, fault: ResolveFault<'_>) -> Result<LinkFault, AllocError>
     ensures { (os : List SaidObject) → IsDuplicate fault.entry (first_duplicate os)
         → IfOk result (AreDoubled os) }
 {

@@ -8,7 +8,7 @@ ghost use Rattle.rv_link.specs.Refusals.{HasNoProgram};
 
 use crate::fault::LinkFault;
 use crate::options::LinkOptions;
-use crate::passes::{link_as_they_are, within_limits};
+use crate::passes::{link_as_they_are, named, within_limits};
 use crate::relaxation::relaxed;
 use rv_image::Linked;
 use rv_object::Object;
@@ -32,6 +32,10 @@ pub fn link(
         (HasNoProgram (map object_of objects.now) options.text_start options.relax) }
 {
     within_limits(objects.len(), options.text_start)?;
-    let left = relaxed(alloc, objects, options.relax)?;
-    link_as_they_are(alloc, &left, options.text_start)
+    // the start of the text is fixed from here on
+    let names = named(alloc, objects)?;
+    // what each name means is fixed: which symbol defines it, though not where that stands
+    let left = relaxed(alloc, objects, &names, options.relax)?;
+    // no call changes any more
+    link_as_they_are(alloc, &left, &names, options.text_start)
 }

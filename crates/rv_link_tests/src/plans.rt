@@ -7,7 +7,6 @@ use rv_object::Object;
 use rv_object_reader::read;
 use rv_relax::{Placed, Plan};
 use rv_resolve::Names;
-use rv_shorten::whole;
 use std::alloc::{AllocError, Global};
 use std::test::Fail;
 
@@ -46,8 +45,7 @@ const SHORT_PADDING: [[u64; 3]; 1] = [[2, ALIGN, 4]];
 
 /// The text of objects; none where a name has two definitions, or where it is too long.
 pub(crate) fn text(alloc: Global, objects: &[Object<'_>]) -> Result<Option<Placed>, AllocError> {
-    let lent = whole(alloc, objects)?;
-    let Ok(names) = Names::of(alloc, &lent) else {
+    let Ok(names) = Names::of(alloc, objects) else {
         return Ok(None);
     };
     placed(alloc, objects, &names)

@@ -17,12 +17,12 @@ use Rattle.rv_object_laws.specs.Inputs.{Starts}
 use Rattle.rv_object_laws.specs.Names.{defined_address, is_exported, global_names, globals_of}
 use Rattle.rv_resolve.specs.declared.definitions.Exported.{Exported}
 use Rattle.rv_resolve.specs.declared.names.Names.{Names}
-use Rattle.rv_resolve.specs.Exports.{export_of}
-use Rattle.rv_resolve.specs.Names.{IsNames}
+use Rattle.rv_resolve.specs.Chosen.{chosen}
+use Rattle.rv_resolve.specs.Names.{kept_of, IsNames}
 use Rattle.rv_resolve.specs.Shown.{shown_symbols}
-use Rattle.rv_resolve.proofs.ShownLemmas.{one_of_exports}
+use Rattle.rv_resolve.proofs.ChosenLemmas.{one_of_chosen}
 use Rattle.rv_resolve.proofs.StepsLemmas.{left, so_far}
-use Rattle.rv_resolve.proofs.TableLemmas.{kept_some}
+use Rattle.rv_resolve.proofs.TableLemmas.{still_some}
 
 -- ---- the linker's
 
@@ -34,7 +34,7 @@ copied_some (Some x) = refl
 pub is_taken : (os : List Object) (names : Names) (name : List ℕ) (f : Option (Bor Exported)) (b : Bool) → IsNames os names
     → option_copied f ≡ get_by (λ (k : Bor (List ℕ)). slice_cmp nat_cmp name k.now) names.definitions.by_name → is_some f ≡ b → is_one_of (global_names os) name ≡ b
 is_taken os names name f b h found is =
-    one_of_exports os name ∙ sym (kept_some (export_of os name)) ∙ ap is_some (sym (h.answers name) ∙ sym found) ∙ copied_some f ∙ is
+    one_of_chosen os name ∙ sym (still_some kept_of (chosen os name)) ∙ ap is_some (sym (h.answers name) ∙ sym found) ∙ copied_some f ∙ is
 
 -- one more that passes a test, or not
 pub filtered_more : {X : Type 0} (p : X → Bool) (old n m : List X) (xs : List X) (y : X) → n ≡ old ++ filter p xs → m ≡ n ++ filter p (y ∷ []) → m ≡ old ++ filter p (xs ++ y ∷ [])

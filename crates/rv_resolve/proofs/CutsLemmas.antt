@@ -1,7 +1,7 @@
 -- What names mean of an object of which calls are cut short.
 
 use Rattle.std.proofs.Common.{◌≡◌, ◌<◌, ◌≤◌, ℕ, Option, Some, None, option_map, List, [], ◌∷◌, length, map, slice_get, get_or, refl, sym, ap, ◌∙◌}
-use Rattle.std.specs.Prelude.{if◌then◌else◌}
+use Rattle.std.specs.Prelude.{◌&&◌, if◌then◌else◌}
 use Rattle.std.specs.Option.{option_or}
 use Rattle.std.proofs.lemmas.Option.{slice_get-map, slice_get_past, slice_get_read}
 use Rattle.rv_object.specs.declared.symbol.Definition.{Definition}
@@ -10,13 +10,12 @@ use Rattle.rv_object.specs.declared.symbol.Symbol.{Symbol as DeclaredSymbol}
 use Rattle.rv_object.specs.Object.{Relocation, Symbol, Object}
 use Rattle.rv_object.specs.Parts.{symbol_of}
 use Rattle.rv_object_laws.specs.Moves.{Move}
-use Rattle.rv_object_laws.specs.Names.{is_defined}
+use Rattle.rv_object_laws.specs.Names.{is_defined, is_exported, is_global}
 use Rattle.rv_shorten.specs.declared.object.ShortObject.{ShortObject}
 use Rattle.rv_shorten.specs.Cutting.{cut_definition, cut_relocation, cut_symbol}
 use Rattle.rv_shorten.specs.View.{moves_of, short_object_of}
 use Rattle.rv_resolve.specs.Exports.{export_of}
 use Rattle.rv_resolve.specs.Moved.{moved_in, symbols_of}
-use Rattle.rv_resolve.specs.Names.{kept_of, outside}
 use Rattle.rv_resolve.specs.Undefined.{first_some, has_address, is_known, is_resolved}
 
 -- ---- the symbols that it has
@@ -48,13 +47,8 @@ defined_cut cuts (definitions.Absolute n) = refl
 defined_cut cuts (definitions.InSection section offset) = refl
 defined_cut cuts (definitions.Skipped n) = refl
 
-outside_cut : (os : List Object) (cuts : List (List Move)) (s : Symbol) → outside os (cut_symbol cuts s) ≡ outside os s
-outside_cut os cuts s = ap (λ b. if b then None else option_map kept_of (export_of os s.name)) (defined_cut cuts s.definition)
-
-pub all_outside : (os : List Object) (cuts : List (List Move)) (ss : List Symbol) → map (outside os) ss ≡ map (outside os) (map (cut_symbol cuts) ss)
-all_outside os cuts [] = refl
-all_outside os cuts (s ∷ ss) =
-    ap (λ m. m ∷ map (outside os) ss) (sym (outside_cut os cuts s)) ∙ ap (λ l. outside os (cut_symbol cuts s) ∷ l) (all_outside os cuts ss)
+pub exported_cut : (cuts : List (List Move)) (s : Symbol) → is_exported (cut_symbol cuts s) ≡ is_exported s
+exported_cut cuts s = ap (λ b. is_global s.binding && b) (defined_cut cuts s.definition)
 
 -- ---- nor does whether they have addresses
 

@@ -1,7 +1,6 @@
 -- What is known of each name that a map shows.
 
 use Rattle.std.proofs.Common.{◌≡◌, ◌<◌, ◌^◌, List, [], ◌∷◌, ◌++◌, All}
-use Rattle.std.specs.Prelude.{IsTrue}
 use Rattle.std.proofs.lemmas.List.Elements.{All-same, All-push}
 use Rattle.rv_map.specs.declared.map.Global.{Global}
 use Rattle.rv_map.specs.Limits.{IsGlobal}

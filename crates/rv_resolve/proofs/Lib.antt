@@ -1,4 +1,6 @@
 mod AddingLemmas
+pub mod AlikeLemmas
+mod ChosenLemmas
 mod CutsLemmas
 mod DistinctLemmas
 pub mod EntryLemmas
@@ -6,9 +8,10 @@ pub mod FirstSomeLemmas
 pub mod FoundLemmas
 mod KnownLemmas
 pub mod LinkerNamesLemmas
+mod LoadingLemmas
 mod MeantLemmas
-mod NumbersLemmas
 mod ResolvedLemmas
+mod RowsLemmas
 pub mod ShownLemmas
 mod StepsLemmas
 mod TableLemmas

@@ -33,7 +33,7 @@ globals_flat starts file (o ∷ os) =
 
 -- a name that is none of those of definitions
 pub not_named : (es : List Export) (name : List ℕ) → is_one_of (names_of es) name ≡ false → named es name ≡ None
-not_named es name apart = by (named es name) (sym (one_of_named es name) ∙ apart)
+not_named es name apart = by (named es name) (sym (one_of_named (λ (e : Export). e.symbol.name) es name) ∙ apart)
   where
     by : (f : Option Export) → is_some f ≡ false → f ≡ None
     by None e = refl
@@ -90,7 +90,7 @@ meaning starts m name (Some e) = address_at starts e
 meaning starts m name None = global_address (linker_symbols m) name
 
 pub one_of_exports : (os : List Object) (name : List ℕ) → is_one_of (global_names os) name ≡ is_some (export_of os name)
-one_of_exports os name = ap (λ l. is_one_of l name) (sym (names_of_exports 0 os)) ∙ one_of_named (exports_from 0 os) name
+one_of_exports os name = ap (λ l. is_one_of l name) (sym (names_of_exports 0 os)) ∙ one_of_named (λ (e : Export). e.symbol.name) (exports_from 0 os) name
 
 pub means : (starts : Starts) (os : List Object) (m : Map) (name : List ℕ) → AreDistinct (global_names os)
     → global_address (globals_of starts 1 os ++ shown_linker_symbols os m) name ≡ meaning starts m name (export_of os name)

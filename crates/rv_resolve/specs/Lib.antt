@@ -1,3 +1,4 @@
+pub mod Chosen
 pub mod Exports
 pub mod Names
 pub mod Shown

@@ -1,6 +1,6 @@
 -- The tables of the code: what they answer.
 
-use Rattle.std.specs.Prelude.{◌≡◌, ◌+◌, ◌++◌, ⊤, ℕ, List, map, Option, Some, None, option_map, option_and_then, if◌then◌else◌}
+use Rattle.std.specs.Prelude.{◌≡◌, ◌+◌, ◌++◌, ⊤, ℕ, List, [], map, Option, Some, None, option_map, option_and_then, if◌then◌else◌}
 use Rattle.std.specs.Borrow.{Bor}
 use Rattle.std.specs.BTreeMap.{get_by}
 use Rattle.std.specs.Cmp.Lexicographic.{slice_cmp}
@@ -15,82 +15,76 @@ use Rattle.rv_resolve.specs.declared.fault.ResolveFault.TheVariants.{Duplicate, 
 use Rattle.rv_resolve.specs.declared.definitions.Exported.{Exported}
 use Rattle.rv_resolve.specs.declared.definitions.Definitions.{Definitions}
 use Rattle.rv_resolve.specs.declared.meanings.Meanings.{Meanings}
+use Rattle.rv_resolve.specs.declared.names.Meant.{Meant}
 use Rattle.rv_resolve.specs.declared.names.Names.{Names}
-use Rattle.rv_resolve.specs.Exports.{Export, exports_from, named, names_of, export_of, first_again}
+use Rattle.rv_resolve.specs.Chosen.{Definer, Seen, seen_of, definitions, names_in, first_named}
+use Rattle.rv_resolve.specs.Exports.{Export, export_of, first_again}
 
--- what is kept of a definition for all files
-abbrev pub kept_of : Export → Exported
-kept_of e = record { file = e.file; definition = e.symbol.definition }
+-- what is kept of a symbol that defines a name for all files
+abbrev pub kept_of : Definer → Exported
+kept_of d = record { file = d.file; symbol = d.symbol }
 
--- a name is answered with the first of these definitions that has it
-abbrev pub Answers : List Export → Definitions → Type 0
-Answers es definitions =
+-- a name is answered with the first of these that has it
+abbrev pub Answers : List Definer → Definitions → Type 0
+Answers ds definitions =
     (name : List ℕ) →
     get_by (λ (k : Bor (List ℕ)). slice_cmp nat_cmp name k.now) definitions.by_name
-    ≡ option_map kept_of (named es name)
+    ≡ option_map kept_of (first_named ds name)
+
+-- and none of them has a name that stands before
+pub record IsTable (ds : List Definer) (definitions : Definitions) : Type 0 where
+  pub answers : Answers ds definitions
+  pub fresh : (rest : List Definer)
+      → first_again [] (names_in (ds ++ rest)) ≡ first_again (names_in ds) (names_in rest)
 
 -- the name that is refused is this one; memory may run out whatever the names are
 abbrev pub IsDuplicate : ResolveFault → Option (List ℕ) → Type 0
 IsDuplicate (Duplicate name) found = found ≡ Some name.now
 IsDuplicate OutOfMemory found = ⊤
 
--- after some definitions these came to the table, and the name of each was new
-abbrev pub AreAdded : List Export → List Export → Definitions → Type 0
-AreAdded es more definitions =
-    Answers (es ++ more) definitions
-    × ((rest : List (List ℕ)) →
-    first_again (names_of es) (names_of more ++ rest)
-    ≡ first_again (names_of (es ++ more)) rest)
-
--- after some definitions these are refused: the first name that is not new is this one
-abbrev pub IsRefused : ResolveFault → List Export → List Export → Type 0
-IsRefused fault es more =
-    (rest : List (List ℕ)) → IsDuplicate fault (first_again (names_of es) (names_of more ++ rest))
+-- whatever comes behind these, this is the first name that stands before
+abbrev pub IsRefused : ResolveFault → List Definer → Type 0
+IsRefused fault ds =
+    (rest : List Definer) → IsDuplicate fault (first_again [] (names_in (ds ++ rest)))
 
 -- ---- what symbols mean
 
--- what a symbol means that its own object does not define: the definition of its name
-abbrev pub outside : List Object → Symbol → Option Exported
-outside os s =
-    if is_defined s.definition then None else option_map kept_of (export_of os s.name)
+-- what a symbol means that its own object does not define: the first of its name
+abbrev pub outside : List Definer → Seen → Option Exported
+outside ds s = if s.defined then None else option_map kept_of (first_named ds s.name)
+
+-- a definition is the symbol at an index of a file
+pub record IsAt (os : List Object) (x : Exported) (e : Export) : Type 0 where
+  pub file : x.file ≡ e.file
+  pub object : slice_get os x.file ≡ Some e.object
+  pub symbol : slice_get e.object.symbols x.symbol ≡ Some e.symbol
+
+abbrev pub meant_of : Export → Meant
+meant_of e = record { file = e.file; definition = e.symbol.definition }
 
 -- what a symbol of a file means: what its own object defines, else the definition of its name
-abbrev pub meant_by : List Object → ℕ → Symbol → Option Exported
+abbrev pub meant_by : List Object → ℕ → Symbol → Option Meant
 meant_by os file s =
     if is_defined s.definition
     then Some (record { file = file; definition = s.definition })
-    else option_map kept_of (export_of os s.name)
-
--- the definition of a number, if there is one
-abbrev pub numbered : List Exported → Option ℕ → Option Exported
-numbered meant number = option_and_then (slice_get meant) number
+    else option_map meant_of (export_of os s.name)
 
 -- what the table has for a symbol, by its file and its index there, both from 0
 abbrev pub meant_at : Meanings → ℕ → ℕ → Option Exported
 meant_at m file index =
     option_and_then
-    (λ (row : Vec (Option ℕ)).
-    option_and_then (numbered m.meant.items) (slice_get row.items index))
-    (slice_get m.numbers.items file)
+    (λ (row : Vec (Option Exported)). option_and_then (λ x. x) (slice_get row.items index))
+    (slice_get m.files.items file)
 
 -- it has what each symbol of each object means that the object does not define
 abbrev pub AreMeanings : List Object → Meanings → Type 0
 AreMeanings os m =
-    map (λ (row : Vec (Option ℕ)). map (numbered m.meant.items) row.items) m.numbers.items
-    ≡ map (λ o. map (outside os) o.symbols) os
-
--- numbers have these meanings, whatever definitions come behind those that there are
-abbrev pub HaveMeanings : List Exported → List (Option ℕ) → List (Option Exported) → Type 0
-HaveMeanings meant numbers meanings =
-    (more : List Exported) → map (numbered (meant ++ more)) numbers ≡ meanings
-
--- definitions came behind those that there were
-abbrev pub Grows : List Exported → List Exported → Type 0
-Grows old new = (more : List Exported) × (new ≡ old ++ more)
+    map (λ (row : Vec (Option Exported)). row.items) m.files.items
+    ≡ map (map (outside (definitions os))) (seen_of os)
 
 -- the names of objects, of which none has two definitions for all files
 pub record IsNames (os : List Object) (names : Names) : Type 0 where
-  pub answers : Answers (exports_from 0 os) names.definitions
+  pub answers : Answers (definitions os) names.definitions
   pub distinct : AreDistinct (global_names os)
   pub meanings : AreMeanings os names.meanings
 

@@ -7,17 +7,18 @@ ghost use Rattle.std.specs.Prelude.{◌≡◌, ◌+◌, ℕ, List, Some, map, op
 ghost use Rattle.std.specs.List.{slice_get};
 ghost use Rattle.rv_map.specs.Globals.{global_address, linker_symbols};
 ghost use Rattle.rv_object.specs.Object.{Object as SaidObject, Symbol as SaidSymbol};
+ghost use Rattle.rv_object.specs.View.{object_of};
 ghost use Rattle.rv_object_laws.specs.Names as laws;
 ghost use Rattle.rv_placement.specs.Placement.{starts_of, IsPlacement};
 ghost use Rattle.rv_resolve.specs.Entry.{has_entry};
-ghost use Rattle.rv_resolve.specs.Moved.{with_definition};
-ghost use Rattle.rv_resolve.specs.Names.{IsNames, place_of};
+ghost use Rattle.rv_resolve.specs.Exports.{Export};
+ghost use Rattle.rv_resolve.specs.Names.{IsAt, IsNames, place_of};
 ghost use Rattle.rv_resolve.specs.Shown.{shown_globals, regions_of};
 ghost use Rattle.rv_shorten.specs.View.{short_object_of};
 
 use crate::definitions::Exported;
-use crate::names::Names;
-use rv_object::{Definition, Symbol};
+use crate::names::{Meant, Names, symbol_at};
+use rv_object::{Definition, Object};
 use rv_placement::Placement;
 use rv_shorten::ShortObject;
 
@@ -39,11 +40,9 @@ impl<'o> Names<'o> {
             (starts_of placement.now (file + 1)) o)
             (slice_get o.symbols index) }
     {
-        let (symbol, definition) = symbol_at(objects, file, index)?;
-        match self.meant(file, index, definition) {
-            Some(exported) => {
-                defined_address(objects, placement, exported.file, exported.definition)
-            }
+        let (symbol, definition) = symbol_at(objects, file, index as usize)?;
+        match self.meant(objects, file, index, definition) {
+            Some(meant) => defined_address(objects, placement, meant.file, meant.definition),
             None => linker_address(placement, symbol.name),
         }
     }
@@ -62,25 +61,34 @@ impl<'o> Names<'o> {
             ≡ option_and_then (laws.symbol_place (map short_object_of objects.now) (file + 1))
             (slice_get o.symbols index) }
     {
-        let (_, definition) = symbol_at(objects, file, index)?;
-        self.place_of(file, index, definition)
+        let (_, definition) = symbol_at(objects, file, index as usize)?;
+        match self.meant(objects, file, index, definition) {
+            Some(meant) => placed(meant),
+            None => None,
+        }
     }
 
-    /// Where the symbol at an index of a file stands, both from 0, by its own definition: what [`Names::place`] gives.
+    /// Where the symbol at an index of a file stands, both from 0, by its own definition, in objects of which nothing is cut:
+    /// what [`Names::place`] gives.
     pub fn place_of(
         &self,
+        objects: &[Object<'_>],
         file: usize,
         index: u32,
         definition: Definition,
     ) -> Option<(usize, u32, u64)>
-        ensures { (os : List SaidObject) (o : SaidObject) (s : SaidSymbol) → IsNames os self.now
-            → slice_get os file ≡ Some o → slice_get o.symbols index ≡ Some s
-            → s.definition ≡ definition
-            → option_map place_of result ≡ laws.symbol_place os (file + 1) s }
+        ensures { (o : SaidObject) (s : SaidSymbol) → IsNames (map object_of objects.now) self.now
+            → slice_get (map object_of objects.now) file ≡ Some o
+            → slice_get o.symbols index ≡ Some s → s.definition ≡ definition
+            → option_map place_of result
+            ≡ laws.symbol_place (map object_of objects.now) (file + 1) s }
     {
-        match self.meant(file, index, definition) {
-            Some(exported) => placed(exported),
-            None => None,
+        match definition {
+            Definition::Undefined => match self.meanings.at(file, index) {
+                Some(exported) => place_at(objects, exported),
+                None => None,
+            },
+            _ => placed(Meant { file, definition }),
         }
     }
 
@@ -89,8 +97,8 @@ impl<'o> Names<'o> {
         ensures { IsNames (map short_object_of objects.now) self.now
             → result ≡ has_entry (map short_object_of objects.now) }
     {
-        match self.definitions.by_name.get(b"_start".as_slice()).copied() {
-            Some(exported) => can_begin(objects, exported.file, exported.definition),
+        match self.start(objects) {
+            Some(meant) => can_begin(objects, meant.file, meant.definition),
             None => false,
         }
     }
@@ -101,10 +109,10 @@ impl<'o> Names<'o> {
             → IsPlacement (map short_object_of objects.now) start placement.now
             → result ≡ laws.entry_of (starts_of placement.now) 1 (map short_object_of objects.now) }
     {
-        match self.definitions.by_name.get(b"_start".as_slice()).copied() {
-            Some(exported) => {
-                if can_begin(objects, exported.file, exported.definition) {
-                    defined_address(objects, placement, exported.file, exported.definition)
+        match self.start(objects) {
+            Some(meant) => {
+                if can_begin(objects, meant.file, meant.definition) {
+                    defined_address(objects, placement, meant.file, meant.definition)
                 } else {
                     None
                 }
@@ -114,26 +122,25 @@ impl<'o> Names<'o> {
     }
 }
 
-/// The symbol at an index of a file, both from 0, and its definition as it has moved.
-fn symbol_at<'o, 'a>(
-    objects: &[ShortObject<'o, 'a>],
-    file: usize,
-    index: u32,
-) -> Option<(&'o Symbol<'a>, Definition)>
-    ensures { (o : SaidObject) → slice_get (map short_object_of objects.now) file ≡ Some o
-        → option_map with_definition result ≡ slice_get o.symbols index }
+/// Where a symbol that is a global definition stands, in objects of which nothing is cut.
+fn place_at(objects: &[Object<'_>], exported: Exported) -> Option<(usize, u32, u64)>
+    ensures { (e : Export) → IsAt (map object_of objects.now) exported e
+        → option_map place_of result ≡ laws.place_in (e.file + 1) e.symbol.definition }
 {
-    let object = objects.get(file)?;
-    let symbol = object.whole.symbols.get(index as usize)?;
-    Some((symbol, object.definition(symbol.definition)))
+    let object = objects.get(exported.file)?;
+    let symbol = object.symbols.get(exported.symbol)?;
+    placed(Meant {
+        file: exported.file,
+        definition: symbol.definition,
+    })
 }
 
 /// The file, section and offset of a definition.
-fn placed(exported: Exported) -> Option<(usize, u32, u64)>
-    ensures { option_map place_of result ≡ laws.place_in (exported.file + 1) exported.definition }
+fn placed(meant: Meant) -> Option<(usize, u32, u64)>
+    ensures { option_map place_of result ≡ laws.place_in (meant.file + 1) meant.definition }
 {
-    match exported.definition {
-        Definition::InSection(section, offset) => Some((exported.file, section, offset)),
+    match meant.definition {
+        Definition::InSection(section, offset) => Some((meant.file, section, offset)),
         _ => None,
     }
 }

@@ -158,8 +158,8 @@ impl<'o> Names<'o> {
             → slice_get o.symbols index ≡ Some s → s.definition ≡ Undefined → s.name ≡ name.now
             → result ≡ laws.is_known s.name (export_of (map short_object_of objects.now) s.name) }
     {
-        match self.meant(file, index, Definition::Undefined) {
-            Some(exported) => has_address(objects, exported.file, exported.definition),
+        match self.meant(objects, file, index, Definition::Undefined) {
+            Some(meant) => has_address(objects, meant.file, meant.definition),
             None => is_linker_name(name),
         }
     }

@@ -20,9 +20,9 @@ returns-clause-links c =
     let l = linked_of c.in_ok-linked.linked in
     let e = c.in_ok-linked.ensures.made in
     let n : length (map short_object_of c.args.objects.now) ≡ length c.args.objects.now = length-map c.args.objects.now short_object_of in
-    let w = c.in_ok-within_limits.ensures.within in
+    let w = c.requires.within in
     subst (λ x. IsLinkOf os c.args.start x) (sym e)
-    (is_link os c.args.start c.in_ok-names.names p c.in_ok-entry.entry r (omega (arith, w.0, n)) w.1.0 w.1.1 c.in_ok-names.ensures.named c.in_ok-placement.ensures.placed (search rules)
+    (is_link os c.args.start c.args.names.now p c.in_ok-entry.entry r (omega (arith, w.0, n)) w.1.0 w.1.1 c.in_ok-resolve.ensures.named c.in_ok-placement.ensures.placed (search rules)
     c.in_ok-entry.ensures.entry c.in_ok-entry.ensures.even c.in_ok-regions.ensures.filled (subst (λ x. IsMap x.map) e c.in_ok-linked.ensures.readable))
 
 pub returns-in_err-entry-clause-refuses : goal.returns-in_err-entry-clause-refuses
@@ -30,8 +30,8 @@ returns-in_err-entry-clause-refuses c =
     let os = map short_object_of c.args.objects.now in
     let p = c.in_ok-placement.placement in
     let n : length os ≡ length c.args.objects.now = length-map c.args.objects.now short_object_of in
-    let w = c.in_ok-within_limits.ensures.within in
-    let named = c.in_ok-names.ensures.named in
+    let w = c.requires.within in
+    let named = c.in_ok-resolve.ensures.named in
     let begins : has_entry os ≡ true = sym (c.has_entry.ensures named.table) ∙ c.if-not-has_entry.false in
     let so : ComesToPlaces os c.args.start = (((omega (arith, w.0, n), w.1), (named.once, named.meant)), begins) in
     let found = err_from_is_err_and c.from_residual-in_err-entry.result c.from_residual-in_err-entry.ensures.1 in
@@ -43,8 +43,8 @@ returns-then-not-is_roomy-clause-refuses c =
     let os = map short_object_of c.args.objects.now in
     let p = c.in_ok-placement.placement in
     let n : length os ≡ length c.args.objects.now = length-map c.args.objects.now short_object_of in
-    let w = c.in_ok-within_limits.ensures.within in
-    let named = c.in_ok-names.ensures.named in
+    let w = c.requires.within in
+    let named = c.in_ok-resolve.ensures.named in
     let begins : has_entry os ≡ true = sym (c.has_entry.ensures named.table) ∙ c.if-not-has_entry.false in
     let so : ComesToPlaces os c.args.start = (((omega (arith, w.0, n), w.1), (named.once, named.meant)), begins) in
     let placed = c.in_ok-placement.ensures.placed in
@@ -56,8 +56,8 @@ returns-in_err-regions-clause-refuses c =
     let os = map short_object_of c.args.objects.now in
     let p = c.in_ok-placement.placement in
     let n : length os ≡ length c.args.objects.now = length-map c.args.objects.now short_object_of in
-    let w = c.in_ok-within_limits.ensures.within in
-    let named = c.in_ok-names.ensures.named in
+    let w = c.requires.within in
+    let named = c.in_ok-resolve.ensures.named in
     let begins : has_entry os ≡ true = sym (c.has_entry.ensures named.table) ∙ c.if-not-has_entry.false in
     let so : ComesToPlaces os c.args.start = (((omega (arith, w.0, n), w.1), (named.once, named.meant)), begins) in
     let found = err_from_is_err_and c.from_residual-in_err-regions.result c.from_residual-in_err-regions.ensures.1 in

@@ -1,25 +1,32 @@
-use Rattle.std.proofs.Common.{◌≡◌, true, Some, None, option_map, is_some, [], refl, sym, ap, ◌∙◌}
+use Rattle.std.proofs.Common.{◌≡◌, true, false, Some, None, option_map, is_some, [], sym, subst, ap, ◌∙◌}
 use Rattle.std.proofs.lemmas.Map.Text.{btree_map_updates_str}
-use Rattle.rv_object_laws.specs.Names.{is_exported}
-use Rattle.rv_shorten.specs.View.{moves_of}
-use Rattle.rv_resolve.specs.Exports.{named}
-use Rattle.rv_resolve.specs.Moved.{moved_in}
-use Rattle.rv_resolve.specs.Names.{kept_of}
-use Rattle.rv_resolve.proofs.TableLemmas.{again, apart, answers_more, kept_some, none_kept}
+use Rattle.rv_object.specs.Parts.{symbol_of}
+use Rattle.rv_resolve.specs.Chosen.{seen, first_named}
+use Rattle.rv_resolve.specs.Names.{kept_of, IsTable}
+use Rattle.rv_resolve.proofs.CutsLemmas.{exported_cut}
+use Rattle.rv_resolve.proofs.TableLemmas.{none_more, again, apart, answers_more, still_some, still_none}
 use Rattle.rv_resolve.proofs.definitions.Definitions.put.Goals as goal
 
+pub returns-then-not-is_exported-clause-added : goal.returns-then-not-is_exported-clause-added
+returns-then-not-is_exported-clause-added c = λ ds table.
+    let s = seen (symbol_of c.args.symbol.now) in
+    let local : s.exported ≡ false = sym (exported_cut [] (symbol_of c.args.symbol.now)) ∙ sym (c.is_exported.ensures []) ∙ c.if-not-is_exported.true in
+    subst (λ l. IsTable l c.args.self.now) (sym (none_more c.args.file c.args.index s ds local)) table
+
 pub returns-in-Some-clause-refuses : goal.returns-in-Some-clause-refuses
-returns-in-Some-clause-refuses c = λ o es answers rest.
-    let s = moved_in c.args.object.now c.args.symbol.now in
-    let exported : is_exported s ≡ true = sym (c.is_exported.ensures (moves_of c.args.object.now)) ∙ c.if-not-is_exported.false in
-    let found : Some c.in-Some.field-0 ≡ option_map kept_of (named es s.name) = sym c.in-Some.is ∙ c.in_ok-insert.ensures.old ∙ answers s.name in
-    again c.args.file o s es rest exported (sym (kept_some (named es s.name)) ∙ ap is_some (sym found))
+returns-in-Some-clause-refuses c = λ ds table rest.
+    let s = seen (symbol_of c.args.symbol.now) in
+    let exported : s.exported ≡ true = sym (exported_cut [] (symbol_of c.args.symbol.now)) ∙ sym (c.is_exported.ensures []) ∙ c.if-not-is_exported.false in
+    let found : Some c.in-Some.field-0 ≡ option_map kept_of (first_named ds s.name) = sym c.in-Some.is ∙ c.in_ok-insert.ensures.old ∙ table.answers s.name in
+    again c.args.file c.args.index s ds exported c.args.self.now table rest (sym (still_some kept_of (first_named ds s.name)) ∙ ap is_some (sym found))
 
 pub returns-in-None-clause-added : goal.returns-in-None-clause-added
-returns-in-None-clause-added c = λ o es answers.
-    let s = moved_in c.args.object.now c.args.symbol.now in
-    let exported : is_exported s ≡ true = sym (c.is_exported.ensures (moves_of c.args.object.now)) ∙ c.if-not-is_exported.false in
-    let free : named es s.name ≡ None = none_kept (named es s.name) (sym (sym c.in-None.is ∙ c.in_ok-insert.ensures.old ∙ answers s.name)) in (
-      (λ name. answers_more c.args.file o s es [] exported name s.name _ _ _ refl (ap (λ d. record { file = c.args.file; definition = d }) c.definition.ensures) (btree_map_updates_str s.name c.args.self.now.by_name c.insert.new.self _ c.in_ok-insert.ensures.updates name) free (answers name)),
-      (λ rest. apart c.args.file o s es rest exported free),
-    )
+returns-in-None-clause-added c = λ ds table.
+    let s = seen (symbol_of c.args.symbol.now) in
+    let exported : s.exported ≡ true = sym (exported_cut [] (symbol_of c.args.symbol.now)) ∙ sym (c.is_exported.ensures []) ∙ c.if-not-is_exported.false in
+    let free : first_named ds s.name ≡ None = still_none kept_of (first_named ds s.name) (sym (sym c.in-None.is ∙ c.in_ok-insert.ensures.old ∙ table.answers s.name)) in
+    record {
+      answers = λ name.
+          answers_more c.args.file c.args.index s ds exported name _ _ (btree_map_updates_str s.name c.args.self.now.by_name c.insert.new.self _ c.in_ok-insert.ensures.updates name) free (table.answers name);
+      fresh = λ rest. apart c.args.file c.args.index s ds exported c.args.self.now table rest free;
+    }

@@ -1,48 +1,40 @@
-use Rattle.std.proofs.Common.{◌<◌, ◌∙◌, ◌+◌, ◌++◌, length, map, get_or, take, drop, rules, ap, sym, subst}
+use Rattle.std.proofs.Common.{◌<◌, ◌≤◌, ◌++◌, ◌+◌, length, drop, rules, refl, subst}
+use Rattle.std.proofs.lemmas.List.{at_drop_all}
 use Rattle.std.proofs.lemmas.Result.{err_from_is_err_and}
-use Rattle.rv_resolve.specs.Exports.{exports_in, names_of, first_again}
-use Rattle.rv_resolve.specs.Moved.{moved_in}
-use Rattle.rv_resolve.specs.Names.{Answers, IsDuplicate}
-use Rattle.rv_resolve.proofs.StepsLemmas.{symbols_more, symbols_left}
+use Rattle.rv_object.specs.Parts.{symbol_of}
+use Rattle.rv_resolve.specs.Chosen.{seen, definers_at, definers_in}
+use Rattle.rv_resolve.proofs.LoadingLemmas.{seen_symbols, symbols_left, HasBut, all_had, one_more, one_refused}
 use Rattle.rv_resolve.proofs.definitions.Definitions.put_all.Goals as goal
+
+pub loop-index-init : goal.loop-index-init
+loop-index-init c = λ ds table. (ds, table, refl)
+
+pub loop-index-preserved : goal.loop-index-preserved
+loop-index-preserved c = λ ds table.
+    let i = c.loop-index.index in
+    let xs = c.args.symbols.now in
+    let x = c.index-symbols-index.result in
+    let file = c.args.file in
+    let inside : i < length xs = search rules in
+    one_more (ds ++ definers_in file 0 (seen_symbols xs)) _ (definers_at file i (seen (symbol_of x))) (definers_in file (i + 1) (seen_symbols (drop (i + 1) xs))) c.loop-index.self
+    (symbols_left file xs i x inside c.index-symbols-index.is) (c.loop-index.invariant ds table) c.put.new.self c.in_ok-put.ensures.added
 
 pub returns-in_err-put-clause-refuses : goal.returns-in_err-put-clause-refuses
 returns-in_err-put-clause-refuses c =
-    let i = c.loop-symbol.symbol-index in
-    let view = moved_in c.args.object.now in
-    let xs = c.args.object.now.whole.now.symbols.items in
-    let x = c.symbol-item.result in
-    let same = c.deref-symbol-items.ensures.value in
-    let inside : i < length xs = subst (λ l. i < length l) same (search rules) in
-    let is = c.symbol-item.is ∙ ap (λ l. get_or l i x) same in
+    let i = c.loop-index.index in
+    let xs = c.args.symbols.now in
+    let x = c.index-symbols-index.result in
+    let file = c.args.file in
+    let inside : i < length xs = search rules in
     let found = err_from_is_err_and c.from_residual.result c.from_residual.ensures.1 in
-    let fault = c.in_err-put.field-0.0 in
-    rw (found.1, found.2) (λ o es h rest.
-    let file = c.args.file in
-    let done = es ++ exports_in file o (map view (take i xs)) in
-    let behind = names_of (exports_in file o (map view (drop (i + 1) xs))) ++ rest in
-    subst (IsDuplicate fault)
-    (sym (c.loop-symbol.invariant.apart o es rest h ∙ ap (first_again (names_of done)) (symbols_left view file o xs i x inside is rest)))
-    (c.in_err-put.ensures.refuses o done (c.loop-symbol.invariant.answers o es h) behind))
+    rw (found.1, found.2) (λ ds table.
+    one_refused (ds ++ definers_in file 0 (seen_symbols xs)) _ (definers_at file i (seen (symbol_of x))) (definers_in file (i + 1) (seen_symbols (drop (i + 1) xs))) c.loop-index.self
+    (symbols_left file xs i x inside c.index-symbols-index.is) (c.loop-index.invariant ds table) c.in_err-put.field-0.0 c.in_err-put.ensures.refuses)
 
-pub loop-symbol-preserved : goal.loop-symbol-preserved
-loop-symbol-preserved c =
-    let i = c.loop-symbol.symbol-index in
-    let view = moved_in c.args.object.now in
-    let xs = c.args.object.now.whole.now.symbols.items in
-    let x = c.symbol-item.result in
-    let same = c.deref-symbol-items.ensures.value in
-    let inside : i < length xs = subst (λ l. i < length l) same (search rules) in
-    let is = c.symbol-item.is ∙ ap (λ l. get_or l i x) same in
-    let file = c.args.file in
-    record {
-      answers = λ o es h.
-          subst (λ l. Answers l c.put.new.self) (symbols_more view file o xs i x inside is es)
-          (c.in_ok-put.ensures.added o (es ++ exports_in file o (map view (take i xs))) (c.loop-symbol.invariant.answers o es h)).0;
-      apart = λ o es rest h.
-          let done = es ++ exports_in file o (map view (take i xs)) in
-          let behind = names_of (exports_in file o (map view (drop (i + 1) xs))) ++ rest in
-          c.loop-symbol.invariant.apart o es rest h ∙ ap (first_again (names_of done)) (symbols_left view file o xs i x inside is rest)
-          ∙ (c.in_ok-put.ensures.added o done (c.loop-symbol.invariant.answers o es h)).1 behind
-          ∙ ap (λ l. first_again (names_of l) behind) (symbols_more view file o xs i x inside is es);
-    }
+pub returns-clause-added : goal.returns-clause-added
+returns-clause-added c = λ ds table.
+    let n = c.loop-index.index in
+    let xs = c.args.symbols.now in
+    let all = ds ++ definers_in c.args.file 0 (seen_symbols xs) in
+    let past : length xs ≤ n = search rules in
+    all_had all c.loop-index.self (subst (λ l. HasBut all l c.loop-index.self) (at_drop_all (λ l. definers_in c.args.file n (seen_symbols l)) xs n past) (c.loop-index.invariant ds table))

@@ -1,45 +1,44 @@
-use Rattle.std.proofs.Common.{◌≡◌, ◌<◌, ◌≤◌, ◌++◌, ◌∙◌, ℕ, Option, List, length, map, get_or, rules, ap, sym, subst}
+use Rattle.std.proofs.Common.{◌<◌, ◌≤◌, ◌+◌, ◌++◌, ◌∷◌, ◌∙◌, [], Option, List, length, map, drop, rules, ap, sym, append-nil}
 use Rattle.std.specs.Global.{Vec}
-use Rattle.std.proofs.lemmas.List.{length-map, take_all}
-use Rattle.rv_object.specs.Object.{Object}
-use Rattle.rv_object.specs.Parts.{symbol_of}
-use Rattle.rv_shorten.specs.declared.object.ShortObject.{ShortObject}
-use Rattle.rv_shorten.specs.View.{moves_of, short_object_of}
+use Rattle.std.proofs.lemmas.List.{at_drop_all, map_push}
+use Rattle.rv_object.specs.declared.object.Object.{Object as DeclaredObject}
+use Rattle.rv_object.specs.View.{object_of}
 use Rattle.rv_resolve.specs.declared.definitions.Exported.{Exported}
-use Rattle.rv_resolve.specs.Names.{outside, numbered, HaveMeanings}
-use Rattle.rv_resolve.proofs.CutsLemmas.{all_outside}
-use Rattle.rv_resolve.proofs.NumbersLemmas.{row_more, rows_are}
-use Rattle.rv_resolve.proofs.StepsLemmas.{viewed}
+use Rattle.rv_resolve.specs.Chosen.{Seen, seen_of, definitions}
+use Rattle.rv_resolve.specs.Names.{outside}
+use Rattle.rv_resolve.proofs.LoadingLemmas.{seen_symbols}
+use Rattle.rv_resolve.proofs.RowsLemmas.{one_pushed}
+use Rattle.rv_resolve.proofs.StepsLemmas.{left}
 use Rattle.rv_resolve.proofs.meanings.Meanings.of.Goals as goal
 
+abbrev rows_of : List (Vec (Option Exported)) → List (List (Option Exported))
+rows_of rows = map (λ (row : Vec (Option Exported)). row.items) rows
+
 pub loop-file-init : goal.loop-file-init
-loop-file-init c = λ h more. ap (map (λ (row : Vec (Option ℕ)). map (numbered (c.new-meant.result.items ++ more)) row.items)) c.new-numbers.ensures.items
+loop-file-init c = λ h.
+    let one = outside (definitions (map object_of c.args.objects.now)) in
+    ap (λ l. rows_of l ++ map (map one) (seen_of (map object_of c.args.objects.now))) c.new-files.ensures.items
 
 pub loop-file-preserved : goal.loop-file-preserved
 loop-file-preserved c = λ h.
     let i = c.loop-file.file in
     let xs = c.args.objects.now in
-    let os = map short_object_of xs in
     let x = c.index-objects-file.result in
-    let o = short_object_of x in
     let inside : i < length xs = search rules in
-    let inside' : i < length os = subst (λ n. i < n) (sym (length-map xs short_object_of)) inside in
-    let is : o ≡ get_or os i o = viewed short_object_of xs i x inside c.index-objects-file.is in
-    let own : map (outside os) (map symbol_of c.as_slice.result.now) ≡ map (outside os) o.symbols =
-    ap (λ l. map (outside os) (map symbol_of l)) c.as_slice.ensures.value
-    ∙ ap (λ (y : ShortObject). map (outside os) (map symbol_of y.whole.now.symbols.items)) (sym c.index-objects-file.is)
-    ∙ all_outside os (moves_of x) (map symbol_of x.whole.now.symbols.items) in
-    let each : Object → List (Option Exported) = λ p. map (outside os) p.symbols in
-    let meant = c.file_numbers.new.meant.items in
-    let row = c.in_ok-row.row in
-    row_more each os i o c.loop-file.meant.items meant c.loop-file.numbers.items c.push.new.self.items row inside' is c.in_ok-row.ensures.grows
-    (subst (HaveMeanings meant row.items) own (c.in_ok-row.ensures.numbers os h)) (c.loop-file.invariant h) c.in_ok-push.ensures.items
+    let ds = definitions (map object_of xs) in
+    let all : List (List Seen) → List (List (Option Exported)) = map (map (outside ds)) in
+    let symbols = c.as_slice.ensures.value ∙ ap (λ (y : DeclaredObject). y.symbols.items) (sym c.index-objects-file.is) in
+    let row = c.in_ok-row.ensures ds h ∙ ap (λ l. map (outside ds) (seen_symbols l)) symbols in
+    let rows = c.loop-file.files.items in
+    one_pushed (rows_of rows) (rows_of c.push.new.self.items) _ (all (seen_of (map object_of (drop (i + 1) xs)))) (all (seen_of (map object_of xs))) (map (outside ds) (seen_symbols x.symbols.items))
+    (ap rows_of c.in_ok-push.ensures.items ∙ map_push (λ (r : Vec (Option Exported)). r.items) rows c.in_ok-row.row ∙ ap (λ r. rows_of rows ++ r ∷ []) row)
+    (ap (λ l. all (seen_of (map object_of l))) (left xs i x inside c.index-objects-file.is)) (c.loop-file.invariant h)
 
 pub returns : goal.returns
 returns c = λ h.
     let n = c.loop-file.file in
     let xs = c.args.objects.now in
-    let os = map short_object_of xs in
-    let past : length os ≤ n = subst (λ k. k ≤ n) (sym (length-map xs short_object_of)) (search rules) in
-    let each : Object → List (Option Exported) = λ p. map (outside os) p.symbols in
-    rows_are c.loop-file.meant.items c.loop-file.numbers.items _ (c.loop-file.invariant h) ∙ ap (map each) (take_all n os past)
+    let past : length xs ≤ n = search rules in
+    let one = outside (definitions (map object_of xs)) in
+    let rows = rows_of c.loop-file.files.items in
+    sym (append-nil rows) ∙ sym (at_drop_all (λ l. rows ++ map (map one) (seen_of (map object_of l))) xs n past) ∙ c.loop-file.invariant h

@@ -21,7 +21,7 @@ returns-in-Some c = λ start o h stands at.
     let p = c.args.placement.now in
     let s = with_definition (c.in_ok-symbol.symbol, c.in_ok-symbol.definition) in
     let there : Some s ≡ slice_get o.symbols c.args.index = c.in_ok-symbol.ensures o at in
-    let m = is_meant os c.args.file o s.name at s.definition c.in-Some.exported (sym (c.meant.ensures os o s h at (sym there) refl) ∙ c.in-Some.is) in
+    let m = is_meant os c.args.file o s.name at s.definition c.in-Some.meant (sym (c.meant.ensures o s h at (sym there) refl) ∙ c.in-Some.is) in
     c.defined_address.ensures start m.holder stands m.at ∙ sym (m.address h.distinct (starts_of p) (regions_of p))
     ∙ ap (option_and_then (symbol_address (shown_globals os p) (starts_of p (c.args.file + 1)) o)) there
 
@@ -32,5 +32,5 @@ returns-in-None c = λ start o h stands at.
     let s = with_definition (c.in_ok-symbol.symbol, c.in_ok-symbol.definition) in
     let there : Some s ≡ slice_get o.symbols c.args.index = c.in_ok-symbol.ensures o at in
     c.linker_address.ensures os start stands
-    ∙ sym (address_none os c.args.file o s.name s.definition (sym (c.meant.ensures os o s h at (sym there) refl) ∙ c.in-None.is) h.distinct (starts_of p) (regions_of p))
+    ∙ sym (address_none os c.args.file o s.name s.definition (sym (c.meant.ensures o s h at (sym there) refl) ∙ c.in-None.is) h.distinct (starts_of p) (regions_of p))
     ∙ ap (option_and_then (symbol_address (shown_globals os p) (starts_of p (c.args.file + 1)) o)) there

@@ -5,7 +5,7 @@ use Rattle.rv_object.specs.Object.{Object}
 use Rattle.rv_object.specs.Parts.{symbol_of}
 use Rattle.rv_shorten.specs.View.{short_object_of}
 use Rattle.rv_resolve.proofs.CutsLemmas.{symbol_there}
-use Rattle.rv_resolve.proofs.addresses.symbol_at.Goals as goal
+use Rattle.rv_resolve.proofs.names.symbol_at.Goals as goal
 
 pub returns : goal.returns
 returns c = λ o at.

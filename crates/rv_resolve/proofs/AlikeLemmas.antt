@@ -1,0 +1,20 @@
+-- What names mean does not depend on where definitions stand.
+
+use Rattle.std.proofs.Common.{◌≡◌, List, map, subst, sym, ap, ◌∙◌}
+use Rattle.rv_map.specs.Globals.{AreDistinct}
+use Rattle.rv_object.specs.Object.{Object}
+use Rattle.rv_object_laws.specs.Names.{global_names}
+use Rattle.rv_resolve.specs.declared.names.Names.{Names}
+use Rattle.rv_resolve.specs.Chosen.{seen_of, definers_from, names_in}
+use Rattle.rv_resolve.specs.Names.{Answers, outside, IsNames}
+use Rattle.rv_resolve.proofs.LoadingLemmas.{names_of_files}
+
+pub same_names : (os left : List Object) → seen_of left ≡ seen_of os → global_names left ≡ global_names os
+same_names os left same = sym (names_of_files 0 left) ∙ ap (λ q. names_in (definers_from 0 q)) same ∙ names_of_files 0 os
+
+pub still_names : (os left : List Object) (names : Names) → seen_of left ≡ seen_of os → IsNames os names → IsNames left names
+still_names os left names same h = record {
+  answers = subst (λ q. Answers (definers_from 0 q) names.definitions) (sym same) h.answers;
+  distinct = subst AreDistinct (sym (same_names os left same)) h.distinct;
+  meanings = h.meanings ∙ ap (λ q. map (map (outside (definers_from 0 q))) q) (sym same);
+}
