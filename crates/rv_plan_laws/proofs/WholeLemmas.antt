@@ -69,7 +69,7 @@ module _ (os : List Object) (kept : List ℕ) (starts : Starts) (far : ℕ) (mul
   all_agree at D G before after stop [] ks here even inputs d_even d_low g_is stop_is kept_low stand split = (tt, (refl, refl))
   all_agree at D G before after stop (i ∷ is) [] here even inputs d_even d_low g_is stop_is kept_low stand split = absurd here
   all_agree at D G before after stop (i ∷ is) (k ∷ ks) here even inputs d_even d_low g_is stop_is kept_low stand split =
-      let rest = all_agree (first + size) D2 G1 (before + size) (after + left size) (start_of starts i + left size) is (drop (length cs) ks) here.1
+      let rest = all_agree (first + size) D'' G1 (before + size) (after + left size) (start_of starts i + left size) is (drop (length cs) ks) here.1
       even_rest inputs.1 d2_even d2_low (omega (arith, g_is)) stop_next kept_next stand.1.1 split_next in
       ((agree, rest.0), (pads_step rest.1.0, rooms_step rest.1.1))
     where
@@ -97,17 +97,17 @@ module _ (os : List Object) (kept : List ℕ) (starts : Starts) (far : ℕ) (mul
       l0 : ℕ
       l0 = aligned b (at - D) - (at - D)
 
-      D1 : ℕ
-      D1 = D + (sp - l0)
+      D' : ℕ
+      D' = D + (sp - l0)
 
       G1 : ℕ
       G1 = G + sp
 
       L : List ℕ
-      L = padded D1 own ks
+      L = padded D' own ks
 
-      D2 : ℕ
-      D2 = D1 + total own L
+      D'' : ℕ
+      D'' = D' + total own L
 
       left : ℕ → ℕ
       left off = left_offset os kept starts i off
@@ -116,7 +116,7 @@ module _ (os : List Object) (kept : List ℕ) (starts : Starts) (far : ℕ) (mul
       Xd old = sites_dropped (joined G1 (no_starts own) own) L old
 
       Zd : ℕ → ℕ
-      Zd old = dropped_from os (first + size) D2 G1 is (drop (length cs) ks) old
+      Zd old = dropped_from os (first + size) D'' G1 is (drop (length cs) ks) old
 
       l0_even : l0 % 2 ≡ 0
       l0_even = let a = even.0 in even_aligned b even.1.0.1.0 (at - D) even.1.0.1.1 (omega (arith, a, d_even, d_low))
@@ -124,17 +124,17 @@ module _ (os : List Object) (kept : List ℕ) (starts : Starts) (far : ℕ) (mul
       l0_low : l0 ≤ sp
       l0_low = let most = (stand.0 (at - D)).1 in let e = even.1.0.1.1 in omega (arith, l0_even, most, e)
 
-      d1_even : D1 % 2 ≡ 0
+      d1_even : D' % 2 ≡ 0
       d1_even = let a = even.1.0.0 in omega (arith, a, d_even, l0_even)
 
-      d1_low : D1 ≤ first
+      d1_low : D' ≤ first
       d1_low = omega (arith, d_low)
 
       own_even : AreEven own ks
       own_even = even_front own zs ks even.1.1
 
       are : AreLeft own ks L
-      are = are_left D1 own ks own_even d1_even
+      are = are_left D' own ks own_even d1_even
 
       same_count : length own ≡ length cs
       same_count = length-map cs (site_of os i first)
@@ -146,7 +146,7 @@ module _ (os : List Object) (kept : List ℕ) (starts : Starts) (far : ℕ) (mul
       many = let enough = here.0.enough in omega (arith, enough, same_count)
 
       lenL : length L ≡ length own
-      lenL = length_padded D1 own ks many
+      lenL = length_padded D' own ks many
 
       lenX : length L ≡ length (joined G1 (no_starts own) own)
       lenX = lenL ∙ sym (length_joined G1 own)
@@ -156,35 +156,35 @@ module _ (os : List Object) (kept : List ℕ) (starts : Starts) (far : ℕ) (mul
 
       parts : (old : ℕ) → dropped_from os at D G (i ∷ is) (k ∷ ks) old ≡ Xd old + Zd old
       parts old =
-          ap (λ fs. sites_dropped (joined G1 (fs ++ starts_from os is) (own ++ zs)) (inner (fs ++ starts_from os is) (padded D1 (own ++ zs) ks)) old) (no_starts_own os i first cs)
-          ∙ ap (λ ys. sites_dropped ys (inner (no_starts own ++ starts_from os is) (padded D1 (own ++ zs) ks)) old) (joined_append G1 own zs (starts_from os is))
-          ∙ ap (λ ns. sites_dropped (joined G1 (no_starts own) own ++ joined G1 (starts_from os is) zs) (inner (no_starts own ++ starts_from os is) ns) old) (padded_append D1 own zs ks many ∙ ap (λ n. L ++ padded D2 zs (drop n ks)) same_count)
-          ∙ ap (λ ns. sites_dropped (joined G1 (no_starts own) own ++ joined G1 (starts_from os is) zs) ns old) (inner_append own (starts_from os is) L (padded D2 zs (drop (length cs) ks)) lenL)
-          ∙ dropped_append (joined G1 (no_starts own) own) (joined G1 (starts_from os is) zs) L (inner (starts_from os is) (padded D2 zs (drop (length cs) ks))) old lenX
+          ap (λ fs. sites_dropped (joined G1 (fs ++ starts_from os is) (own ++ zs)) (inner (fs ++ starts_from os is) (padded D' (own ++ zs) ks)) old) (no_starts_own os i first cs)
+          ∙ ap (λ ys. sites_dropped ys (inner (no_starts own ++ starts_from os is) (padded D' (own ++ zs) ks)) old) (joined_append G1 own zs (starts_from os is))
+          ∙ ap (λ ns. sites_dropped (joined G1 (no_starts own) own ++ joined G1 (starts_from os is) zs) (inner (no_starts own ++ starts_from os is) ns) old) (padded_append D' own zs ks many ∙ ap (λ n. L ++ padded D'' zs (drop n ks)) same_count)
+          ∙ ap (λ ns. sites_dropped (joined G1 (no_starts own) own ++ joined G1 (starts_from os is) zs) ns old) (inner_append own (starts_from os is) L (padded D'' zs (drop (length cs) ks)) lenL)
+          ∙ dropped_append (joined G1 (no_starts own) own) (joined G1 (starts_from os is) zs) L (inner (starts_from os is) (padded D'' zs (drop (length cs) ks))) old lenX
 
-      start_is : start_of starts i ≡ far + (first - D1)
-      start_is = stand.1.0 ∙ ap (aligned b) stop_is ∙ (stand.0 (at - D)).0 ∙ (let e : far + ((at - D) + l0) ≡ far + (first - D1) = omega (arith, l0_low, d_low) in e)
+      start_is : start_of starts i ≡ far + (first - D')
+      start_is = stand.1.0 ∙ ap (aligned b) stop_is ∙ (stand.0 (at - D)).0 ∙ (let e : far + ((at - D) + l0) ≡ far + (first - D') = omega (arith, l0_low, d_low) in e)
 
       Z : List Site
       Z = joined G1 (starts_from os is) zs
 
       M : List ℕ
-      M = inner (starts_from os is) (padded D2 zs (drop (length cs) ks))
+      M = inner (starts_from os is) (padded D'' zs (drop (length cs) ks))
 
       sites_is : sites_of_rest os at G (i ∷ is) ≡ joined G1 (no_starts own) own ++ Z
       sites_is = ap (λ fs. joined G1 (fs ++ starts_from os is) (own ++ zs)) (no_starts_own os i first cs) ∙ joined_append G1 own zs (starts_from os is)
 
       kept_is : kept_of_rest os at D (i ∷ is) (k ∷ ks) ≡ L ++ M
       kept_is =
-          ap (λ fs. inner (fs ++ starts_from os is) (padded D1 (own ++ zs) ks)) (no_starts_own os i first cs)
-          ∙ ap (inner (no_starts own ++ starts_from os is)) (padded_append D1 own zs ks many ∙ ap (λ n. L ++ padded D2 zs (drop n ks)) same_count)
-          ∙ inner_append own (starts_from os is) L (padded D2 zs (drop (length cs) ks)) lenL
+          ap (λ fs. inner (fs ++ starts_from os is) (padded D' (own ++ zs) ks)) (no_starts_own os i first cs)
+          ∙ ap (inner (no_starts own ++ starts_from os is)) (padded_append D' own zs ks many ∙ ap (λ n. L ++ padded D'' zs (drop n ks)) same_count)
+          ∙ inner_append own (starts_from os is) L (padded D'' zs (drop (length cs) ks)) lenL
 
       pads_step : pads Z M ≡ link_pads starts (lefts os kept is) → pads (sites_of_rest os at G (i ∷ is)) (kept_of_rest os at D (i ∷ is) (k ∷ ks)) ≡ link_pads starts (lefts os kept (i ∷ is))
       pads_step so =
           ap (λ l. pads l (kept_of_rest os at D (i ∷ is) (k ∷ ks))) sites_is ∙ ap (pads (joined G1 (no_starts own) own ++ Z)) kept_is
           ∙ pads_append (joined G1 (no_starts own) own) Z L M lenX
-          ∙ ap (λ ns. ns ++ pads Z M) (pads_agree os i (sizes_in os kept i) first (start_of starts i) far D1 ks zs here.0.sound here.0.text here.0.is_here start_is d1_low multiples G1 are)
+          ∙ ap (λ ns. ns ++ pads Z M) (pads_agree os i (sizes_in os kept i) first (start_of starts i) far D' ks zs here.0.sound here.0.text here.0.is_here start_is d1_low multiples G1 are)
           ∙ ap (λ ns. map bytes_kept (moves_in starts (left_input os kept i)) ++ ns) so
 
       rooms_step : are_roomy Z M ≡ have_room starts (lefts os kept is)
@@ -192,7 +192,7 @@ module _ (os : List Object) (kept : List ℕ) (starts : Starts) (far : ℕ) (mul
       rooms_step so =
           ap (λ l. are_roomy l (kept_of_rest os at D (i ∷ is) (k ∷ ks))) sites_is ∙ ap (are_roomy (joined G1 (no_starts own) own ++ Z)) kept_is
           ∙ roomy_append (joined G1 (no_starts own) own) Z L M lenX
-          ∙ ap (λ b. b && are_roomy Z M) (rooms_agree os i (sizes_in os kept i) first (start_of starts i) far D1 ks zs here.0.sound here.0.text here.0.is_here start_is d1_low multiples G1 are)
+          ∙ ap (λ b. b && are_roomy Z M) (rooms_agree os i (sizes_in os kept i) first (start_of starts i) far D' ks zs here.0.sound here.0.text here.0.is_here start_is d1_low multiples G1 are)
           ∙ ap (λ b. list_all has_room (moves_in starts (left_input os kept i)) && b) so
 
       a_of : ℕ → ℕ
@@ -204,7 +204,7 @@ module _ (os : List Object) (kept : List ℕ) (starts : Starts) (far : ℕ) (mul
       own_drop : (off : ℕ) → Xd (before + off) ≡ a_of off + m_of off
       own_drop off =
           ap Xd (let e : before + off ≡ first - G1 + off = omega (arith, g_is) in e)
-          ∙ offsets_agree os i (sizes_in os kept i) first (start_of starts i) far D1 ks zs here.0.sound here.0.text here.0.is_here start_is d1_low multiples G1 off are (omega (arith, g_is))
+          ∙ offsets_agree os i (sizes_in os kept i) first (start_of starts i) far D' ks zs here.0.sound here.0.text here.0.is_here start_is d1_low multiples G1 off are (omega (arith, g_is))
 
       few : (off : ℕ) → a_of off + m_of off ≤ off
       few off =
@@ -213,7 +213,7 @@ module _ (os : List Object) (kept : List ℕ) (starts : Starts) (far : ℕ) (mul
           omega (arith, most, is, g_is)
 
       none : (off : ℕ) → off ≤ size → Zd (before + off) ≡ 0
-      none off le = none_dropped G1 (first + size) (before + off) (starts_from os is) zs (padded D2 zs (drop (length cs) ks)) here.0.behind (omega (arith, g_is, le))
+      none off le = none_dropped G1 (first + size) (before + off) (starts_from os is) zs (padded D'' zs (drop (length cs) ks)) here.0.behind (omega (arith, g_is, le))
 
       agree : (off : ℕ) → off ≤ size → site_offset ss ls (before + off) ≡ after + left off
       agree off le =
@@ -229,13 +229,13 @@ module _ (os : List Object) (kept : List ℕ) (starts : Starts) (far : ℕ) (mul
       total_is : total own L ≡ a_of size + m_of size
       total_is = sym (all_own (before + size) (omega arith)) ∙ own_drop size
 
-      d2_even : D2 % 2 ≡ 0
-      d2_even = let e = total_even D1 own ks own_even d1_even in omega (arith, e, d1_even)
+      d2_even : D'' % 2 ≡ 0
+      d2_even = let e = total_even D' own ks own_even d1_even in omega (arith, e, d1_even)
 
-      d2_low : D2 ≤ first + size
+      d2_low : D'' ≤ first + size
       d2_low = let e = total_is in let small = few size in omega (arith, e, small, d1_low)
 
-      stop_next : start_of starts i + left size ≡ far + (first + size - D2)
+      stop_next : start_of starts i + left size ≡ far + (first + size - D'')
       stop_next = let e = total_is in let small = few size in let s = start_is in omega (arith, e, small, s, d1_low)
 
       kept_next : after + left size ≤ before + size
