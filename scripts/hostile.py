@@ -13,7 +13,7 @@ guest reads it as its input, and an object is linked alone, twice, or with anoth
   time      it takes more than 2 seconds of a processor, or 60 of the clock
   no name   it says what is no message of docs/manual, or has another status than the message
   file      a refused call leaves a file
-  memory    its memory passes 20 times the bytes of its files and 16 MiB, beside what it makes: objects, program, listing
+  memory    its memory passes 20 times the bytes of its files and 16 MiB, beside what the program it makes or loads has
   want      it answers that memory ran out, and took no more than that
 
 Each find is one line, and its files are kept in the folder that the last line names, up to 20 for each kind of find and
@@ -483,37 +483,15 @@ def read_by(words, at):
     return [at / it for it in names if it not in outputs(words) and (at / it).is_file()]
 
 
-def loaded_bytes(file):
-    """The bytes that an executable has in memory."""
-    places = next(it for kind, it, _ in tables(file) if kind == "segment")
-    return sum(min(get(file, it + 40, 8), 256 * MIB) for it in places)
-
-
-def made_bytes(source):
-    """The bytes of the object that a source makes, and those of its program in memory."""
-    with tempfile.TemporaryDirectory() as folder:
-        made = Path(folder) / "made"
-        words = [RV, "as", "-o", made, source], [RV, "build", "-o", made, source]
-        files = [made.read_bytes() for it in words if subprocess.run(it, stderr=subprocess.DEVNULL).returncode == 0]
-        return sum(max(len(it), loaded_bytes(it)) for it in files)
-
-
-def listing_bytes(words, at):
-    """The bytes of a listing, as long as it may become."""
-    with subprocess.Popen([RV, *words], cwd=at, stdout=subprocess.PIPE, stderr=subprocess.DEVNULL) as ran:
-        return sum(len(it) for it in iter(lambda: ran.stdout.read(MIB), b""))
-
-
 def own_bytes(words, at):
-    """The bytes of the objects and of the program that a call makes or loads, of its map and of its listing."""
+    """The bytes of the program that a call made or loaded, and of its map."""
     made = sum((at / it).stat().st_size for it in outputs(words) if (at / it).exists())
     for path in read_by(words, at):
-        file = path.read_bytes()
+        file = path.read_bytes()[:LARGEST]
         if file.startswith(b"\x7fELF") and len(file) >= 64:
-            made += loaded_bytes(file)
-        elif words[0] != "objdump":
-            made += made_bytes(path)
-    return made + (listing_bytes(words, at) if words[0] == "objdump" else 0)
+            places = next(it for kind, it, _ in tables(file) if kind == "segment")
+            made += sum(min(get(file, it + 40, 8), 256 * MIB) for it in places)
+    return made
 
 
 def find_in(words, at):
