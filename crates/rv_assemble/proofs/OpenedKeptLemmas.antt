@@ -36,8 +36,7 @@ directed_kept : (word : DirectiveWord) (ts : List Token) (os : List Operand) →
 directed_kept words.Section ts os (one, rest, now, later, is, (name, joined, good, names), others, says) =
     subst (λ (l : List Operand). opens_kept (Directs (directed words.Section l)) ≡ true) (sym (says ∙ ap (λ l. l ++ later) names)) (section_kept name later (kept_name name good))
 directed_kept (words.Enters section) ts os h = refl
-directed_kept words.Globl ts os h = refl
-directed_kept words.Local ts os h = refl
+directed_kept (words.Binds binding) ts os h = refl
 directed_kept words.Set ts os h = set_kept os
   where
     set_kept : (os : List Operand) → opens_kept (Directs (directed words.Set os)) ≡ true

@@ -5,7 +5,7 @@ use Rattle.std.proofs.Math.Nat.{pow-suc}
 use Rattle.std.proofs.lemmas.Bool.{leb-true, leb-false}
 use Rattle.std.specs.Prelude.{⊤, if◌then◌else◌}
 use Rattle.rv_text_laws.specs.Values.{Value}
-use Rattle.rv_statement.specs.Statement.{Expression, Directive, Enters, Opens, Globl, Local, Sets, Aligns_to_power, Aligns_to_bytes, Values, Strings, Zeros, Chooses, Ignored}
+use Rattle.rv_statement.specs.Statement.{Expression, Directive, Enters, Opens, Binds, Sets, Aligns_to_power, Aligns_to_bytes, Values, Strings, Zeros, Chooses, Ignored}
 use Rattle.rv_unit_laws.specs.Contributions.{Contribution, Nothing, Bytes, Zero_bytes, Alignment, contribution}
 use Rattle.rv_unit_laws.specs.Tables.{alignment_of, contribution_alignment, or_none}
 use Rattle.rv_unit_laws.proofs.GrownLemmas.{AlignsToPower, directive_aligned}
@@ -87,8 +87,7 @@ directive_room v s multiple (Strings ended strings) e h = tt
 directive_room v s multiple (Zeros count) e h = tt
 directive_room v s multiple (Enters section) e h = tt
 directive_room v s multiple (Opens name flags kind) e h = tt
-directive_room v s multiple (Globl names) e h = tt
-directive_room v s multiple (Local names) e h = tt
+directive_room v s multiple (Binds binding names) e h = tt
 directive_room v s multiple (Sets name x) e h = tt
 directive_room v s multiple (Chooses choice) e h = tt
 directive_room v s multiple Ignored e h = tt

@@ -558,8 +558,7 @@ directed_shown : (word : DirectiveWord) (os : List Operand) → is_section_word 
 unfolding AllShown operand_names is_section_word
 directed_shown words.Section os plain h = absurd (cc)
 directed_shown (words.Enters section) os plain h = refl
-directed_shown words.Globl os plain h = all_both is_name (names_in os) [] (words_shown os h) refl
-directed_shown words.Local os plain h = all_both is_name (names_in os) [] (words_shown os h) refl
+directed_shown (words.Binds binding) os plain h = all_both is_name (names_in os) [] (words_shown os h) refl
 directed_shown words.Set (Word name ∷ Value e ∷ []) plain h =
     let p = and_parts (are_shown (name ∷ [])) (are_good_operands (Value e ∷ [])) h in
     let q = (and_parts (are_shown (tree_names e)) true p.1).0 in
@@ -634,8 +633,7 @@ places_plain : (word : DirectiveWord) → is_section_word word ≡ false → are
 unfolding are_plain is_plain is_section_word
 places_plain words.Section h = absurd (cc)
 places_plain (words.Enters section) h = refl
-places_plain words.Globl h = refl
-places_plain words.Local h = refl
+places_plain (words.Binds binding) h = refl
 places_plain words.Set h = refl
 places_plain words.AlignToPower h = refl
 places_plain words.AlignToBytes h = refl

@@ -413,8 +413,7 @@ directed_light : (word : DirectiveWord) (os : List Operand) → Said (Directs (d
 directed_light words.Section (Word name ∷ later) = section_light name later
 directed_light words.Section _ = omega arith
 directed_light (words.Enters section) os = omega arith
-directed_light words.Globl os = let a = no_more (names_in os) in let b = words_light os in omega (arith, a, b)
-directed_light words.Local os = let a = no_more (names_in os) in let b = words_light os in omega (arith, a, b)
+directed_light (words.Binds binding) os = let a = no_more (names_in os) in let b = words_light os in omega (arith, a, b)
 directed_light words.Set (Word name ∷ Value e ∷ []) = let a = no_more (name ∷ tree_names e) in omega (arith, a)
 directed_light words.Set _ = omega arith
 directed_light words.AlignToPower (Value e ∷ []) = let a = no_more (tree_names e) in omega (arith, a)

@@ -3,7 +3,7 @@
 use Rattle.std.specs.Prelude.{◌≡◌, ℕ, Bool, true, List, [], ◌∷◌, ◌++◌, flat_map}
 use Rattle.std.specs.List.{list_all}
 use Rattle.rv_text_laws.specs.Expression.{Primary, Symbol, Tree, Leaf, Unary, Paren, Binary}
-use Rattle.rv_statement.specs.Statement.{StatementKind, Label, Directs, Statement, Globl, Local, Sets, Opens}
+use Rattle.rv_statement.specs.Statement.{StatementKind, Label, Directs, Statement, Binds, Sets, Opens}
 use Rattle.rv_map.specs.Name.{is_name}
 use Rattle.rv_source_laws.specs.Program.{expressions}
 use Rattle.rv_assemble_laws.specs.Symbols.{SymbolUse}
@@ -23,8 +23,7 @@ tree_names (Binary o x y) = tree_names x ++ tree_names y
 abbrev pub own_names : StatementKind → List (List ℕ)
 own_names (Label name) = name ∷ []
 own_names (Directs (Sets name e)) = name ∷ tree_names e
-own_names (Directs (Globl names)) = names
-own_names (Directs (Local names)) = names
+own_names (Directs (Binds binding names)) = names
 own_names (Directs (Opens name flags kind)) = name ∷ []
 own_names _ = []
 

@@ -2,7 +2,7 @@
 
 use Rattle.std.proofs.Common.{◌≡◌, ℕ, Bool, true, false, Option}
 use Rattle.rv_text_laws.specs.Values.{Value}
-use Rattle.rv_statement.specs.Statement.{StatementKind, Label, Numbered, Instruction, Directs, Expression, Directive, Enters, Opens, Globl, Local, Sets, Aligns_to_power, Aligns_to_bytes, Values, Strings, Zeros, Chooses, Ignored}
+use Rattle.rv_statement.specs.Statement.{StatementKind, Label, Numbered, Instruction, Directs, Expression, Directive, Enters, Opens, Binds, Sets, Aligns_to_power, Aligns_to_bytes, Values, Strings, Zeros, Chooses, Ignored}
 use Rattle.rv_unit_laws.specs.Tables.{alignment_of}
 use Rattle.rv_draft.specs.declared.item.CodeSize.{CodeSize}
 use Rattle.rv_draft.specs.declared.item.Item.{Item}
@@ -22,8 +22,7 @@ sized_directive v b own x begins (Aligns_to_power e) h = (h.0, padded b own x be
 sized_directive v b own x begins (Aligns_to_bytes e) h = (h.0, padded b own x begins (alignment_of v (Aligns_to_bytes e)) h.1)
 sized_directive v b own x begins (Enters standard) h = h
 sized_directive v b own x begins (Opens name flags kind) h = h
-sized_directive v b own x begins (Globl names) h = h
-sized_directive v b own x begins (Local names) h = h
+sized_directive v b own x begins (Binds binding names) h = h
 sized_directive v b own x begins (Chooses choice) h = h
 sized_directive v b own x begins Ignored h = h
 

@@ -182,8 +182,7 @@ fn size(
         StatementKind::Sets(_) => Ok(0),
         StatementKind::Enters(_) => Ok(0),
         StatementKind::Opens(_) => Ok(0),
-        StatementKind::Globl(_) => Ok(0),
-        StatementKind::Local(_) => Ok(0),
+        StatementKind::Binds(..) => Ok(0),
         StatementKind::Chooses(_) => Ok(0),
         StatementKind::Ignored => Ok(0),
     }
@@ -234,8 +233,7 @@ fn is_placed<'a>(scope: &Scope<'_, 'a>, place: SectionOffset, kind: &StatementKi
         StatementKind::AlignsToBytes(_) => true,
         StatementKind::Enters(_) => false,
         StatementKind::Opens(_) => false,
-        StatementKind::Globl(_) => false,
-        StatementKind::Local(_) => false,
+        StatementKind::Binds(..) => false,
         StatementKind::Chooses(_) => false,
         StatementKind::Ignored => false,
     }

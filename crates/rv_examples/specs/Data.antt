@@ -8,7 +8,8 @@ use Rattle.rv_text_laws.specs.Expression.{Symbol, Here, Reference, Leaf, Unary, 
 use Rattle.rv_statement.specs.declared.directive.Standard.TheVariants.{Data, Bss}
 use Rattle.rv_statement.specs.declared.mnemonic.Mnemonic.TheVariants.{Upper, Ecall}
 use Rattle.rv_isa.specs.declared.operation.UpperOperation.TheVariants.{Lui}
-use Rattle.rv_statement.specs.Statement.{StatementKind, Label, Numbered, Instruction, Directs, Statement, Expression, Register, Value, Enters, Opens, Globl, Local, Sets, Aligns_to_power, Aligns_to_bytes, Values, Strings, Zeros}
+use Rattle.rv_statement.specs.declared.directive.Binding.TheVariants as bindings
+use Rattle.rv_statement.specs.Statement.{StatementKind, Label, Numbered, Instruction, Directs, Statement, Expression, Register, Value, Enters, Opens, Binds, Sets, Aligns_to_power, Aligns_to_bytes, Values, Strings, Zeros}
 use Rattle.rv_map.specs.Map.{Map}
 use Rattle.rv_examples.specs.Exit7.{said, constant, norvc, globl, load, row, region, global}
 
@@ -120,7 +121,7 @@ says_hello = record { console = codes "hello"; «end» = Exited 0 }
 --     .local table
 abbrev pub figures : List Statement
 figures =
-    said 1 (Directs (Globl (codes "_start" ∷ codes "limit" ∷ codes "table" ∷ [])))
+    said 1 (Directs (Binds bindings.Global (codes "_start" ∷ codes "limit" ∷ codes "table" ∷ [])))
     ∷ said 2 (Label (codes "_start"))
     ∷ said 3 call
     ∷ said 4 (Directs (Enters Data))
@@ -142,7 +143,7 @@ figures =
     ∷ said 16 (Directs (Aligns_to_bytes (constant 8)))
     ∷ said 17 (Label (codes "room"))
     ∷ said 18 (Directs (Zeros (symbol (codes "limit"))))
-    ∷ said 19 (Directs (Local (codes "table" ∷ [])))
+    ∷ said 19 (Directs (Binds bindings.Local (codes "table" ∷ [])))
     ∷ []
 
 abbrev pub figures_map : Map

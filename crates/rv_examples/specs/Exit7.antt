@@ -13,7 +13,8 @@ use Rattle.rv_text_laws.specs.Expression.{Literal, Leaf, Unary}
 use Rattle.rv_statement.specs.declared.directive.Choice.TheVariants.{Norvc}
 use Rattle.rv_statement.specs.declared.mnemonic.Mnemonic.TheVariants.{Immediate, Ecall, Li}
 use Rattle.rv_isa.specs.declared.operation.ImmediateOperation.TheVariants.{Addi}
-use Rattle.rv_statement.specs.Statement.{StatementKind, Label, Instruction, Directs, Statement, Expression, Register, Value, Globl, Chooses}
+use Rattle.rv_statement.specs.declared.directive.Binding.TheVariants as bindings
+use Rattle.rv_statement.specs.Statement.{StatementKind, Label, Instruction, Directs, Statement, Expression, Register, Value, Binds, Chooses}
 use Rattle.rv_map.specs.Map.{Map, Global}
 use Rattle.rv_map.specs.declared.map.Row.{Row}
 use Rattle.rv_map.specs.declared.map.Region.{Region}
@@ -30,7 +31,7 @@ norvc = Directs (Chooses Norvc)
 
 -- `.globl name`
 abbrev pub globl : List ℕ → StatementKind
-globl name = Directs (Globl (name ∷ []))
+globl name = Directs (Binds bindings.Global (name ∷ []))
 
 -- `li rd, k`
 abbrev pub load : ℕ → ℕ → StatementKind

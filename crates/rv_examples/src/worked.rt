@@ -18,7 +18,7 @@ ghost use Rattle.rv_chain_laws.specs.SourceListing.{IsSourceListing};
 ghost use Rattle.rv_examples.specs.Data.{hello, hello_map, says_hello, hello_text, figures, figures_map, figures_data, differences, differences_map, differences_data};
 ghost use Rattle.rv_examples.specs.CodeAlignment.{two_sections, with_gap, without_gap};
 ghost use Rattle.rv_examples.specs.Regions.{text_sections, text_bytes, rodata_bytes, data_bytes};
-ghost use Rattle.rv_unit_laws.specs.declared.binding.Binding.TheVariants.{Local, Global};
+ghost use Rattle.rv_statement.specs.declared.directive.Binding.TheVariants.{Local, Global};
 ghost use Rattle.rv_unit_laws.specs.declared.section_type.SectionType.TheVariants.{Progbits, Nobits, Note};
 ghost use Rattle.rv_unit_laws.specs.Sections.{section_of};
 ghost use Rattle.rv_unit_laws.specs.Tables.{binding_of};

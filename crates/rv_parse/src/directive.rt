@@ -7,7 +7,7 @@
 ghost use Rattle.std.specs.Prelude.{◌≡◌, ◌∷◌, [], map, Some};
 ghost use Rattle.rv_lexer.specs.Cursor.{left, Answers};
 ghost use Rattle.rv_text.specs.Expr.{tree_of_expr};
-ghost use Rattle.rv_statement.specs.declared.directive.DirectiveWord.TheVariants.{Enters, Section, Globl, Local, Set, AlignToPower, AlignToBytes, Value, Ascii, Asciz, Zero, Option, Ignored};
+ghost use Rattle.rv_statement.specs.declared.directive.DirectiveWord.TheVariants.{Enters, Section, Binds, Set, AlignToPower, AlignToBytes, Value, Ascii, Asciz, Zero, Option, Ignored};
 ghost use Rattle.rv_statement.specs.Statement.{Directs};
 ghost use Rattle.rv_statement.specs.View.{statement_kind};
 ghost use Rattle.rv_parse_laws.specs.Syntax.{A_symbol, A_string, A_value, places, directed};
@@ -21,7 +21,7 @@ ghost use Rattle.rv_parse.specs.Left.{Gives, GivesDirective, ReadsDirective};
 use crate::{slot, value};
 use rv_parse_words::fault::{self, Slot};
 use rv_parse_words::{Role, kinds};
-use rv_statement::{DirectiveWord, Opening, Setting, Standard, StatementKind, Width};
+use rv_statement::{Binding, DirectiveWord, Opening, Setting, Standard, StatementKind, Width};
 use rv_text::{Cursor, Expr, ReadError, SyntaxError};
 use std::alloc::Global;
 
@@ -94,20 +94,16 @@ fn values<'a>(
     Ok(StatementKind::Value(width, first))
 }
 
-/// The names of `.globl`.
+/// The names of `.globl` and `.local`.
 #[tactic(auto, using(crate::proofs::ListsLemmas::all_names), unfolding(rv_parse_laws::specs::Parsing::operands_at))]
-fn globl<'a>(alloc: Global, cursor: &mut Cursor<'a>) -> Result<StatementKind<'a>, ReadError>
-    ensures { ReadsDirective Globl cursor.old cursor.new result }
+fn binds<'a>(
+    alloc: Global,
+    cursor: &mut Cursor<'a>,
+    binding: Binding,
+) -> Result<StatementKind<'a>, ReadError>
+    ensures { ReadsDirective (Binds binding) cursor.old cursor.new result }
 {
-    Ok(StatementKind::Globl(names(alloc, cursor)?))
-}
-
-/// The names of `.local`.
-#[tactic(auto, using(crate::proofs::ListsLemmas::all_names), unfolding(rv_parse_laws::specs::Parsing::operands_at))]
-fn local<'a>(alloc: Global, cursor: &mut Cursor<'a>) -> Result<StatementKind<'a>, ReadError>
-    ensures { ReadsDirective Local cursor.old cursor.new result }
-{
-    Ok(StatementKind::Local(names(alloc, cursor)?))
+    Ok(StatementKind::Binds(binding, names(alloc, cursor)?))
 }
 
 /// The strings of `.ascii`.
@@ -307,8 +303,7 @@ pub fn directive<'a>(
     match word {
         DirectiveWord::Enters(section) => enters(cursor, section),
         DirectiveWord::Section => section(alloc, cursor),
-        DirectiveWord::Globl => globl(alloc, cursor),
-        DirectiveWord::Local => local(alloc, cursor),
+        DirectiveWord::Binds(binding) => binds(alloc, cursor, binding),
         DirectiveWord::Set => set(alloc, cursor),
         DirectiveWord::AlignToPower => align_to_power(alloc, cursor),
         DirectiveWord::AlignToBytes => align_to_bytes(alloc, cursor),

@@ -28,7 +28,7 @@ use Rattle.rv_isa.specs.declared.operation.AccessSet.{AccessSet}
 use Rattle.rv_statement.specs.declared.directive.DirectiveWord.{DirectiveWord}
 use Rattle.rv_statement.specs.declared.directive.DirectiveWord.TheVariants as words
 use Rattle.rv_statement.specs.declared.directive.Choice.{Choice}
-use Rattle.rv_statement.specs.Statement.{Expression, Operand, Register, Value, Applied, Target, Accesses, Word, Quoted, Directive, Enters, Opens, Globl, Local, Sets, Aligns_to_power, Aligns_to_bytes, Values, Strings, Zeros, Chooses as Choosing, Ignored, StatementKind, Label, Numbered, Instruction, Directs}
+use Rattle.rv_statement.specs.Statement.{Expression, Operand, Register, Value, Applied, Target, Accesses, Word, Quoted, Directive, Enters, Opens, Binds, Sets, Aligns_to_power, Aligns_to_bytes, Values, Strings, Zeros, Chooses as Choosing, Ignored, StatementKind, Label, Numbered, Instruction, Directs}
 use Rattle.rv_statement.specs.View.{bytes_of}
 use Rattle.rv_parse_laws.specs.Words.{register, function_words, named_in, choices, beginning}
 use Rattle.rv_parse_laws.specs.declared.role.Role.{Role}
@@ -315,8 +315,7 @@ section_slots =
 abbrev pub places : DirectiveWord → Slots
 places (words.Enters section) = Stops A_register
 places words.Section = section_slots
-places words.Globl = Lists A_symbol
-places words.Local = Lists A_symbol
+places (words.Binds binding) = Lists A_symbol
 places words.Set = and_then A_symbol (last (A_value roles.Directive))
 places words.AlignToPower = last (A_value roles.Alignment)
 places words.AlignToBytes = last (A_value roles.Alignment)
@@ -531,8 +530,7 @@ directed words.Section (Word name ∷ Quoted flags ∷ []) = Opens name (Some fl
 -- the size of an entry is not used
 directed words.Section (Word name ∷ Quoted flags ∷ Word kind ∷ size) =
     Opens name (Some flags) (Some kind)
-directed words.Globl os = Globl (names_in os)
-directed words.Local os = Local (names_in os)
+directed (words.Binds binding) os = Binds binding (names_in os)
 directed words.Set (Word name ∷ Value e ∷ []) = Sets name e
 directed words.AlignToPower (Value e ∷ []) = Aligns_to_power e
 directed words.AlignToBytes (Value e ∷ []) = Aligns_to_bytes e

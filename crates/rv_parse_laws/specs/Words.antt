@@ -24,6 +24,7 @@ use Rattle.rv_statement.specs.declared.pseudo.Function.{Function}
 use Rattle.rv_statement.specs.declared.pseudo.Function.TheVariants.{Hi, Lo, PcrelHi, PcrelLo}
 use Rattle.rv_isa.specs.declared.operation.AtomicOperation.TheVariants.{Sc, Amoswap, Amoadd, Amoxor, Amoand, Amoor, Amomin, Amomax, Amominu, Amomaxu}
 use Rattle.rv_isa.specs.declared.operation.AtomicForm.{AtomicForm}
+use Rattle.rv_statement.specs.declared.directive.Binding.TheVariants.{Local, Global}
 use Rattle.rv_statement.specs.declared.directive.Standard.TheVariants.{Text, Data, Rodata, Bss}
 use Rattle.rv_statement.specs.declared.directive.Width.TheVariants.{Byte, Half, Word, Double}
 use Rattle.rv_statement.specs.declared.directive.Choice.{Choice}
@@ -225,9 +226,9 @@ directive_words =
     ∷ (codes ".rodata", words.Enters Rodata)
     ∷ (codes ".bss", words.Enters Bss)
     ∷ (codes ".section", words.Section)
-    ∷ (codes ".globl", words.Globl)
-    ∷ (codes ".global", words.Globl)
-    ∷ (codes ".local", words.Local)
+    ∷ (codes ".globl", words.Binds Global)
+    ∷ (codes ".global", words.Binds Global)
+    ∷ (codes ".local", words.Binds Local)
     ∷ (codes ".set", words.Set)
     ∷ (codes ".equ", words.Set)
     ∷ (codes ".align", words.AlignToPower)

@@ -1,5 +1,5 @@
 use rv_parse::{SourceFault, parse};
-use rv_statement::StatementKind;
+use rv_statement::{Binding, StatementKind};
 use std::alloc::Global;
 
 /// A statement of each kind that takes memory, and of the others.
@@ -27,8 +27,8 @@ fn letter(kind: &StatementKind<'_>) -> u8 {
     match kind {
         StatementKind::Label(_) => b':',
         StatementKind::Numbered(_) => b'1',
-        StatementKind::Globl(_) => b'g',
-        StatementKind::Local(_) => b'l',
+        StatementKind::Binds(Binding::Global, _) => b'g',
+        StatementKind::Binds(Binding::Local, _) => b'l',
         StatementKind::Sets(_) => b's',
         StatementKind::Opens(_) => b'o',
         StatementKind::Values(_, _) => b'v',

@@ -20,8 +20,8 @@ use rv_isa::{
 };
 use rv_parse_laws::Beginning;
 use rv_statement::{
-    Choice, CompareOperation, DirectiveWord, Function, Mnemonic, Standard, SwappedBranchOperation,
-    UnaryOperation, Width, ZeroBranchOperation,
+    Binding, Choice, CompareOperation, DirectiveWord, Function, Mnemonic, Standard,
+    SwappedBranchOperation, UnaryOperation, Width, ZeroBranchOperation,
 };
 use rv_text::LONGEST_NAME;
 
@@ -441,9 +441,9 @@ const DIRECTIVES: [(&str, DirectiveWord); 36] = [
     (".rodata", DirectiveWord::Enters(Standard::Rodata)),
     (".bss", DirectiveWord::Enters(Standard::Bss)),
     (".section", DirectiveWord::Section),
-    (".globl", DirectiveWord::Globl),
-    (".global", DirectiveWord::Globl),
-    (".local", DirectiveWord::Local),
+    (".globl", DirectiveWord::Binds(Binding::Global)),
+    (".global", DirectiveWord::Binds(Binding::Global)),
+    (".local", DirectiveWord::Binds(Binding::Local)),
     (".set", DirectiveWord::Set),
     (".equ", DirectiveWord::Set),
     (".align", DirectiveWord::AlignToPower),

@@ -9,7 +9,8 @@ use Rattle.rv_text_laws.specs.Expression.{Primary, Literal, Symbol as Named, Her
 use Rattle.rv_statement.specs.declared.directive.Choice.TheVariants.{Norvc}
 use Rattle.rv_statement.specs.declared.directive.Standard.TheVariants.{Text, Data}
 use Rattle.rv_statement.specs.declared.mnemonic.Mnemonic.TheVariants.{Ecall}
-use Rattle.rv_statement.specs.Statement.{StatementKind, Label, Instruction, Directs, Statement, Expression, Enters, Opens, Globl, Sets, Aligns_to_bytes, Chooses, Values}
+use Rattle.rv_statement.specs.declared.directive.Binding.TheVariants as bindings
+use Rattle.rv_statement.specs.Statement.{StatementKind, Label, Instruction, Directs, Statement, Expression, Enters, Opens, Binds, Sets, Aligns_to_bytes, Chooses, Values}
 use Rattle.rv_unit_laws.specs.Tables.{at_start}
 use Rattle.rv_source_laws.specs.Located.{Located, located_from}
 use Rattle.rv_map.specs.Map.{Map, Global as Shown}
@@ -43,7 +44,7 @@ name n = Leaf (Named n)
 abbrev pub first_source : List Statement
 first_source =
     said 1 (Directs (Chooses Norvc))
-    ∷ said 2 (Directs (Globl (codes "_start" ∷ [])))
+    ∷ said 2 (Directs (Binds bindings.Global (codes "_start" ∷ [])))
     ∷ said 3 (Label (codes "_start"))
     ∷ said 3 (Instruction Ecall [])
     ∷ said 4 (Directs (Enters Data))
@@ -68,7 +69,7 @@ first_source =
 --     .balign 8
 abbrev pub second_source : List Statement
 second_source =
-    said 1 (Directs (Globl (codes "f" ∷ codes "g" ∷ codes "c" ∷ [])))
+    said 1 (Directs (Binds bindings.Global (codes "f" ∷ codes "g" ∷ codes "c" ∷ [])))
     ∷ said 2 (Directs (Enters Data))
     ∷ said 3 (Label (codes "v"))
     ∷ said 3 (Directs (Values 1 (Leaf (Literal 7) ∷ [])))

@@ -7,6 +7,7 @@ use Rattle.rv_statement.specs.declared.mnemonic.Mnemonic.{Mnemonic}
 use Rattle.rv_statement.specs.declared.pseudo.Function.{Function}
 use Rattle.rv_isa.specs.declared.operation.AccessSet.{AccessSet}
 use Rattle.rv_statement.specs.declared.directive.Standard.{Standard}
+use Rattle.rv_statement.specs.declared.directive.Binding.{Binding}
 use Rattle.rv_statement.specs.declared.directive.Choice.{Choice}
 
 -- an expression of a statement: as it is written, without its parentheses
@@ -34,10 +35,8 @@ pub data Directive : Type 0 where
   Enters : (section : Standard) → Directive
   -- `.section`, with its flags' letters and its type's name where they are given
   Opens : (name : List ℕ) (flags kind : Option (List ℕ)) → Directive
-  -- `.globl` and `.global`, with their names in order
-  Globl : (names : List (List ℕ)) → Directive
-  -- `.local`, with its names in order
-  Local : (names : List (List ℕ)) → Directive
+  -- `.globl`, `.global` and `.local`, with their names in order
+  Binds : (binding : Binding) (names : List (List ℕ)) → Directive
   -- `.set` and `.equ`
   Sets : (name : List ℕ) (expression : Expression) → Directive
   -- `.align` and `.p2align`: to this power of two

@@ -151,8 +151,8 @@ statement_kind (kinds.WithFunction operation function e) =
     with_function operation function (tree_of_expr e)
 statement_kind (kinds.Enters section) = specs.Directs (specs.Enters section)
 statement_kind (kinds.Opens opening) = specs.Directs (opening_of (box_value opening))
-statement_kind (kinds.Globl names) = specs.Directs (specs.Globl (map now_of names.items))
-statement_kind (kinds.Local names) = specs.Directs (specs.Local (map now_of names.items))
+statement_kind (kinds.Binds binding names) =
+    specs.Directs (specs.Binds binding (map now_of names.items))
 statement_kind (kinds.Sets setting) = specs.Directs (setting_of (box_value setting))
 statement_kind (kinds.AlignsToPower exponent) =
     specs.Directs (specs.Aligns_to_power (tree_of_expr exponent))

@@ -32,6 +32,15 @@ impl Standard {
     }
 }
 
+/// Which files can mean a name (gABI, "Symbol Table", st_info).
+#[derive(Clone, Copy, Debug, PartialEq, Eq, Drop)]
+pub enum Binding {
+    /// `.local`, or nothing: the name is its file's own.
+    Local,
+    /// `.globl` and `.global`: all files can mean it.
+    Global,
+}
+
 /// What `.option` says.
 #[derive(Clone, Copy, Debug, PartialEq, Eq, Drop)]
 pub enum Choice {
@@ -64,10 +73,8 @@ pub enum DirectiveWord {
     Enters(Standard),
     /// `.section`
     Section,
-    /// `.globl` and `.global`
-    Globl,
-    /// `.local`
-    Local,
+    /// `.globl`, `.global` and `.local`
+    Binds(Binding),
     /// `.set` and `.equ`
     Set,
     /// `.align` and `.p2align`

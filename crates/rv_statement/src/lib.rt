@@ -21,7 +21,7 @@ mod mnemonic;
 mod pseudo;
 mod statement;
 
-pub use directive::{Choice, DirectiveWord, Standard, Width};
+pub use directive::{Binding, Choice, DirectiveWord, Standard, Width};
 pub use mnemonic::Mnemonic;
 pub use pseudo::{
     CompareOperation, Function, SwappedBranchOperation, UnaryOperation, ZeroBranchOperation,

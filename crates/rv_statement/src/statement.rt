@@ -3,7 +3,7 @@
 //! A statement has 40 bytes, since a source may have 4 million of them. `.set`, `.section` and expressions with
 //! operators are behind a pointer.
 
-use crate::directive::{Choice, Standard, Width};
+use crate::directive::{Binding, Choice, Standard, Width};
 use crate::pseudo::{
     CompareOperation, Function, SwappedBranchOperation, UnaryOperation, ZeroBranchOperation,
 };
@@ -137,10 +137,8 @@ pub enum StatementKind<'a> {
     Enters(Standard),
     /// `.section`
     Opens(Box<Opening<'a>>),
-    /// `.globl` or `.global`, with its names in order.
-    Globl(Vec<&'a [u8]>),
-    /// `.local`, with its names in order.
-    Local(Vec<&'a [u8]>),
+    /// `.globl`, `.global` or `.local`, with its names in order.
+    Binds(Binding, Vec<&'a [u8]>),
     /// `.set` or `.equ`
     Sets(Box<Setting<'a>>),
     /// `.align` or `.p2align`: to this power of two.

@@ -8,7 +8,7 @@ use Rattle.std.proofs.lemmas.Bool.{eq-eqb, ltb-true, or_left}
 use Rattle.rv_map.specs.Globals.{is_one_of}
 use Rattle.rv_text_laws.specs.Expression.{Symbol as Named}
 use Rattle.rv_text_laws.specs.Values.{Meaning, Known, InSection as InData, Open as OpenAddress, Refused, add}
-use Rattle.rv_statement.specs.Statement.{StatementKind, Label, Numbered, Instruction, Directs, Statement, Expression, Enters, Opens, Globl, Local, Sets, Aligns_to_power, Aligns_to_bytes, Values, Strings, Zeros, Chooses, Ignored}
+use Rattle.rv_statement.specs.Statement.{StatementKind, Label, Numbered, Instruction, Directs, Statement, Expression, Enters, Opens, Binds, Sets, Aligns_to_power, Aligns_to_bytes, Values, Strings, Zeros, Chooses, Ignored}
 use Rattle.rv_unit_laws.specs.Tables as laws
 use Rattle.rv_unit_laws.specs.Tables.{Tables, Labelled, Assignment, at_start, tables, definition_at, label_of, assigned_ever, assigned_before, is_location}
 use Rattle.rv_unit_laws.specs.Faults.{first_fault}
@@ -137,8 +137,7 @@ module _ (ss : List Statement) (sites : List Site) (located : map (λ s. s.locat
         go i s at (Instruction mnemonic operands) is = tt
         go i s at (Directs (Enters section)) is = tt
         go i s at (Directs (Opens section flags kind)) is = tt
-        go i s at (Directs (Globl names)) is = tt
-        go i s at (Directs (Local names)) is = tt
+        go i s at (Directs (Binds binding names)) is = tt
         go i s at (Directs (Sets n e)) is = first (sets_first t.assignments s.located.ordinal n) refl
           where
             first : (b : Bool) → sets_first t.assignments s.located.ordinal n ≡ b → AllByRecursion (λ m. bytes_eq m name ≡ true → Own d (site_definition t sites s (Directs (Sets n e)))) (if b then n ∷ [] else [])

@@ -10,7 +10,7 @@ use Rattle.std.proofs.lemmas.List.{reverse-append}
 use Rattle.rv_text_laws.specs.Expression.{Primary}
 use Rattle.rv_text_laws.specs.Values.{Value}
 use Rattle.rv_statement.specs.declared.directive.Choice.{Choice}
-use Rattle.rv_statement.specs.Statement.{StatementKind, Label, Numbered, Instruction, Directs, Statement, Expression, Directive, Enters, Opens, Globl, Local, Sets, Aligns_to_power, Aligns_to_bytes, Values, Strings, Zeros, Chooses, Ignored}
+use Rattle.rv_statement.specs.Statement.{StatementKind, Label, Numbered, Instruction, Directs, Statement, Expression, Directive, Enters, Opens, Binds, Sets, Aligns_to_power, Aligns_to_bytes, Values, Strings, Zeros, Chooses, Ignored}
 use Rattle.rv_unit_laws.specs.Sections.{Section, entered_by}
 use Rattle.rv_unit_laws.specs.Contributions.{Contribution, Nothing, contribution}
 use Rattle.rv_unit_laws.specs.Tables.{Tables, Definition, NumericLabel, Assignment, definition, here, value, is_defined, may_set, assigned_by, chosen, with_assignment, with_section, with_chosen, with_contribution, after_directive, after, after_all}
@@ -37,8 +37,7 @@ placed_by t u k n s (Numbered number) placed e = tt
 placed_by t u k n s (Instruction mnemonic operands) placed e = all_same (placed ≡ true) _ e
 placed_by t u k n s (Directs (Enters section)) placed e = tt
 placed_by t u k n s (Directs (Opens name flags kind)) placed e = tt
-placed_by t u k n s (Directs (Globl names)) placed e = tt
-placed_by t u k n s (Directs (Local names)) placed e = tt
+placed_by t u k n s (Directs (Binds binding names)) placed e = tt
 placed_by t u k n s (Directs (Sets name x)) placed e = tt
 placed_by t u k n s (Directs (Aligns_to_power x)) placed e = all_same (placed ≡ true) _ e
 placed_by t u k n s (Directs (Aligns_to_bytes x)) placed e = all_same (placed ≡ true) _ e

@@ -270,8 +270,7 @@ impl<'a> Unit<'a> {
             StatementKind::Asciz(strings) => self.fault_of_strings(place, true, strings),
             StatementKind::Zeros(count) => self.fault_of_zeros(ordinal, place, count),
             StatementKind::Chooses(choice) => choice_fault(depth, *choice),
-            StatementKind::Globl(_) => None,
-            StatementKind::Local(_) => None,
+            StatementKind::Binds(..) => None,
             StatementKind::Ignored => None,
         }
     }

@@ -3,9 +3,9 @@
 use Rattle.std.specs.Prelude.{ℕ, Bool, true, false, List, if◌then◌else◌}
 use Rattle.std.specs.List.{list_any}
 use Rattle.std.specs.Str.{bytes_eq}
-use Rattle.rv_statement.specs.Statement.{Directive, Globl, Local as Makes_local}
-use Rattle.rv_unit_laws.specs.declared.binding.Binding.{Binding}
-use Rattle.rv_unit_laws.specs.declared.binding.Binding.TheVariants.{Local, Global}
+use Rattle.rv_statement.specs.Statement.{Directive, Binds}
+use Rattle.rv_statement.specs.declared.directive.Binding.{Binding}
+use Rattle.rv_statement.specs.declared.directive.Binding.TheVariants.{Local, Global}
 
 -- the binding of each name
 abbrev pub Bindings : Type 0
@@ -22,8 +22,7 @@ bound binding names before name =
 
 -- the bindings after a directive: the last that lists a name holds
 abbrev pub bindings_then : Directive → Bindings → Bindings
-bindings_then (Globl names) before = bound Global names before
-bindings_then (Makes_local names) before = bound Local names before
+bindings_then (Binds binding names) before = bound binding names before
 bindings_then _ before = before
 
 abbrev pub is_global : Binding → Bool

@@ -6,7 +6,7 @@ ghost use Rattle.rv_unit_laws.specs.Bindings.{bound};
 ghost use Rattle.rv_unit_tables.specs.Tables.{binding_in};
 
 use indexmap::IndexMap;
-use rv_unit_laws::Binding;
+use rv_statement::Binding;
 use std::alloc::AllocError;
 
 /// Gives names a binding, in place of what was said of them before.

@@ -28,7 +28,6 @@ use crate::section_offset::SectionOffset;
 use crate::tables::{Assignment, Tables};
 use rv_statement::{Opening, Setting, Statement, StatementKind};
 use rv_text::{Expr, Meaning, SourceFault, Symbol, Value};
-use rv_unit_laws::Binding;
 use std::alloc::{AllocError, Global};
 
 /// Whether a statement enters a section.
@@ -231,8 +230,7 @@ impl<'a> Tables<'a> {
             StatementKind::Plain(_) => Ok(()),
             StatementKind::With(..) => Ok(()),
             StatementKind::WithFunction(..) => Ok(()),
-            StatementKind::Globl(names) => self.bind(Binding::Global, names.as_slice()),
-            StatementKind::Local(names) => self.bind(Binding::Local, names.as_slice()),
+            StatementKind::Binds(binding, names) => self.bind(*binding, names.as_slice()),
             StatementKind::Ignored => Ok(()),
         }
     }

@@ -35,7 +35,8 @@ pub use align::{
 };
 pub use fill::{Filled, assigned};
 pub use options::Options;
-pub use rv_unit_laws::{Binding, SectionType};
+pub use rv_statement::Binding;
+pub use rv_unit_laws::SectionType;
 pub use section::{Extent, Section};
 pub use section_offset::{Definition, SectionOffset};
 pub use tables::{Assignment, Label, NumericLabel, Tables};

@@ -29,9 +29,8 @@ use crate::options::Options;
 use crate::section::{Extent, Section};
 use crate::section_offset::SectionOffset;
 use indexmap::IndexMap;
-use rv_statement::Choice;
+use rv_statement::{Binding, Choice};
 use rv_text::{Expr, Meaning, SourceFault, Symbol, Value, eval};
-use rv_unit_laws::Binding;
 use std::alloc::{AllocError, Global};
 
 /// The most sections of a source.

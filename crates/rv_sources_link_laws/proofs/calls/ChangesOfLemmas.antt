@@ -10,7 +10,7 @@ use Rattle.rv_isa.specs.declared.kind.Kind.TheVariants as kinds
 use Rattle.rv_isa.specs.Kinds.{width_of}
 use Rattle.rv_text_laws.specs.Expression.{Primary}
 use Rattle.rv_statement.specs.declared.mnemonic.Mnemonic.{Mnemonic}
-use Rattle.rv_statement.specs.Statement.{StatementKind, Label, Numbered, Instruction, Directs, Operand, Enters, Opens, Globl, Local, Sets, Aligns_to_power, Aligns_to_bytes, Values, Strings, Zeros, Chooses, Ignored}
+use Rattle.rv_statement.specs.Statement.{StatementKind, Label, Numbered, Instruction, Directs, Operand, Enters, Opens, Binds, Sets, Aligns_to_power, Aligns_to_bytes, Values, Strings, Zeros, Chooses, Ignored}
 use Rattle.rv_unit_laws.specs.Sections.{Section as SourceSection, goes_to_text as source_text}
 use Rattle.rv_unit_laws.specs.Tables.{Tables, alignment_of as source_alignment}
 use Rattle.rv_source_laws.specs.Located.{Located, has_row}
@@ -137,8 +137,7 @@ module _ (p : Program) (starts : Starts) (os : List Object) (text : List Placed)
           (source_alignment (form t z.located) (Aligns_to_bytes w)) refl (byte_valid (form t z.located w)) size'
       one_placed (Directs (Enters opened)) e held size' = bare (Directs (Enters opened)) e refl (λ first. refl)
       one_placed (Directs (Opens name flags k)) e held size' = bare (Directs (Opens name flags k)) e refl (λ first. refl)
-      one_placed (Directs (Globl names)) e held size' = bare (Directs (Globl names)) e refl (λ first. refl)
-      one_placed (Directs (Local names)) e held size' = bare (Directs (Local names)) e refl (λ first. refl)
+      one_placed (Directs (Binds binding names)) e held size' = bare (Directs (Binds binding names)) e refl (λ first. refl)
       one_placed (Directs (Sets name w)) e held size' = bare (Directs (Sets name w)) e refl (λ first. refl)
       one_placed (Directs (Chooses choice)) e held size' = bare (Directs (Chooses choice)) e refl (λ first. refl)
       one_placed (Directs Ignored) e held size' = bare (Directs Ignored) e refl (λ first. refl)

@@ -8,7 +8,7 @@ use Rattle.rv_isa.specs.declared.kind.Kind.TheVariants as kinds
 use Rattle.rv_isa.specs.declared.kind.Kind.TheVariants.{Abs32, Abs64, Add8, Add16, Add32, Add64, Sub8, Sub16, Sub32, Sub64}
 use Rattle.rv_text_laws.specs.Values.{Value, Constant, Symbolic, Difference, Faulty}
 use Rattle.rv_statement.specs.declared.mnemonic.Mnemonic.{Mnemonic}
-use Rattle.rv_statement.specs.Statement.{StatementKind, Label, Numbered, Instruction, Directs, Operand, Expression, Enters, Opens, Globl, Local, Sets, Aligns_to_power, Aligns_to_bytes, Values, Strings, Zeros, Chooses, Ignored}
+use Rattle.rv_statement.specs.Statement.{StatementKind, Label, Numbered, Instruction, Directs, Operand, Expression, Enters, Opens, Binds, Sets, Aligns_to_power, Aligns_to_bytes, Values, Strings, Zeros, Chooses, Ignored}
 use Rattle.rv_pseudo_laws.specs.Code.{Part as CodePart, Closed, Open as Open_part, Joined, code}
 use Rattle.rv_unit_laws.specs.Sections.{Section as SourceSection}
 use Rattle.rv_unit_laws.specs.Tables.{Tables, alignment_of}
@@ -233,8 +233,7 @@ module _ (t : Tables) (number : Numbering) (sizes : Sizes) (multiple : ℕ) (sec
   })
   sort_placed (Directs (Enters opened)) e size = inl (record { calm = refl; whole = λ c. absurd (cc); same = λ n. refl; none = tt; sized = λ n placed. size })
   sort_placed (Directs (Opens name flags k)) e size = inl (record { calm = refl; whole = λ c. absurd (cc); same = λ n. refl; none = tt; sized = λ n placed. size })
-  sort_placed (Directs (Globl names)) e size = inl (record { calm = refl; whole = λ c. absurd (cc); same = λ n. refl; none = tt; sized = λ n placed. size })
-  sort_placed (Directs (Local names)) e size = inl (record { calm = refl; whole = λ c. absurd (cc); same = λ n. refl; none = tt; sized = λ n placed. size })
+  sort_placed (Directs (Binds binding names)) e size = inl (record { calm = refl; whole = λ c. absurd (cc); same = λ n. refl; none = tt; sized = λ n placed. size })
   sort_placed (Directs (Sets name x)) e size = inl (record { calm = refl; whole = λ c. absurd (cc); same = λ n. refl; none = tt; sized = λ n placed. size })
   sort_placed (Directs (Chooses choice)) e size = inl (record { calm = refl; whole = λ c. absurd (cc); same = λ n. refl; none = tt; sized = λ n placed. size })
   sort_placed (Directs Ignored) e size = inl (record { calm = refl; whole = λ c. absurd (cc); same = λ n. refl; none = tt; sized = λ n placed. size })

@@ -7,7 +7,7 @@ use Rattle.rv_isa.specs.declared.kind.Kind.{Kind}
 use Rattle.rv_isa.specs.declared.kind.Kind.TheVariants as kinds
 use Rattle.rv_isa.specs.Kinds.{width_of}
 use Rattle.rv_text_laws.specs.Values.{Value}
-use Rattle.rv_statement.specs.Statement.{StatementKind, Label, Numbered, Instruction, Directs, Expression, Enters, Opens, Globl, Local, Sets, Aligns_to_power, Aligns_to_bytes, Values, Strings, Zeros, Chooses, Ignored}
+use Rattle.rv_statement.specs.Statement.{StatementKind, Label, Numbered, Instruction, Directs, Expression, Enters, Opens, Binds, Sets, Aligns_to_power, Aligns_to_bytes, Values, Strings, Zeros, Chooses, Ignored}
 use Rattle.rv_pseudo_laws.specs.Code.{Part as CodePart, Closed, Open as Open_part, Joined}
 use Rattle.rv_pseudo_laws.specs.Filled.{are_closed}
 use Rattle.rv_unit_laws.specs.Sections.{Section as SourceSection}
@@ -134,8 +134,7 @@ module _ (t : Tables) (section : SourceSection) (multiple : ℕ) (z : Site) (cod
   solid (Directs (Aligns_to_bytes e)) held size even = padding_solid z.located.home.executable z.located.ordinal z.bytes even
   solid (Directs (Enters opened)) held size even = tt
   solid (Directs (Opens name flags k)) held size even = tt
-  solid (Directs (Globl names)) held size even = tt
-  solid (Directs (Local names)) held size even = tt
+  solid (Directs (Binds binding names)) held size even = tt
   solid (Directs (Sets name e)) held size even = tt
   solid (Directs (Chooses choice)) held size even = tt
   solid (Directs Ignored) held size even = tt

@@ -11,7 +11,7 @@ use Rattle.rv_layout_laws.specs.Alignment.{aligned}
 use Rattle.rv_isa_laws.specs.Bytes.{little_endian, zeros}
 use Rattle.rv_text_laws.specs.Expression.{Primary}
 use Rattle.rv_text_laws.specs.Values.{Value, Constant, Symbolic, Difference, Faulty, add, subtract}
-use Rattle.rv_statement.specs.Statement.{StatementKind, Label, Numbered, Instruction, Directs, Expression, Enters, Opens, Globl, Local, Sets, Aligns_to_power, Aligns_to_bytes, Values, Strings, Zeros, Chooses, Ignored}
+use Rattle.rv_statement.specs.Statement.{StatementKind, Label, Numbered, Instruction, Directs, Expression, Enters, Opens, Binds, Sets, Aligns_to_power, Aligns_to_bytes, Values, Strings, Zeros, Chooses, Ignored}
 use Rattle.rv_pseudo_laws.specs.Code.{Part as CodePart, code as code_parts}
 use Rattle.rv_unit_laws.specs.Tables.{Tables, alignment_of, definition, string_bytes}
 use Rattle.rv_map.specs.declared.map.Row.{Row as MapRow}
@@ -183,8 +183,7 @@ suits_by s file multiple start row v valued (Directs (Aligns_to_bytes e)) b i at
 suits_by s file multiple start row v valued (Directs (Sets name e)) b i at m values placed (x, y) = (b ∙ x, i ∙ y)
 suits_by s file multiple start row v valued (Directs (Enters section)) b i at m values placed h = absurd placed
 suits_by s file multiple start row v valued (Directs (Opens name flags kind)) b i at m values placed h = absurd placed
-suits_by s file multiple start row v valued (Directs (Globl names)) b i at m values placed h = absurd placed
-suits_by s file multiple start row v valued (Directs (Local names)) b i at m values placed h = absurd placed
+suits_by s file multiple start row v valued (Directs (Binds binding names)) b i at m values placed h = absurd placed
 suits_by s file multiple start row v valued (Directs (Chooses choice)) b i at m values placed h = absurd placed
 suits_by s file multiple start row v valued (Directs Ignored) b i at m values placed h = absurd placed
 
@@ -226,8 +225,7 @@ module _ (p : Program) (file : ℕ) where
         sym (append-nil (zeros s.bytes)) ∙ ap (λ b. written_from (written meant_in (worth s.located.section)) s.offset (map (part_of s.located.ordinal) (padding_templates b s.bytes))) (sym aside)
     spelled_by starts s multiple (Directs (Enters section)) held aside size = refl
     spelled_by starts s multiple (Directs (Opens name flags kind)) held aside size = refl
-    spelled_by starts s multiple (Directs (Globl names)) held aside size = refl
-    spelled_by starts s multiple (Directs (Local names)) held aside size = refl
+    spelled_by starts s multiple (Directs (Binds binding names)) held aside size = refl
     spelled_by starts s multiple (Directs (Sets name e)) held aside size = refl
     spelled_by starts s multiple (Directs (Chooses choice)) held aside size = refl
     spelled_by starts s multiple (Directs Ignored) held aside size = refl
@@ -263,8 +261,7 @@ module _ (p : Program) (file : ℕ) where
         padding_coded (worth s.located.section) s.offset s.located.ordinal s.bytes ∙ ap (λ b. written_from (written meant_in (worth s.located.section)) s.offset (map (part_of s.located.ordinal) (padding_templates b s.bytes))) (sym code)
     coded_by s multiple (Directs (Enters section)) held code size = refl
     coded_by s multiple (Directs (Opens name flags kind)) held code size = refl
-    coded_by s multiple (Directs (Globl names)) held code size = refl
-    coded_by s multiple (Directs (Local names)) held code size = refl
+    coded_by s multiple (Directs (Binds binding names)) held code size = refl
     coded_by s multiple (Directs (Sets name e)) held code size = refl
     coded_by s multiple (Directs (Chooses choice)) held code size = refl
     coded_by s multiple (Directs Ignored) held code size = refl

@@ -5,7 +5,7 @@ use Rattle.std.proofs.lemmas.Bool.{and_parts}
 use Rattle.std.specs.Prelude.{◌&&◌, flat_map, map}
 use Rattle.std.specs.List.{AllByRecursion, slice_get}
 use Rattle.rv_text_laws.specs.Values.{Value}
-use Rattle.rv_statement.specs.Statement.{StatementKind, Label, Numbered, Instruction, Directs, Statement, Expression, Enters, Opens, Globl, Local, Sets, Aligns_to_power, Aligns_to_bytes, Values, Strings, Zeros, Chooses, Ignored}
+use Rattle.rv_statement.specs.Statement.{StatementKind, Label, Numbered, Instruction, Directs, Statement, Expression, Enters, Opens, Binds, Sets, Aligns_to_power, Aligns_to_bytes, Values, Strings, Zeros, Chooses, Ignored}
 use Rattle.rv_pseudo_laws.specs.Filled.{are_closed}
 use Rattle.rv_unit_laws.specs.Sections.{Section as SourceSection, goes_to_text}
 use Rattle.rv_unit_laws.specs.Tables.{Tables, tables, alignment_of, opened_of}
@@ -47,8 +47,7 @@ even_by s section multiple v (Directs (Aligns_to_bytes e)) held code home (x, y,
     go false e h = absurd (cc)
 even_by s section multiple v (Directs (Enters opened)) held code home size = none_even s.bytes size.0
 even_by s section multiple v (Directs (Opens name flags kind)) held code home size = none_even s.bytes size.0
-even_by s section multiple v (Directs (Globl names)) held code home size = none_even s.bytes size.0
-even_by s section multiple v (Directs (Local names)) held code home size = none_even s.bytes size.0
+even_by s section multiple v (Directs (Binds binding names)) held code home size = none_even s.bytes size.0
 even_by s section multiple v (Directs (Sets name e)) held code home size = none_even s.bytes size.0
 even_by s section multiple v (Directs (Chooses choice)) held code home size = none_even s.bytes size.0
 even_by s section multiple v (Directs Ignored) held code home size = none_even s.bytes size.0

@@ -7,7 +7,7 @@ use Rattle.std.specs.Prelude.{⊤, ◌^◌, ◌&&◌, ◌||◌, ◌==◌, nat_lt
 use Rattle.std.specs.List.{AllByRecursion}
 use Rattle.rv_isa_laws.specs.Bytes.{zeros}
 use Rattle.rv_text_laws.specs.Values.{Value, Constant, Symbolic, Difference, Faulty}
-use Rattle.rv_statement.specs.Statement.{StatementKind, Label, Numbered, Instruction, Directs, Expression, Enters, Opens, Globl, Local, Sets, Aligns_to_power, Aligns_to_bytes, Values, Strings, Zeros, Chooses, Ignored}
+use Rattle.rv_statement.specs.Statement.{StatementKind, Label, Numbered, Instruction, Directs, Expression, Enters, Opens, Binds, Sets, Aligns_to_power, Aligns_to_bytes, Values, Strings, Zeros, Chooses, Ignored}
 use Rattle.rv_unit_laws.specs.Sections.{Section as SourceSection}
 use Rattle.rv_unit_laws.specs.Tables.{Tables, is_power_below, power_alignment, byte_alignment, alignment_of, padding}
 use Rattle.rv_source_laws.specs.Fits.{is_low}
@@ -258,8 +258,7 @@ module _ (t : Tables) (section : SourceSection) (multiple : ℕ) (z : Site) (hom
       (λ n h. (constant, divides, h)) (λ n b h. (constant, divides, h)) z.located.home.executable refl size
   sort_placed (Directs (Enters opened)) held size = inl (record { same = λ n. refl; none = tt; sized = λ n same placed. size; even = λ code. ap (λ n. n % 2) size.0 })
   sort_placed (Directs (Opens name flags k)) held size = inl (record { same = λ n. refl; none = tt; sized = λ n same placed. size; even = λ code. ap (λ n. n % 2) size.0 })
-  sort_placed (Directs (Globl names)) held size = inl (record { same = λ n. refl; none = tt; sized = λ n same placed. size; even = λ code. ap (λ n. n % 2) size.0 })
-  sort_placed (Directs (Local names)) held size = inl (record { same = λ n. refl; none = tt; sized = λ n same placed. size; even = λ code. ap (λ n. n % 2) size.0 })
+  sort_placed (Directs (Binds binding names)) held size = inl (record { same = λ n. refl; none = tt; sized = λ n same placed. size; even = λ code. ap (λ n. n % 2) size.0 })
   sort_placed (Directs (Sets name e)) held size = inl (record { same = λ n. refl; none = tt; sized = λ n same placed. size; even = λ code. ap (λ n. n % 2) size.0 })
   sort_placed (Directs (Chooses choice)) held size = inl (record { same = λ n. refl; none = tt; sized = λ n same placed. size; even = λ code. ap (λ n. n % 2) size.0 })
   sort_placed (Directs Ignored) held size = inl (record { same = λ n. refl; none = tt; sized = λ n same placed. size; even = λ code. ap (λ n. n % 2) size.0 })

@@ -7,7 +7,7 @@ use Rattle.std.proofs.lemmas.List.Sums.{sum_by-cons}
 use Rattle.std.specs.Prelude.{⊤, ◌&&◌, ◌==◌, if◌then◌else◌, flat_map}
 use Rattle.std.specs.List.{AllByRecursion, slice_get}
 use Rattle.rv_statement.specs.declared.mnemonic.Mnemonic.{Mnemonic}
-use Rattle.rv_statement.specs.Statement.{StatementKind, Label, Numbered, Instruction, Directs, Statement, Operand, Enters, Opens, Globl, Local, Sets, Aligns_to_power, Aligns_to_bytes, Values, Strings, Zeros, Chooses, Ignored}
+use Rattle.rv_statement.specs.Statement.{StatementKind, Label, Numbered, Instruction, Directs, Statement, Operand, Enters, Opens, Binds, Sets, Aligns_to_power, Aligns_to_bytes, Values, Strings, Zeros, Chooses, Ignored}
 use Rattle.rv_unit_laws.specs.Sections.{Section, text_section}
 use Rattle.rv_unit_laws.specs.Tables.{Tables, at_start, after, tables, opened_of}
 use Rattle.rv_source_laws.specs.Located.{Located, located_from, is_placed, has_row}
@@ -50,8 +50,7 @@ bare_from file k t (s ∷ ss) = (unplaced_by t k s.kind, bare_from file (suc k) 
 abbrev pub IsPlacedKind : StatementKind → Type 0
 IsPlacedKind (Directs (Enters section)) = ⊥
 IsPlacedKind (Directs (Opens name flags kind)) = ⊥
-IsPlacedKind (Directs (Globl names)) = ⊥
-IsPlacedKind (Directs (Local names)) = ⊥
+IsPlacedKind (Directs (Binds binding names)) = ⊥
 IsPlacedKind (Directs (Chooses choice)) = ⊥
 IsPlacedKind (Directs Ignored) = ⊥
 IsPlacedKind _ = ⊤
@@ -59,8 +58,7 @@ IsPlacedKind _ = ⊤
 placed_by : (t : Tables) (k : ℕ) (kind : StatementKind) → is_placed t k kind ≡ true → IsPlacedKind kind
 placed_by t k (Directs (Enters section)) e = absurd (cc)
 placed_by t k (Directs (Opens name flags kind)) e = absurd (cc)
-placed_by t k (Directs (Globl names)) e = absurd (cc)
-placed_by t k (Directs (Local names)) e = absurd (cc)
+placed_by t k (Directs (Binds binding names)) e = absurd (cc)
 placed_by t k (Directs (Chooses choice)) e = absurd (cc)
 placed_by t k (Directs Ignored) e = absurd (cc)
 placed_by t k (Directs (Sets name x)) e = tt
