@@ -102,6 +102,10 @@ stb_local = 0
 abbrev pub stb_global : ℕ
 stb_global = 1
 
+-- the upper half of st_info: all objects see the symbol, which gives way to a global one
+abbrev pub stb_weak : ℕ
+stb_weak = 2
+
 -- p_type: what is loaded
 abbrev pub pt_load : ℕ
 pt_load = 1

@@ -57,6 +57,8 @@ pub const SHN_ABS: u16 = 0xFFF1;
 pub const STB_LOCAL: u8 = 0;
 /// The upper half of `st_info`: all objects see the symbol.
 pub const STB_GLOBAL: u8 = 1;
+/// The upper half of `st_info`: all objects see the symbol, which gives way to a global one.
+pub const STB_WEAK: u8 = 2;
 
 /// `p_type`: what is loaded.
 pub const PT_LOAD: u32 = 1;

@@ -17,7 +17,7 @@ pub const SYMBOL_SIZE: usize = 24;
 pub struct Symbol {
     /// The offset of its name in the section of names, in bytes; 0 where it has none.
     pub st_name: u32,
-    /// Its binding, times 16, and its type: `STB_LOCAL`, `STB_GLOBAL`.
+    /// Its binding, times 16, and its type: `STB_LOCAL`, `STB_GLOBAL`, `STB_WEAK`.
     pub st_info: u8,
     /// How far it is seen.
     pub st_other: u8,

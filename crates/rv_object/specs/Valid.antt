@@ -98,6 +98,7 @@ are_paddings executable c rs =
 abbrev pub is_shown : Binding → List ℕ → Bool
 is_shown bindings.Local name = is_string name
 is_shown bindings.Global name = is_name name
+is_shown bindings.Weak name = is_name name
 
 -- ---- indices
 

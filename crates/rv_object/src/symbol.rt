@@ -10,6 +10,8 @@ pub enum Binding {
     Local,
     /// Every object.
     Global,
+    /// Every object, but a global definition of its name comes before it; without any the name is 0.
+    Weak,
 }
 
 /// What a symbol is (gABI, "Symbol Table", st_shndx and st_value).

@@ -3,17 +3,16 @@
 ghost use Rattle.std.specs.Prelude.{◌≡◌, ◌⊎◌, ◌+◌, ◌*◌, ◌/◌, ◌==◌, ◌≤◌, ◌<◌, true, None, Some, MatchResult, drop, flat_map, length};
 ghost use Rattle.rv_elf.specs.Fields.{symbol_size};
 ghost use Rattle.rv_elf.specs.FirstFault.{Finds, first_true};
-ghost use Rattle.rv_elf.specs.Numbers.{stb_global};
 ghost use Rattle.rv_elf.specs.Records.{symbol_at};
 ghost use Rattle.rv_elf.specs.Sections.{section_count, section_of, contents_of, symbols_in};
 ghost use Rattle.rv_elf.specs.declared.fault.FileFault.TheVariants.{OutOfMemory};
-ghost use Rattle.rv_object_file_laws.specs.FirstFault.{symbol_tests, symbol_count, is_bad_name, has_binding, has_home};
+ghost use Rattle.rv_object_file_laws.specs.FirstFault.{symbol_tests, symbol_count, is_bad_name, has_binding, has_home, is_shared};
 ghost use Rattle.rv_object_file_laws.specs.Parts.{is_section, name_at};
 
 use crate::strings::Strings;
 use rv_elf::{
-    ElfView, FileFault, SHN_ABS, SHN_UNDEF, STB_GLOBAL, STB_LOCAL, SYMBOL_SIZE, SectionHeader,
-    SectionIndex, Symbol, SymbolIndex, symbol_in,
+    ElfView, FileFault, SHN_ABS, SHN_UNDEF, STB_GLOBAL, STB_LOCAL, STB_WEAK, SYMBOL_SIZE,
+    SectionHeader, SectionIndex, Symbol, SymbolIndex, symbol_in,
 };
 use std::alloc::Global;
 
@@ -82,33 +81,33 @@ fn check_symbol(view: &ElfView<'_>, names: &Strings<'_>, symbol: &Symbol) -> Res
     Ok(())
 }
 
-/// Whether the symbol's name has no end, or is that of a global symbol and none that a map can show. Offset 0 is no
-/// name.
+/// Whether the symbol's name has no end, or is that of a symbol that all objects see and none that a map can show.
+/// Offset 0 is no name.
 fn is_bad_name(names: &Strings<'_>, symbol: &Symbol) -> bool
     ensures { result ≡ is_bad_name symbol.now
         (name_at names.now.table.now symbol.now.st_name) }
 {
     if symbol.st_name == 0 {
-        return is_global(symbol);
+        return is_shared(symbol);
     }
-    if is_global(symbol) {
+    if is_shared(symbol) {
         return !names.is_shown(symbol.st_name);
     }
     !names.has_end(symbol.st_name)
 }
 
-/// Whether the symbol is global.
-fn is_global(symbol: &Symbol) -> bool
-    ensures { result ≡ (symbol.now.st_info / 16 == stb_global) }
+/// Whether all objects see the symbol.
+fn is_shared(symbol: &Symbol) -> bool
+    ensures { result ≡ is_shared symbol.now }
 {
-    symbol.st_info / 16 == STB_GLOBAL
+    symbol.st_info / 16 == STB_GLOBAL || symbol.st_info / 16 == STB_WEAK
 }
 
-/// Whether the symbol is local or global.
+/// Whether the symbol is local, global or weak.
 fn has_binding(symbol: &Symbol) -> bool
     ensures { result ≡ has_binding symbol.now }
 {
-    symbol.st_info / 16 == STB_LOCAL || is_global(symbol)
+    symbol.st_info / 16 == STB_LOCAL || is_shared(symbol)
 }
 
 /// Whether the symbol is undefined, a number, or in a section.

@@ -13,7 +13,7 @@ use Rattle.rv_elf.specs.ReadBack.{FitsSymbol, symbol_there}
 use Rattle.rv_elf.specs.Records.{symbol_at, symbol_bytes}
 use Rattle.rv_elf.specs.Sections.{records, symbols_in}
 use Rattle.rv_object.specs.declared.symbol.Binding.{Binding}
-use Rattle.rv_object.specs.declared.symbol.Binding.TheVariants.{Local, Global}
+use Rattle.rv_object.specs.declared.symbol.Binding.TheVariants.{Local, Global, Weak}
 use Rattle.rv_object.specs.declared.symbol.Definition.{Definition}
 use Rattle.rv_object.specs.declared.symbol.Definition.TheVariants.{Undefined, Absolute, InSection, Skipped}
 use Rattle.rv_object.specs.declared.row.Row.{Row}
@@ -21,7 +21,7 @@ use Rattle.rv_object.specs.Object.{Section, Symbol, Object}
 use Rattle.rv_object.specs.Valid.{is_string, is_shown, is_defined_in}
 use Rattle.rv_object_file_laws.specs.Rows.{row_size, row_at, row_bytes, rows_in}
 use Rattle.rv_object_file_laws.specs.Parts.{kept, kept_at, kept_before, is_index, name_at, symbol_table}
-use Rattle.rv_object_file_laws.specs.ObjectOf.{names_of, definition_in, definition_by, symbol_in, row_in}
+use Rattle.rv_object_file_laws.specs.ObjectOf.{names_of, binding_numbered, definition_in, definition_by, symbol_in, row_in}
 use Rattle.rv_object_file_laws.specs.Known.{IsSymbol, IsRow}
 use Rattle.rv_layout_laws.specs.Alignment.{aligned}
 use Rattle.rv_object_file_laws.specs.Written.{section_piece, name_offset, table_of, binding_number, section_index_of, value_of, symbol_record, symbols_bytes, symbol_names, row_record}
@@ -42,6 +42,7 @@ no_zero (byte ∷ name) h =
 pub shown_string : (b : Binding) (name : List ℕ) → is_shown b name ≡ true → is_string name ≡ true
 shown_string Local name h = h
 shown_string Global name h = no_zero name (and_parts (nat_lt 0 (length name)) (list_all is_name_byte name) h).1
+shown_string Weak name h = no_zero name (and_parts (nat_lt 0 (length name)) (list_all is_name_byte name) h).1
 
 pub among-append : (name : List ℕ) (xs ys : List (List ℕ)) → is_among name ys ≡ true → is_among name (xs ++ ys) ≡ true
 among-append name xs ys h = list_any-append (λ s. bytes_eq s name) xs ys ∙ or_right (is_among name xs) (is_among name ys) h
@@ -117,9 +118,10 @@ definition_back file names ss last s (Skipped v) keeps high few inside home valu
     ∙ ap (definition_by file s) (ap (kept_at file) home ∙ ap (find (is_index last)) keeps ∙ find_beyond names 1 64 last (map section_piece ss) (omega (arith, size)))
     ∙ ap (λ n. Skipped n) value
 
-pub binding_back : (b : Binding) → (if binding_number b * 16 / 16 == 0 then Local else Global) ≡ b
+pub binding_back : (b : Binding) → binding_numbered (binding_number b * 16 / 16) ≡ b
 binding_back Local = refl
 binding_back Global = refl
+binding_back Weak = refl
 
 -- ---- symbols
 
@@ -155,6 +157,7 @@ home_small count last (Skipped v) high few inside = omega arith
 binding_small : (b : Binding) → binding_number b * 16 < 2 ^ 8
 binding_small Local = omega arith
 binding_small Global = omega arith
+binding_small Weak = omega arith
 
 pub symbol_fits : (count last : ℕ) (strings : List (List ℕ)) (s : Symbol) → count < last → last < 0xFF00 → length (table_of strings) < 2 ^ 32 →
     FitsName count strings s → FitsSymbol (symbol_record strings last s)

@@ -13,7 +13,7 @@ use Rattle.rv_elf.specs.declared.section_header.SectionHeader.{SectionHeader}
 use Rattle.rv_elf.specs.FirstFault.{first_true}
 use Rattle.rv_elf.specs.Sections.{section_count}
 use Rattle.rv_object.specs.declared.symbol.Binding.{Binding}
-use Rattle.rv_object.specs.declared.symbol.Binding.TheVariants.{Local, Global}
+use Rattle.rv_object.specs.declared.symbol.Binding.TheVariants.{Local, Global, Weak}
 use Rattle.rv_object.specs.declared.symbol.Definition.{Definition}
 use Rattle.rv_object.specs.declared.symbol.Definition.TheVariants.{Undefined, Absolute, InSection, Skipped}
 use Rattle.rv_object.specs.declared.row.Row.{Row}
@@ -118,13 +118,15 @@ relocations_sound h c x count rs extent code inside paddings fits =
 
 -- ---- symbols
 
-bad_name : (b : Binding) (name : List ℕ) → is_shown b name ≡ true → ((binding_number b * 16 / 16 == 1) && not (is_name name)) ≡ false
+bad_name : (b : Binding) (name : List ℕ) → is_shown b name ≡ true → ((binding_number b * 16 / 16 == 1 || binding_number b * 16 / 16 == 2) && not (is_name name)) ≡ false
 bad_name Local name h = refl
 bad_name Global name h = not_from_true (is_name name) h
+bad_name Weak name h = not_from_true (is_name name) h
 
-bound : (b : Binding) → (binding_number b * 16 / 16 == 0 || binding_number b * 16 / 16 == 1) ≡ true
+bound : (b : Binding) → (binding_number b * 16 / 16 == 0 || (binding_number b * 16 / 16 == 1 || binding_number b * 16 / 16 == 2)) ≡ true
 bound Local = refl
 bound Global = refl
+bound Weak = refl
 
 housed : (file : List ℕ) (count last sections : ℕ) (d : Definition) → section_count file ≡ sections → count < last → last < sections → is_defined_in count d ≡ true →
     (section_index_of last d == 0 || section_index_of last d == 0xFFF1 || nat_lt (section_index_of last d) (section_count file)) ≡ true

@@ -11,7 +11,7 @@ use Rattle.rv_elf.specs.declared.symbol.Symbol.{Symbol as SymbolRecord}
 use Rattle.rv_elf.specs.declared.rela.Rela.{Rela}
 use Rattle.rv_elf.specs.Fields.{number_in, e_type, symbol_size, rela_size}
 use Rattle.rv_elf.specs.FirstFault.{first_true, header_tests, table_tests}
-use Rattle.rv_elf.specs.Numbers.{et_rel, sht_progbits, sht_note, sht_nobits, sht_group, shn_undef, shn_abs, stb_local, stb_global}
+use Rattle.rv_elf.specs.Numbers.{et_rel, sht_progbits, sht_note, sht_nobits, sht_group, shn_undef, shn_abs, stb_local, stb_global, stb_weak}
 use Rattle.rv_elf.specs.Sections.{is_past, section_count, section_header_of, section_of, contents_of, symbols_in, relas_in}
 use Rattle.rv_object.specs.Object.{Relocation}
 use Rattle.rv_object.specs.Valid.{is_alignment, fits_inside, is_padding, are_apart}
@@ -62,12 +62,16 @@ section_tests file before h =
 
 -- ---- symbols
 
+-- all objects see it
+abbrev pub is_shared : SymbolRecord → Bool
+is_shared s = s.st_info / 16 == stb_global || s.st_info / 16 == stb_weak
+
 abbrev pub is_bad_name : SymbolRecord → Option (List ℕ) → Bool
 is_bad_name s None = true
-is_bad_name s (Some name) = (s.st_info / 16 == stb_global) && not (is_name name)
+is_bad_name s (Some name) = is_shared s && not (is_name name)
 
 abbrev pub has_binding : SymbolRecord → Bool
-has_binding s = s.st_info / 16 == stb_local || s.st_info / 16 == stb_global
+has_binding s = s.st_info / 16 == stb_local || is_shared s
 
 -- it is undefined, a number, or in a section; a common symbol is none of these
 abbrev pub has_home : List ℕ → SymbolRecord → Bool

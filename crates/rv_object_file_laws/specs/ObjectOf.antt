@@ -4,10 +4,10 @@
 use Rattle.std.specs.Prelude.{◌≡◌, ℕ, ◌/◌, ◌%◌, ◌==◌, max, List, [], drop, map, filter, unwrap_or, Option, Some, None, if◌then◌else◌}
 use Rattle.rv_elf.specs.declared.symbol.Symbol.{Symbol as SymbolRecord}
 use Rattle.rv_elf.specs.Fields.{number_in, ei_magic, ei_class, ei_data, ei_version, e_type, e_machine, e_flags}
-use Rattle.rv_elf.specs.Numbers.{elfmag, et_rel, em_riscv, shn_undef, shn_abs, stb_local}
+use Rattle.rv_elf.specs.Numbers.{elfmag, et_rel, em_riscv, shn_undef, shn_abs, stb_local, stb_weak}
 use Rattle.rv_elf.specs.Sections.{section_of}
 use Rattle.rv_object.specs.declared.symbol.Binding.{Binding}
-use Rattle.rv_object.specs.declared.symbol.Binding.TheVariants.{Local, Global}
+use Rattle.rv_object.specs.declared.symbol.Binding.TheVariants.{Local, Global, Weak}
 use Rattle.rv_object.specs.declared.symbol.Definition.{Definition}
 use Rattle.rv_object.specs.declared.symbol.Definition.TheVariants.{Undefined, Absolute, InSection, Skipped}
 use Rattle.rv_object.specs.declared.row.Row.{Row}
@@ -33,8 +33,12 @@ abbrev pub names_of : List ℕ → Option FileSection → List ℕ
 names_of file None = []
 names_of file (Some s) = section_of file s.header.sh_link
 
+abbrev pub binding_numbered : ℕ → Binding
+binding_numbered number =
+    if number == stb_local then Local else if number == stb_weak then Weak else Global
+
 abbrev pub binding_in : SymbolRecord → Binding
-binding_in s = if s.st_info / 16 == stb_local then Local else Global
+binding_in s = binding_numbered (s.st_info / 16)
 
 abbrev pub definition_by : List ℕ → SymbolRecord → Option FileSection → Definition
 definition_by file s None = Skipped s.st_value

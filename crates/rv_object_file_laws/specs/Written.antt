@@ -10,11 +10,11 @@ use Rattle.rv_elf.specs.declared.section_header.SectionHeader.{SectionHeader}
 use Rattle.rv_elf.specs.declared.symbol.Symbol.{Symbol as SymbolRecord}
 use Rattle.rv_elf.specs.declared.rela.Rela.{Rela}
 use Rattle.rv_elf.specs.Fields.{file_header_size, section_header_size, symbol_size, rela_size}
-use Rattle.rv_elf.specs.Numbers.{et_rel, em_riscv, sht_progbits, sht_symtab, sht_strtab, sht_rela, sht_note, sht_nobits, shf_write, shf_alloc, shf_execinstr, shn_undef, shn_abs, stb_local, stb_global}
+use Rattle.rv_elf.specs.Numbers.{et_rel, em_riscv, sht_progbits, sht_symtab, sht_strtab, sht_rela, sht_note, sht_nobits, shf_write, shf_alloc, shf_execinstr, shn_undef, shn_abs, stb_local, stb_global, stb_weak}
 use Rattle.rv_elf.specs.Records.{file_header_bytes, section_header_bytes, symbol_bytes, rela_bytes}
 use Rattle.rv_layout_laws.specs.Alignment.{aligned}
 use Rattle.rv_object.specs.declared.symbol.Binding.{Binding}
-use Rattle.rv_object.specs.declared.symbol.Binding.TheVariants.{Local, Global}
+use Rattle.rv_object.specs.declared.symbol.Binding.TheVariants.{Local, Global, Weak}
 use Rattle.rv_object.specs.declared.symbol.Definition.{Definition}
 use Rattle.rv_object.specs.declared.symbol.Definition.TheVariants.{Undefined, Absolute, InSection, Skipped}
 use Rattle.rv_object.specs.declared.row.Row.{Row}
@@ -147,6 +147,7 @@ row_pieces (r ∷ rs) =
 abbrev pub binding_number : Binding → ℕ
 binding_number Local = stb_local
 binding_number Global = stb_global
+binding_number Weak = stb_weak
 
 -- the index of a symbol's section, and its value; one without an address names the last section
 abbrev pub section_index_of : ℕ → Definition → ℕ

@@ -10,13 +10,13 @@ use Rattle.rv_map.specs.Name.{is_name}
 use Rattle.rv_elf.specs.declared.symbol.Symbol.{Symbol as SymbolRecord}
 use Rattle.rv_elf.specs.FirstFault.{first_true}
 use Rattle.rv_elf.specs.Sections.{section_of, contents_of, symbols_in}
-use Rattle.rv_object.specs.declared.symbol.Binding.TheVariants.{Local, Global}
+use Rattle.rv_object.specs.declared.symbol.Binding.TheVariants.{Local, Global, Weak}
 use Rattle.rv_object.specs.declared.symbol.Definition.TheVariants.{Undefined, Absolute}
 use Rattle.rv_object.specs.Object.{Section, Symbol}
-use Rattle.rv_object.specs.Valid.{is_shown, is_defined_in, is_row_in, are_indexed, are_defined, are_rows}
+use Rattle.rv_object.specs.Valid.{is_string, is_shown, is_defined_in, is_row_in, are_indexed, are_defined, are_rows}
 use Rattle.rv_object_file_laws.specs.Parts.{FileSection, sections, kept, is_kept, is_index, is_loaded, is_symbol_table, is_rela, is_rows, kept_at, kept_before, name_at, symbol_table, symbols_of, symbol_records, rows_of, row_records}
 use Rattle.rv_object_file_laws.specs.Rows.{RowRecord, rows_in}
-use Rattle.rv_object_file_laws.specs.FirstFault.{is_bad_name, has_binding, has_home, symbol_tests, is_row_of, row_tests, first_fault}
+use Rattle.rv_object_file_laws.specs.FirstFault.{is_shared, is_bad_name, has_binding, has_home, symbol_tests, is_row_of, row_tests, first_fault}
 use Rattle.rv_object_file_laws.specs.ObjectOf.{section_in, names_of, definition_by, symbol_in, row_in}
 use Rattle.rv_object_reader.proofs.FirstTrueLemmas.{not_false, all_false, flat_map_parts}
 use Rattle.rv_object_reader.proofs.WalkLemmas.{fine, passed_find, header_says}
@@ -41,7 +41,7 @@ good_symbols file none = go (symbol_table file) refl
         flat_map_parts (symbol_tests file (section_of file t.header.sh_link)) (drop 1 (symbols_in (contents_of file t.header)))
         (ap first_true (sym (cond-true (is_symbol_table t.header) _ _ found.test)) ∙ found.passes.inner)
 
-shown_name : (o : Option (List ℕ)) (s : SymbolRecord) → is_bad_name s o ≡ false → (s.st_info / 16 == 1) ≡ true → is_name (unwrap_or o []) ≡ true
+shown_name : (o : Option (List ℕ)) (s : SymbolRecord) → is_bad_name s o ≡ false → is_shared s ≡ true → is_name (unwrap_or o []) ≡ true
 shown_name None s h e = absurd (true≢false h)
 shown_name (Some name) s h e = not_false (is_name name) (sym (ap (λ b. b && not (is_name name)) e) ∙ h)
 
@@ -49,10 +49,10 @@ other_true : (a b : Bool) → (a || b) ≡ true → a ≡ false → b ≡ true
 other_true true b h e = absurd (true≢false e)
 other_true false b h e = h
 
-shown_by : (names : List ℕ) (s : SymbolRecord) (b : Bool) → (s.st_info / 16 == 0) ≡ b → is_bad_name s (name_at names s.st_name) ≡ false → has_binding s ≡ true →
-    is_shown (if b then Local else Global) (unwrap_or (name_at names s.st_name) []) ≡ true
-shown_by names s true e bad binding = name_string names s.st_name
-shown_by names s false e bad binding = shown_name (name_at names s.st_name) s bad (other_true (s.st_info / 16 == 0) (s.st_info / 16 == 1) binding e)
+shown_by : (b weak : Bool) (name : List ℕ) → is_string name ≡ true → (b ≡ false → is_name name ≡ true) → is_shown (if b then Local else if weak then Weak else Global) name ≡ true
+shown_by true weak name string shown = string
+shown_by false true name string shown = shown refl
+shown_by false false name string shown = shown refl
 
 pub symbol_shown : (file : List ℕ) (s : SymbolRecord) → IsGoodSymbol file s → is_shown (symbol_in file s).binding (symbol_in file s).name ≡ true
 unfolding symbol_tests
@@ -60,7 +60,8 @@ symbol_shown file s good =
     let names = names_of file (symbol_table file) in
     let a = all_false (symbol_tests file names s) good in
     let both = and_parts (has_binding s) (has_home file s) (not_false (has_binding s && has_home file s) a.1.0) in
-    shown_by names s (s.st_info / 16 == 0) refl a.0 both.0
+    shown_by (s.st_info / 16 == 0) (s.st_info / 16 == 2) (unwrap_or (name_at names s.st_name) []) (name_string names s.st_name)
+    (λ e. shown_name (name_at names s.st_name) s a.0 (other_true (s.st_info / 16 == 0) (is_shared s) both.0 e))
 
 -- ---- definitions
 

@@ -10,8 +10,8 @@ ghost use Rattle.rv_object_checks.specs.Names.{names_table};
 
 use crate::strings::Strings;
 use rv_elf::{
-    EF_RISCV_RVC, ElfView, SHF_WRITE, SHT_NOBITS, SHT_NOTE, STB_LOCAL, SectionHeader, SectionIndex,
-    Symbol,
+    EF_RISCV_RVC, ElfView, SHF_WRITE, SHT_NOBITS, SHT_NOTE, STB_LOCAL, STB_WEAK, SectionHeader,
+    SectionIndex, Symbol,
 };
 use rv_object::{Binding, Contents};
 use std::alloc::{AllocError, Global};
@@ -49,10 +49,14 @@ pub(crate) fn contents<'a>(view: &ElfView<'a>, header: &SectionHeader) -> Conten
 pub(crate) fn binding(symbol: &Symbol) -> Binding
     ensures { result ≡ binding_in symbol.now }
 {
-    if symbol.st_info / 16 == STB_LOCAL {
-        return Binding::Local;
+    let number = symbol.st_info / 16;
+    if number == STB_LOCAL {
+        Binding::Local
+    } else if number == STB_WEAK {
+        Binding::Weak
+    } else {
+        Binding::Global
     }
-    Binding::Global
 }
 
 /// The names of the sections; none where the file has no names.

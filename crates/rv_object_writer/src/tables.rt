@@ -20,7 +20,8 @@ ghost use Rattle.rv_object_writer.specs.Strings.{IsTable};
 
 use crate::strings::StringTable;
 use rv_elf::{
-    ElfWriter, Rela, SHN_ABS, SHN_UNDEF, STB_GLOBAL, STB_LOCAL, SYMBOL_SIZE, Symbol as SymbolRecord,
+    ElfWriter, Rela, SHN_ABS, SHN_UNDEF, STB_GLOBAL, STB_LOCAL, STB_WEAK, SYMBOL_SIZE,
+    Symbol as SymbolRecord,
 };
 use rv_object::{Binding, Definition, Relocation, Row, Section, Symbol};
 use std::alloc::{AllocError, Global};
@@ -222,6 +223,7 @@ fn binding(binding: Binding) -> u8
     match binding {
         Binding::Local => STB_LOCAL,
         Binding::Global => STB_GLOBAL,
+        Binding::Weak => STB_WEAK,
     }
 }
 
@@ -300,7 +302,7 @@ fn is_local(symbol: &Symbol<'_>) -> bool
 {
     match symbol.binding {
         Binding::Local => true,
-        Binding::Global => false,
+        Binding::Global | Binding::Weak => false,
     }
 }
 
