@@ -104,10 +104,10 @@ low_all : (t : Tables) (k : ℕ) (ss : List Statement) → IsLow t → IsLow (af
 low_all t k [] h = h
 low_all t k (s ∷ ss) h = low_all (after t k s.kind) (suc k) ss (low_after t k s.kind h)
 
-low_start : (j : ℕ) → slice_index_or (alignments_of at_start) j 1 ≤ 4096
-low_start zero = omega arith
-low_start (suc zero) = omega arith
-low_start (suc (suc j)) = omega arith
+low_start : (ss : List Statement) (j : ℕ) → slice_index_or (alignments_of (at_start ss)) j 1 ≤ 4096
+low_start ss zero = omega arith
+low_start ss (suc zero) = omega arith
+low_start ss (suc (suc j)) = omega arith
 
 -- ---- so each is one that sections have
 
@@ -141,4 +141,4 @@ of_power : (n : ℕ) → IsPower n → n ≤ 4096 → is_alignment n ≡ true
 of_power n (k, is) low = ap is_alignment is ∙ a_power k (below k (subst (λ m. m ≤ 4096) is low))
 
 pub aligned : (ss : List Statement) (j : ℕ) → is_alignment (slice_index_or (alignments_of (tables ss)) j 1) ≡ true
-aligned ss j = of_power (slice_index_or (alignments_of (tables ss)) j 1) (grown_all 1 ss j) (low_all at_start 1 ss low_start j)
+aligned ss j = of_power (slice_index_or (alignments_of (tables ss)) j 1) (grown_all ss 1 ss j) (low_all (at_start ss) 1 ss (low_start ss) j)

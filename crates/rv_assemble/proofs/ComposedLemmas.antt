@@ -376,7 +376,7 @@ module _ (ss : List Statement) (d : Draft) (extents : List Extent) (lists : List
       list_all-append Lies (rows_at s) (flat_map rows_at sites) ∙ ap (λ b. b && list_all Lies (flat_map rows_at sites)) (row_lies s k l) ∙ rows_lie sites ks ls
 
   rows : rows_from 1 d.items.items ≡ flat_map rows_at h.sites
-  rows = ap (rows_from 1) (sym h.stand) ∙ rows_are 1 at_start ss h.sites h.located
+  rows = ap (rows_from 1) (sym h.stand) ∙ rows_are 1 (at_start ss) ss h.sites h.located
 
   pub lie : are_rows (sections_by extents d.ends.items d.sections.items lists) (rows_from 1 d.items.items) ≡ true
   lie = ap (are_rows (sections_by extents d.ends.items d.sections.items lists)) rows ∙ rows_lie h.sites all_settled ends_inside

@@ -8,17 +8,17 @@ use Rattle.std.specs.List.{AllByRecursion, list_all, list_any}
 use Rattle.rv_text_laws.specs.Expression.{Primary}
 use Rattle.rv_text_laws.specs.Values.{Meaning, Known, InSection as InData, Open as OpenAddress, Refused}
 use Rattle.rv_statement.specs.Statement.{StatementKind, Label, Numbered, Instruction, Directs, Sets}
-use Rattle.rv_unit_laws.specs.Bindings.{is_global}
+use Rattle.rv_unit_laws.specs.Bindings.{is_shared}
 use Rattle.rv_unit_laws.specs.Sections.{Section as SourceSection}
 use Rattle.rv_unit_laws.specs.Tables.{Tables, Assignment, assigned_ever}
-use Rattle.rv_source_laws.specs.Resolves.{defined_name, global_names_of}
+use Rattle.rv_source_laws.specs.Exports.{defined_name, names_where}
 use Rattle.rv_object.specs.declared.symbol.Definition.{Definition as Defined}
 use Rattle.rv_object.specs.declared.symbol.Definition.TheVariants.{Undefined, Absolute, InSection, Skipped}
 use Rattle.rv_object.specs.Object.{Relocation, Symbol}
 use Rattle.rv_object.specs.Valid.{is_below, is_defined_in}
 use Rattle.rv_assemble_laws.specs.Templates.{Open, template_fields}
 use Rattle.rv_assemble_laws.specs.Sites.{Site, Part, part_bytes}
-use Rattle.rv_assemble_laws.specs.Symbols.{use_of, site_at, after_site, after_found, assigned_definition, site_definition, local_symbol, global_symbol, references, is_meant, are_together, unnamed_symbols, is_absolute, named_symbols, local_symbols, exports_of, exports, missing_name, distinct_from, undefined_symbols, symbols_of, StandsFor}
+use Rattle.rv_assemble_laws.specs.Symbols.{use_of, site_at, after_site, after_found, assigned_definition, site_definition, local_symbol, shared_symbol, references, is_meant, are_together, unnamed_symbols, is_absolute, named_symbols, local_symbols, exports_of, exports, missing_name, distinct_from, undefined_symbols, symbols_of, StandsFor}
 use Rattle.rv_assemble_laws.specs.IsObjectOf.{Numbering, relocation_at, relocations_from, IsNumbered, ArePartsNumbered}
 use Rattle.rv_assemble.proofs.SettledLemmas.{IsSettled}
 use Rattle.rv_assemble.proofs.FieldListsLemmas.{all_split}
@@ -130,18 +130,18 @@ module _ (t : Tables) (sections : List SourceSection) (count : ℕ) (counted : l
     locals before (s ∷ ss) (h, hs) =
         all_append (unnamed_symbols t (references t all) before s) (named_symbols t all s ++ local_symbols t all (before ++ s ∷ []) ss) (unnamed before s h)
         (all_append (named_symbols t all s) (local_symbols t all (before ++ s ∷ []) ss)
-        (all_left (λ x. not (is_absolute x)) (map (λ name. local_symbol name (site_definition t all s s.located.kind)) (filter (λ name. not (is_global (t.bindings name))) (defined_name t s.located.ordinal s.located.kind)))
-        (all_named (λ name. local_symbol name (site_definition t all s s.located.kind)) (λ name. defined s h s.located.kind) (filter (λ name. not (is_global (t.bindings name))) (defined_name t s.located.ordinal s.located.kind))))
+        (all_left (λ x. not (is_absolute x)) (map (λ name. local_symbol name (site_definition t all s s.located.kind)) (filter (λ name. not (is_shared (t.bindings name))) (defined_name t s.located.ordinal s.located.kind)))
+        (all_named (λ name. local_symbol name (site_definition t all s s.located.kind)) (λ name. defined s h s.located.kind) (filter (λ name. not (is_shared (t.bindings name))) (defined_name t s.located.ordinal s.located.kind))))
         (locals (before ++ s ∷ []) ss hs))
 
     exported : (sites : List Site) → AllByRecursion (IsSettled sections) sites → AllStand (flat_map (exports_of t all) sites)
     exported [] h = refl
     exported (s ∷ ss) (h, hs) =
         all_append (exports_of t all s) (flat_map (exports_of t all) ss)
-        (all_named (λ name. global_symbol name (site_definition t all s s.located.kind)) (λ name. defined s h s.located.kind) (global_names_of t s.located)) (exported ss hs)
+        (all_named (λ name. shared_symbol t name (site_definition t all s s.located.kind)) (λ name. defined s h s.located.kind) (names_where is_shared t s.located)) (exported ss hs)
 
     pub symbols_stand : AllStand (symbols_of t all)
     symbols_stand =
         all_append (local_symbols t all [] all) (exports t all ++ undefined_symbols t all) (locals [] all settled)
         (all_append (exports t all) (undefined_symbols t all) (exported all settled)
-        (all_named (λ name. global_symbol name Undefined) (λ name. refl) (distinct_from [] (flat_map (λ r. missing_name t r.ordinal r.symbol) (references t all)))))
+        (all_named (λ name. shared_symbol t name Undefined) (λ name. refl) (distinct_from [] (flat_map (λ r. missing_name t r.ordinal r.symbol) (references t all)))))

@@ -66,7 +66,7 @@ kept_at (s ∷ sections) zero home h e =
 kept_at (s ∷ sections) (suc j) home h e = kept_at sections j home (and_parts (is_kept_name s.name) (all_kept sections) h).1 e
 
 pub names_kept : (ss : List Statement) (j : ℕ) (home : Section) → OpenOthers ss → slice_get (opened_of (tables ss)).sections j ≡ Some home → is_kept_name home.name ≡ true
-names_kept ss j home kept e = kept_at (opened_of (tables ss)).sections j home (all_after at_start 1 ss kept refl) e
+names_kept ss j home kept e = kept_at (opened_of (tables ss)).sections j home (all_after (at_start ss) 1 ss kept refl) e
 
 -- whatever such a section has in the file
 pub kept_by : (c : Contents) (name : List ℕ) → is_kept_name name ≡ true → keeps_name c name ≡ true

@@ -54,16 +54,16 @@ settled_by : (sections : List Section) (sites : List Site) → AllByRecursion (�
 settled_by sections [] h k b = tt
 settled_by sections (s ∷ ss) (h, hs) (k, ks) (b, bs) = (record { home = h; held = k; bare = b }, settled_by sections ss hs ks bs)
 
-pub settled : (ss : List Statement) (sites : List Site) → first_fault ss ≡ None → map (λ s. s.located) sites ≡ located_from 1 1 at_start ss
+pub settled : (ss : List Statement) (sites : List Site) → first_fault ss ≡ None → map (λ s. s.located) sites ≡ located_from 1 1 (at_start ss) ss
     → AllByRecursion (IsSettled (opened_of (tables ss)).sections) sites
 settled ss sites good is =
     let sections = (opened_of (tables ss)).sections in
-    let all : (P : Located → Type 0) → AllByRecursion P (located_from 1 1 at_start ss) → AllByRecursion (λ s. P s.located) sites =
+    let all : (P : Located → Type 0) → AllByRecursion P (located_from 1 1 (at_start ss) ss) → AllByRecursion (λ s. P s.located) sites =
     λ P h. of_located P sites (subst (λ l. AllByRecursion P l) (sym is) h) in
     settled_by sections sites
-    (all (IsHomeIn sections) (homes_from (λ f. sections) 1 1 at_start ss refl (text_section, refl)))
+    (all (IsHomeIn sections) (homes_from (λ f. sections) 1 1 (at_start ss) ss refl (text_section, refl)))
     (all Held (all_held ss good))
-    (all IsBare (bare_from 1 at_start ss))
+    (all IsBare (bare_from 1 (at_start ss) ss))
 
 -- ---- those of one section
 

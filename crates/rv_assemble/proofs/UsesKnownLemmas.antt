@@ -213,11 +213,11 @@ of_located : (sites : List Site) → AllByRecursion (λ (l : Located). are_shown
 of_located [] h = tt
 of_located (s ∷ ss) (h, hs) = (h, of_located ss hs)
 
-module _ (ss : List Statement) (sites : List Site) (names : HasNames ss) (is : map (λ s. s.located) sites ≡ located_from 1 1 at_start ss) where
+module _ (ss : List Statement) (sites : List Site) (names : HasNames ss) (is : map (λ s. s.located) sites ≡ located_from 1 1 (at_start ss) ss) where
   known : list_all (λ r. is_shown_use r && is_meant_use (tables ss) r) (references (tables ss) sites) ≡ true
   known =
       of_sites (tables ss) sites
-      (of_located sites (subst (λ l. AllByRecursion (λ (l : Located). are_shown (said_names l.kind) ≡ true) l) (sym is) (names_from 1 at_start ss names)))
+      (of_located sites (subst (λ l. AllByRecursion (λ (l : Located). are_shown (said_names l.kind) ≡ true) l) (sym is) (names_from 1 (at_start ss) ss names)))
 
   pub are_shown_uses : AreShown (references (tables ss) sites)
   are_shown_uses = all_weaker (λ r. is_shown_use r && is_meant_use (tables ss) r) is_shown_use (references (tables ss) sites) (λ r h. (and_parts (is_shown_use r) (is_meant_use (tables ss) r) h).0) known

@@ -80,7 +80,7 @@ module _ (ss : List Statement) (d : Draft) (h : IsDraft ss d) where
 
   pub items_count : length d.items.items ≡ length ss
   items_count =
-      ap length (sym h.stand) ∙ length-map h.sites item_of ∙ sym (length-map h.sites (λ (s : Site). s.located)) ∙ ap length h.located ∙ count_from 1 at_start ss
+      ap length (sym h.stand) ∙ length-map h.sites item_of ∙ sym (length-map h.sites (λ (s : Site). s.located)) ∙ ap length h.located ∙ count_from 1 (at_start ss) ss
 
   pub offsets_count : length (offsets_of d.items.items) ≡ length ss
   offsets_count = length-map d.items.items _ ∙ items_count
@@ -96,7 +96,7 @@ module _ (ss : List Statement) (d : Draft) (h : IsDraft ss d) where
       let names : all_said ss ≤ 33554432 = small.names in
       let used = used_light (references (tables ss) h.sites) in
       let light = references_light (tables ss) h.sites in
-      let said = (sites_said 1 at_start ss h.sites h.located).0 in
+      let said = (sites_said 1 (at_start ss) ss h.sites h.located).0 in
       let is = ap (λ l. length (used_names l)) uses_named in
       omega (arith, count, few, names, used, light, said, is)
 

@@ -65,4 +65,4 @@ named_at (s ∷ sections) zero home h e =
 named_at (s ∷ sections) (suc j) home h e = named_at sections j home (and_parts (is_name s.name) (all_named sections) h).1 e
 
 pub sections_named : (ss : List Statement) (j : ℕ) (home : Section) → HasNames ss → slice_get (opened_of (tables ss)).sections j ≡ Some home → is_name home.name ≡ true
-sections_named ss j home names e = named_at (opened_of (tables ss)).sections j home (all_after at_start 1 ss names refl) e
+sections_named ss j home names e = named_at (opened_of (tables ss)).sections j home (all_after (at_start ss) 1 ss names refl) e

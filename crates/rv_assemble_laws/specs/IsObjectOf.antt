@@ -127,10 +127,10 @@ pub record IsObjectOf (ss : List Statement) (o : Object) : Type 0 where
   pub good : statements_fault ss ≡ None
   -- the statements in their sections
   pub sites : List Site
-  pub located : map (λ s. s.located) sites ≡ located_from 1 1 at_start ss
+  pub located : map (λ s. s.located) sites ≡ located_from 1 1 (at_start ss) ss
   pub places : AllByRecursion (StandsInData sites) (tables ss).assignments
   -- each branch has the least size that reaches
-  pub least : AreLeast (tables ss) (located_from 1 1 at_start ss) (map (λ s. s.bytes) sites)
+  pub least : AreLeast (tables ss) (located_from 1 1 (at_start ss) ss) (map (λ s. s.bytes) sites)
   -- the sections in the order in which the source opens them
   pub number : Numbering
   pub sections : AreSectionsOf (tables ss) sites number o.symbols 0

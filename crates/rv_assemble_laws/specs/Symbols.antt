@@ -1,5 +1,5 @@
 -- The symbols of an object, in their order (gABI, "Symbol Table"; GNU as, "Symbols"): local ones,
--- those that the source makes global, and those that it leaves undefined.
+-- those that the source makes global or weak, and those that it leaves undefined.
 
 use Rattle.std.specs.Prelude.{◌≡◌, ℕ, Bool, true, false, not, ◌&&◌, ◌==◌, List, [], ◌∷◌, ◌++◌, filter, flat_map, map, Option, Some, None, if◌then◌else◌}
 use Rattle.std.specs.List.{find, list_any}
@@ -7,10 +7,13 @@ use Rattle.rv_map.specs.Globals.{is_one_of}
 use Rattle.rv_text_laws.specs.Expression.{Primary, Symbol as Named, Literal, Here, Reference}
 use Rattle.rv_text_laws.specs.Values.{Known, InSection as InData, Open as OpenAddress, Refused, add}
 use Rattle.rv_statement.specs.Statement.{StatementKind, Directs, Sets}
-use Rattle.rv_unit_laws.specs.Bindings.{is_global}
+use Rattle.rv_statement.specs.declared.directive.Binding.{Binding as SourceBinding}
+use Rattle.rv_statement.specs.declared.directive.Binding.TheVariants as source
+use Rattle.rv_unit_laws.specs.Bindings.{is_shared}
 use Rattle.rv_unit_laws.specs.Tables.{Tables, Definition, Assignment, definition, assigned_ever}
-use Rattle.rv_source_laws.specs.Resolves.{defined_name, global_names_of}
-use Rattle.rv_object.specs.declared.symbol.Binding.TheVariants.{Local, Global}
+use Rattle.rv_source_laws.specs.Exports.{defined_name, names_where}
+use Rattle.rv_object.specs.declared.symbol.Binding.{Binding}
+use Rattle.rv_object.specs.declared.symbol.Binding.TheVariants.{Local, Global, Weak}
 use Rattle.rv_object.specs.declared.symbol.Definition.{Definition as Defined}
 use Rattle.rv_object.specs.declared.symbol.Definition.TheVariants.{Undefined, Absolute, InSection, Skipped}
 use Rattle.rv_object.specs.Object.{Symbol}
@@ -49,8 +52,16 @@ site_definition t sites s _ = InSection s.located.section s.offset
 abbrev pub local_symbol : List ℕ → Defined → Symbol
 local_symbol name d = record { name = name; binding = Local; definition = d }
 
-abbrev pub global_symbol : List ℕ → Defined → Symbol
-global_symbol name d = record { name = name; binding = Global; definition = d }
+-- the binding in an object of what other files can mean; a name without a definition is theirs, also
+-- where the source makes it local
+abbrev pub outer_binding : SourceBinding → Binding
+outer_binding source.Local = Global
+outer_binding source.Global = Global
+outer_binding source.Weak = Weak
+
+abbrev pub shared_symbol : Tables → List ℕ → Defined → Symbol
+shared_symbol t name d =
+    record { name = name; binding = outer_binding (t.bindings name); definition = d }
 
 -- ---- what relocations name
 
@@ -115,8 +126,7 @@ abbrev pub named_symbols : Tables → List Site → Site → List Symbol
 named_symbols t sites s =
     filter (λ x. not (is_absolute x))
     (map (λ name. local_symbol name (site_definition t sites s s.located.kind))
-    (filter (λ name. not (is_global (t.bindings name)))
-    (defined_name t s.located.ordinal s.located.kind)))
+    (names_where (λ b. not (is_shared b)) t s.located))
 
 abbrev pub local_symbols : Tables → List Site → List Site → List Site → List Symbol
 local_symbols t sites before [] = []
@@ -124,13 +134,13 @@ local_symbols t sites before (s ∷ rest) =
     unnamed_symbols t (references t sites) before s ++ (named_symbols t sites s
     ++ local_symbols t sites (before ++ s ∷ []) rest)
 
--- ---- global symbols
+-- ---- global and weak symbols
 
--- the names that a statement defines for all files
+-- the names that a statement defines for other files
 abbrev pub exports_of : Tables → List Site → Site → List Symbol
 exports_of t sites s =
-    map (λ name. global_symbol name (site_definition t sites s s.located.kind))
-    (global_names_of t s.located)
+    map (λ name. shared_symbol t name (site_definition t sites s s.located.kind))
+    (names_where is_shared t s.located)
 
 abbrev pub exports : Tables → List Site → List Symbol
 exports t sites = flat_map (exports_of t sites) sites
@@ -154,7 +164,7 @@ distinct_from before (name ∷ names) =
 -- by first reference
 abbrev pub undefined_symbols : Tables → List Site → List Symbol
 undefined_symbols t sites =
-    map (λ name. global_symbol name Undefined)
+    map (λ name. shared_symbol t name Undefined)
     (distinct_from [] (flat_map (λ r. missing_name t r.ordinal r.symbol) (references t sites)))
 
 -- ---- all of them

@@ -49,4 +49,4 @@ pub even_files : (mapped : List Mapped) (file : ℕ) (files : List (List Stateme
 even_files mapped file [] = tt
 even_files mapped file (ss ∷ files) =
     all_join BeginsEven (input_sections_of_file goes_to_text (tables ss) mapped file 0 (sections_of ss)) (input_sections_of goes_to_text mapped (suc file) files)
-    (even_file (tables ss) (grown_all 1 ss) mapped file 0 (sections_of ss)) (even_files mapped (suc file) files)
+    (even_file (tables ss) (grown_all ss 1 ss) mapped file 0 (sections_of ss)) (even_files mapped (suc file) files)

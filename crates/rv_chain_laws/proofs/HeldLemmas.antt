@@ -13,4 +13,4 @@ use Rattle.rv_source_laws.proofs.HomesLemmas.{all_join}
 pub held_of : (file : ℕ) (sources : List (List Statement)) → AllByRecursion (λ ss. first_fault ss ≡ None) sources → AllByRecursion Held (located_of file sources)
 held_of file [] h = tt
 held_of file (ss ∷ files) (e, es) =
-    all_join Held (located_from file 1 at_start ss) (located_of (suc file) files) (held_from (tables ss) file 1 at_start ss (no_fault_from ss e)) (held_of (suc file) files es)
+    all_join Held (located_from file 1 (at_start ss) ss) (located_of (suc file) files) (held_from (tables ss) file 1 (at_start ss) ss (no_fault_from ss e)) (held_of (suc file) files es)

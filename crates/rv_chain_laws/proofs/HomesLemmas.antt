@@ -42,8 +42,8 @@ rest_of_these sections file ss files same i = ap sections (let e : suc file + i 
 homes_of : (sections : ℕ → List Section) (file : ℕ) (sources : List (List Statement)) → AreOf sections file sources → AllByRecursion (IsHomeIn sections) (located_of file sources)
 homes_of sections file [] same = tt
 homes_of sections file (ss ∷ files) same =
-    all_join (IsHomeIn sections) (located_from file 1 at_start ss) (located_of (suc file) files)
-    (homes_from sections file 1 at_start ss (first_of_these sections file ss files same) (text_section, refl))
+    all_join (IsHomeIn sections) (located_from file 1 (at_start ss) ss) (located_of (suc file) files)
+    (homes_from sections file 1 (at_start ss) ss (first_of_these sections file ss files same) (text_section, refl))
     (homes_of sections (suc file) files (rest_of_these sections file ss files same))
 
 -- a statement that has a row stands in a section that is loaded; P is what holds of all statements

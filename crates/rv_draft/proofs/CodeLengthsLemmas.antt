@@ -93,10 +93,10 @@ lengths_agree t (s ∷ ss) [] h = absurd h
 lengths_agree t (s ∷ ss) (n ∷ ns) (h, hs) = (λ e. code_same s.home.executable n (n - data_of (λ x. value_at t s x) s.offset s.kind) e, lengths_agree t ss ns hs)
 
 -- the least sizes are the least lengths of code
-pub least_lengths : (ss : List Statement) (ns : List ℕ) → first_fault ss ≡ None → AreSizes (tables ss) (located_from 1 1 at_start ss) ns → AreLeast (tables ss) (located_from 1 1 at_start ss) ns
-    → AreLeast (tables ss) (located_from 1 1 at_start ss) (code_lengths (tables ss) (located_from 1 1 at_start ss) ns)
+pub least_lengths : (ss : List Statement) (ns : List ℕ) → first_fault ss ≡ None → AreSizes (tables ss) (located_from 1 1 (at_start ss) ss) ns → AreLeast (tables ss) (located_from 1 1 (at_start ss) ss) ns
+    → AreLeast (tables ss) (located_from 1 1 (at_start ss) ss) (code_lengths (tables ss) (located_from 1 1 (at_start ss) ss) ns)
 least_lengths ss ns good sizes least =
     let t = tables ss in
-    let all = located_from 1 1 at_start ss in
-    let homes = homes_from (λ file. (opened_of t).sections) 1 1 at_start ss refl (text_section, refl) in
+    let all = located_from 1 1 (at_start ss) ss in
+    let homes = homes_from (λ file. (opened_of t).sections) 1 1 (at_start ss) ss refl (text_section, refl) in
     least_all t (opened_of t).sections all ns (code_lengths t all ns) homes (all_held ss good) (lengths_agree t all ns sizes) least

@@ -105,9 +105,9 @@ sized_left all k (suc i) t (y ∷ ys) (z ∷ zs) sizes s rest x more h e g =
 -- values of data end where a section may end
 pub room_for : (ss : List Statement) (is : List Item) (i : ℕ) (s : Statement) (x : Item) → IsLaid ss is → drop i ss ≡ s ∷ drop (i + 1) ss → drop i is ≡ x ∷ drop (i + 1) is → HasRoomFor s.kind x.offset
 room_for ss is i s x laid here item w vs says =
-    let ends : x.offset + x.bytes ≤ laid.last x.section = item_ends 1 i at_start (λ j. 0) laid.last ss is s (drop (i + 1) ss) x (drop (i + 1) is) laid.items here item in
+    let ends : x.offset + x.bytes ≤ laid.last x.section = item_ends 1 i (at_start ss) (λ j. 0) laid.last ss is s (drop (i + 1) ss) x (drop (i + 1) is) laid.items here item in
     let low = laid.low x.section in
-    let size = sized_left (tables ss) 1 i at_start ss is laid.sizes s (drop (i + 1) ss) x (drop (i + 1) is) laid.sized here item in
+    let size = sized_left (tables ss) 1 i (at_start ss) ss is laid.sizes s (drop (i + 1) ss) x (drop (i + 1) is) laid.sized here item in
     let st = located_at ss i s in
     let placed : is_placed (passed ss i) (i + 1) s.kind ≡ true = ap (is_placed (passed ss i) (i + 1)) says in
     let sized = subst (λ k. IsSized (λ e. value_at (tables ss) st e) st.home.executable x (slice_index_or (alignments_of (tables ss)) x.section 1) (first_size (drop i laid.sizes)) k) says (size.sized placed) in
@@ -117,7 +117,7 @@ room_for ss is i s x laid here item w vs says =
 -- an item ends where a section may end
 pub item_low : (ss : List Statement) (is : List Item) (i : ℕ) (s : Statement) (x : Item) → IsLaid ss is → drop i ss ≡ s ∷ drop (i + 1) ss → drop i is ≡ x ∷ drop (i + 1) is → x.offset + x.bytes ≤ longest_section
 item_low ss is i s x laid here item =
-    let ends : x.offset + x.bytes ≤ laid.last x.section = item_ends 1 i at_start (λ j. 0) laid.last ss is s (drop (i + 1) ss) x (drop (i + 1) is) laid.items here item in
+    let ends : x.offset + x.bytes ≤ laid.last x.section = item_ends 1 i (at_start ss) (λ j. 0) laid.last ss is s (drop (i + 1) ss) x (drop (i + 1) is) laid.items here item in
     let low = laid.low x.section in
     omega (arith, ends, low)
 
@@ -148,7 +148,7 @@ coded_left t (y ∷ ys) (coded ∷ codes) (suc i) l rest h e = coded_left t ys c
 
 pub coded_here : (ss : List Statement) (is : List Item) (codes : List (List Coded)) (i : ℕ) (s : Statement) → HaveCode ss is codes → drop i ss ≡ s ∷ drop (i + 1) ss → IsCodedAt (tables ss) (located_at ss i s) (code_of i codes)
 coded_here ss is codes i s have here =
-    let all = located_from 1 1 at_start ss in
+    let all = located_from 1 1 (at_start ss) ss in
     coded_left (tables ss) all codes i (located_at ss i s) (drop (i + 1) all) have.coded (stated_next ss i s (drop (i + 1) ss) here)
 
 -- an instruction has the bytes of its code
@@ -161,8 +161,8 @@ bytes_by_kind t k v b x begins coded (Directs directive) h = tt
 
 pub bytes_here : (ss : List Statement) (is : List Item) (codes : List (List Coded)) (i : ℕ) (s : Statement) (x : Item) → HaveCode ss is codes → drop i ss ≡ s ∷ drop (i + 1) ss → drop i is ≡ x ∷ drop (i + 1) is → HasBytesOf (code_of i codes) x s.kind
 bytes_here ss is codes i s x have here item =
-    let all = located_from 1 1 at_start ss in
-    let size = sized_left (tables ss) 1 i at_start ss is (sizes_of (tables ss) all codes) s (drop (i + 1) ss) x (drop (i + 1) is) have.sized here item in
+    let all = located_from 1 1 (at_start ss) ss in
+    let size = sized_left (tables ss) 1 i (at_start ss) ss is (sizes_of (tables ss) all codes) s (drop (i + 1) ss) x (drop (i + 1) is) have.sized here item in
     let st = located_at ss i s in
     bytes_by_kind (passed ss i) (i + 1) (λ e. value_at (tables ss) st e) st.home.executable x (slice_index_or (alignments_of (tables ss)) x.section 1) (code_of i codes) s.kind
     (subst (λ c. st.placed ≡ true → IsSized (λ e. value_at (tables ss) st e) st.home.executable x (slice_index_or (alignments_of (tables ss)) x.section 1) c s.kind)
@@ -191,7 +191,7 @@ others_left (suc i) (coded ∷ codes) = others_left i codes
 pub sites_next : (ss : List Statement) (is : List Item) (codes : List (List Coded)) (i : ℕ) (s : Statement) (x : Item) → drop i ss ≡ s ∷ drop (i + 1) ss → drop i is ≡ x ∷ drop (i + 1) is
     → drop i (sites ss is codes) ≡ site_of (located_at ss i s) x (code_of i codes) ∷ drop (i + 1) (sites ss is codes)
 sites_next ss is codes i s x here item =
-    let all = located_from 1 1 at_start ss in
+    let all = located_from 1 1 (at_start ss) ss in
     let st = located_at ss i s in
     drop_sites i all is codes ∙ ap (λ l. sites_of l (drop i is) (drop i codes)) (stated_next ss i s (drop (i + 1) ss) here)
     ∙ ap (λ l. sites_of (st ∷ drop (i + 1) all) l (drop i codes)) item
@@ -344,11 +344,11 @@ data_begin ss is codes start found none = record {
       ∙ ap (flat_map (open_fields (tables ss))) (drop_none (sites ss is codes));
 }
 
-pub data_all : (ss : List Statement) (is : List Item) (codes : List (List Coded)) (start : List (Vec ℕ)) (i : ℕ) (sections : List (Vec ℕ)) (found : List OpenField) → drop i (located_from 1 1 at_start ss) ≡ []
+pub data_all : (ss : List Statement) (is : List Item) (codes : List (List Coded)) (start : List (Vec ℕ)) (i : ℕ) (sections : List (Vec ℕ)) (found : List OpenField) → drop i (located_from 1 1 (at_start ss) ss) ≡ []
     → IsDataTo ss is codes start i sections found → IsData ss is codes start sections found
 data_all ss is codes start i sections found past h =
     let none : (more : List (List Coded)) → drop i (sites ss is more) ≡ [] =
-    λ more. drop_sites i (located_from 1 1 at_start ss) is more ∙ ap (λ l. sites_of l (drop i is) (drop i more)) past in
+    λ more. drop_sites i (located_from 1 1 (at_start ss) ss) is more ∙ ap (λ l. sites_of l (drop i is) (drop i more)) past in
     record {
       bytes = λ j.
           sym (append-nil (bytes_in sections j))

@@ -36,11 +36,11 @@ pub record Passed (ss : List Statement) (lengths : List ℕ) (code : List (Vec �
   pub good : first_fault ss ≡ None
   pub wide : AllByRecursion (λ s. IsWideKind s.kind) ss
   pub whole : IsWhole (tables ss) (located (ss ∷ [])) lengths code sizes
-  pub items : AreItems 1 at_start (λ j. 0) ss d.items.items (λ j. slice_index d.ends.items j)
-  pub sized : AreSized (tables ss) 1 at_start ss d.items.items sizes
+  pub items : AreItems 1 (at_start ss) (λ j. 0) ss d.items.items (λ j. slice_index d.ends.items j)
+  pub sized : AreSized (tables ss) 1 (at_start ss) ss d.items.items sizes
   pub low : (j : ℕ) → slice_index d.ends.items j ≤ longest_section
   pub figures : (codes : List (List CodedPart)) → HaveCode ss d.items.items codes → IsData ss d.items.items codes code d.sections.items d.fields.items
-  pub least : AreLeast (tables ss) (located_from 1 1 at_start ss) lengths
+  pub least : AreLeast (tables ss) (located_from 1 1 (at_start ss) ss) lengths
   pub counted : length d.sections.items ≡ length (opened_of (tables ss)).sections
   pub ended : length d.ends.items ≡ length (opened_of (tables ss)).sections
   pub few : length ss < 2 ^ 32
@@ -58,27 +58,27 @@ module _ (ss : List Statement) (lengths : List ℕ) (code : List (Vec ℕ)) (siz
   codes = h.whole.codes
 
   abbrev all : List Site
-  all = sites_of (located_from 1 1 at_start ss) d.items.items codes
+  all = sites_of (located_from 1 1 (at_start ss) ss) d.items.items codes
 
-  coded : AreCoded t (located_from 1 1 at_start ss) codes
+  coded : AreCoded t (located_from 1 1 (at_start ss) ss) codes
   coded = subst (λ ls. AreCoded t ls codes) (one_file ss) h.whole.coded
 
-  located_all : map (λ (s : Site). s.located) all ≡ located_from 1 1 at_start ss
-  located_all = all_located 1 at_start (λ j. 0) (λ j. slice_index d.ends.items j) ss d.items.items codes h.items
+  located_all : map (λ (s : Site). s.located) all ≡ located_from 1 1 (at_start ss) ss
+  located_all = all_located 1 (at_start ss) (λ j. 0) (λ j. slice_index d.ends.items j) ss d.items.items codes h.items
 
-  sized : AreSized t 1 at_start ss d.items.items (sizes_of t (located_from 1 1 at_start ss) codes)
-  sized = subst (λ l. AreSized t 1 at_start ss d.items.items l) (h.whole.counts ∙ ap (λ ls. sizes_of t ls codes) (one_file ss)) h.sized
+  sized : AreSized t 1 (at_start ss) ss d.items.items (sizes_of t (located_from 1 1 (at_start ss) ss) codes)
+  sized = subst (λ l. AreSized t 1 (at_start ss) ss d.items.items l) (h.whole.counts ∙ ap (λ ls. sizes_of t ls codes) (one_file ss)) h.sized
 
   figures : IsData ss d.items.items codes code d.sections.items d.fields.items
   figures = h.figures codes (record { coded = coded; sized = sized })
 
   fits : AllByRecursion (Fit t) all
   fits =
-      fits_from t 1 at_start (λ j. 0) (λ j. slice_index d.ends.items j) ss d.items.items codes h.items sized coded
+      fits_from t 1 (at_start ss) (λ j. 0) (λ j. slice_index d.ends.items j) ss d.items.items codes h.items sized coded
       (all_held ss h.good) (have_all_fields ss h.good h.wide) (all_spare ss h.good)
 
-  homes_all : AllByRecursion (IsHomeIn (λ file. (opened_of t).sections)) (located_from 1 1 at_start ss)
-  homes_all = homes_from (λ file. (opened_of t).sections) 1 1 at_start ss refl (text_section, refl)
+  homes_all : AllByRecursion (IsHomeIn (λ file. (opened_of t).sections)) (located_from 1 1 (at_start ss) ss)
+  homes_all = homes_from (λ file. (opened_of t).sections) 1 1 (at_start ss) ss refl (text_section, refl)
 
   homes : AllByRecursion (λ (s : Site). IsHomeIn (λ file. (opened_of t).sections) s.located) all
   homes =
@@ -86,11 +86,11 @@ module _ (ss : List Statement) (lengths : List ℕ) (code : List (Vec ℕ)) (siz
       (subst (λ ls. AllByRecursion (IsHomeIn (λ file. (opened_of t).sections)) ls) (sym located_all) homes_all)
 
   -- the lengths are the least, and in code the sites have them
-  least : AreLeast t (located_from 1 1 at_start ss) (map (λ (s : Site). s.bytes) all)
+  least : AreLeast t (located_from 1 1 (at_start ss) ss) (map (λ (s : Site). s.bytes) all)
   least =
-      least_all t (opened_of t).sections (located_from 1 1 at_start ss) (bytes_of_codes t (located_from 1 1 at_start ss) codes) (map (λ (s : Site). s.bytes) all) homes_all (all_held ss h.good)
-      (agree t 1 at_start (λ j. 0) (λ j. slice_index d.ends.items j) ss d.items.items codes h.items coded fits)
-      (subst (AreLeast t (located_from 1 1 at_start ss)) (sym (ap (λ ls. bytes_of_codes t ls codes) (sym (one_file ss)) ∙ h.whole.told)) h.least)
+      least_all t (opened_of t).sections (located_from 1 1 (at_start ss) ss) (bytes_of_codes t (located_from 1 1 (at_start ss) ss) codes) (map (λ (s : Site). s.bytes) all) homes_all (all_held ss h.good)
+      (agree t 1 (at_start ss) (λ j. 0) (λ j. slice_index d.ends.items j) ss d.items.items codes h.items coded fits)
+      (subst (AreLeast t (located_from 1 1 (at_start ss) ss)) (sym (ap (λ ls. bytes_of_codes t ls codes) (sym (one_file ss)) ∙ h.whole.told)) h.least)
 
   module _ (j : ℕ) (home : Section) (at : slice_get (opened_of t).sections j ≡ Some home) where
     own : AllByRecursion (IsOf t j home) (sites_in j all)
@@ -98,16 +98,16 @@ module _ (ss : List Statement) (lengths : List ℕ) (code : List (Vec ℕ)) (siz
 
     follow : Tile t 0 (sites_in j all) × (end_of 0 (sites_in j all) ≡ slice_index d.ends.items j)
     follow =
-        tiles t j 1 at_start (λ j. 0) (λ j. slice_index d.ends.items j) ss d.items.items codes h.items
+        tiles t j 1 (at_start ss) (λ j. 0) (λ j. slice_index d.ends.items j) ss d.items.items codes h.items
         (all_map (Fit t) (λ (s : Site). s.bytes ≡ length (flat_map part_bytes (parts_of t s))) all (λ s f. f.bytes) fits)
 
     bytes : bytes_in d.sections.items j ≡ (if is_nobits home then [] else flat_map part_bytes (parts t (sites_in j all)))
     bytes =
         figures.bytes j
-        ∙ ap (λ l. bytes_in code j ++ l) (sym (data_as t j (located_from 1 1 at_start ss) d.items.items codes))
+        ∙ ap (λ l. bytes_in code j ++ l) (sym (data_as t j (located_from 1 1 (at_start ss) ss) d.items.items codes))
         ∙ ap (λ l. l ++ data_bytes t j all)
         (h.whole.bytes j ∙ ap (λ l. section_code t j l codes) (one_file ss)
-        ∙ code_in t j 1 at_start (λ j. 0) (λ j. slice_index d.ends.items j) ss d.items.items codes h.items coded)
+        ∙ code_in t j 1 (at_start ss) (λ j. 0) (λ j. slice_index d.ends.items j) ss d.items.items codes h.items coded)
         ∙ section_bytes t j home (sites_in j all) own
 
     drafted : IsDrafted t j home (sites_in j all) d
@@ -127,7 +127,7 @@ module _ (ss : List Statement) (lengths : List ℕ) (code : List (Vec ℕ)) (siz
     sites = all;
     located = located_all;
     few = h.few;
-    stand = all_items 1 at_start (λ j. 0) (λ j. slice_index d.ends.items j) ss d.items.items codes h.items;
+    stand = all_items 1 (at_start ss) (λ j. 0) (λ j. slice_index d.ends.items j) ss d.items.items codes h.items;
     counted = h.counted;
     ended = h.ended;
     each = λ j home at. drafted j home at;

@@ -72,23 +72,23 @@ compressed_as u i x p e on at there is =
 
 -- the statements of a source from an index on decide
 abbrev pub Decides : List Statement → ℕ → Type 0
-Decides ss i = list_any is_compressed_code (drop i (located_from 1 1 at_start ss)) ≡ is_compressed (ss ∷ [])
+Decides ss i = list_any is_compressed_code (drop i (located_from 1 1 (at_start ss) ss)) ≡ is_compressed (ss ∷ [])
 
 pub all_decide : (ss : List Statement) → Decides ss 0
 all_decide ss = ap (list_any is_compressed_code) (sym (one_file ss))
 
-module _ (ss : List Statement) (i : ℕ) (s : Located) (next : drop i (located_from 1 1 at_start ss) ≡ s ∷ drop (i + 1) (located_from 1 1 at_start ss)) (h : Decides ss i) where
-  here : (is_compressed_code s || list_any is_compressed_code (drop (i + 1) (located_from 1 1 at_start ss))) ≡ is_compressed (ss ∷ [])
+module _ (ss : List Statement) (i : ℕ) (s : Located) (next : drop i (located_from 1 1 (at_start ss) ss) ≡ s ∷ drop (i + 1) (located_from 1 1 (at_start ss) ss)) (h : Decides ss i) where
+  here : (is_compressed_code s || list_any is_compressed_code (drop (i + 1) (located_from 1 1 (at_start ss) ss))) ≡ is_compressed (ss ∷ [])
   here = ap (list_any is_compressed_code) (sym next) ∙ h
 
   -- a statement of compressed code decides
   pub decided : true ≡ is_compressed_code s → true ≡ is_compressed (ss ∷ [])
-  decided found = ap (λ b. b || list_any is_compressed_code (drop (i + 1) (located_from 1 1 at_start ss))) found ∙ here
+  decided found = ap (λ b. b || list_any is_compressed_code (drop (i + 1) (located_from 1 1 (at_start ss) ss))) found ∙ here
 
   -- another leaves it to those after it
   pub left_to_others : false ≡ is_compressed_code s → Decides ss (i + 1)
-  left_to_others none = ap (λ b. b || list_any is_compressed_code (drop (i + 1) (located_from 1 1 at_start ss))) none ∙ here
+  left_to_others none = ap (λ b. b || list_any is_compressed_code (drop (i + 1) (located_from 1 1 (at_start ss) ss))) none ∙ here
 
 -- none is left
-pub none_decides : (ss : List Statement) (i : ℕ) → drop i (located_from 1 1 at_start ss) ≡ [] → Decides ss i → false ≡ is_compressed (ss ∷ [])
+pub none_decides : (ss : List Statement) (i : ℕ) → drop i (located_from 1 1 (at_start ss) ss) ≡ [] → Decides ss i → false ≡ is_compressed (ss ∷ [])
 none_decides ss i none h = ap (list_any is_compressed_code) (sym none) ∙ h

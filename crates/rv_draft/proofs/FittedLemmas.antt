@@ -449,8 +449,8 @@ spare_all : (all : Tables) (k : ℕ) (t : Tables) (ss : List Statement) → ((k 
 spare_all all k t [] whole h = tt
 spare_all all k t (s ∷ ss) whole h = (said_spare all t k (whole k (here t)) s.kind h.0, spare_all all (suc k) (after t k s.kind) ss whole h.1)
 
-pub all_spare : (ss : List Statement) → first_fault ss ≡ None → AllByRecursion (IsSpare (tables ss)) (located_from 1 1 at_start ss)
-all_spare ss good = spare_all (tables ss) 1 at_start ss (constant_whole ss) (sound ss good)
+pub all_spare : (ss : List Statement) → first_fault ss ≡ None → AllByRecursion (IsSpare (tables ss)) (located_from 1 1 (at_start ss) ss)
+all_spare ss good = spare_all (tables ss) 1 (at_start ss) ss (constant_whole ss) (sound ss good)
 
 -- ---- sites
 
@@ -501,5 +501,5 @@ fits_from all k t before last (s ∷ ss) (x ∷ is) (c ∷ codes) items sized co
   fits_from all (suc k) (after t k s.kind) (grown before x) last ss is codes items.1 sized.1 coded.1 held.1 fields.1 spare.1,
 )
 
-pub have_all_fields : (ss : List Statement) → first_fault ss ≡ None → AllByRecursion (λ s. IsWideKind s.kind) ss → AllByRecursion (HaveFields (tables ss)) (located_from 1 1 at_start ss)
-have_all_fields ss good wide = fields_all (tables ss) 1 at_start ss (sound ss good) wide
+pub have_all_fields : (ss : List Statement) → first_fault ss ≡ None → AllByRecursion (λ s. IsWideKind s.kind) ss → AllByRecursion (HaveFields (tables ss)) (located_from 1 1 (at_start ss) ss)
+have_all_fields ss good wide = fields_all (tables ss) 1 (at_start ss) ss (sound ss good) wide

@@ -168,7 +168,7 @@ all_stand sites ls (a ∷ xs) same h = (
   all_stand sites ls xs same h.1,
 )
 
-pub places_stand : (ss : List Statement) (sites : List Site) → map (λ (s : Site). s.located) sites ≡ located_from 1 1 at_start ss → AllByRecursion (StandsInData sites) (tables ss).assignments
+pub places_stand : (ss : List Statement) (sites : List Site) → map (λ (s : Site). s.located) sites ≡ located_from 1 1 (at_start ss) ss → AllByRecursion (StandsInData sites) (tables ss).assignments
 places_stand ss sites same =
-    let ls = located_from 1 1 at_start ss in
-    all_stand sites ls (tables ss).assignments same (lie_all ls 1 at_start ss (found_from 1 1 at_start ss) tt)
+    let ls = located_from 1 1 (at_start ss) ss in
+    all_stand sites ls (tables ss).assignments same (lie_all ls 1 (at_start ss) ss (found_from 1 1 (at_start ss) ss) tt)

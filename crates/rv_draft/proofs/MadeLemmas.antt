@@ -82,12 +82,12 @@ made_from all k t (s ∷ ss) (x ∷ is) (c ∷ codes) (n ∷ lengths) sound (cod
 
 -- where the passes over a source have found its code and its items
 pub made_all : (ss : List Statement) (lengths : List ℕ) (code : List (Vec ℕ)) (sizes : List CodeSize) (is : List Item) → IsWhole (tables ss) (located (ss ∷ [])) lengths code sizes
-    → AreSized (tables ss) 1 at_start ss is sizes → AreLengths (tables ss) (located_from 1 1 at_start ss) lengths → AreMade (tables ss) (located_from 1 1 at_start ss) is
+    → AreSized (tables ss) 1 (at_start ss) ss is sizes → AreLengths (tables ss) (located_from 1 1 (at_start ss) ss) lengths → AreMade (tables ss) (located_from 1 1 (at_start ss) ss) is
 made_all ss lengths code sizes is whole sized long =
     let t = tables ss in
     let one = one_file ss in
-    made_from t 1 at_start ss is whole.codes lengths (subst (λ ls. code_fault_from t ls ≡ None) one whole.faults) (subst (λ ls. AreCoded t ls whole.codes) one whole.coded)
-    (subst (λ l. AreSized t 1 at_start ss is l) (whole.counts ∙ ap (λ ls. sizes_of t ls whole.codes) one) sized)
+    made_from t 1 (at_start ss) ss is whole.codes lengths (subst (λ ls. code_fault_from t ls ≡ None) one whole.faults) (subst (λ ls. AreCoded t ls whole.codes) one whole.coded)
+    (subst (λ l. AreSized t 1 (at_start ss) ss is l) (whole.counts ∙ ap (λ ls. sizes_of t ls whole.codes) one) sized)
     (ap (λ ls. bytes_of_codes t ls whole.codes) (sym one) ∙ whole.told) long
 
 pub made_left : (t : Tables) (ls : List Located) (is : List Item) (i : ℕ) (l : Located) (rest : List Located) (x : Item) (more : List Item) → AreMade t ls is

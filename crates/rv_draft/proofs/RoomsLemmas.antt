@@ -33,7 +33,7 @@ use Rattle.rv_draft.proofs.RoomyLemmas.{IsRoomy, statement_here}
 -- code have counted, and these have room for what is left; those of others are no more than the tables'
 pub record HasRoomLeft (ss : List Statement) (sizes : List CodeSize) (i : ℕ) (ends : ℕ → ℕ) : Type 0 where
   pub counted : ℕ → ℕ
-  pub rest : size_fault_from counted (drop i (located_from 1 1 at_start ss)) (drop i (bytes_of_sizes sizes)) ≡ None
+  pub rest : size_fault_from counted (drop i (located_from 1 1 (at_start ss) ss)) (drop i (bytes_of_sizes sizes)) ≡ None
   pub code : (j : ℕ) → (section_at (opened_of (tables ss)) j).executable ≡ true → ends j ≤ counted j
   pub stored : (j : ℕ) → (section_at (opened_of (tables ss)) j).executable ≡ false → ends j ≤ slice_index_or (ends_of (passed ss i)) j 0
 
@@ -51,7 +51,7 @@ pub rooms_begin : (ss : List Statement) (sizes : List CodeSize) (ends : ℕ → 
 rooms_begin ss sizes ends good zeros = record {
   counted = λ j. 0;
   rest =
-      ap (λ l. size_fault_from (λ j. 0) l (drop 0 (bytes_of_sizes sizes))) (drop_none (located_from 1 1 at_start ss) ∙ sym (append-nil (located_from 1 1 at_start ss)))
+      ap (λ l. size_fault_from (λ j. 0) l (drop 0 (bytes_of_sizes sizes))) (drop_none (located_from 1 1 (at_start ss) ss) ∙ sym (append-nil (located_from 1 1 (at_start ss) ss)))
       ∙ ap (λ l. size_fault_from (λ j. 0) (located (ss ∷ [])) l) (drop_none (bytes_of_sizes sizes)) ∙ good;
   code = λ j code. let e = zeros j in omega (arith, e);
   stored = λ j other. let e = zeros j in omega (arith, e);
@@ -118,23 +118,23 @@ module _ (ss : List Statement) (i : ℕ) (s : Statement) (here_is : drop i ss �
   within = let l = drop_inside ss i s (drop (i + 1) ss) here_is in omega (arith, l)
 
   inside : t.current < length (opened_of t).sections
-  inside = open_inside (opened_of t) (stood_all at_start 1 (take i ss) stood_start).opened
+  inside = open_inside (opened_of t) (stood_all (at_start ss) 1 (take i ss) (stood_start ss)).opened
 
-  next : drop i (located_from 1 1 at_start ss) ≡ st ∷ drop (i + 1) (located_from 1 1 at_start ss)
+  next : drop i (located_from 1 1 (at_start ss) ss) ≡ st ∷ drop (i + 1) (located_from 1 1 (at_start ss) ss)
   next = stated_next ss i s (drop (i + 1) ss) here_is
 
   -- the section of the statement
   home_is : section_at (opened_of all) st.section ≡ st.home
   home_is =
       got_or (opened_of all).sections st.section text_section st.home
-      (all_at (IsHomeIn (λ file. (opened_of all).sections)) (located_from 1 1 at_start ss) i st (drop (i + 1) (located_from 1 1 at_start ss)) next
-      (homes_from (λ file. (opened_of all).sections) 1 1 at_start ss refl (text_section, refl)))
+      (all_at (IsHomeIn (λ file. (opened_of all).sections)) (located_from 1 1 (at_start ss) ss) i st (drop (i + 1) (located_from 1 1 (at_start ss) ss)) next
+      (homes_from (λ file. (opened_of all).sections) 1 1 (at_start ss) ss refl (text_section, refl)))
 
   multiples : (d : Directive) → s.kind ≡ Directs d → puts d ≡ true → BeginsAt (alignment_of (value t false k (here t)) d) (slice_index_or (alignments_of all) t.current 1)
   multiples d is h =
       subst (λ (u : Tables). BeginsAt (alignment_of (value t false k (here t)) d) (slice_index_or (alignments_of u) t.current 1))
       (sym (whole_rest ss i within ∙ ap (after_all t k) here_is ∙ ap (λ y. after_all (after t k y) (suc k) (drop (i + 1) ss)) is))
-      (begins_multiple t k (suc k) d (drop (i + 1) ss) h (grown_all 1 (take i ss)) inside)
+      (begins_multiple t k (suc k) d (drop (i + 1) ss) h (grown_all ss 1 (take i ss)) inside)
 
   -- the section where a statement that has a row stands is the current one
   home_here : is_placed t k s.kind ≡ true → st.home ≡ current_section (opened_of t)
@@ -167,12 +167,12 @@ module _ (ss : List Statement) (i : ℕ) (s : Statement) (here_is : drop i ss �
       abbrev full : Option ℕ
       full = if nat_lt longest_section (left.counted st.section + own.bytes) then Some limit else None
 
-      parts : (full ≡ None) × (size_fault_from (grown_by left.counted st.section own.bytes) (drop (i + 1) (located_from 1 1 at_start ss)) (drop (i + 1) (bytes_of_sizes sizes)) ≡ None)
+      parts : (full ≡ None) × (size_fault_from (grown_by left.counted st.section own.bytes) (drop (i + 1) (located_from 1 1 (at_start ss) ss)) (drop (i + 1) (bytes_of_sizes sizes)) ≡ None)
       parts =
           no_fault st.line full
-          (size_fault_from (grown_by left.counted st.section own.bytes) (drop (i + 1) (located_from 1 1 at_start ss)) (drop (i + 1) (bytes_of_sizes sizes)))
+          (size_fault_from (grown_by left.counted st.section own.bytes) (drop (i + 1) (located_from 1 1 (at_start ss) ss)) (drop (i + 1) (bytes_of_sizes sizes)))
           (ap (λ l. size_fault_from left.counted l (own.bytes ∷ drop (i + 1) (bytes_of_sizes sizes))) (sym next)
-          ∙ ap (λ l. size_fault_from left.counted (drop i (located_from 1 1 at_start ss)) l) (sym size_is) ∙ left.rest)
+          ∙ ap (λ l. size_fault_from left.counted (drop i (located_from 1 1 (at_start ss) ss)) l) (sym size_is) ∙ left.rest)
 
       fits : st.home.executable ≡ true → ends st.section + own.bytes ≤ longest_section
       fits e =

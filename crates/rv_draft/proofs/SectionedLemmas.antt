@@ -238,4 +238,4 @@ agree all k t before last (s ∷ ss) (x ∷ is) (c ∷ codes) items coded fits =
 
 -- each section asks to begin at a multiple of one or more
 pub asks_some : (ss : List Statement) (j : ℕ) → 0 < slice_index_or (alignments_of (tables ss)) j 1
-asks_some ss j = let (power, is) = grown_all 1 ss j in subst (λ n. 0 < n) (sym is) (pow_pos power)
+asks_some ss j = let (power, is) = grown_all ss 1 ss j in subst (λ n. 0 < n) (sym is) (pow_pos power)

@@ -15,7 +15,7 @@ use Rattle.rv_draft.proofs.SoFarItemsLemmas.{passed_next}
 -- the sizes of the items so far, with those of what is left, are those of all items
 abbrev pub AreSizedSoFar : Tables → List Statement → List CodeSize → ℕ → List Item → Type 0
 AreSizedSoFar all ss sizes i so_far =
-    (rest : List Item) → AreSized all (i + 1) (passed ss i) (drop i ss) rest (drop i sizes) → AreSized all 1 at_start ss (so_far ++ rest) sizes
+    (rest : List Item) → AreSized all (i + 1) (passed ss i) (drop i ss) rest (drop i sizes) → AreSized all 1 (at_start ss) ss (so_far ++ rest) sizes
 
 drop_none : {A : Type 0} (xs : List A) → drop 0 xs ≡ xs
 drop_none [] = refl
@@ -23,7 +23,7 @@ drop_none (x ∷ xs) = refl
 
 pub sized_begin : (all : Tables) (ss : List Statement) (sizes : List CodeSize) → AreSizedSoFar all ss sizes 0 []
 sized_begin all [] sizes rest h = tt
-sized_begin all (s ∷ ss) sizes rest h = subst (λ l. AreSized all 1 at_start (s ∷ ss) rest l) (drop_none sizes) h
+sized_begin all (s ∷ ss) sizes rest h = subst (λ l. AreSized all 1 (at_start (s ∷ ss)) (s ∷ ss) rest l) (drop_none sizes) h
 
 -- the item of a statement has its size where it has a place
 abbrev pub IsSizedAt : Tables → List Statement → ℕ → Statement → CodeSize → Item → Type 0
@@ -40,12 +40,12 @@ sized_more all ss sizes i s size so_far x here size_is one h rest more =
     subst (λ t. AreSized all (i + 1 + 1) t (drop (i + 1) ss) rest left) same more in
     let tail' : AreSized all (suc (i + 1)) (after (passed ss i) (i + 1) s.kind) (drop (i + 1) ss) rest left =
     subst (λ n. AreSized all n (after (passed ss i) (i + 1) s.kind) (drop (i + 1) ss) rest left) next tail in
-    subst (λ l. AreSized all 1 at_start ss l sizes) (sym (append_assoc so_far (x ∷ []) rest))
+    subst (λ l. AreSized all 1 (at_start ss) ss l sizes) (sym (append_assoc so_far (x ∷ []) rest))
     (h (x ∷ rest)
     (subst (λ l. AreSized all (i + 1) (passed ss i) (drop i ss) (x ∷ rest) l) (sym size_is)
     (subst (λ l. AreSized all (i + 1) (passed ss i) l (x ∷ rest) (size ∷ left)) (sym here) (one, tail'))))
 
-pub sized_all : (all : Tables) (ss : List Statement) (sizes : List CodeSize) (i : ℕ) (so_far : List Item) → drop i ss ≡ [] → AreSizedSoFar all ss sizes i so_far → AreSized all 1 at_start ss so_far sizes
+pub sized_all : (all : Tables) (ss : List Statement) (sizes : List CodeSize) (i : ℕ) (so_far : List Item) → drop i ss ≡ [] → AreSizedSoFar all ss sizes i so_far → AreSized all 1 (at_start ss) ss so_far sizes
 sized_all all ss sizes i so_far none h =
-    subst (λ l. AreSized all 1 at_start ss l sizes) (append-nil so_far)
+    subst (λ l. AreSized all 1 (at_start ss) ss l sizes) (append-nil so_far)
     (h [] (subst (λ l. AreSized all (i + 1) (passed ss i) l [] (drop i sizes)) (sym none) tt))

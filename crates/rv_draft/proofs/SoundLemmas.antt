@@ -20,8 +20,8 @@ sound_from all k t (s ∷ ss) e =
     let parts = no_fault s.line (lowest (faults all t k s.kind)) (first_fault_from all (after t k s.kind) (suc k) ss) e in
     (no_lowest (faults all t k s.kind) parts.0, sound_from all (suc k) (after t k s.kind) ss parts.1)
 
-pub sound : (ss : List Statement) → first_fault ss ≡ None → AreSound (tables ss) 1 at_start ss
-sound ss e = sound_from (tables ss) 1 at_start ss (no_fault_from ss e)
+pub sound : (ss : List Statement) → first_fault ss ≡ None → AreSound (tables ss) 1 (at_start ss) ss
+sound ss e = sound_from (tables ss) 1 (at_start ss) ss (no_fault_from ss e)
 
 sound_left : (all : Tables) (k : ℕ) (t : Tables) (ss : List Statement) (i : ℕ) (s : Statement) (rest : List Statement) → drop i ss ≡ s ∷ rest → AreSound all k t ss
     → faults all (after_all t k (take i ss)) (i + k) s.kind ≡ []
@@ -36,4 +36,4 @@ sound_left all k t (x ∷ xs) (suc i) s rest e h =
 
 -- of the statement at an index of a source
 pub sound_at : (ss : List Statement) (i : ℕ) (s : Statement) (rest : List Statement) → drop i ss ≡ s ∷ rest → first_fault ss ≡ None → faults (tables ss) (passed ss i) (i + 1) s.kind ≡ []
-sound_at ss i s rest e good = sound_left (tables ss) 1 at_start ss i s rest e (sound ss good)
+sound_at ss i s rest e good = sound_left (tables ss) 1 (at_start ss) ss i s rest e (sound ss good)

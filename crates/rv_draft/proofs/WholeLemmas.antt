@@ -35,7 +35,7 @@ use Rattle.rv_layout.proofs.StandingLemmas.{StandsAt, first_same, located_at}
 
 -- the code of the first `i` statements of a source
 abbrev pub CodeTo : List SpecStatement → ℕ → Coder → Type 0
-CodeTo ss i c = IsCodeSoFar (tables ss) (located_from 1 1 at_start ss) (drop i (located_from 1 1 at_start ss)) c
+CodeTo ss i c = IsCodeSoFar (tables ss) (located_from 1 1 (at_start ss) ss) (drop i (located_from 1 1 (at_start ss) ss)) c
 
 -- what is added where the statement stands
 added_there : (t : Tables) (o wanted : ℕ) (rvc on a b : Bool) (c d : Coder) (s : SpecStatement) (p q : Standing) (faults others : List ℕ) → p ≡ q → faults ≡ others → rvc ≡ on → a ≡ b
@@ -50,7 +50,7 @@ pub code_more : (u : SourceUnit) (i wanted : ℕ) (x : Statement) (p : SectionOf
     → IsAdded c d p.section b faults (λ e. value (tables (said u)) true (i + 1) (offset_of p) e) rvc wanted (statement_of x) → CodeTo (said u) (i + 1) d
 code_more u i wanted x p rvc b c d faults at h same on home added =
     let ss = said u in
-    let all = located_from 1 1 at_start ss in
+    let all = located_from 1 1 (at_start ss) ss in
     let st = located_at ss i (statement_of x) in
     next_code (tables ss) all st (drop (i + 1) all) c d wanted
     (subst (λ rest. IsCodeSoFar (tables ss) all rest c) at.next h)
@@ -97,8 +97,8 @@ fault_first ss code line at e f = inl (e ∙ ap (λ n. fault_at code n) (sym f))
     fault_at : ℕ → ℕ → Option Fault
     fault_at code line = Some (record { code = code; line = line })
 
-pub one_file : (ss : List SpecStatement) → located (ss ∷ []) ≡ located_from 1 1 at_start ss
-one_file ss = append-nil (located_from 1 1 at_start ss)
+pub one_file : (ss : List SpecStatement) → located (ss ∷ []) ≡ located_from 1 1 (at_start ss) ss
+one_file ss = append-nil (located_from 1 1 (at_start ss) ss)
 
 -- a statement with a fault is the first
 pub code_wrong : (u : SourceUnit) (i wanted : ℕ) (x : Statement) (p : SectionOffset) (rvc b : Bool) (c d : Coder) (faults : List ℕ) (fault : SourceFault) → StandsAt u i x p → CodeTo (said u) i c
@@ -107,7 +107,7 @@ pub code_wrong : (u : SourceUnit) (i wanted : ℕ) (x : Statement) (p : SectionO
 code_wrong u i wanted x p rvc b c d faults OutOfMemory at h same wrong lengths = tt
 code_wrong u i wanted x p rvc b c d faults (At code line) at h same wrong lengths =
     let ss = said u in
-    let all = located_from 1 1 at_start ss in
+    let all = located_from 1 1 (at_start ss) ss in
     fault_first ss (number_of code) x.line line
     (ap (λ l. code_fault_from (tables ss) l) (one_file ss)
     ∙ wrong_code (tables ss) all (located_at ss i (statement_of x)) (drop (i + 1) all) c (number_of code)
@@ -115,11 +115,11 @@ code_wrong u i wanted x p rvc b c d faults (At code line) at h same wrong length
     (ap lowest (sym same) ∙ wrong.0))
     wrong.1
 
-pub code_whole : (ss : List SpecStatement) (lengths : List ℕ) (i : ℕ) (c : Coder) (r : Result SectionCode SourceFault) → drop i (located_from 1 1 at_start ss) ≡ [] → CodeTo ss i c
-    → AreLeast (tables ss) (located_from 1 1 at_start ss) lengths
+pub code_whole : (ss : List SpecStatement) (lengths : List ℕ) (i : ℕ) (c : Coder) (r : Result SectionCode SourceFault) → drop i (located_from 1 1 (at_start ss) ss) ≡ [] → CodeTo ss i c
+    → AreLeast (tables ss) (located_from 1 1 (at_start ss) ss) lengths
     → ((t : Tables) (all : List Located) → IsCodeSoFar t all [] c → IsAllCode t all lengths r) → IsSourceCode ss lengths r
 code_whole ss lengths i c r none h least finish =
-    go r (subst (λ l. IsAllCode (tables ss) l lengths r) (sym (one_file ss)) (finish (tables ss) (located_from 1 1 at_start ss) (subst (λ l. IsCodeSoFar (tables ss) (located_from 1 1 at_start ss) l c) none h)))
+    go r (subst (λ l. IsAllCode (tables ss) l lengths r) (sym (one_file ss)) (finish (tables ss) (located_from 1 1 (at_start ss) ss) (subst (λ l. IsCodeSoFar (tables ss) (located_from 1 1 (at_start ss) ss) l c) none h)))
   where
     go : (r : Result SectionCode SourceFault) → IsAllCode (tables ss) (located (ss ∷ [])) lengths r → IsSourceCode ss lengths r
     go (Ok found) h = h
@@ -128,7 +128,7 @@ code_whole ss lengths i c r none h least finish =
       record {
         sizes = h.sizes;
         are_sizes = h.are_sizes;
-        least = subst (λ l. AreLeast (tables ss) l h.sizes) (sym (one_file ss)) (subst (AreLeast (tables ss) (located_from 1 1 at_start ss)) (sym h.told) least);
+        least = subst (λ l. AreLeast (tables ss) l h.sizes) (sym (one_file ss)) (subst (AreLeast (tables ss) (located_from 1 1 (at_start ss) ss)) (sym h.told) least);
         fault = h.fault;
       },
     )

@@ -90,22 +90,22 @@ data_bytes t section sites = flat_map part_bytes (flat_map (data_parts t) (sites
 
 -- the sites of a source with these items and this code
 abbrev pub sites : List Statement → List Item → List (List Coded) → List Site
-sites ss is codes = sites_of (located_from 1 1 at_start ss) is codes
+sites ss is codes = sites_of (located_from 1 1 (at_start ss) ss) is codes
 
 -- the items stand in their sections, and have their sizes
 pub record IsLaid (ss : List Statement) (is : List Item) : Type 0 where
   pub last : ℕ → ℕ
-  pub items : AreItems 1 at_start (λ j. 0) ss is last
+  pub items : AreItems 1 (at_start ss) (λ j. 0) ss is last
   pub sizes : List CodeSize
-  pub sized : AreSized (tables ss) 1 at_start ss is sizes
+  pub sized : AreSized (tables ss) 1 (at_start ss) ss is sizes
   pub low : (j : ℕ) → last j ≤ longest_section
 
 -- the items have this code
 pub record HaveCode (ss : List Statement) (is : List Item)
     (codes : List (List Coded)) : Type 0 where
-  pub coded : AreCoded (tables ss) (located_from 1 1 at_start ss) codes
-  pub sized : AreSized (tables ss) 1 at_start ss is
-      (sizes_of (tables ss) (located_from 1 1 at_start ss) codes)
+  pub coded : AreCoded (tables ss) (located_from 1 1 (at_start ss) ss) codes
+  pub sized : AreSized (tables ss) 1 (at_start ss) ss is
+      (sizes_of (tables ss) (located_from 1 1 (at_start ss) ss) codes)
 
 -- a statement has code of so many bytes, without a fault, and may be asked for it
 pub record IsMade (t : Tables) (s : Located) (bytes : ℕ) : Type 0 where

@@ -71,7 +71,7 @@ AreDrafted t all d = (index : ℕ) (home : Section)
 -- the draft of a source
 pub record IsDraft (ss : List Statement) (d : Draft) : Type 0 where
   pub sites : List Site
-  pub located : map (λ s. s.located) sites ≡ located_from 1 1 at_start ss
+  pub located : map (λ s. s.located) sites ≡ located_from 1 1 (at_start ss) ss
   -- its ordinals are numbers of 32 bits
   pub few : length ss < 2 ^ 32
   pub stand : map item_of sites ≡ d.items.items
@@ -81,7 +81,7 @@ pub record IsDraft (ss : List Statement) (d : Draft) : Type 0 where
   pub open_fields : map field_of d.fields.items ≡ fields (tables ss) sites
   pub places : AllByRecursion (StandsInData sites) (tables ss).assignments
   -- each branch has the least size that reaches
-  pub least : AreLeast (tables ss) (located_from 1 1 at_start ss) (map (λ s. s.bytes) sites)
+  pub least : AreLeast (tables ss) (located_from 1 1 (at_start ss) ss) (map (λ s. s.bytes) sites)
   pub compressed : d.rvc ≡ list_any (λ s. is_compressed_code s.located) sites
 
 -- the first fault of a source as code, or of the sizes of its code; memory may run out

@@ -74,7 +74,7 @@ sized = (
   record {
     sizes = 0 ∷ 0 ∷ 0 ∷ 4 ∷ 4 ∷ 4 ∷ [];
     has = ((λ e. refl), ((λ e. refl), (refl, (refl, (refl, (refl, tt))))));
-    least = settled_least (located_from 1 1 at_start exit7) (0 ∷ 0 ∷ 0 ∷ 4 ∷ 4 ∷ 4 ∷ []) refl;
+    least = settled_least (located_from 1 1 (at_start exit7) exit7) (0 ∷ 0 ∷ 0 ∷ 4 ∷ 4 ∷ 4 ∷ []) refl;
   },
   tt,
 )

@@ -21,7 +21,7 @@ ghost use Rattle.rv_examples.specs.Regions.{text_sections, text_bytes, rodata_by
 ghost use Rattle.rv_statement.specs.declared.directive.Binding.TheVariants.{Local, Global};
 ghost use Rattle.rv_unit_laws.specs.declared.section_type.SectionType.TheVariants.{Progbits, Nobits, Note};
 ghost use Rattle.rv_unit_laws.specs.Sections.{section_of};
-ghost use Rattle.rv_unit_laws.specs.Tables.{binding_of};
+ghost use Rattle.rv_unit_laws.specs.Bindings.{bindings_of};
 ghost use Rattle.rv_source_laws.specs.Fits.{Fits, Holds, gaps_of};
 ghost use Rattle.rv_source_laws.specs.Program.{program};
 ghost use Rattle.rv_source_laws.specs.Resolves.{Resolves};
@@ -127,10 +127,10 @@ pub fn figures_resolve()
 
 /// The bindings of its names: what is said last holds, and a name of which nothing is said is local.
 pub fn figures_bind()
-    ensures said { map (λ n. binding_of figures n) (codes "_start" ∷ codes "limit" ∷ [])
+    ensures said { map (λ n. bindings_of figures n) (codes "_start" ∷ codes "limit" ∷ [])
         ≡ Global ∷ Global ∷ [] }
-    ensures last { binding_of figures (codes "table") ≡ Local }
-    ensures nothing { binding_of figures (codes "room") ≡ Local }
+    ensures last { bindings_of figures (codes "table") ≡ Local }
+    ensures nothing { bindings_of figures (codes "room") ≡ Local }
 {}
 
 /// The types of sections: what is given, else what the front of the name says.

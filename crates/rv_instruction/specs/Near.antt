@@ -7,7 +7,7 @@ use Rattle.rv_statement.specs.Statement.{StatementKind, Instruction, Expression}
 use Rattle.rv_layout_laws.specs.declared.item.Forms.{Forms}
 use Rattle.rv_layout_laws.specs.declared.item.Forms.TheVariants.{Settled}
 use Rattle.rv_layout_laws.specs.declared.item.Item.{Item}
-use Rattle.rv_unit_laws.specs.Tables.{Tables, Definition, definition}
+use Rattle.rv_unit_laws.specs.Tables.{Tables, Definition, sure_definition}
 use Rattle.rv_unit_tables.specs.declared.section_offset.SectionOffset.{SectionOffset}
 use Rattle.rv_statement.specs.declared.pseudo.Function.{Function}
 use Rattle.rv_statement.specs.declared.pseudo.ZeroBranchOperation.{ZeroBranchOperation}
@@ -35,7 +35,7 @@ near_in sections section (Some d) plus = near_by (sections d.ordinal) section d.
 
 abbrev pub near_value_in : (ℕ → Option ℕ) → ℕ → Tables → ℕ → Value → Option Near
 near_value_in sections section t ordinal (Symbolic symbol at plus) =
-    near_in sections section (definition t ordinal symbol) plus
+    near_in sections section (sure_definition t ordinal symbol) plus
 near_value_in sections section t ordinal _ = None
 
 abbrev pub near_target_in :

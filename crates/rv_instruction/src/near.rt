@@ -233,7 +233,7 @@ fn target_item<'a>(
         (tables (said (scope.now).unit.now)) (index + 1) v))) }
 {
     match value {
-        Ok(Value::Symbolic(symbol, plus)) => match scope.definition(*symbol) {
+        Ok(Value::Symbolic(symbol, plus)) => match scope.sure_definition(*symbol) {
             Some(definition) => leading(places, section, forms, definition, *plus),
             None => settled(section, far_form(forms)),
         },

@@ -15,7 +15,7 @@ use Rattle.rv_layout_laws.specs.declared.item.Item.{Item}
 use Rattle.rv_layout_laws.specs.Branches.{is_branch, item_at}
 use Rattle.rv_sizes.specs.Passes.{IsInput, TargetsItsSection}
 use Rattle.rv_unit_laws.specs.Sections.{Section, text_section}
-use Rattle.rv_unit_laws.specs.Tables.{Tables, Definition, definition, at_start, after, tables, opened_of, value}
+use Rattle.rv_unit_laws.specs.Tables.{Tables, Definition, sure_definition, at_start, after, tables, opened_of, value}
 use Rattle.rv_unit_tables.specs.Sections.{extent_section}
 use Rattle.rv_unit_tables.proofs.LookupsLemmas.{sections_are}
 use Rattle.rv_unit.specs.declared.unit.Unit.{Unit as SourceUnit}
@@ -84,12 +84,12 @@ found_got (suc j) k t (s ∷ ss) =
     ∙ ap (λ n. Found n (located_from 1 (suc k) (after t k s.kind) ss)) same
     ∙ found_got j (suc k) (after t k s.kind) ss
 
-found_index : (ss : List Statement) (n : ℕ) (s : Located) → Found n (located_from 1 1 at_start ss) ≡ Some s → slice_get (located_from 1 1 at_start ss) (n - 1) ≡ Some s
-found_index ss zero s e = absurd (let none : None ≡ Some s = sym (found_none 0 at_start ss) ∙ e in cc)
+found_index : (ss : List Statement) (n : ℕ) (s : Located) → Found n (located_from 1 1 (at_start ss) ss) ≡ Some s → slice_get (located_from 1 1 (at_start ss) ss) (n - 1) ≡ Some s
+found_index ss zero s e = absurd (let none : None ≡ Some s = sym (found_none 0 (at_start ss) ss) ∙ e in cc)
 found_index ss (suc m) s e =
     let up : m + 1 ≡ suc m = omega arith in
     let down : suc m - 1 ≡ m = omega arith in
-    ap (slice_get (located_from 1 1 at_start ss)) down ∙ sym (found_got m 1 at_start ss) ∙ ap (λ n. Found n (located_from 1 1 at_start ss)) up ∙ e
+    ap (slice_get (located_from 1 1 (at_start ss) ss)) down ∙ sym (found_got m 1 (at_start ss) ss) ∙ ap (λ n. Found n (located_from 1 1 (at_start ss) ss)) up ∙ e
 
 -- ---- where a branch leads
 
@@ -120,7 +120,7 @@ module _ (all : List Located) where
           )
 
   value_found : (t : Tables) (s : Located) (v : Value) (n : Near) → near_value t all s v ≡ Some n → Leads all s.section n
-  value_found t s (values.Symbolic symbol at plus) n e = near_found s.section (definition t s.ordinal symbol) plus n e
+  value_found t s (values.Symbolic symbol at plus) n e = near_found s.section (sure_definition t s.ordinal symbol) plus n e
   value_found t s (values.Constant k) n e = absurd (cc)
   value_found t s (values.Difference a b plus) n e = absurd (cc)
   value_found t s (values.Faulty code) n e = absurd (cc)
@@ -134,9 +134,9 @@ module _ (all : List Located) where
 
 -- ---- each statement
 
-module _ (t : Tables) (ss : List Statement) (ls : List ℕ) (count : length ls ≡ length (located_from 1 1 at_start ss)) where
+module _ (t : Tables) (ss : List Statement) (ls : List ℕ) (count : length ls ≡ length (located_from 1 1 (at_start ss) ss)) where
   abbrev all : List Located
-  all = located_from 1 1 at_start ss
+  all = located_from 1 1 (at_start ss) ss
 
   abbrev items : List Item
   items = items_of t all all ls
@@ -193,14 +193,14 @@ pub measured_input : (u : SourceUnit) (items : List Item) → IsFilled u → IsM
 measured_input u found filled m =
     let ss = said u in
     let t = tables ss in
-    let located = located_from 1 1 at_start ss in
-    let count : length m.lengths ≡ length located = m.count ∙ sym (stated_length 1 1 at_start ss) in
+    let located = located_from 1 1 (at_start ss) ss in
+    let count : length m.lengths ≡ length located = m.count ∙ sym (stated_length 1 1 (at_start ss) ss) in
     let sections = (opened_of t).sections in
-    let homes = homes_from (λ file. sections) 1 1 at_start ss refl (text_section, refl) in
+    let homes = homes_from (λ file. sections) 1 1 (at_start ss) ss refl (text_section, refl) in
     let same : length sections ≡ length u.tables.extents.items =
     sym (ap length (sections_are u.tables.extents.items ∙ ap (λ (t : Tables). (opened_of t).sections) filled.tables)) ∙ length-map u.tables.extents.items extent_section in
     let long : length (items_of t located located m.lengths) ≡ length u.statements.items =
-    items_count t located located m.lengths count ∙ stated_length 1 1 at_start ss ∙ length-map u.statements.items statement_of in
+    items_count t located located m.lengths count ∙ stated_length 1 1 (at_start ss) ss ∙ length-map u.statements.items statement_of in
     let input : IsInput (items_of t located located m.lengths) (length sections) =
     record {
       few = subst (λ n. n < 2 ^ 30) (sym long) (let few : length u.statements.items ≤ 2 ^ 22 = u.few in omega (arith, few));

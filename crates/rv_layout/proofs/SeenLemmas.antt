@@ -10,7 +10,7 @@ use Rattle.rv_layout_laws.specs.declared.item.Forms.{Forms}
 use Rattle.rv_layout_laws.specs.declared.item.Forms.TheVariants.{Settled, CompressedBranch, Branch, CompressedJump}
 use Rattle.rv_layout_laws.specs.declared.item.Item.{Item}
 use Rattle.rv_layout_laws.specs.Branches.{branches, IsLeastGood, Offers, item_at}
-use Rattle.rv_unit_laws.specs.Tables.{Tables, SectionOffset as Standing, Definition, definition, at_start, after, places_from, tables, value}
+use Rattle.rv_unit_laws.specs.Tables.{Tables, SectionOffset as Standing, Definition, sure_definition, at_start, after, places_from, tables, value}
 use Rattle.rv_statement.specs.declared.statement.Statement.{Statement as SourceStatement}
 use Rattle.rv_statement.specs.View.{statement_of}
 use Rattle.rv_unit.specs.declared.unit.Unit.{Unit as SourceUnit}
@@ -78,13 +78,13 @@ mapped_section (p ∷ ps) (suc j) = mapped_section ps j
 abbrev pub Agrees : List SectionOffset → List Located → Type 0
 Agrees places all = (n : ℕ) → option_map (λ (s : Located). s.section) (Found n all) ≡ section_in places n
 
-pub places_agree : (places : List SectionOffset) (ss : List Statement) → map offset_of places ≡ places_from at_start 1 ss → Agrees places (located_from 1 1 at_start ss)
-places_agree places ss stand zero = ap (option_map (λ (s : Located). s.section)) (found_none 0 at_start ss)
+pub places_agree : (places : List SectionOffset) (ss : List Statement) → map offset_of places ≡ places_from (at_start ss) 1 ss → Agrees places (located_from 1 1 (at_start ss) ss)
+places_agree places ss stand zero = ap (option_map (λ (s : Located). s.section)) (found_none 0 (at_start ss) ss)
 places_agree places ss stand (suc m) =
     let up : suc m ≡ m + 1 = omega arith in
     let down : m ≡ suc m - 1 = omega arith in
-    ap (λ n. option_map (λ (s : Located). s.section) (Found n (located_from 1 1 at_start ss))) up
-    ∙ found_at m 1 at_start ss ∙ ap (λ l. option_map (λ (p : Standing). p.section) (slice_get l m)) (sym stand) ∙ mapped_section places m
+    ap (λ n. option_map (λ (s : Located). s.section) (Found n (located_from 1 1 (at_start ss) ss))) up
+    ∙ found_at m 1 (at_start ss) ss ∙ ap (λ l. option_map (λ (p : Standing). p.section) (slice_get l m)) (sym stand) ∙ mapped_section places m
     ∙ ap (λ j. option_map (λ (p : SectionOffset). p.section) (slice_get places j)) down
     ∙ ap (λ b. if b then None else option_map (λ (p : SectionOffset). p.section) (slice_get places (suc m - 1))) (sym (none_first m))
 
@@ -104,7 +104,7 @@ module _ (places : List SectionOffset) (all : List Located) (agree : Agrees plac
   near_same section (Some d) plus = by_section (Found d.ordinal all) (section_in places d.ordinal) section d.ordinal plus (agree d.ordinal)
 
   value_same : (t : Tables) (s : Located) (v : Value) → near_value t all s v ≡ near_value_in (section_in places) s.section t s.ordinal v
-  value_same t s (values.Symbolic symbol at plus) = near_same s.section (definition t s.ordinal symbol) plus
+  value_same t s (values.Symbolic symbol at plus) = near_same s.section (sure_definition t s.ordinal symbol) plus
   value_same t s (values.Constant n) = refl
   value_same t s (values.Difference a b plus) = refl
   value_same t s (values.Faulty code) = refl
@@ -254,12 +254,12 @@ lengths_more t (x ∷ xs) (l ∷ ls) s n (h, hs) one = (h, lengths_more t xs ls 
 
 abbrev pub MeasuredTo : List Statement → ℕ → List Item → Type 0
 MeasuredTo ss i items =
-    (ls : List ℕ) × HaveSizes (tables ss) (take i (located_from 1 1 at_start ss)) ls
-    × (length ls ≡ length (take i (located_from 1 1 at_start ss)))
-    × (items ≡ items_of (tables ss) (located_from 1 1 at_start ss) (take i (located_from 1 1 at_start ss)) ls)
+    (ls : List ℕ) × HaveSizes (tables ss) (take i (located_from 1 1 (at_start ss) ss)) ls
+    × (length ls ≡ length (take i (located_from 1 1 (at_start ss) ss)))
+    × (items ≡ items_of (tables ss) (located_from 1 1 (at_start ss) ss) (take i (located_from 1 1 (at_start ss) ss)) ls)
 
 pub measured_begin : (ss : List Statement) → MeasuredTo ss 0 []
-measured_begin ss = ([], none_long (located_from 1 1 at_start ss), none_taken (located_from 1 1 at_start ss), none_seen (located_from 1 1 at_start ss))
+measured_begin ss = ([], none_long (located_from 1 1 (at_start ss) ss), none_taken (located_from 1 1 (at_start ss) ss), none_seen (located_from 1 1 (at_start ss) ss))
   where
     none_long : (ls : List Located) → HaveSizes (tables ss) (take 0 ls) []
     none_long [] = tt
@@ -269,7 +269,7 @@ measured_begin ss = ([], none_long (located_from 1 1 at_start ss), none_taken (l
     none_taken [] = refl
     none_taken (s ∷ ls) = refl
 
-    none_seen : (ls : List Located) → [] ≡ items_of (tables ss) (located_from 1 1 at_start ss) (take 0 ls) []
+    none_seen : (ls : List Located) → [] ≡ items_of (tables ss) (located_from 1 1 (at_start ss) ss) (take 0 ls) []
     none_seen [] = refl
     none_seen (s ∷ ls) = refl
 
@@ -277,13 +277,13 @@ measured_begin ss = ([], none_long (located_from 1 1 at_start ss), none_taken (l
 seen_there : (u : SourceUnit) (i : ℕ) (x : SourceStatement) (p : SectionOffset) (rvc : Bool) (bytes : ℕ) (item : Item) → IsFilled u → StandsAt u i x p
     → rvc ≡ (located_at (said u) i (statement_of x)).options.rvc
     → item ≡ item_in (section_in u.places.items) p.section (tables (said u)) (i + 1) (λ e. value (tables (said u)) true (i + 1) (offset_of p) e) rvc bytes (statement_of x).kind
-    → item ≡ item_by_kind (tables (said u)) (located_from 1 1 at_start (said u)) (located_at (said u) i (statement_of x)) bytes (statement_of x).kind
+    → item ≡ item_by_kind (tables (said u)) (located_from 1 1 (at_start (said u)) (said u)) (located_at (said u) i (statement_of x)) bytes (statement_of x).kind
 seen_there u i x p rvc bytes item filled at on is =
     let ss = said u in
     let s = located_at ss i (statement_of x) in
     let there = subst (λ (q : Standing). item ≡ item_in (section_in u.places.items) q.section (tables ss) (i + 1) (λ e. value (tables ss) true (i + 1) q e) rvc bytes (statement_of x).kind) at.place is in
     let here = subst (λ b. item ≡ item_in (section_in u.places.items) s.section (tables ss) (i + 1) (λ e. value (tables ss) true (i + 1) (place_of s) e) b bytes (statement_of x).kind) on there in
-    here ∙ sym (item_same u.places.items (located_from 1 1 at_start ss) (places_agree u.places.items ss filled.stand) (tables ss) s bytes (statement_of x).kind)
+    here ∙ sym (item_same u.places.items (located_from 1 1 (at_start ss) ss) (places_agree u.places.items ss filled.stand) (tables ss) s bytes (statement_of x).kind)
 
 -- how long a statement is where it stands
 long_there : (u : SourceUnit) (i : ℕ) (x : SourceStatement) (p : SectionOffset) (rvc b : Bool) (bytes : ℕ) → StandsAt u i x p
@@ -314,7 +314,7 @@ pub measured_more : (u : SourceUnit) (i : ℕ) (x : SourceStatement) (p : Sectio
 measured_more u i x p rvc b old new item filled at on home (bytes, long, is) (ls, lengths, same, so) more =
     let ss = said u in
     let t = tables ss in
-    let all = located_from 1 1 at_start ss in
+    let all = located_from 1 1 (at_start ss) ss in
     let s = located_at ss i (statement_of x) in
     let seen = seen_there u i x p rvc bytes item filled at on is in
     let next : i + 1 ≡ suc i = omega arith in
@@ -332,40 +332,40 @@ take_whole [] (suc i) e = refl
 take_whole (x ∷ xs) zero e = absurd (cc)
 take_whole (x ∷ xs) (suc i) e = ap (λ l. x ∷ l) (take_whole xs i e)
 
-pub measured_whole : (ss : List Statement) (i : ℕ) (items : List Item) → drop i (located_from 1 1 at_start ss) ≡ [] → MeasuredTo ss i items → IsMeasured ss items
+pub measured_whole : (ss : List Statement) (i : ℕ) (items : List Item) → drop i (located_from 1 1 (at_start ss) ss) ≡ [] → MeasuredTo ss i items → IsMeasured ss items
 measured_whole ss i items none (ls, lengths, same, so) =
-    let all = located_from 1 1 at_start ss in
+    let all = located_from 1 1 (at_start ss) ss in
     let whole = take_whole all i none in
     record {
       lengths = ls;
       told = subst (λ xs. HaveSizes (tables ss) xs ls) whole lengths;
-      count = same ∙ ap length whole ∙ stated_length 1 1 at_start ss;
+      count = same ∙ ap length whole ∙ stated_length 1 1 (at_start ss) ss;
       seen = so ∙ ap (λ xs. items_of (tables ss) all xs ls) whole;
     }
 
 -- the least lengths of a source
-pub measured_least : (ss : List Statement) (items : List Item) (found : List ℕ) → IsMeasured ss items → IsLeastGood items found → AreLeast (tables ss) (located_from 1 1 at_start ss) found
+pub measured_least : (ss : List Statement) (items : List Item) (found : List ℕ) → IsMeasured ss items → IsLeastGood items found → AreLeast (tables ss) (located_from 1 1 (at_start ss) ss) found
 measured_least ss items found m least =
-    least_of (tables ss) (located_from 1 1 at_start ss) m.lengths found items (m.count ∙ sym (stated_length 1 1 at_start ss)) m.seen least
+    least_of (tables ss) (located_from 1 1 (at_start ss) ss) m.lengths found items (m.count ∙ sym (stated_length 1 1 (at_start ss) ss)) m.seen least
 
 pub measured_count : (ss : List Statement) (items : List Item) (found : List ℕ) → IsMeasured ss items → IsLeastGood items found → length found ≡ length ss
 measured_count ss items found m least =
-    let all = located_from 1 1 at_start ss in
-    let same = m.count ∙ sym (stated_length 1 1 at_start ss) in
-    least.good.family.same_length ∙ ap length m.seen ∙ items_count (tables ss) all all m.lengths same ∙ stated_length 1 1 at_start ss
+    let all = located_from 1 1 (at_start ss) ss in
+    let same = m.count ∙ sym (stated_length 1 1 (at_start ss) ss) in
+    least.good.family.same_length ∙ ap length m.seen ∙ items_count (tables ss) all all m.lengths same ∙ stated_length 1 1 (at_start ss) ss
 
 -- each is long enough for its code
-pub measured_lengths : (ss : List Statement) (items : List Item) (found : List ℕ) → IsMeasured ss items → IsLeastGood items found → AreSizes (tables ss) (located_from 1 1 at_start ss) found
+pub measured_lengths : (ss : List Statement) (items : List Item) (found : List ℕ) → IsMeasured ss items → IsLeastGood items found → AreSizes (tables ss) (located_from 1 1 (at_start ss) ss) found
 measured_lengths ss items found m least =
-    let all = located_from 1 1 at_start ss in
+    let all = located_from 1 1 (at_start ss) ss in
     let good = subst (λ l. IsLeastGood l found) m.seen least in
     lengths_are (tables ss) all all m.lengths found m.told good.good.family.same_length good.good.family.offered
 
 -- the passes are no more than its branches and jumps make
 pub measured_rounds : (ss : List Statement) (items : List Item) (found : List ℕ) (rounds : ℕ) → IsMeasured ss items → IsLeastGood items found → rounds ≤ 2 * branches items + 1
-    → rounds ≤ 2 * branches (items_of (tables ss) (located_from 1 1 at_start ss) (located_from 1 1 at_start ss) found) + 1
+    → rounds ≤ 2 * branches (items_of (tables ss) (located_from 1 1 (at_start ss) ss) (located_from 1 1 (at_start ss) ss) found) + 1
 measured_rounds ss items found rounds m least few =
-    let all = located_from 1 1 at_start ss in
+    let all = located_from 1 1 (at_start ss) ss in
     let good = subst (λ l. IsLeastGood l found) m.seen least in
-    let same = all_settled (tables ss) all all m.lengths found (m.count ∙ sym (stated_length 1 1 at_start ss)) good.good.family.same_length good.good.family.offered in
+    let same = all_settled (tables ss) all all m.lengths found (m.count ∙ sym (stated_length 1 1 (at_start ss) ss)) good.good.family.same_length good.good.family.offered in
     subst (λ l. rounds ≤ 2 * branches l + 1) (m.seen ∙ sym same) few

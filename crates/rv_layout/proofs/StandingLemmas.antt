@@ -77,20 +77,20 @@ got_or (y ∷ ys) (suc i) d x e = got_or ys i d x e
 abbrev pub located_at : List SpecStatement → ℕ → SpecStatement → Located
 located_at ss i s = located_now 1 (i + 1) (passed ss i) s
 
-pub stated_next : (ss : List SpecStatement) (i : ℕ) (s : SpecStatement) (rest : List SpecStatement) → drop i ss ≡ s ∷ rest → drop i (located_from 1 1 at_start ss) ≡ located_at ss i s ∷ drop (i + 1) (located_from 1 1 at_start ss)
+pub stated_next : (ss : List SpecStatement) (i : ℕ) (s : SpecStatement) (rest : List SpecStatement) → drop i ss ≡ s ∷ rest → drop i (located_from 1 1 (at_start ss) ss) ≡ located_at ss i s ∷ drop (i + 1) (located_from 1 1 (at_start ss) ss)
 stated_next ss i s rest e =
-    left_of (located_from 1 1 at_start ss) i (located_at ss i s) (located_from 1 (suc (i + 1)) (after (passed ss i) (i + 1) s.kind) rest)
-    (stated_left 1 1 at_start ss i ∙ ap (located_from 1 (i + 1) (passed ss i)) e)
+    left_of (located_from 1 1 (at_start ss) ss) i (located_at ss i s) (located_from 1 (suc (i + 1)) (after (passed ss i) (i + 1) s.kind) rest)
+    (stated_left 1 1 (at_start ss) ss i ∙ ap (located_from 1 (i + 1) (passed ss i)) e)
 
 pub places_next : (ss : List SpecStatement) (i : ℕ) (s : SpecStatement) (rest : List SpecStatement) → drop i ss ≡ s ∷ rest → drop i (places ss) ≡ stood (passed ss i) (i + 1) s.kind ∷ drop (i + 1) (places ss)
 places_next ss i s rest e =
     left_of (places ss) i (stood (passed ss i) (i + 1) s.kind) (places_from (after (passed ss i) (i + 1) s.kind) (suc (i + 1)) rest)
-    (places_left 1 at_start ss i ∙ ap (places_from (passed ss i) (i + 1)) e)
+    (places_left 1 (at_start ss) ss i ∙ ap (places_from (passed ss i) (i + 1)) e)
 
 -- a unit's statement and place at an index
 pub record StandsAt (u : SourceUnit) (i : ℕ) (x : Statement) (p : SectionOffset) : Type 0 where
   pub here : drop i (said u) ≡ statement_of x ∷ drop (i + 1) (said u)
-  pub next : drop i (located_from 1 1 at_start (said u)) ≡ located_at (said u) i (statement_of x) ∷ drop (i + 1) (located_from 1 1 at_start (said u))
+  pub next : drop i (located_from 1 1 (at_start (said u)) (said u)) ≡ located_at (said u) i (statement_of x) ∷ drop (i + 1) (located_from 1 1 (at_start (said u)) (said u))
   pub place : offset_of p ≡ stood (passed (said u) i) (i + 1) (statement_of x).kind
   pub home : slice_get (map extent_section u.tables.extents.items) p.section ≡ Some (located_at (said u) i (statement_of x)).home
 
@@ -100,7 +100,7 @@ places_length k t (s ∷ ss) = ap suc (places_length (suc k) (after t k s.kind) 
 
 -- each statement has a place
 pub places_count : (u : SourceUnit) → IsFilled u → length u.places.items ≡ length u.statements.items
-places_count u f = sym (length-map u.places.items offset_of) ∙ ap length f.stand ∙ places_length 1 at_start (said u) ∙ length-map u.statements.items statement_of
+places_count u f = sym (length-map u.places.items offset_of) ∙ ap length f.stand ∙ places_length 1 (at_start (said u)) (said u) ∙ length-map u.statements.items statement_of
 
 pub stands_at : (u : SourceUnit) (i : ℕ) (dx x : Statement) (dp p : SectionOffset) → IsFilled u → i < length u.statements.items → x ≡ get_or u.statements.items i dx → p ≡ get_or u.places.items i dp → StandsAt u i x p
 stands_at u i dx x dp p f inside is at =
@@ -112,8 +112,8 @@ stands_at u i dx x dp p f inside is at =
     let place : offset_of p ≡ stood (passed ss i) (i + 1) (statement_of x).kind =
     first_same (offset_of p) (stood (passed ss i) (i + 1) (statement_of x).kind) (drop (i + 1) (map offset_of u.places.items)) (drop (i + 1) (places ss))
     (sym seat ∙ ap (drop i) f.stand ∙ places_next ss i (statement_of x) (drop (i + 1) ss) here) in
-    let homes = homes_from (λ file. (opened_of (tables ss)).sections) 1 1 at_start ss refl (text_section, refl) in
-    let home = all_at (IsHomeIn (λ file. (opened_of (tables ss)).sections)) (located_from 1 1 at_start ss) i (located_at ss i (statement_of x)) (drop (i + 1) (located_from 1 1 at_start ss)) next homes in
+    let homes = homes_from (λ file. (opened_of (tables ss)).sections) 1 1 (at_start ss) ss refl (text_section, refl) in
+    let home = all_at (IsHomeIn (λ file. (opened_of (tables ss)).sections)) (located_from 1 1 (at_start ss) ss) i (located_at ss i (statement_of x)) (drop (i + 1) (located_from 1 1 (at_start ss) ss)) next homes in
     record {
       here = here;
       next = next;
@@ -128,5 +128,5 @@ stated_length file k t [] = refl
 stated_length file k t (s ∷ ss) = ap suc (stated_length file (suc k) (after t k s.kind) ss)
 
 -- none is left after the last
-pub stated_none : (ss : List SpecStatement) (i : ℕ) → length ss ≤ i → drop i (located_from 1 1 at_start ss) ≡ []
-stated_none ss i past = at_drop_all (λ l. l) (located_from 1 1 at_start ss) i (subst (λ n. n ≤ i) (sym (stated_length 1 1 at_start ss)) past)
+pub stated_none : (ss : List SpecStatement) (i : ℕ) → length ss ≤ i → drop i (located_from 1 1 (at_start ss) ss) ≡ []
+stated_none ss i past = at_drop_all (λ l. l) (located_from 1 1 (at_start ss) ss) i (subst (λ n. n ≤ i) (sym (stated_length 1 1 (at_start ss) ss)) past)

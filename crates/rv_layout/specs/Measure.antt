@@ -120,7 +120,7 @@ IsSeenAs scope index places place executable rvc kind item =
 -- items are what sizes see of a source's statements, by the bytes of those that are settled
 pub record IsMeasured (ss : List Statement) (items : List Item) : Type 0 where
   pub lengths : List ℕ
-  pub told : HaveSizes (tables ss) (located_from 1 1 at_start ss) lengths
+  pub told : HaveSizes (tables ss) (located_from 1 1 (at_start ss) ss) lengths
   pub count : length lengths ≡ length ss
   pub seen : items
-      ≡ items_of (tables ss) (located_from 1 1 at_start ss) (located_from 1 1 at_start ss) lengths
+      ≡ items_of (tables ss) (located_from 1 1 (at_start ss) ss) (located_from 1 1 (at_start ss) ss) lengths

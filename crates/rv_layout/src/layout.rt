@@ -31,11 +31,11 @@ impl Layout {
         ensures count { IfOk result
             (λ found. length found.sizes.items ≡ length (unit.now).statements.items) }
         ensures least { IfOk result (λ found. AreLeast (tables (said unit.now))
-            (located_from 1 1 at_start (said unit.now)) found.sizes.items) }
+            (located_from 1 1 (at_start (said unit.now)) (said unit.now)) found.sizes.items) }
         ensures sizes { IfOk result (λ found. AreSizes (tables (said unit.now))
-            (located_from 1 1 at_start (said unit.now)) found.sizes.items) }
+            (located_from 1 1 (at_start (said unit.now)) (said unit.now)) found.sizes.items) }
         ensures rounds { IfOk result (λ found.
-            let located = located_from 1 1 at_start (said unit.now) in
+            let located = located_from 1 1 (at_start (said unit.now)) (said unit.now) in
             found.rounds
             ≤ 2 * branches (items_of (tables (said unit.now)) located located found.sizes.items)
             + 1) }

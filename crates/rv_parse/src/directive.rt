@@ -94,7 +94,7 @@ fn values<'a>(
     Ok(StatementKind::Value(width, first))
 }
 
-/// The names of `.globl` and `.local`.
+/// The names of `.globl`, `.local` and `.weak`.
 #[tactic(auto, using(crate::proofs::ListsLemmas::all_names), unfolding(rv_parse_laws::specs::Parsing::operands_at))]
 fn binds<'a>(
     alloc: Global,

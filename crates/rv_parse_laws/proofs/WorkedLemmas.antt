@@ -24,7 +24,7 @@ use Rattle.rv_statement.specs.declared.pseudo.ZeroBranchOperation.TheVariants.{B
 use Rattle.rv_statement.specs.declared.pseudo.SwappedBranchOperation.TheVariants.{Ble}
 use Rattle.rv_isa.specs.declared.operation.LoadOperation.TheVariants.{Lw}
 use Rattle.rv_isa.specs.declared.operation.StoreOperation.TheVariants.{Sd}
-use Rattle.rv_statement.specs.declared.directive.Binding.TheVariants.{Local, Global}
+use Rattle.rv_statement.specs.declared.directive.Binding.TheVariants.{Local, Global, Weak}
 use Rattle.rv_statement.specs.Statement.{Register, Value, Applied, Target, Enters, Opens, Binds, Sets, Aligns_to_power, Aligns_to_bytes, Values, Strings, Zeros, Chooses as Choosing, Ignored, StatementKind, Label, Numbered, Instruction, Directs, Statement}
 use Rattle.rv_parse_laws.specs.Words.{function_words, left_out_words, instruction_words, atomic_operations, atomic_forms, form_with, mnemonic_named, directive_words, directive_named, beginning, choices, left_out_options, section_types, names_of, register}
 use Rattle.rv_parse_laws.specs.Syntax.{is_symbol, access_sets, is_section_name, Part, Says}
@@ -88,6 +88,7 @@ good_lines =
     (codes ".section .rv.rows-x", Directs (Opens (codes ".rv.rows-x") None None)) ∷
     (codes ".globl a, b", Directs (Binds Global (codes "a" ∷ codes "b" ∷ []))) ∷
     (codes ".local a", Directs (Binds Local (codes "a" ∷ []))) ∷
+    (codes ".weak a, b", Directs (Binds Weak (codes "a" ∷ codes "b" ∷ []))) ∷
     (codes ".byte 1, x+2", Directs (Values 1 (Leaf (Literal 1) ∷ Binary Add (Leaf (Symbol (codes "x"))) (Leaf (Literal 2)) ∷ []))) ∷
     (codes ".half 1f", Directs (Values 2 (Leaf (Reference (codes "1") true) ∷ []))) ∷
     (codes ".4byte 1", Directs (Values 4 (Leaf (Literal 1) ∷ []))) ∷
@@ -195,7 +196,10 @@ bad_lines =
     (codes ".section x, @note", 7, 12) ∷
     (codes ".type a, 1x", 2, 9) ∷
     (codes ".type a // b", 9, 8) ∷
-    (codes ".weak x", 9, 0) ∷
+    (codes ".weak a b", 7, 8) ∷
+    (codes ".weak", 7, 5) ∷
+    (codes ".weak \"a\"", 9, 6) ∷
+    (codes ".weak a0", 7, 6) ∷
     (codes ".foo x", 8, 0) ∷
     (codes "foo x", 6, 0) ∷
     (codes "1b:", 6, 0) ∷

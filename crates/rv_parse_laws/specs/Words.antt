@@ -24,7 +24,7 @@ use Rattle.rv_statement.specs.declared.pseudo.Function.{Function}
 use Rattle.rv_statement.specs.declared.pseudo.Function.TheVariants.{Hi, Lo, PcrelHi, PcrelLo}
 use Rattle.rv_isa.specs.declared.operation.AtomicOperation.TheVariants.{Sc, Amoswap, Amoadd, Amoxor, Amoand, Amoor, Amomin, Amomax, Amominu, Amomaxu}
 use Rattle.rv_isa.specs.declared.operation.AtomicForm.{AtomicForm}
-use Rattle.rv_statement.specs.declared.directive.Binding.TheVariants.{Local, Global}
+use Rattle.rv_statement.specs.declared.directive.Binding.TheVariants.{Local, Global, Weak}
 use Rattle.rv_statement.specs.declared.directive.Standard.TheVariants.{Text, Data, Rodata, Bss}
 use Rattle.rv_statement.specs.declared.directive.Width.TheVariants.{Byte, Half, Word, Double}
 use Rattle.rv_statement.specs.declared.directive.Choice.{Choice}
@@ -42,7 +42,7 @@ is_among (w ∷ ws) word = bytes_eq w word || is_among ws word
 -- what the language leaves out by name: a mnemonic, and directives
 unfoldable pub left_out_words : List (List ℕ)
 left_out_words =
-    codes "unimp" ∷ codes ".weak" ∷ codes ".comm" ∷ codes ".macro" ∷ codes ".rept" ∷ codes ".if" ∷
+    codes "unimp" ∷ codes ".comm" ∷ codes ".macro" ∷ codes ".rept" ∷ codes ".if" ∷
     codes ".include" ∷
     codes ".pushsection" ∷ codes ".popsection" ∷ codes ".previous" ∷ codes ".insn" ∷
     codes ".uleb128" ∷ codes ".loc" ∷ []
@@ -229,6 +229,7 @@ directive_words =
     ∷ (codes ".globl", words.Binds Global)
     ∷ (codes ".global", words.Binds Global)
     ∷ (codes ".local", words.Binds Local)
+    ∷ (codes ".weak", words.Binds Weak)
     ∷ (codes ".set", words.Set)
     ∷ (codes ".equ", words.Set)
     ∷ (codes ".align", words.AlignToPower)

@@ -3,15 +3,17 @@ use rv_statement::{Binding, StatementKind};
 use std::alloc::Global;
 
 /// A statement of each kind that takes memory, and of the others.
-const SOURCE: &[u8] = b"x: 1: .globl x, y\n.local z; .set k, 1 + 2 /*\n*/ ; .section .a,\"a\"
+const SOURCE: &[u8] =
+    b"x: 1: .globl x, y\n.local z; .weak y; .set k, 1 + 2 /*\n*/ ; .section .a,\"a\"
 .byte 1, 2; .ascii \"a\", \"b\"\n.asciz \"\"\n\nli a0, 1; mv a0, a1; addi a0, a0, %lo(x) # c\n.option rvc";
 
 /// Its statements: a letter for the kind, and the line.
-const STATEMENTS: [(u8, u32); 13] = [
+const STATEMENTS: [(u8, u32); 14] = [
     (b':', 1),
     (b'1', 1),
     (b'g', 1),
     (b'l', 2),
+    (b'k', 2),
     (b's', 2),
     (b'o', 3),
     (b'v', 4),
@@ -29,6 +31,7 @@ fn letter(kind: &StatementKind<'_>) -> u8 {
         StatementKind::Numbered(_) => b'1',
         StatementKind::Binds(Binding::Global, _) => b'g',
         StatementKind::Binds(Binding::Local, _) => b'l',
+        StatementKind::Binds(Binding::Weak, _) => b'k',
         StatementKind::Sets(_) => b's',
         StatementKind::Opens(_) => b'o',
         StatementKind::Values(_, _) => b'v',

@@ -26,9 +26,8 @@ use rv_statement::{
 use rv_text::LONGEST_NAME;
 
 /// What the language leaves out by name: a mnemonic, and directives.
-const LEFT_OUT_WORDS: [&str; 13] = [
+const LEFT_OUT_WORDS: [&str; 12] = [
     "unimp",
-    ".weak",
     ".comm",
     ".macro",
     ".rept",
@@ -435,7 +434,7 @@ pub fn function_named(word: &[u8]) -> Option<Function>
 }
 
 /// The directives but those of call frames.
-const DIRECTIVES: [(&str, DirectiveWord); 36] = [
+const DIRECTIVES: [(&str, DirectiveWord); 37] = [
     (".text", DirectiveWord::Enters(Standard::Text)),
     (".data", DirectiveWord::Enters(Standard::Data)),
     (".rodata", DirectiveWord::Enters(Standard::Rodata)),
@@ -444,6 +443,7 @@ const DIRECTIVES: [(&str, DirectiveWord); 36] = [
     (".globl", DirectiveWord::Binds(Binding::Global)),
     (".global", DirectiveWord::Binds(Binding::Global)),
     (".local", DirectiveWord::Binds(Binding::Local)),
+    (".weak", DirectiveWord::Binds(Binding::Weak)),
     (".set", DirectiveWord::Set),
     (".equ", DirectiveWord::Set),
     (".align", DirectiveWord::AlignToPower),

@@ -371,7 +371,7 @@ module _ (ss : List Statement) (o : Object) (is : IsObjectOf ss o) (j : ℕ) (se
       index_is =
           let a = target.ordinal in
           let b1 = found.4 in
-          let c = ordinals 1 at_start ss is.sites is.located found.3.0 found.0 found.3.1 in
+          let c = ordinals 1 (at_start ss) ss is.sites is.located found.3.0 found.0 found.3.1 in
           omega (arith, a, b1, c)
 
       from_is : b.z.offset ≡ 0 + offset (of_section j (items t all is.sites) (map (λ (z : Site). z.bytes) is.sites)) place.0

@@ -118,5 +118,5 @@ held_from all file k t (s ∷ ss) e =
     (held_at all t k s.kind (held all t k s.kind (no_lowest (faults all t k s.kind) parts.0)), held_from all file (suc k) (after t k s.kind) ss parts.1)
 
 -- those of a source
-pub all_held : (ss : List Statement) → first_fault ss ≡ None → AllByRecursion Held (located_from 1 1 at_start ss)
-all_held ss e = held_from (tables ss) 1 1 at_start ss (no_fault_from ss e)
+pub all_held : (ss : List Statement) → first_fault ss ≡ None → AllByRecursion Held (located_from 1 1 (at_start ss) ss)
+all_held ss e = held_from (tables ss) 1 1 (at_start ss) ss (no_fault_from ss e)

@@ -1,5 +1,6 @@
 pub mod Located
 pub mod Compressed
+pub mod Exports
 pub mod Program
 pub mod Sizes
 pub mod Lines

@@ -17,7 +17,7 @@ use Rattle.rv_pseudo_laws.specs.Code.{Part, Closed, Open, Constants, code}
 use Rattle.rv_pseudo_laws.specs.Filled.{FieldValue, filled}
 use Rattle.rv_unit_laws.specs.Tables.{definition}
 use Rattle.rv_source_laws.specs.Located.{Located}
-use Rattle.rv_source_laws.specs.Program.{Mapped, Program, form, number, has_values, tables_in}
+use Rattle.rv_source_laws.specs.Program.{Mapped, Program, form, number, own_number, has_values, tables_in}
 
 -- ---- the parts of a statement's code
 
@@ -114,10 +114,10 @@ abbrev pub upper_at : Program → ℕ → ℕ → Option ℕ → Option Mapped
 upper_at p file address None = None
 upper_at p file address (Some section) = find (is_upper_at p file section address) p.mapped
 
--- the statement at the label that `%pcrel_lo` names
+-- the statement at the label of its own file that `%pcrel_lo` names
 abbrev pub pair_of : Program → Mapped → Expression → Option Mapped
 pair_of p s e =
-    upper_at p s.located.file (number p s e)
+    upper_at p s.located.file (own_number p s e)
     (label_section p s.located (form p s.located e))
 
 abbrev pub pair_distance : Program → Option Mapped → ℤ

@@ -65,7 +65,7 @@ located_from file ordinal t (s ∷ ss) =
 -- the statements by file and ordinal; files are numbered from a first one on
 abbrev pub located_of : ℕ → List (List Statement) → List Located
 located_of file [] = []
-located_of file (ss ∷ files) = located_from file 1 at_start ss ++ located_of (suc file) files
+located_of file (ss ∷ files) = located_from file 1 (at_start ss) ss ++ located_of (suc file) files
 
 abbrev pub located : List (List Statement) → List Located
 located sources = located_of 1 sources

@@ -4,7 +4,6 @@
 use Rattle.std.specs.Prelude.{◌≡◌, ℕ, ◌+◌, ◌-◌, ◌==◌, pos, Bool, true, false, ◌&&◌, nat_lt, IsTrue, List, [], ◌∷◌, ◌++◌, flat_map, sum_by, Option, Some, None, option_map, option_and_then, if◌then◌else◌}
 use Rattle.std.specs.Int.{w64, int_wrap}
 use Rattle.std.specs.List.{AllByRecursion, find, list_any}
-use Rattle.rv_map.specs.Globals.{is_one_of}
 use Rattle.rv_layout_laws.specs.Sites.{padding_site, size_at}
 use Rattle.rv_text_laws.specs.Expression.{Primary, Symbol}
 use Rattle.rv_text_laws.specs.Values.{Value, Symbolic}
@@ -12,16 +11,15 @@ use Rattle.rv_statement.specs.declared.mnemonic.Mnemonic.{Mnemonic}
 use Rattle.rv_statement.specs.declared.mnemonic.Mnemonic.TheVariants.{Call}
 use Rattle.rv_statement.specs.Statement.{StatementKind, Instruction, Directs, Statement, Operand, Register, Sets}
 use Rattle.rv_unit_laws.specs.Sections.{goes_to_text}
-use Rattle.rv_unit_laws.specs.Tables.{Tables, Assignment, Definition, assigned_ever, is_location, definition, alignment_of}
+use Rattle.rv_unit_laws.specs.Tables.{Tables, Assignment, Definition, assigned_ever, is_location, sure_definition, alignment_of}
 use Rattle.rv_layout_laws.specs.declared.site.Site.{Site}
 use Rattle.rv_layout_laws.specs.declared.site.SiteKind.TheVariants as sites
 use Rattle.rv_layout_laws.specs.Calls.{IsGreatestClosed, is_call as is_call_site}
 use Rattle.rv_map.specs.Map.{Map}
 use Rattle.rv_source_laws.specs.Located.{Located}
 use Rattle.rv_source_laws.specs.Compressed.{is_compressed_code}
-use Rattle.rv_source_laws.specs.Program.{Mapped, Program, program, tables_in, form}
+use Rattle.rv_source_laws.specs.Program.{Mapped, Program, Export, program, tables_in, chosen, form}
 use Rattle.rv_source_laws.specs.Sizes.{target_in}
-use Rattle.rv_source_laws.specs.Resolves.{global_names_of}
 use Rattle.rv_source_laws.specs.Fits.{InputSection, input_sections}
 use Rattle.rv_source_laws.specs.Sized.{is_call, statement_size}
 
@@ -82,24 +80,24 @@ abbrev pub defined_aim : Tables → Located → StatementKind → Option Aim
 defined_aim t s (Directs (Sets name e)) = assigned_aim s.file (assigned_ever t.assignments name)
 defined_aim t s _ = Some (aim s.file s.ordinal)
 
-abbrev pub defines : Program → List ℕ → Located → Bool
-defines p name s = is_one_of (global_names_of (tables_in p s.file) s) name
+abbrev pub export_aim : Program → Export → Option Aim
+export_aim p x =
+    let s = x.statement.located in
+    defined_aim (tables_in p s.file) s s.kind
 
--- the place that a name has for all files
-abbrev pub global_aim : Program → Primary → Option Aim
-global_aim p (Symbol name) =
-    option_and_then (λ e. defined_aim (tables_in p e.located.file) e.located e.located.kind)
-    (find (λ e. defines p name e.located) p.statements)
-global_aim p _ = None
+-- the place that a name has for all files; one that no file defines, be it 0, has none
+abbrev pub shared_aim : Program → Primary → Option Aim
+shared_aim p (Symbol name) = option_and_then (export_aim p) (chosen p name)
+shared_aim p _ = None
 
 abbrev pub aim_by : Program → ℕ → Primary → Option Definition → Option Aim
 aim_by p file q (Some d) = Some (aim file d.ordinal)
-aim_by p file q None = global_aim p q
+aim_by p file q None = shared_aim p q
 
--- what a name, a numeric reference or `.` means at a statement: the place in its own file, else the
--- one that the name has for all files
+-- what a name, a numeric reference or `.` means at a statement: the sure place in its own file, else
+-- the one that the name has for all files
 abbrev pub aim_of : Program → Located → Primary → Option Aim
-aim_of p s q = aim_by p s.file q (definition (tables_in p s.file) s.ordinal q)
+aim_of p s q = aim_by p s.file q (sure_definition (tables_in p s.file) s.ordinal q)
 
 -- its offset, if it stands in the text
 abbrev pub aim_offset : List Placed → Aim → Option ℕ

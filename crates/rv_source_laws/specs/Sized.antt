@@ -62,7 +62,7 @@ statements_in p file = filter (λ e. e.located.file == file) p.statements
 pub record IsFileSized (p : Program) (file : ℕ) (ss : List Statement) : Type 0 where
   pub sizes : List ℕ
   pub has : HaveSizes p (statements_in p file) sizes
-  pub least : AreLeast (tables ss) (located_from 1 1 at_start ss) sizes
+  pub least : AreLeast (tables ss) (located_from 1 1 (at_start ss) ss) sizes
 
 abbrev pub AreFilesSized : Program → ℕ → List (List Statement) → Type 0
 AreFilesSized p file [] = ⊤

@@ -15,7 +15,7 @@ use Rattle.rv_layout_laws.specs.declared.item.Forms.{Forms}
 use Rattle.rv_layout_laws.specs.declared.item.Forms.TheVariants.{Settled, CompressedBranch, Branch as FullBranch, CompressedJump}
 use Rattle.rv_layout_laws.specs.declared.item.Item.{Item}
 use Rattle.rv_layout_laws.specs.Branches.{IsLeastGood}
-use Rattle.rv_unit_laws.specs.Tables.{Tables, Definition, definition, value}
+use Rattle.rv_unit_laws.specs.Tables.{Tables, Definition, sure_definition, value}
 use Rattle.rv_source_laws.specs.Located.{Located}
 use Rattle.rv_source_laws.specs.Program.{place_of}
 
@@ -59,7 +59,8 @@ near_forms rvc Tail os = Some (Settled 8)
 near_forms rvc Jump os = Some (Settled 8)
 near_forms rvc mnemonic os = None
 
--- to another section or another file only the largest
+-- to another section or another file, or to a name for which another file's may stand, only the
+-- largest
 abbrev pub far_form : Forms → ℕ
 far_form (Settled bytes) = bytes
 far_form CompressedJump = 4
@@ -72,7 +73,7 @@ target_in [] = None
 target_in (Target e ∷ os) = Some e
 target_in (o ∷ os) = target_in os
 
--- where a branch leads: the ordinal of the statement, and what is added to its place
+-- where a branch surely leads: the ordinal of the statement, and what is added to its place
 pub record Near : Type 0 where
   pub ordinal : ℕ
   pub addend : ℤ
@@ -89,7 +90,7 @@ near_at all section (Some d) plus =
 
 abbrev pub near_value : Tables → List Located → Located → Value → Option Near
 near_value t all s (Symbolic symbol at plus) =
-    near_at all s.section (definition t s.ordinal symbol) plus
+    near_at all s.section (sure_definition t s.ordinal symbol) plus
 near_value t all s _ = None
 
 abbrev pub near_target : Tables → List Located → Located → List Operand → Option Near

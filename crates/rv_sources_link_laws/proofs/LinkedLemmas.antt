@@ -150,7 +150,7 @@ marks starts file (ss ∷ sources) [] h = absurd h
 marks starts file (ss ∷ sources) (o ∷ os) (is, h) =
     mark_own starts file is.sites (all_rows starts (suc file) sources os h) (located_of (suc file) sources) (marks starts (suc file) sources os h)
     ∙ ap (λ l. map source.identity_of (filter has_row (l ++ located_of (suc file) sources)))
-    (ap (map (renumbered file)) is.located ∙ sym (renumbers file 1 at_start ss))
+    (ap (map (renumbered file)) is.located ∙ sym (renumbers file 1 (at_start ss) ss))
 
 good_all : (sources : List (List Statement)) (os : List Object) → AreObjectsOf sources os → AllByRecursion (λ ss. first_fault ss ≡ None) sources
 good_all [] [] h = tt
@@ -211,7 +211,7 @@ module _ (sources : List (List Statement)) (os : List Object) (text_start : ℕ)
           labels = subst StandsAlone (sym f.tables) (labels ss);
           worth = worths_are p os starts numbers file o is.number g;
           stands = f.stands;
-          itself = all_map (IsFound 1 is.sites) (λ z. site_at is.sites z.located.ordinal ≡ Some z) is.sites (λ z k. k.1) (found_from 1 at_start ss is.sites is.located);
+          itself = all_map (IsFound 1 is.sites) (λ z. site_at is.sites z.located.ordinal ≡ Some z) is.sites (λ z k. k.1) (found_from 1 (at_start ss) ss is.sites is.located);
           relocated = λ j x at loaded.
               subst (λ n. Q (record { file = file; object = o; index = n; section = x })) (let e : 0 + j ≡ j = omega arith in e)
               (relocated_at is_loaded Q file o 0 o.sections both.0 j x at loaded);

@@ -34,7 +34,7 @@ use Rattle.rv_sources_link_laws.proofs.moves.ShrunkLemmas as shrunk
 use Rattle.rv_sources_link_laws.proofs.SizedLemmas.{sized_from}
 use Rattle.rv_sources_link_laws.proofs.calls.UncutLemmas.{IsUncut, uncut, assembled_sites, all_assembled}
 
-tables_by : (sources : List (List Statement)) (i : ℕ) → slice_index_or (map tables sources) i at_start ≡ tables (slice_index_or sources i [])
+tables_by : (sources : List (List Statement)) (i : ℕ) → slice_index_or (map tables sources) i (at_start []) ≡ tables (slice_index_or sources i [])
 tables_by [] i = refl
 tables_by (ss ∷ sources) zero = refl
 tables_by (ss ∷ sources) (suc i) = tables_by sources i
@@ -78,7 +78,7 @@ module _ (sources : List (List Statement)) (os : List Object) (text_start : ℕ)
   sized =
       sized_from starts p sizes 1 sources os h ws are finals
       (λ f low. ap (λ es. filter (λ e. e.located.file == f) es) (statements_ours sources ws l.map starts are made.rows))
-      (λ i. ap (λ n. slice_index_or (map tables sources) n at_start) (let e : 1 + i - 1 ≡ i = omega arith in e) ∙ tables_by sources i)
+      (λ i. ap (λ n. slice_index_or (map tables sources) n (at_start [])) (let e : 1 + i - 1 ≡ i = omega arith in e) ∙ tables_by sources i)
 
   -- the rows of calls
   pub bytes_of_calls : (size : ℕ → ℕ) → AllByRecursion (λ (i : InputSection). (n : ℕ) → sizes i.file i.index n ≡ size (0 + base_in (inputs goes_to_text os) i.file i.index + n)) (inputs goes_to_text os)

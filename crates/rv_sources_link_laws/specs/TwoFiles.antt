@@ -264,14 +264,14 @@ sites_of (l ∷ ls) (z ∷ zs) =
 
 abbrev pub first_sites : List Site
 first_sites =
-    sites_of (located_from 1 1 at_start first_source)
+    sites_of (located_from 1 1 (at_start first_source) first_source)
     (size 0 0 0 ∷ size 0 0 0 ∷ size 0 0 0 ∷ one_word (0x73 ∷ 0 ∷ 0 ∷ 0 ∷ []) ∷ size 0 0 0 ∷
     size 0 0 0 ∷ size 0 4 0 ∷ size 4 8 0 ∷ size 12 4 0
     ∷ size 16 8 0 ∷ [])
 
 abbrev pub second_sites : List Site
 second_sites =
-    sites_of (located_from 1 1 at_start second_source)
+    sites_of (located_from 1 1 (at_start second_source) second_source)
     (size 0 0 0 ∷ size 0 0 0 ∷ size 0 0 0 ∷ size 0 1 0 ∷ size 1 0 0 ∷ size 1 1 0 ∷ size 2 0 0 ∷
     size 2 4 0 ∷ size 6 0 0 ∷ size 0 0 0 ∷ size 0 1 0 ∷ size 0 0 0 ∷ size 0 0 0 ∷
     one_word (0x73 ∷ 0 ∷ 0 ∷ 0 ∷ []) ∷ size 4 6 2 ∷ [])

@@ -35,7 +35,7 @@ pub data Directive : Type 0 where
   Enters : (section : Standard) → Directive
   -- `.section`, with its flags' letters and its type's name where they are given
   Opens : (name : List ℕ) (flags kind : Option (List ℕ)) → Directive
-  -- `.globl`, `.global` and `.local`, with their names in order
+  -- `.globl`, `.global`, `.local` and `.weak`, with their names in order
   Binds : (binding : Binding) (names : List (List ℕ)) → Directive
   -- `.set` and `.equ`
   Sets : (name : List ℕ) (expression : Expression) → Directive

@@ -39,6 +39,8 @@ pub enum Binding {
     Local,
     /// `.globl` and `.global`: all files can mean it.
     Global,
+    /// `.weak`: all files can mean it, but a global definition of its name comes before its own.
+    Weak,
 }
 
 /// What `.option` says.
@@ -73,7 +75,7 @@ pub enum DirectiveWord {
     Enters(Standard),
     /// `.section`
     Section,
-    /// `.globl`, `.global` and `.local`
+    /// `.globl`, `.global`, `.local` and `.weak`
     Binds(Binding),
     /// `.set` and `.equ`
     Set,

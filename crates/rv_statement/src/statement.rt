@@ -137,7 +137,7 @@ pub enum StatementKind<'a> {
     Enters(Standard),
     /// `.section`
     Opens(Box<Opening<'a>>),
-    /// `.globl`, `.global` or `.local`, with its names in order.
+    /// `.globl`, `.global`, `.local` or `.weak`, with its names in order.
     Binds(Binding, Vec<&'a [u8]>),
     /// `.set` or `.equ`
     Sets(Box<Setting<'a>>),

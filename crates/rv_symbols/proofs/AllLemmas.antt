@@ -40,7 +40,7 @@ offset_low offsets sites e low i s at =
     at_or (x ∷ xs) zero n e = cc
     at_or (x ∷ xs) (suc i) n e = at_or xs i n e
 
-module _ (ss : List Statement) (sites : List Site) (located : map (λ s. s.located) sites ≡ located_from 1 1 at_start ss) (meant : AreMeant (tables ss) (references (tables ss) sites))
+module _ (ss : List Statement) (sites : List Site) (located : map (λ s. s.located) sites ≡ located_from 1 1 (at_start ss) ss) (meant : AreMeant (tables ss) (references (tables ss) sites))
     (free : first_fault ss ≡ None) (shown : AreShown (references (tables ss) sites)) (low : (i : ℕ) (s : Site) → slice_get sites i ≡ Some s → s.offset < 2 ^ 64) where
   abbrev t : Tables
   t = tables ss
@@ -109,4 +109,4 @@ module _ (ss : List Statement) (sites : List Site) (located : map (λ s. s.locat
   numbered =
       by_index (IsNumbered t sites (number_in t sites) (symbols_of t sites)) rs
       (λ j r e. by_symbol j r.ordinal r.symbol e (all_got (is_meant_use t) rs j r e meant)
-      (all_index (λ (z : SymbolUse). StandsAt sites z.ordinal) rs j r e (uses_stand t sites (means ss sites located) 0 1 at_start ss sites refl located)))
+      (all_index (λ (z : SymbolUse). StandsAt sites z.ordinal) rs j r e (uses_stand t sites (means ss sites located) 0 1 (at_start ss) ss sites refl located)))

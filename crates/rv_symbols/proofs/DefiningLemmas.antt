@@ -16,7 +16,7 @@ use Rattle.rv_unit_laws.proofs.FewLemmas.{no_fault_from}
 use Rattle.rv_unit_laws.proofs.FoundLemmas.{same_bytes, bytes_same, and_both}
 use Rattle.rv_unit_laws.proofs.BeforeLemmas.{before_start}
 use Rattle.rv_source_laws.specs.Located.{located_from}
-use Rattle.rv_source_laws.specs.Resolves.{sets_first, defined_name}
+use Rattle.rv_source_laws.specs.Exports.{sets_first, defined_name}
 use Rattle.rv_object.specs.declared.symbol.Definition.{Definition as Defined}
 use Rattle.rv_object.specs.declared.symbol.Definition.TheVariants.{Absolute, InSection, Skipped}
 use Rattle.rv_assemble_laws.specs.Sites.{Site}
@@ -101,11 +101,11 @@ below_self n e = let l : n < n = ltb-true n n e in absurd (omega arith)
 
 -- ---- the statements of a source
 
-module _ (ss : List Statement) (sites : List Site) (located : map (λ s. s.located) sites ≡ located_from 1 1 at_start ss) where
+module _ (ss : List Statement) (sites : List Site) (located : map (λ s. s.located) sites ≡ located_from 1 1 (at_start ss) ss) where
   pub site_of : (o i : ℕ) (s : Site) → slice_get sites i ≡ Some s → s.located.ordinal ≡ o → site_at sites o ≡ Some s
   site_of o i s at is =
-      let own : s.located.ordinal ≡ 1 + i = ordinal_by 1 at_start ss sites located i s at in
-      site_by 1 at_start ss sites located o i (omega (arith, own, is)) ∙ at
+      let own : s.located.ordinal ≡ 1 + i = ordinal_by 1 (at_start ss) ss sites located i s at in
+      site_by 1 (at_start ss) ss sites located o i (omega (arith, own, is)) ∙ at
 
   module _ (free : first_fault ss ≡ None) (low : (i : ℕ) (s : Site) → slice_get sites i ≡ Some s → s.offset < 2 ^ 64) (name : List ℕ) (shown : bytes_eq [] name ≡ false) (o : ℕ) where
     abbrev t : Tables
@@ -122,7 +122,7 @@ module _ (ss : List Statement) (sites : List Site) (located : map (λ s. s.locat
     Gives d s kind = AllByRecursion (λ n. bytes_eq n name ≡ true → Own d (site_definition t sites s kind)) (defined_name t s.located.ordinal kind)
 
     founds : AllByRecursion (IsFound name t) sites
-    founds = labels_found name t 1 at_start ss sites located (no_fault_from ss free) (before_start 1) refl
+    founds = labels_found name t 1 (at_start ss) ss sites located (no_fault_from ss free) (before_start ss 1) refl
 
     found_label : (i : ℕ) (s : Site) (n : List ℕ) → slice_get sites i ≡ Some s → s.located.kind ≡ Label n → bytes_eq n name ≡ true → (l : Labelled) × (label_of t.labels true 0 name ≡ Some l) × (l.ordinal ≡ s.located.ordinal)
     found_label i s n at is f = all_index (IsFound name t) sites i s at founds n is f
@@ -234,7 +234,7 @@ module _ (ss : List Statement) (sites : List Site) (located : map (λ s. s.locat
         set ordinal g = (s, site, placed, given)
 
     pub own_name : is_some (laws.definition t o (Named name)) ≡ true → Stands
-    own_name some = go (label_of t.labels true 0 name) refl (assigned_ever t.assignments name) refl (one_name name sites 0 1 at_start ss sites refl located (before_start 1) tt)
+    own_name some = go (label_of t.labels true 0 name) refl (assigned_ever t.assignments name) refl (one_name name sites 0 1 (at_start ss) ss sites refl located (before_start ss 1) tt)
       where
         numbers : label_of t.labels true 0 name ≡ None → AreNumbers name t.assignments → Stands
         numbers e h = not_both (is_some (laws.definition t o (Named name))) some (ap is_some (of_numbers name t o e h))

@@ -9,7 +9,7 @@ use Rattle.std.proofs.lemmas.List.{take_more, map-append, reverse-append}
 use Rattle.rv_unit_laws.specs.Tables.{Assignment}
 use Rattle.rv_unit_tables.specs.declared.tables.Assignment.{Assignment as DeclaredSetting}
 use Rattle.rv_unit_tables.specs.Tables.{assignment_of}
-use Rattle.rv_source_laws.specs.Resolves.{sets_first}
+use Rattle.rv_source_laws.specs.Exports.{sets_first}
 use Rattle.rv_symbols.specs.Settings.{least, first_ordinal}
 use Rattle.rv_unit_laws.proofs.FoundLemmas.{same_bytes}
 

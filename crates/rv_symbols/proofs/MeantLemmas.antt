@@ -13,12 +13,12 @@ use Rattle.rv_symbols.proofs.SingleLemmas.{AreNumbers, of_label, of_set, of_numb
 use Rattle.rv_symbols.proofs.OneNameLemmas.{Is, IsSet, one_name, none_all}
 use Rattle.rv_symbols.proofs.StandingLemmas.{StandsAt, AreNumeric, Means, numeric_stand, found_of, reversed}
 
-module _ (ss : List Statement) (sites : List Site) (located : map (λ s. s.located) sites ≡ located_from 1 1 at_start ss) where
+module _ (ss : List Statement) (sites : List Site) (located : map (λ s. s.located) sites ≡ located_from 1 1 (at_start ss) ss) where
   abbrev t : Tables
   t = tables ss
 
   pub numeric_labels : AreNumeric sites t.numeric_labels
-  numeric_labels = numeric_stand sites 0 1 at_start ss sites refl located tt
+  numeric_labels = numeric_stand sites 0 1 (at_start ss) ss sites refl located tt
 
   -- a definition that is known
   known : (x d : Definition) (found : Option Definition) → found ≡ Some x → found ≡ Some d → StandsAt sites x.ordinal → StandsAt sites d.ordinal
@@ -50,7 +50,7 @@ module _ (ss : List Statement) (sites : List Site) (located : map (λ s. s.locat
           (found_of (λ (z : NumericLabel). StandsAt sites z.ordinal) (λ z. nat_lt z.ordinal o && (z.number == digits_value 10 digits)) t.numeric_labels l f numeric_labels)
 
   by_name : (o : ℕ) (name : List ℕ) (d : Definition) → definition t o (Named name) ≡ Some d → StandsAt sites d.ordinal
-  by_name o name d e = go (label_of t.labels true 0 name) refl (assigned_ever t.assignments name) refl (one_name name sites 0 1 at_start ss sites refl located (before_start 1) tt)
+  by_name o name d e = go (label_of t.labels true 0 name) refl (assigned_ever t.assignments name) refl (one_name name sites 0 1 (at_start ss) ss sites refl located (before_start ss 1) tt)
     where
       numbers : label_of t.labels true 0 name ≡ None → AreNumbers name t.assignments → StandsAt sites d.ordinal
       numbers f h = unknown d (definition t o (Named name)) (of_numbers name t o f h) e

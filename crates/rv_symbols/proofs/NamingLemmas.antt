@@ -7,14 +7,14 @@ use Rattle.std.proofs.lemmas.Bool.{and_parts, and_from}
 use Rattle.std.proofs.lemmas.List.Folds.{list_any-append}
 use Rattle.rv_statement.specs.Statement.{StatementKind, Label, Directs, Sets}
 use Rattle.rv_map.specs.Name.{is_name, is_name_byte}
-use Rattle.rv_source_laws.specs.Resolves.{sets_first, defined_name}
+use Rattle.rv_source_laws.specs.Exports.{sets_first, defined_name}
 use Rattle.rv_unit_laws.specs.Tables.{Tables}
 use Rattle.rv_object.specs.declared.symbol.Definition.{Definition as Defined}
 use Rattle.rv_object.specs.declared.symbol.Definition.TheVariants.{Undefined, Absolute, InSection, Skipped}
 use Rattle.rv_object.specs.Object.{Symbol}
 use Rattle.rv_object.specs.Valid.{is_string}
 use Rattle.rv_assemble_laws.specs.Sites.{Site}
-use Rattle.rv_assemble_laws.specs.Symbols.{SymbolUse, local_symbol, global_symbol, is_absolute, references, is_meant, unnamed_symbols, named_symbols, local_symbols}
+use Rattle.rv_assemble_laws.specs.Symbols.{SymbolUse, local_symbol, shared_symbol, is_absolute, references, is_meant, unnamed_symbols, named_symbols, local_symbols}
 use Rattle.rv_assemble_laws.specs.ShownNames.{tree_names, said_names, are_shown}
 use Rattle.rv_symbols.specs.Source.{place_in}
 use Rattle.rv_symbols.specs.Found.{is_number, same_place, is_seen}
@@ -55,20 +55,20 @@ pub local_one : (global : List ℕ → Bool) (d : Defined) (names : List (List �
 local_one global d names name e g n =
     sym (ap (λ l. filter (λ x. not (is_absolute x)) (map (λ name. local_symbol name d) l)) (if_not (global name) false name [] g) ∙ one_place d name n) ∙ ap (local_names global d) e
 
-abbrev pub global_names : (List ℕ → Bool) → Defined → List (List ℕ) → List Symbol
-global_names global d names = map (λ name. global_symbol name d) (filter global names)
+abbrev pub shared_names : Tables → (List ℕ → Bool) → Defined → List (List ℕ) → List Symbol
+shared_names t shared d names = map (λ name. shared_symbol t name d) (filter shared names)
 
 if_same : (b c : Bool) (name : List ℕ) → b ≡ c → (if b then name ∷ [] else []) ≡ (if c then name ∷ [] else [])
 if_same b c name e = ap (λ x. if x then name ∷ [] else []) e
 
-pub global_none : (global : List ℕ → Bool) (d : Defined) (names : List (List ℕ)) → [] ≡ names → [] ≡ global_names global d names
-global_none global d names e = ap (global_names global d) e
+pub shared_none : (t : Tables) (shared : List ℕ → Bool) (d : Defined) (names : List (List ℕ)) → [] ≡ names → [] ≡ shared_names t shared d names
+shared_none t shared d names e = ap (shared_names t shared d) e
 
-pub global_local : (global : List ℕ → Bool) (d : Defined) (names : List (List ℕ)) (name : List ℕ) → name ∷ [] ≡ names → global name ≡ false → [] ≡ global_names global d names
-global_local global d names name e g = sym (ap (λ l. map (λ name. global_symbol name d) l) (if_same (global name) false name g)) ∙ ap (global_names global d) e
+pub shared_local : (t : Tables) (shared : List ℕ → Bool) (d : Defined) (names : List (List ℕ)) (name : List ℕ) → name ∷ [] ≡ names → shared name ≡ false → [] ≡ shared_names t shared d names
+shared_local t shared d names name e g = sym (ap (λ l. map (λ name. shared_symbol t name d) l) (if_same (shared name) false name g)) ∙ ap (shared_names t shared d) e
 
-pub global_one : (global : List ℕ → Bool) (d : Defined) (names : List (List ℕ)) (name : List ℕ) → name ∷ [] ≡ names → global name ≡ true → global_symbol name d ∷ [] ≡ global_names global d names
-global_one global d names name e g = sym (ap (λ l. map (λ name. global_symbol name d) l) (if_same (global name) true name g)) ∙ ap (global_names global d) e
+pub shared_one : (t : Tables) (shared : List ℕ → Bool) (d : Defined) (names : List (List ℕ)) (name : List ℕ) → name ∷ [] ≡ names → shared name ≡ true → shared_symbol t name d ∷ [] ≡ shared_names t shared d names
+shared_one t shared d names name e g = sym (ap (λ l. map (λ name. shared_symbol t name d) l) (if_same (shared name) true name g)) ∙ ap (shared_names t shared d) e
 
 -- a map can show the name that a statement defines
 first_shown : (n : List ℕ) (more : List (List ℕ)) → are_shown (n ∷ more) ≡ true → is_name n ≡ true

@@ -14,7 +14,7 @@ use Rattle.rv_unit_laws.proofs.FoundLemmas.{same_bytes, bytes_swap, bytes_same}
 use Rattle.rv_object.specs.declared.symbol.Definition.TheVariants.{Undefined}
 use Rattle.rv_object.specs.Object.{Symbol}
 use Rattle.rv_assemble_laws.specs.Sites.{Site}
-use Rattle.rv_assemble_laws.specs.Symbols.{SymbolUse, references, global_symbol, local_symbols, exports, missing_name, distinct_from, symbols_of, IsDefinedBy, StandsFor}
+use Rattle.rv_assemble_laws.specs.Symbols.{SymbolUse, references, shared_symbol, local_symbols, exports, missing_name, distinct_from, symbols_of, IsDefinedBy, StandsFor}
 use Rattle.rv_symbols.specs.Numbers.{last_from, last_index, own_symbols, missing_names, number_by, number_in}
 
 -- ---- look-ups in lists
@@ -122,7 +122,7 @@ module _ (t : Tables) (sites : List Site) where
   rs = references t sites
 
   abbrev undefined : List Symbol
-  undefined = map (λ name. global_symbol name Undefined) (missing_names t rs)
+  undefined = map (λ name. shared_symbol t name Undefined) (missing_names t rs)
 
   pub whole : symbols_of t sites ≡ own_symbols t sites ++ undefined
   whole = sym (append_assoc (local_symbols t sites [] sites) (exports t sites) undefined)
@@ -138,10 +138,10 @@ module _ (t : Tables) (sites : List Site) where
       let found = position_has (bytes_eq name) names (swap_any name names listed) in
       let k = unwrap_or (position (bytes_eq name) names) 0 in
       let n : List ℕ = found.0 in
-      let got : slice_get (symbols_of t sites) (length own + k) ≡ Some (global_symbol n Undefined) =
-      ap (λ l. slice_get l (length own + k)) whole ∙ got_behind own undefined k (length own + k) refl ∙ map_got (λ name. global_symbol name Undefined) names k n found.1 in
+      let got : slice_get (symbols_of t sites) (length own + k) ≡ Some (shared_symbol t n Undefined) =
+      ap (λ l. slice_get l (length own + k)) whole ∙ got_behind own undefined k (length own + k) refl ∙ map_got (λ name. shared_symbol t name Undefined) names k n found.1 in
       subst (λ d. StandsFor t sites o (Named name) (slice_get (symbols_of t sites) (number_of d))) (sym none)
-      (subst (λ x. StandsFor t sites o (Named name) x) (sym got) (named n found.2, subst (λ d. IsDefinedBy sites (Named name) d (global_symbol n Undefined)) (sym none) refl))
+      (subst (λ x. StandsFor t sites o (Named name) x) (sym got) (named n found.2, subst (λ d. IsDefinedBy sites (Named name) d (shared_symbol t n Undefined)) (sym none) refl))
     where
       number_of : Option laws.Definition → ℕ
       number_of d = number_by (own_symbols t sites) (missing_names t rs) sites (Named name) d

@@ -7,16 +7,16 @@ use Rattle.std.specs.List.{AllByRecursion, list_any}
 use Rattle.std.specs.Str.{bytes_eq}
 use Rattle.rv_map.specs.Globals.{is_one_of}
 use Rattle.rv_text_laws.specs.Expression.{Symbol as Named}
-use Rattle.rv_unit_laws.specs.Bindings.{is_global}
+use Rattle.rv_unit_laws.specs.Bindings.{is_shared}
 use Rattle.rv_unit_laws.specs.Tables as laws
 use Rattle.rv_unit_laws.specs.Tables.{Tables}
 use Rattle.rv_unit_laws.proofs.FoundLemmas.{same_bytes}
-use Rattle.rv_source_laws.specs.Resolves.{defined_name}
+use Rattle.rv_source_laws.specs.Exports.{defined_name}
 use Rattle.rv_object.specs.declared.symbol.Definition.{Definition as Defined}
 use Rattle.rv_object.specs.declared.symbol.Definition.TheVariants.{InSection}
 use Rattle.rv_object.specs.Object.{Symbol}
 use Rattle.rv_assemble_laws.specs.Sites.{Site}
-use Rattle.rv_assemble_laws.specs.Symbols.{references, site_definition, local_symbol, global_symbol, is_absolute, unnamed_symbols, named_symbols, local_symbols, exports_of, exports, symbols_of, IsOwn, IsDefinedBy, StandsFor}
+use Rattle.rv_assemble_laws.specs.Symbols.{references, site_definition, local_symbol, shared_symbol, is_absolute, unnamed_symbols, named_symbols, local_symbols, exports_of, exports, symbols_of, IsOwn, IsDefinedBy, StandsFor}
 use Rattle.rv_symbols.specs.Numbers.{last_index, is_named, own_symbols, missing_names, number_by, number_in}
 use Rattle.rv_symbols.proofs.NumberedLemmas.{any_front, any_behind, got_last, got_front, whole}
 
@@ -75,15 +75,15 @@ module _ (t : Tables) (sites : List Site) (name : List ℕ) where
   abbrev Names : List Symbol → Type 0
   Names xs = list_any (is_named name) xs ≡ true
 
-  local_one : (s : Site) → is_absolute (local_symbol name (place s)) ≡ false → is_global (t.bindings name) ≡ false → (ns : List (List ℕ)) → is_one_of ns name ≡ true
-      → Names (filter (λ x. not (is_absolute x)) (map (λ n. local_symbol n (place s)) (filter (λ n. not (is_global (t.bindings n))) ns)))
+  local_one : (s : Site) → is_absolute (local_symbol name (place s)) ≡ false → is_shared (t.bindings name) ≡ false → (ns : List (List ℕ)) → is_one_of ns name ≡ true
+      → Names (filter (λ x. not (is_absolute x)) (map (λ n. local_symbol n (place s)) (filter (λ n. not (is_shared (t.bindings n))) ns)))
   local_one s a g [] e = absurd (cc)
   local_one s a g (n ∷ ns) e = go (bytes_eq n name) refl e (local_one s a g ns)
     where
       rest : List Symbol
-      rest = map (λ n. local_symbol n (place s)) (filter (λ n. not (is_global (t.bindings n))) ns)
+      rest = map (λ n. local_symbol n (place s)) (filter (λ n. not (is_shared (t.bindings n))) ns)
 
-      behind : (b : Bool) → Names (filter (λ x. not (is_absolute x)) rest) → Names (filter (λ x. not (is_absolute x)) (map (λ n. local_symbol n (place s)) (if b then n ∷ filter (λ n. not (is_global (t.bindings n))) ns else filter (λ n. not (is_global (t.bindings n))) ns)))
+      behind : (b : Bool) → Names (filter (λ x. not (is_absolute x)) rest) → Names (filter (λ x. not (is_absolute x)) (map (λ n. local_symbol n (place s)) (if b then n ∷ filter (λ n. not (is_shared (t.bindings n))) ns else filter (λ n. not (is_shared (t.bindings n))) ns)))
       behind false f = f
       behind true f = one (is_absolute (local_symbol n (place s)))
         where
@@ -92,29 +92,29 @@ module _ (t : Tables) (sites : List Site) (name : List ℕ) where
           one false = or_right (bytes_eq n name) _ f
 
       go : (b : Bool) → bytes_eq n name ≡ b → (b || is_one_of ns name) ≡ true → (is_one_of ns name ≡ true → Names (filter (λ x. not (is_absolute x)) rest))
-          → Names (filter (λ x. not (is_absolute x)) (map (λ n. local_symbol n (place s)) (if not (is_global (t.bindings n)) then n ∷ filter (λ n. not (is_global (t.bindings n))) ns else filter (λ n. not (is_global (t.bindings n))) ns)))
-      go false f h ih = behind (not (is_global (t.bindings n))) (ih h)
+          → Names (filter (λ x. not (is_absolute x)) (map (λ n. local_symbol n (place s)) (if not (is_shared (t.bindings n)) then n ∷ filter (λ n. not (is_shared (t.bindings n))) ns else filter (λ n. not (is_shared (t.bindings n))) ns)))
+      go false f h ih = behind (not (is_shared (t.bindings n))) (ih h)
       go true f h ih =
           let same : n ≡ name = same_bytes n name f in
-          let mine : is_global (t.bindings n) ≡ false = ap (λ m. is_global (t.bindings m)) same ∙ g in
-          ap (λ b. list_any (is_named name) (filter (λ x. not (is_absolute x)) (map (λ n. local_symbol n (place s)) (if not b then n ∷ filter (λ n. not (is_global (t.bindings n))) ns else filter (λ n. not (is_global (t.bindings n))) ns)))) mine
+          let mine : is_shared (t.bindings n) ≡ false = ap (λ m. is_shared (t.bindings m)) same ∙ g in
+          ap (λ b. list_any (is_named name) (filter (λ x. not (is_absolute x)) (map (λ n. local_symbol n (place s)) (if not b then n ∷ filter (λ n. not (is_shared (t.bindings n))) ns else filter (λ n. not (is_shared (t.bindings n))) ns)))) mine
           ∙ ap (λ b. list_any (is_named name) (if not b then local_symbol n (place s) ∷ filter (λ x. not (is_absolute x)) rest else filter (λ x. not (is_absolute x)) rest)) a
           ∙ or_left (bytes_eq n name) _ f
 
-  global_one : (s : Site) → is_global (t.bindings name) ≡ true → (ns : List (List ℕ)) → is_one_of ns name ≡ true → Names (map (λ n. global_symbol n (place s)) (filter (λ n. is_global (t.bindings n)) ns))
-  global_one s g [] e = absurd (cc)
-  global_one s g (n ∷ ns) e = go (bytes_eq n name) refl e (global_one s g ns)
+  shared_one : (s : Site) → is_shared (t.bindings name) ≡ true → (ns : List (List ℕ)) → is_one_of ns name ≡ true → Names (map (λ n. shared_symbol t n (place s)) (filter (λ n. is_shared (t.bindings n)) ns))
+  shared_one s g [] e = absurd (cc)
+  shared_one s g (n ∷ ns) e = go (bytes_eq n name) refl e (shared_one s g ns)
     where
-      behind : (b : Bool) → Names (map (λ n. global_symbol n (place s)) (filter (λ n. is_global (t.bindings n)) ns)) → Names (map (λ n. global_symbol n (place s)) (if b then n ∷ filter (λ n. is_global (t.bindings n)) ns else filter (λ n. is_global (t.bindings n)) ns))
+      behind : (b : Bool) → Names (map (λ n. shared_symbol t n (place s)) (filter (λ n. is_shared (t.bindings n)) ns)) → Names (map (λ n. shared_symbol t n (place s)) (if b then n ∷ filter (λ n. is_shared (t.bindings n)) ns else filter (λ n. is_shared (t.bindings n)) ns))
       behind false f = f
       behind true f = or_right (bytes_eq n name) _ f
 
-      go : (b : Bool) → bytes_eq n name ≡ b → (b || is_one_of ns name) ≡ true → (is_one_of ns name ≡ true → Names (map (λ n. global_symbol n (place s)) (filter (λ n. is_global (t.bindings n)) ns)))
-          → Names (map (λ n. global_symbol n (place s)) (if is_global (t.bindings n) then n ∷ filter (λ n. is_global (t.bindings n)) ns else filter (λ n. is_global (t.bindings n)) ns))
-      go false f h ih = behind (is_global (t.bindings n)) (ih h)
+      go : (b : Bool) → bytes_eq n name ≡ b → (b || is_one_of ns name) ≡ true → (is_one_of ns name ≡ true → Names (map (λ n. shared_symbol t n (place s)) (filter (λ n. is_shared (t.bindings n)) ns)))
+          → Names (map (λ n. shared_symbol t n (place s)) (if is_shared (t.bindings n) then n ∷ filter (λ n. is_shared (t.bindings n)) ns else filter (λ n. is_shared (t.bindings n)) ns))
+      go false f h ih = behind (is_shared (t.bindings n)) (ih h)
       go true f h ih =
-          let mine : is_global (t.bindings n) ≡ true = ap (λ m. is_global (t.bindings m)) (same_bytes n name f) ∙ g in
-          ap (λ b. list_any (is_named name) (map (λ n. global_symbol n (place s)) (if b then n ∷ filter (λ n. is_global (t.bindings n)) ns else filter (λ n. is_global (t.bindings n)) ns))) mine
+          let mine : is_shared (t.bindings n) ≡ true = ap (λ m. is_shared (t.bindings m)) (same_bytes n name f) ∙ g in
+          ap (λ b. list_any (is_named name) (map (λ n. shared_symbol t n (place s)) (if b then n ∷ filter (λ n. is_shared (t.bindings n)) ns else filter (λ n. is_shared (t.bindings n)) ns))) mine
           ∙ or_left (bytes_eq n name) _ f
 
   local_at : (before rest : List Site) (i : ℕ) (s : Site) → slice_get rest i ≡ Some s → Names (named_symbols t sites s) → Names (local_symbols t sites before rest)
@@ -136,10 +136,10 @@ module _ (t : Tables) (sites : List Site) (name : List ℕ) where
   exports_at (q ∷ rest) (suc i) s e h = any_behind (is_named name) (exports_of t sites q) _ (exports_at rest i s e h)
 
   pub own_named : (i : ℕ) (s : Site) → slice_get sites i ≡ Some s → is_one_of (defines s) name ≡ true → is_absolute (local_symbol name (place s)) ≡ false → Names own
-  own_named i s e h a = go (is_global (t.bindings name)) refl
+  own_named i s e h a = go (is_shared (t.bindings name)) refl
     where
-      go : (b : Bool) → is_global (t.bindings name) ≡ b → Names own
-      go true g = any_behind (is_named name) (local_symbols t sites [] sites) (exports t sites) (exports_at sites i s e (global_one s g (defines s) h))
+      go : (b : Bool) → is_shared (t.bindings name) ≡ b → Names own
+      go true g = any_behind (is_named name) (local_symbols t sites [] sites) (exports t sites) (exports_at sites i s e (shared_one s g (defines s) h))
       go false g = any_front (is_named name) (local_symbols t sites [] sites) (exports t sites) (local_at [] sites i s e (local_one s a g (defines s) h))
 
   -- ---- symbols by their statements
@@ -160,11 +160,11 @@ module _ (t : Tables) (sites : List Site) (name : List ℕ) where
 
     named_all : (s : Site) → Defines s → AllByRecursion Has (named_symbols t sites s)
     named_all s h =
-        kept Has (λ x. not (is_absolute x)) _ (mapped Has (λ n. local_symbol n (place s)) _ (kept (λ n. bytes_eq n name ≡ true → P (place s)) (λ n. not (is_global (t.bindings n))) (defines s) h))
+        kept Has (λ x. not (is_absolute x)) _ (mapped Has (λ n. local_symbol n (place s)) _ (kept (λ n. bytes_eq n name ≡ true → P (place s)) (λ n. not (is_shared (t.bindings n))) (defines s) h))
 
     exported_all : (s : Site) → Defines s → AllByRecursion Has (exports_of t sites s)
     exported_all s h =
-        mapped Has (λ n. global_symbol n (place s)) _ (kept (λ n. bytes_eq n name ≡ true → P (place s)) (λ n. is_global (t.bindings n)) (defines s) h)
+        mapped Has (λ n. shared_symbol t n (place s)) _ (kept (λ n. bytes_eq n name ≡ true → P (place s)) (λ n. is_shared (t.bindings n)) (defines s) h)
 
     local_all : (before rest : List Site) → AllByRecursion Defines rest → AllByRecursion Has (local_symbols t sites before rest)
     local_all before [] h = tt

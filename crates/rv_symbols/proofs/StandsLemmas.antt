@@ -49,11 +49,11 @@ none_before k t (x ∷ ss) (s ∷ sites) e n low =
     ∙ none_before (suc k) (after t k x.kind) ss sites (cons_parts _ _ _ _ e).1 n (omega arith)
 
 pub site_none : (x : Source) (sites : List Site) → IsSource x sites → site_at sites 0 ≡ None
-site_none x sites h = none_before 1 at_start (said x.unit.now) sites h.located 0 (omega arith)
+site_none x sites h = none_before 1 (at_start (said x.unit.now)) (said x.unit.now) sites h.located 0 (omega arith)
 
 pub site_next : (x : Source) (sites : List Site) → IsSource x sites → (n i : ℕ) → n ≡ i + 1 → site_at sites n ≡ slice_get sites i
 site_next x sites h n i e =
-    site_by 1 at_start (said x.unit.now) sites h.located n i (omega arith)
+    site_by 1 (at_start (said x.unit.now)) (said x.unit.now) sites h.located n i (omega arith)
 
 -- the sections of statements are those of their places
 sections_are : (k : ℕ) (t : Tables) (ss : List Statement) → map (λ (l : Located). l.section) (located_from 1 k t ss) ≡ map (λ (p : Standing). p.section) (places_from t k ss)
@@ -92,7 +92,7 @@ pub place_of : (x : Source) (sites : List Site) → IsSource x sites → (i : �
 place_of x sites h i =
     sym (pairs sites x.unit.now.places.items x.offsets.now
     (sym (map_twice (λ (s : Site). s.located) (λ (l : Located). l.section) sites) ∙ ap (map (λ (l : Located). l.section)) h.located
-    ∙ sections_are 1 at_start (said x.unit.now) ∙ ap (map (λ (p : Standing). p.section)) (sym h.filled.stand)
+    ∙ sections_are 1 (at_start (said x.unit.now)) (said x.unit.now) ∙ ap (map (λ (p : Standing). p.section)) (sym h.filled.stand)
     ∙ map_twice offset_of (λ (p : Standing). p.section) x.unit.now.places.items) h.at i)
 
 -- what a statement says
@@ -112,11 +112,11 @@ ordinal_by k t (y ∷ ss) (x ∷ sites) e (suc i) s f =
 
 -- the statement at an index
 pub ordinal_is : (x : Source) (sites : List Site) → IsSource x sites → (i : ℕ) (s : Site) → slice_get sites i ≡ Some s → s.located.ordinal ≡ i + 1
-ordinal_is x sites h i s e = ordinal_by 1 at_start (said x.unit.now) sites h.located i s e ∙ (let m : 1 + i ≡ i + 1 = omega arith in m)
+ordinal_is x sites h i s e = ordinal_by 1 (at_start (said x.unit.now)) (said x.unit.now) sites h.located i s e ∙ (let m : 1 + i ≡ i + 1 = omega arith in m)
 
 pub count_is : (x : Source) (sites : List Site) → IsSource x sites → length sites ≡ length (said x.unit.now)
-count_is x sites h = sym (counts (λ (s : Site). s.located) sites) ∙ ap length h.located ∙ sym (counts (λ (l : Located). l.kind) (located_from 1 1 at_start (said x.unit.now)))
-    ∙ ap length (kinds_are 1 at_start (said x.unit.now)) ∙ counts (λ (s : Statement). s.kind) (said x.unit.now)
+count_is x sites h = sym (counts (λ (s : Site). s.located) sites) ∙ ap length h.located ∙ sym (counts (λ (l : Located). l.kind) (located_from 1 1 (at_start (said x.unit.now)) (said x.unit.now)))
+    ∙ ap length (kinds_are 1 (at_start (said x.unit.now)) (said x.unit.now)) ∙ counts (λ (s : Statement). s.kind) (said x.unit.now)
   where
     counts : {A B : Type 0} (f : A → B) (xs : List A) → length (map f xs) ≡ length xs
     counts f [] = refl
@@ -125,7 +125,7 @@ count_is x sites h = sym (counts (λ (s : Site). s.located) sites) ∙ ap length
 pub kind_is : (x : Source) (sites : List Site) → IsSource x sites → (i : ℕ) (s : Site) → slice_get sites i ≡ Some s
     → option_map (λ (y : Statement). y.kind) (slice_get (said x.unit.now) i) ≡ Some s.located.kind
 kind_is x sites h i s e =
-    sym (got_map (λ (y : Statement). y.kind) (said x.unit.now) i) ∙ ap (λ l. slice_get l i) (sym (kinds_are 1 at_start (said x.unit.now)) ∙ ap (map (λ (l : Located). l.kind)) (sym h.located) ∙ map_twice (λ (s : Site). s.located) (λ (l : Located). l.kind) sites)
+    sym (got_map (λ (y : Statement). y.kind) (said x.unit.now) i) ∙ ap (λ l. slice_get l i) (sym (kinds_are 1 (at_start (said x.unit.now)) (said x.unit.now)) ∙ ap (map (λ (l : Located). l.kind)) (sym h.located) ∙ map_twice (λ (s : Site). s.located) (λ (l : Located). l.kind) sites)
     ∙ got_map (λ (s : Site). s.located.kind) sites i ∙ ap (option_map (λ (s : Site). s.located.kind)) e
 
 pub some_at : {X : Type 0} (xs : List X) (k : ℕ) (d : X) → k < length xs → slice_get xs k ≡ Some (slice_index_or xs k d)

@@ -12,13 +12,18 @@ use Rattle.rv_object.specs.declared.symbol.Definition.{Definition as Defined}
 use Rattle.rv_object.specs.declared.symbol.Definition.TheVariants.{Absolute}
 use Rattle.rv_object.specs.Object.{Symbol}
 use Rattle.rv_assemble_laws.specs.Sites.{Site}
-use Rattle.rv_assemble_laws.specs.Symbols.{SymbolUse, is_unnamed, is_at, is_meant}
+use Rattle.rv_assemble_laws.specs.Symbols.{SymbolUse, shared_symbol, is_unnamed, is_at, is_meant}
 
 -- the symbol of a name, if there is one
 abbrev pub symbols_in : Binding → Option (Bor (List ℕ) × Defined) → List Symbol
 symbols_in binding None = []
 symbols_in binding (Some p) =
     record { name = p.0.now; binding = binding; definition = p.1 } ∷ []
+
+-- the symbol of a name that other files can mean, if there is one
+abbrev pub shared_in : Tables → Option (Bor (List ℕ) × Defined) → List Symbol
+shared_in t None = []
+shared_in t (Some p) = shared_symbol t p.0.now p.1 ∷ []
 
 -- a number of the source's own
 abbrev pub is_number : Defined → Bool

@@ -14,7 +14,7 @@ use Rattle.rv_symbols.specs.declared.table.SymbolTable.{SymbolTable}
 -- the statements of a source stand at these offsets, and their relocations name these symbols
 pub record AreSites (ss : List Statement) (offsets : List ℕ) (rs : List SymbolUse)
     (sites : List Site) : Type 0 where
-  pub located : map (λ s. s.located) sites ≡ located_from 1 1 at_start ss
+  pub located : map (λ s. s.located) sites ≡ located_from 1 1 (at_start ss) ss
   pub at : map (λ s. s.offset) sites ≡ offsets
   pub named : references (tables ss) sites ≡ rs
 

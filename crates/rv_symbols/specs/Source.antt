@@ -22,7 +22,7 @@ tables_of x = tables (said x.unit.now)
 pub record IsSource (x : Source) (sites : List Site) : Type 0 where
   pub filled : IsFilled x.unit.now
   pub firsts : AreFirsts x.firsts.ordinals (tables_of x).assignments
-  pub located : map (λ s. s.located) sites ≡ located_from 1 1 at_start (said x.unit.now)
+  pub located : map (λ s. s.located) sites ≡ located_from 1 1 (at_start (said x.unit.now)) (said x.unit.now)
   pub at : map (λ s. s.offset) sites ≡ x.offsets.now
 
 -- the section and the offset of a statement

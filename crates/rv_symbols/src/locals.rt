@@ -90,7 +90,7 @@ fn local<'s>(
     let Some(name) = source.defined(index, statement) else {
         return None;
     };
-    if source.is_global(name) {
+    if source.is_shared(name) {
         return None;
     }
     let definition = source.definition(index, statement);

@@ -2,19 +2,19 @@
 
 ghost use Rattle.std.specs.Prelude.{◌≡◌, ◌+◌, ◌<◌, Some, List, [], ◌∷◌, length, slice_get, option_map, if◌then◌else◌, true, IfOk, IfSome};
 ghost use Rattle.rv_statement.specs.View.{statement_of};
-ghost use Rattle.rv_unit_laws.specs.Bindings.{is_global};
+ghost use Rattle.rv_unit_laws.specs.Bindings.{is_shared};
 ghost use Rattle.rv_unit_laws.specs.Tables.{tables, assigned_ever};
 ghost use Rattle.rv_unit_tables.specs.Tables.{assignment_of};
 ghost use Rattle.rv_unit.specs.Unit.{said, IsFilled};
 ghost use Rattle.rv_map.specs.Name.{is_name};
-ghost use Rattle.rv_source_laws.specs.Resolves.{sets_first, defined_name};
+ghost use Rattle.rv_source_laws.specs.Exports.{sets_first, defined_name};
 ghost use Rattle.rv_assemble_laws.specs.Sites.{Site};
-ghost use Rattle.rv_assemble_laws.specs.Symbols.{site_at, after_found, assigned_definition, site_definition};
+ghost use Rattle.rv_assemble_laws.specs.Symbols.{site_at, after_found, assigned_definition, site_definition, outer_binding};
 ghost use Rattle.rv_assemble_laws.specs.ShownNames.{said_names, are_shown};
 ghost use Rattle.rv_symbols.specs.Settings.{AreFirsts};
 
 use crate::settings::FirstSettings;
-use rv_object::Definition;
+use rv_object::{Binding as ObjectBinding, Definition};
 use rv_statement::{Statement, StatementKind};
 use rv_text::Meaning;
 use rv_unit::{Assignment, Binding, Unit};
@@ -52,12 +52,24 @@ impl<'u, 'a> Source<'u, 'a> {
         })
     }
 
-    /// Whether the source makes a name global.
-    pub(crate) fn is_global(&self, name: &[u8]) -> bool
+    /// Whether other files can mean a name.
+    pub(crate) fn is_shared(&self, name: &[u8]) -> bool
         ensures { (sites : List Site) → IsSource self.now sites
-            → result ≡ is_global ((tables_of self.now).bindings name.now) }
+            → result ≡ is_shared ((tables_of self.now).bindings name.now) }
     {
-        matches!(self.unit.binding(name), Binding::Global)
+        !matches!(self.unit.binding(name), Binding::Local)
+    }
+
+    /// The binding in an object of a name that other files can mean, or define.
+    pub(crate) fn outer_binding(&self, name: &[u8]) -> ObjectBinding
+        ensures { (sites : List Site) → IsSource self.now sites
+            → result ≡ outer_binding ((tables_of self.now).bindings name.now) }
+    {
+        match self.unit.binding(name) {
+            Binding::Local => ObjectBinding::Global,
+            Binding::Global => ObjectBinding::Global,
+            Binding::Weak => ObjectBinding::Weak,
+        }
     }
 
     /// The name that the statement at this index defines.

@@ -61,6 +61,6 @@ pub fn symbols<'a>(
         uses,
         definitions.as_slice(),
     )?;
-    put_undefined(&mut symbols, missing.as_slice())?;
+    put_undefined(&mut symbols, &source, missing.as_slice())?;
     Ok(SymbolTable { symbols, numbers })
 }

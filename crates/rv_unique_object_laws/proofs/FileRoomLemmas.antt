@@ -100,8 +100,8 @@ after_light t k (s ∷ ss) =
     let d = entered_light s.kind in
     omega (arith, a, b, c, d)
 
-start_light : opened_weight (opened_of at_start) ≡ 6
-start_light = refl
+start_light : (ss : List Statement) → opened_weight (opened_of (at_start ss)) ≡ 6
+start_light ss = refl
 
 abbrev names_in : List Section → List (List ℕ)
 names_in xs = map (λ s. s.name) xs
@@ -117,8 +117,8 @@ same_names t all number symbols k (home ∷ homes) (x ∷ xs) (h, hs) =
 sections_light : (ss : List Statement) (o : Object) → IsObjectOf ss o → weight (names_in o.sections) ≤ 6 + (8 * length ss + all_said ss)
 sections_light ss o h =
     let a = ap weight (same_names (tables ss) h.sites h.number o.symbols 0 (opened_of (tables ss)).sections o.sections h.sections) in
-    let b = after_light at_start 1 ss in
-    let c = start_light in
+    let b = after_light (at_start ss) 1 ss in
+    let c = start_light ss in
     omega (arith, a, b, c)
 
 -- ---- the sections of the file
@@ -202,7 +202,7 @@ has_file bytes ss o reads h =
     let first = first_light o in
     let first_count = first.0 in
     let first_weight = first.1 in
-    let told = sites_said 1 at_start ss h.sites h.located in
+    let told = sites_said 1 (at_start ss) ss h.sites h.located in
     let told_said = told.0 in
     let told_count = told.1 in
     let symbols : symbol_weight o.symbols ≤ length h.sites + 4 * site_said h.sites = subst (λ l. symbol_weight l ≤ length h.sites + 4 * site_said h.sites) (sym h.symbols) (symbols_light (tables ss) h.sites) in

@@ -10,15 +10,15 @@ use Rattle.std.proofs.lemmas.List.Folds.{list_any-append}
 use Rattle.rv_map.specs.Globals.{is_one_of}
 use Rattle.rv_statement.specs.Statement.{StatementKind, Directs, Sets}
 use Rattle.rv_text_laws.specs.Values.{Meaning, Known, InSection as InData, Open as OpenAddress, Refused}
-use Rattle.rv_unit_laws.specs.Bindings.{is_global}
+use Rattle.rv_unit_laws.specs.Bindings.{is_shared}
 use Rattle.rv_unit_laws.specs.Tables.{Tables, Assignment, assigned_ever}
 use Rattle.rv_unit_laws.proofs.FoundLemmas.{same_bytes}
-use Rattle.rv_source_laws.specs.Resolves.{defined_name}
+use Rattle.rv_source_laws.specs.Exports.{defined_name}
 use Rattle.rv_object.specs.declared.symbol.Definition.{Definition as Defined}
 use Rattle.rv_object.specs.declared.symbol.Definition.TheVariants.{Undefined, Absolute, InSection, Skipped}
 use Rattle.rv_object.specs.Object.{Symbol}
 use Rattle.rv_assemble_laws.specs.Sites.{Site}
-use Rattle.rv_assemble_laws.specs.Symbols.{SymbolUse, site_at, after_found, assigned_definition, site_definition, local_symbol, global_symbol, references, is_meant, unnamed_symbols, is_absolute, named_symbols, local_symbols, exports_of, exports, missing_name, distinct_from, undefined_symbols, symbols_of}
+use Rattle.rv_assemble_laws.specs.Symbols.{SymbolUse, site_at, after_found, assigned_definition, site_definition, local_symbol, shared_symbol, references, is_meant, unnamed_symbols, is_absolute, named_symbols, local_symbols, exports_of, exports, missing_name, distinct_from, undefined_symbols, symbols_of}
 use Rattle.rv_unique_object_laws.proofs.CountsLemmas.{one_if, count, count_append, one_most, one_is, one_none, count_less, count_none, count_map, count_kept, count_dropped}
 
 -- ---- tests
@@ -97,16 +97,16 @@ module _ (t : Tables) (sites : List Site) where
     Locals s = AllByRecursion (λ n. P (local_symbol n (place s))) (names_of t s)
 
     abbrev Globals : Site → Type 0
-    Globals s = AllByRecursion (λ n. P (global_symbol n (place s))) (names_of t s)
+    Globals s = AllByRecursion (λ n. P (shared_symbol t n (place s))) (names_of t s)
 
     named_all : (s : Site) → Locals s → AllByRecursion P (named_symbols t sites s)
     named_all s h =
-        kept P (λ x. not (is_absolute x)) _ (mapped P (λ n. local_symbol n (place s)) _ (kept (λ n. P (local_symbol n (place s))) (λ n. not (is_global (t.bindings n))) (names_of t s) h))
+        kept P (λ x. not (is_absolute x)) _ (mapped P (λ n. local_symbol n (place s)) _ (kept (λ n. P (local_symbol n (place s))) (λ n. not (is_shared (t.bindings n))) (names_of t s) h))
 
     exported_all : (xs : List Site) → AllByRecursion Globals xs → AllByRecursion P (flat_map (exports_of t sites) xs)
     exported_all [] h = tt
     exported_all (s ∷ xs) (h, hs) =
-        join P (exports_of t sites s) _ (mapped P (λ n. global_symbol n (place s)) _ (kept (λ n. P (global_symbol n (place s))) (λ n. is_global (t.bindings n)) (names_of t s) h)) (exported_all xs hs)
+        join P (exports_of t sites s) _ (mapped P (λ n. shared_symbol t n (place s)) _ (kept (λ n. P (shared_symbol t n (place s))) (λ n. is_shared (t.bindings n)) (names_of t s) h)) (exported_all xs hs)
 
   -- ---- undefined ones
 
@@ -155,7 +155,7 @@ module _ (t : Tables) (sites : List Site) where
 
     exports_inner : (xs : List Site) → AllByRecursion Inner (flat_map (exports_of t sites) xs)
     exports_inner xs =
-        exported_all Inner xs (every (Globals Inner) xs (λ s. every (λ n. Inner (global_symbol n (place s))) (names_of t s) (λ n. and_right (bytes_eq n name) (is_undefined (place s)) (not_undefined s s.located.kind))))
+        exported_all Inner xs (every (Globals Inner) xs (λ s. every (λ n. Inner (shared_symbol t n (place s))) (names_of t s) (λ n. and_right (bytes_eq n name) (is_undefined (place s)) (not_undefined s s.located.kind))))
 
     outer_named : (x : Symbol) → is_outer name x ≡ true → is_named name x ≡ true
     outer_named x e = (and_parts (is_named name x) (is_undefined x.definition) e).0
@@ -167,7 +167,7 @@ module _ (t : Tables) (sites : List Site) where
         let locals = count_none (is_outer name) (local_symbols t sites [] sites) (locals_inner [] sites) in
         let globals = count_none (is_outer name) (exports t sites) (exports_inner sites) in
         let less = count_less (is_outer name) (is_named name) outer_named (undefined_symbols t sites) in
-        let names_are : count (is_named name) (undefined_symbols t sites) ≡ count (is_this name) names = count_map (is_named name) (λ n. global_symbol n Undefined) names in
+        let names_are : count (is_named name) (undefined_symbols t sites) ≡ count (is_this name) names = count_map (is_named name) (λ n. shared_symbol t n Undefined) names in
         let once = distinct_once name [] (flat_map (λ r. missing_name t r.ordinal r.symbol) (references t sites)) in
         omega (arith, all, locals, globals, less, names_are, once)
 
@@ -182,37 +182,37 @@ module _ (t : Tables) (sites : List Site) where
         go false = refl
 
     -- the name's own binding
-    bound : (b : Bool) → is_global (t.bindings name) ≡ b → (n : List ℕ) → is_this name n ≡ true → is_global (t.bindings n) ≡ b
-    bound b g n e = ap (λ m. is_global (t.bindings m)) (same_bytes n name e) ∙ g
+    bound : (b : Bool) → is_shared (t.bindings name) ≡ b → (n : List ℕ) → is_this name n ≡ true → is_shared (t.bindings n) ≡ b
+    bound b g n e = ap (λ m. is_shared (t.bindings m)) (same_bytes n name e) ∙ g
 
     named_few : (s : Site) → count (is_named name) (named_symbols t sites s) ≤ count (is_this name) (names_of t s)
     named_few s =
-        let mine = filter (λ n. not (is_global (t.bindings n))) (names_of t s) in
+        let mine = filter (λ n. not (is_shared (t.bindings n))) (names_of t s) in
         let a = count_kept (is_named name) (λ x. not (is_absolute x)) (map (λ n. local_symbol n (place s)) mine) in
         let b : count (is_named name) (map (λ n. local_symbol n (place s)) mine) ≡ count (is_this name) mine = count_map (is_named name) (λ n. local_symbol n (place s)) mine in
-        let c = count_kept (is_this name) (λ n. not (is_global (t.bindings n))) (names_of t s) in
+        let c = count_kept (is_this name) (λ n. not (is_shared (t.bindings n))) (names_of t s) in
         omega (arith, a, b, c)
 
-    named_none : is_global (t.bindings name) ≡ true → (s : Site) → count (is_named name) (named_symbols t sites s) ≡ 0
+    named_none : is_shared (t.bindings name) ≡ true → (s : Site) → count (is_named name) (named_symbols t sites s) ≡ 0
     named_none g s =
-        let mine = filter (λ n. not (is_global (t.bindings n))) (names_of t s) in
+        let mine = filter (λ n. not (is_shared (t.bindings n))) (names_of t s) in
         let a = count_kept (is_named name) (λ x. not (is_absolute x)) (map (λ n. local_symbol n (place s)) mine) in
         let b : count (is_named name) (map (λ n. local_symbol n (place s)) mine) ≡ count (is_this name) mine = count_map (is_named name) (λ n. local_symbol n (place s)) mine in
-        let c = count_dropped (is_this name) (λ n. not (is_global (t.bindings n))) (λ n e. ap not (bound true g n e)) (names_of t s) in
+        let c = count_dropped (is_this name) (λ n. not (is_shared (t.bindings n))) (λ n e. ap not (bound true g n e)) (names_of t s) in
         omega (arith, a, b, c)
 
     exported_few : (s : Site) → count (is_named name) (exports_of t sites s) ≤ count (is_this name) (names_of t s)
     exported_few s =
-        let ours = filter (λ n. is_global (t.bindings n)) (names_of t s) in
-        let b : count (is_named name) (exports_of t sites s) ≡ count (is_this name) ours = count_map (is_named name) (λ n. global_symbol n (place s)) ours in
-        let c = count_kept (is_this name) (λ n. is_global (t.bindings n)) (names_of t s) in
+        let ours = filter (λ n. is_shared (t.bindings n)) (names_of t s) in
+        let b : count (is_named name) (exports_of t sites s) ≡ count (is_this name) ours = count_map (is_named name) (λ n. shared_symbol t n (place s)) ours in
+        let c = count_kept (is_this name) (λ n. is_shared (t.bindings n)) (names_of t s) in
         omega (arith, b, c)
 
-    exported_none : is_global (t.bindings name) ≡ false → (s : Site) → count (is_named name) (exports_of t sites s) ≡ 0
+    exported_none : is_shared (t.bindings name) ≡ false → (s : Site) → count (is_named name) (exports_of t sites s) ≡ 0
     exported_none g s =
-        let ours = filter (λ n. is_global (t.bindings n)) (names_of t s) in
-        let b : count (is_named name) (exports_of t sites s) ≡ count (is_this name) ours = count_map (is_named name) (λ n. global_symbol n (place s)) ours in
-        let c = count_dropped (is_this name) (λ n. is_global (t.bindings n)) (λ n e. bound false g n e) (names_of t s) in
+        let ours = filter (λ n. is_shared (t.bindings n)) (names_of t s) in
+        let b : count (is_named name) (exports_of t sites s) ≡ count (is_this name) ours = count_map (is_named name) (λ n. shared_symbol t n (place s)) ours in
+        let c = count_dropped (is_this name) (λ n. is_shared (t.bindings n)) (λ n e. bound false g n e) (names_of t s) in
         omega (arith, b, c)
 
     abbrev Told : List Site → ℕ
@@ -230,7 +230,7 @@ module _ (t : Tables) (sites : List Site) where
         let f = count_append (is_this name) (names_of t s) (flat_map (names_of t) xs) in
         omega (arith, a, b, c, d, e, f)
 
-    locals_none : is_global (t.bindings name) ≡ true → (before xs : List Site) → count (is_named name) (local_symbols t sites before xs) ≡ 0
+    locals_none : is_shared (t.bindings name) ≡ true → (before xs : List Site) → count (is_named name) (local_symbols t sites before xs) ≡ 0
     locals_none g before [] = refl
     locals_none g before (s ∷ xs) =
         let next = local_symbols t sites (before ++ s ∷ []) xs in
@@ -250,7 +250,7 @@ module _ (t : Tables) (sites : List Site) where
         let f = count_append (is_this name) (names_of t s) (flat_map (names_of t) xs) in
         omega (arith, a, b, c, f)
 
-    exports_none : is_global (t.bindings name) ≡ false → (xs : List Site) → count (is_named name) (flat_map (exports_of t sites) xs) ≡ 0
+    exports_none : is_shared (t.bindings name) ≡ false → (xs : List Site) → count (is_named name) (flat_map (exports_of t sites) xs) ≡ 0
     exports_none g [] = refl
     exports_none g (s ∷ xs) =
         let a = count_append (is_named name) (exports_of t sites s) (flat_map (exports_of t sites) xs) in
@@ -259,9 +259,9 @@ module _ (t : Tables) (sites : List Site) where
         omega (arith, a, b, c)
 
     own_once : Told sites ≤ 1 → count (is_named name) (local_symbols t sites [] sites) + count (is_named name) (exports t sites) ≤ 1
-    own_once once = go (is_global (t.bindings name)) refl
+    own_once once = go (is_shared (t.bindings name)) refl
       where
-        go : (b : Bool) → is_global (t.bindings name) ≡ b → count (is_named name) (local_symbols t sites [] sites) + count (is_named name) (exports t sites) ≤ 1
+        go : (b : Bool) → is_shared (t.bindings name) ≡ b → count (is_named name) (local_symbols t sites [] sites) + count (is_named name) (exports t sites) ≤ 1
         go true g = let a = locals_none g [] sites in let b = exports_few sites in omega (arith, a, b, once)
         go false g = let a = locals_few [] sites in let b = exports_none g sites in omega (arith, a, b, once)
 
@@ -273,7 +273,7 @@ module _ (t : Tables) (sites : List Site) where
         let all = whole test in
         let locals = count_less test (is_named name) less (local_symbols t sites [] sites) in
         let globals = count_less test (is_named name) less (exports t sites) in
-        let outer = count_none test (undefined_symbols t sites) (mapped (λ x. test x ≡ false) (λ n. global_symbol n Undefined) names (every (λ n. test (global_symbol n Undefined) ≡ false) names (λ n. and_right (bytes_eq n name) false refl))) in
+        let outer = count_none test (undefined_symbols t sites) (mapped (λ x. test x ≡ false) (λ n. shared_symbol t n Undefined) names (every (λ n. test (shared_symbol t n Undefined) ≡ false) names (λ n. and_right (bytes_eq n name) false refl))) in
         let own = own_once once in
         omega (arith, all, locals, globals, outer, own)
 
@@ -311,7 +311,7 @@ module _ (t : Tables) (sites : List Site) where
         each : (xs : List Site) → AllByRecursion (λ s. AllByRecursion (λ n. bytes_eq n [] ≡ false) (names_of t s)) xs → AllByRecursion (Globals (λ x. here x ≡ false)) xs
         each [] h = tt
         each (s ∷ xs) (h, hs) =
-            (all_map (λ n. bytes_eq n [] ≡ false) (λ n. here (global_symbol n (place s)) ≡ false) (names_of t s) (λ n e. ap (λ b. b && stands_in section offset (place s)) e) h, each xs hs)
+            (all_map (λ n. bytes_eq n [] ≡ false) (λ n. here (shared_symbol t n (place s)) ≡ false) (names_of t s) (λ n e. ap (λ b. b && stands_in section offset (place s)) e) h, each xs hs)
 
     seen_more : (before : List Site) (s : Site)
         → seen section offset (before ++ s ∷ []) ≡ (seen section offset before || (((section == s.located.section) && (offset == s.offset)) && is_meant t rs s || false))
@@ -377,5 +377,5 @@ module _ (t : Tables) (sites : List Site) where
         let all = whole here in
         let locals = locals_once [] sites shown in
         let globals = exports_nameless in
-        let outer = count_none here (undefined_symbols t sites) (mapped (λ x. here x ≡ false) (λ n. global_symbol n Undefined) names (every (λ n. here (global_symbol n Undefined) ≡ false) names (λ n. and_right (bytes_eq n []) false refl))) in
+        let outer = count_none here (undefined_symbols t sites) (mapped (λ x. here x ≡ false) (λ n. shared_symbol t n Undefined) names (every (λ n. here (shared_symbol t n Undefined) ≡ false) names (λ n. and_right (bytes_eq n []) false refl))) in
         omega (arith, all, locals, globals, outer)

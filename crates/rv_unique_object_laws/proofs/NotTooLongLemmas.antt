@@ -99,12 +99,12 @@ module _ (ss : List Statement) (o : Object) (h : IsObjectOf ss o) where
   abbrev sizes : List ℕ
   sizes = map code_bytes h.sites
 
-  no_long_code : size_fault_from (λ j. 0) (located_from 1 1 at_start ss) sizes ≡ None
+  no_long_code : size_fault_from (λ j. 0) (located_from 1 1 (at_start ss) ss) sizes ≡ None
   no_long_code = subst (λ l. size_fault_from (λ j. 0) l sizes ≡ None) h.located (fits (opened_of (tables ss)).sections (λ j. 0) h.sites (at_home ss o h) all_fit)
 
   pub not_too_long : (f : Fault) → IsTooLong ss f → ⊥
   not_too_long f long =
-      let ls = located_from 1 1 at_start ss in
+      let ls = located_from 1 1 (at_start ss) ss in
       let one_file : located (ss ∷ []) ≡ ls = append-nil ls in
       let same : long.sizes ≡ sizes =
       one_code_sizes (tables ss) ls long.sizes sizes (subst (λ l. AreCodeSizes (tables ss) l long.sizes) one_file long.are_sizes) (sizes_of_code ss o h)

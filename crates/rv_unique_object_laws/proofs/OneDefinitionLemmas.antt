@@ -12,7 +12,7 @@ use Rattle.rv_unit_laws.proofs.FewLemmas.{no_fault_from}
 use Rattle.rv_unit_laws.proofs.FoundLemmas.{same_bytes, bytes_same}
 use Rattle.rv_unit_laws.proofs.BeforeLemmas.{before_start}
 use Rattle.rv_source_laws.specs.Located.{located_from}
-use Rattle.rv_source_laws.specs.Resolves.{sets_first, defined_name}
+use Rattle.rv_source_laws.specs.Exports.{sets_first, defined_name}
 use Rattle.rv_assemble_laws.specs.Sites.{Site}
 use Rattle.rv_symbols.proofs.StandsLemmas.{ordinal_by}
 use Rattle.rv_symbols.proofs.DefiningLemmas.{all_index}
@@ -98,12 +98,12 @@ how_defined t name o (Directs (Sets n x)) h = go (sets_first t.assignments o n) 
     go false f h = absurd (omega (arith, h))
 how_defined t name o kind h = absurd (omega (arith, h))
 
-module _ (ss : List Statement) (sites : List Site) (located : map (λ s. s.located) sites ≡ located_from 1 1 at_start ss) (free : first_fault ss ≡ None) (name : List ℕ) where
+module _ (ss : List Statement) (sites : List Site) (located : map (λ s. s.located) sites ≡ located_from 1 1 (at_start ss) ss) (free : first_fault ss ≡ None) (name : List ℕ) where
   abbrev t : Tables
   t = tables ss
 
   founds : AllByRecursion (IsFound name t) sites
-  founds = labels_found name t 1 at_start ss sites located (no_fault_from ss free) (before_start 1) refl
+  founds = labels_found name t 1 (at_start ss) ss sites located (no_fault_from ss free) (before_start ss 1) refl
 
   -- the label that is found for it
   label_at : (i : ℕ) (s : Site) → slice_get sites i ≡ Some s → s.located.kind ≡ Label name → (l : Labelled) × (label_of t.labels true 0 name ≡ Some l) × (l.ordinal ≡ s.located.ordinal)
@@ -111,7 +111,7 @@ module _ (ss : List Statement) (sites : List Site) (located : map (λ s. s.locat
 
   -- a label is not set
   label_alone : (o : ℕ) (l : Labelled) → label_of t.labels true 0 name ≡ Some l → sets_first t.assignments o name ≡ true → ⊥
-  label_alone o l e f = go (assigned_ever t.assignments name) refl (subst (λ found. Is name sites t.assignments found (assigned_ever t.assignments name)) e (one_name name sites 0 1 at_start ss sites refl located (before_start 1) tt))
+  label_alone o l e f = go (assigned_ever t.assignments name) refl (subst (λ found. Is name sites t.assignments found (assigned_ever t.assignments name)) e (one_name name sites 0 1 (at_start ss) ss sites refl located (before_start ss 1) tt))
     where
       go : (a : Option Assignment) → assigned_ever t.assignments name ≡ a → Is name sites t.assignments (Some l) a → ⊥
       go None g h = first_ever name o t.assignments g (and_parts (list_any (λ (s : Assignment). (s.ordinal == o) && bytes_eq s.name name) t.assignments) (not (is_some (assigned_before t.assignments o name))) f).0
@@ -134,8 +134,8 @@ module _ (ss : List Statement) (sites : List Site) (located : map (λ s. s.locat
 
   one_statement : (i j : ℕ) (s q : Site) → slice_get sites i ≡ Some s → slice_get sites j ≡ Some q → 1 ≤ Names s → 1 ≤ Names q → i ≡ j
   one_statement i j s q at_i at_j h k =
-      let a : s.located.ordinal ≡ 1 + i = ordinal_by 1 at_start ss sites located i s at_i in
-      let b : q.located.ordinal ≡ 1 + j = ordinal_by 1 at_start ss sites located j q at_j in
+      let a : s.located.ordinal ≡ 1 + i = ordinal_by 1 (at_start ss) ss sites located i s at_i in
+      let b : q.located.ordinal ≡ 1 + j = ordinal_by 1 (at_start ss) ss sites located j q at_j in
       let same : s.located.ordinal ≡ q.located.ordinal =
       one_ordinal i j s q at_i at_j (how_defined t name s.located.ordinal s.located.kind h) (how_defined t name q.located.ordinal q.located.kind k) in
       omega (arith, a, b, same)

@@ -15,7 +15,7 @@ use Rattle.rv_unit_laws.specs.Faults.{first_fault}
 use Rattle.rv_unit_laws.proofs.FoundLemmas.{bytes_same}
 use Rattle.rv_map.specs.Name.{is_name}
 use Rattle.rv_source_laws.specs.Located.{Located, located_from}
-use Rattle.rv_source_laws.specs.Resolves.{sets_first, defined_name}
+use Rattle.rv_source_laws.specs.Exports.{sets_first, defined_name}
 use Rattle.rv_object.specs.declared.symbol.Definition.TheVariants.{Undefined, InSection}
 use Rattle.rv_object.specs.Object.{Symbol}
 use Rattle.rv_assemble_laws.specs.Templates.{Open, template_fields}
@@ -90,7 +90,7 @@ outer_is Here x h = absurd h
 outer_is (Reference digits forward) x h = absurd h
 
 module _ (ss : List Statement) (names : HasNames ss) (free : first_fault ss ≡ None)
-    (xs ys : List Site) (located : map (λ s. s.located) xs ≡ located_from 1 1 at_start ss) (same : Recoded (tables ss) xs ys) where
+    (xs ys : List Site) (located : map (λ s. s.located) xs ≡ located_from 1 1 (at_start ss) ss) (same : Recoded (tables ss) xs ys) where
   abbrev t : Tables
   t = tables ss
 
@@ -101,7 +101,7 @@ module _ (ss : List Statement) (names : HasNames ss) (free : first_fault ss ≡ 
   one_place : (name : List ℕ) (section offset i j : ℕ) (x y : Symbol) → slice_get all i ≡ Some x → slice_get all j ≡ Some y
       → is_place name section offset x ≡ true → is_place name section offset y ≡ true → i ≡ j
   one_place [] section offset i j x y e f h k =
-      one_index (is_place [] section offset) all (unnamed_once t xs section offset (names_some t at_start 1 ss xs located names)) i j x y e f h k
+      one_index (is_place [] section offset) all (unnamed_once t xs section offset (names_some t (at_start ss) 1 ss xs located names)) i j x y e f h k
   one_place (b ∷ bs) section offset i j x y e f h k =
       one_index (is_place (b ∷ bs) section offset) all (named_once t xs (b ∷ bs) refl section offset (defined_once ss xs located free (b ∷ bs))) i j x y e f h k
 

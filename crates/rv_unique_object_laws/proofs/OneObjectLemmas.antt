@@ -53,7 +53,7 @@ module _ (ss : List Statement) (names : HasNames ss) (o p : Object) (h : IsObjec
   ys = k.sites
 
   abbrev ls : List Located
-  ls = located_from 1 1 at_start ss
+  ls = located_from 1 1 (at_start ss) ss
 
   abbrev sections : List SourceSection
   sections = (opened_of t).sections

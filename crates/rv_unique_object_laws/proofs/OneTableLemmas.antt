@@ -5,13 +5,13 @@ use Rattle.std.specs.Prelude.{not, ◌&&◌, ◌||◌, ◌==◌, map, filter, fl
 use Rattle.std.specs.List.{list_any}
 use Rattle.rv_text_laws.specs.Values.{Meaning, Known, InSection as InData, Open as OpenAddress, Refused}
 use Rattle.rv_statement.specs.Statement.{StatementKind, Directs, Sets}
-use Rattle.rv_unit_laws.specs.Bindings.{is_global}
+use Rattle.rv_unit_laws.specs.Bindings.{is_shared}
 use Rattle.rv_unit_laws.specs.Tables.{Tables, Assignment, assigned_ever}
-use Rattle.rv_source_laws.specs.Resolves.{defined_name, global_names_of}
+use Rattle.rv_source_laws.specs.Exports.{defined_name, names_where}
 use Rattle.rv_object.specs.declared.symbol.Definition.{Definition as Defined}
 use Rattle.rv_object.specs.declared.symbol.Definition.TheVariants.{Undefined, Absolute, InSection, Skipped}
 use Rattle.rv_assemble_laws.specs.Sites.{Site, Part}
-use Rattle.rv_assemble_laws.specs.Symbols.{SymbolUse, site_at, after_found, assigned_definition, site_definition, local_symbol, global_symbol, references_in, references_of, references, is_meant, are_together, unnamed_symbols, is_absolute, named_symbols, local_symbols, exports_of, exports, missing_name, distinct_from, symbols_of}
+use Rattle.rv_assemble_laws.specs.Symbols.{SymbolUse, site_at, after_found, assigned_definition, site_definition, local_symbol, shared_symbol, references_in, references_of, references, is_meant, are_together, unnamed_symbols, is_absolute, named_symbols, local_symbols, exports_of, exports, missing_name, distinct_from, symbols_of}
 use Rattle.rv_unique_object_laws.proofs.RecodedLemmas.{recode, IsAlike, Recoded, Ended, More}
 
 module _ (t : Tables) where
@@ -75,12 +75,12 @@ module _ (t : Tables) where
 
     named_same : (s : Site) (i : ℕ) (c : List (List ℕ)) → named_symbols t every (recode s i c) ≡ named_symbols t all s
     named_same s i c =
-        ap (λ (d : Defined). filter (λ x. not (is_absolute x)) (map (λ name. local_symbol name d) (filter (λ name. not (is_global (t.bindings name))) (defined_name t s.located.ordinal s.located.kind))))
+        ap (λ (d : Defined). filter (λ x. not (is_absolute x)) (map (λ name. local_symbol name d) (filter (λ name. not (is_shared (t.bindings name))) (defined_name t s.located.ordinal s.located.kind))))
         (definition_same all every same s i c s.located.kind)
 
     exported_same : (s : Site) (i : ℕ) (c : List (List ℕ)) → exports_of t every (recode s i c) ≡ exports_of t all s
     exported_same s i c =
-        ap (λ (d : Defined). map (λ name. global_symbol name d) (global_names_of t s.located)) (definition_same all every same s i c s.located.kind)
+        ap (λ (d : Defined). map (λ name. shared_symbol t name d) (names_where is_shared t s.located)) (definition_same all every same s i c s.located.kind)
 
     locals_same : (before earlier xs ys : List Site) → Recoded t before earlier → Recoded t xs ys → local_symbols t every earlier ys ≡ local_symbols t all before xs
     locals_same before earlier _ _ r Ended = refl
@@ -98,4 +98,4 @@ module _ (t : Tables) where
     symbols_same =
         append_same (local_symbols t every [] every) (local_symbols t all [] all) _ _ (locals_same [] [] all every Ended same)
         (append_same (exports t every) (exports t all) _ _ (exports_from_same all every same)
-        (ap (λ (rs : List SymbolUse). map (λ name. global_symbol name Undefined) (distinct_from [] (flat_map (λ r. missing_name t r.ordinal r.symbol) rs))) (references_same all every same)))
+        (ap (λ (rs : List SymbolUse). map (λ name. shared_symbol t name Undefined) (distinct_from [] (flat_map (λ r. missing_name t r.ordinal r.symbol) rs))) (references_same all every same)))

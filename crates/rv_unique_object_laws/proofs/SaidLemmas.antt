@@ -169,7 +169,7 @@ module _ (ss : List Statement) (o : Object) (h : IsObjectOf ss o) where
   t = tables ss
 
   abbrev ls : List Located
-  ls = located_from 1 1 at_start ss
+  ls = located_from 1 1 (at_start ss) ss
 
   abbrev sections : List SourceSection
   sections = (opened_of t).sections
@@ -178,7 +178,7 @@ module _ (ss : List Statement) (o : Object) (h : IsObjectOf ss o) where
   held = all_held ss (no_first_fault ss h.good)
 
   homes : AllByRecursion (λ (l : Located). slice_get sections l.section ≡ Some l.home) ls
-  homes = homes_from (λ f. sections) 1 1 at_start ss refl (text_section, refl)
+  homes = homes_from (λ f. sections) 1 1 (at_start ss) ss refl (text_section, refl)
 
   to_sites : (P : Located → Type 0) → AllByRecursion P ls → AllByRecursion (λ s. P s.located) h.sites
   to_sites P f = of_located P h.sites (subst (AllByRecursion P) (sym h.located) f)
@@ -188,7 +188,7 @@ module _ (ss : List Statement) (o : Object) (h : IsObjectOf ss o) where
   at_home = to_sites (λ l. slice_get sections l.section ≡ Some l.home) homes
 
   facts : AllByRecursion Facts h.sites
-  facts = both_facts h.sites (to_sites Held held) (to_sites IsUnplaced (unplaced_from 1 at_start ss))
+  facts = both_facts h.sites (to_sites Held held) (to_sites IsUnplaced (unplaced_from 1 (at_start ss) ss))
 
   -- the section of an index
   pub section_in : (j : ℕ) (home : SourceSection) → slice_get sections j ≡ Some home → (x : Section) × IsSectionOf t h.sites h.number o.symbols j home (sites_in j h.sites) x

@@ -36,8 +36,8 @@ few_after : (t : Tables) (k : ℕ) (ss : List Statement) → IsFew (opened_of t)
 few_after t k [] h = h
 few_after t k (s ∷ ss) h = few_after (after t k s.kind) (suc k) ss (subst IsFew (sym (after_opened t k s.kind)) (few_entered t (entered_in s.kind) h))
 
-few_start : IsFew (opened_of at_start)
-few_start = let one : length (opened_of at_start).sections ≡ 1 = refl in omega (arith, one)
+few_start : (ss : List Statement) → IsFew (opened_of (at_start ss))
+few_start ss = let one : length (opened_of (at_start ss)).sections ≡ 1 = refl in omega (arith, one)
 
 same_count : (t : Tables) (all : List Site) (number : Numbering) (symbols : List Symbol) (k : ℕ) (homes : List SourceSection) (xs : List Section) → AreSectionsOf t all number symbols k homes xs
     → length xs ≡ length homes
@@ -48,7 +48,7 @@ same_count t all number symbols k (home ∷ homes) (x ∷ xs) (h, hs) = ap suc (
 
 pub few_sections : (ss : List Statement) (o : Object) → IsObjectOf ss o → length o.sections ≤ most_sections
 few_sections ss o h =
-    subst (λ n. n ≤ most_sections) (sym (same_count (tables ss) h.sites h.number o.symbols 0 (opened_of (tables ss)).sections o.sections h.sections)) (few_after at_start 1 ss few_start)
+    subst (λ n. n ≤ most_sections) (sym (same_count (tables ss) h.sites h.number o.symbols 0 (opened_of (tables ss)).sections o.sections h.sections)) (few_after (at_start ss) 1 ss (few_start ss))
 
 -- ---- short code
 

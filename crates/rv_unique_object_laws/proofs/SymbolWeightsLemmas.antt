@@ -5,15 +5,15 @@ use Rattle.std.specs.Prelude.{not, filter, if◌then◌else◌}
 use Rattle.rv_map.specs.Globals.{is_one_of}
 use Rattle.rv_text_laws.specs.Expression.{Primary, Symbol as Named, Literal, Here, Reference}
 use Rattle.rv_statement.specs.Statement.{StatementKind, Label, Directs, Sets}
-use Rattle.rv_unit_laws.specs.Bindings.{is_global}
+use Rattle.rv_unit_laws.specs.Bindings.{is_shared}
 use Rattle.rv_unit_laws.specs.Tables.{Tables, Definition, definition}
-use Rattle.rv_source_laws.specs.Resolves.{sets_first, defined_name}
+use Rattle.rv_source_laws.specs.Exports.{sets_first, defined_name}
 use Rattle.rv_object.specs.declared.symbol.Definition.{Definition as Defined}
 use Rattle.rv_object.specs.declared.symbol.Definition.TheVariants.{Undefined, InSection}
 use Rattle.rv_object.specs.Object.{Symbol}
 use Rattle.rv_assemble_laws.specs.ShownNames.{said_names}
 use Rattle.rv_assemble_laws.specs.Sites.{Site}
-use Rattle.rv_assemble_laws.specs.Symbols.{SymbolUse, site_definition, local_symbol, global_symbol, references, unnamed_symbols, is_absolute, named_symbols, local_symbols, exports_of, exports, missing_name, distinct_from, undefined_symbols, symbols_of}
+use Rattle.rv_assemble_laws.specs.Symbols.{SymbolUse, site_definition, local_symbol, shared_symbol, references, unnamed_symbols, is_absolute, named_symbols, local_symbols, exports_of, exports, missing_name, distinct_from, undefined_symbols, symbols_of}
 use Rattle.rv_unique_object_laws.proofs.LoneSymbolsLemmas.{names_of}
 use Rattle.rv_assemble_laws.specs.Small.{weight}
 use Rattle.rv_assemble_laws.proofs.WeightsLemmas.{weight_append}
@@ -50,9 +50,9 @@ locals_of : (d : Defined) (ns : List (List ℕ)) → symbol_weight (map (λ n. l
 locals_of d [] = refl
 locals_of d (n ∷ ns) = ap (λ w. 1 + (length n + w)) (locals_of d ns)
 
-globals_of : (d : Defined) (ns : List (List ℕ)) → symbol_weight (map (λ n. global_symbol n d) ns) ≡ weight ns
-globals_of d [] = refl
-globals_of d (n ∷ ns) = ap (λ w. 1 + (length n + w)) (globals_of d ns)
+globals_of : (t : Tables) (d : Defined) (ns : List (List ℕ)) → symbol_weight (map (λ n. shared_symbol t n d) ns) ≡ weight ns
+globals_of t d [] = refl
+globals_of t d (n ∷ ns) = ap (λ w. 1 + (length n + w)) (globals_of t d ns)
 
 pub symbols_names : (xs : List Symbol) → weight (map (λ s. s.name) xs) ≡ symbol_weight xs
 symbols_names [] = refl
@@ -84,18 +84,18 @@ module _ (t : Tables) (sites : List Site) where
   named_light : (s : Site) → symbol_weight (named_symbols t sites s) ≤ weight (said_names s.located.kind)
   named_light s =
       let d = site_definition t sites s s.located.kind in
-      let mine = filter (λ n. not (is_global (t.bindings n))) (names_of t s) in
+      let mine = filter (λ n. not (is_shared (t.bindings n))) (names_of t s) in
       let a = symbols_kept (λ x. not (is_absolute x)) (map (λ n. local_symbol n d) mine) in
       let b = locals_of d mine in
-      let c = weight_kept (λ n. not (is_global (t.bindings n))) (names_of t s) in
+      let c = weight_kept (λ n. not (is_shared (t.bindings n))) (names_of t s) in
       let e = defined_light t s.located.ordinal s.located.kind in
       omega (arith, a, b, c, e)
 
   exported_light : (s : Site) → symbol_weight (exports_of t sites s) ≤ weight (said_names s.located.kind)
   exported_light s =
       let d = site_definition t sites s s.located.kind in
-      let b = globals_of d (filter (λ n. is_global (t.bindings n)) (names_of t s)) in
-      let c = weight_kept (λ n. is_global (t.bindings n)) (names_of t s) in
+      let b = globals_of t d (filter (λ n. is_shared (t.bindings n)) (names_of t s)) in
+      let c = weight_kept (λ n. is_shared (t.bindings n)) (names_of t s) in
       let e = defined_light t s.located.ordinal s.located.kind in
       omega (arith, b, c, e)
 

@@ -31,7 +31,7 @@ module _ (ss : List Statement) (i : ℕ) (p : SectionOffset) (within : i ≤ len
 
 -- by all of the source
 pub constant_whole : (ss : List Statement) (at : ℕ) (p : SectionOffset) (e : Expression) (n : ℕ) → value (tables ss) false at p e ≡ Constant n → value (tables ss) true at p e ≡ Constant n
-constant_whole ss at p e n is = constant_later (tables ss) (1 + length ss) at (before_all at_start 1 ss (before_start 1)) p e n is
+constant_whole ss at p e n is = constant_later (tables ss) (1 + length ss) at (before_all (at_start ss) 1 ss (before_start ss 1)) p e n is
 
 -- the tables of a source by those of its first statements
 pub whole_rest : (ss : List Statement) (i : ℕ) → i ≤ length ss → tables ss ≡ after_all (passed ss i) (i + 1) (drop i ss)

@@ -13,11 +13,11 @@ after_both t o [] ys = ap (λ n. after_all t n ys) (let e : o ≡ o + 0 = omega 
 after_both t o (x ∷ xs) ys = after_both (after t o x.kind) (suc o) xs ys ∙ ap (λ n. after_all (after_all (after t o x.kind) (suc o) xs) n ys) (let e : suc o + length xs ≡ o + suc (length xs) = omega arith in e)
 
 pub passed_before : (ss : List Statement) (i : ℕ) → i ≤ length ss → IsBefore (passed ss i) (i + 1)
-passed_before ss i within = subst (IsBefore (passed ss i)) (let e : 1 + length (take i ss) ≡ i + 1 = omega (arith, length-take-le i ss within) in e) (before_all at_start 1 (take i ss) (before_start 1))
+passed_before ss i within = subst (IsBefore (passed ss i)) (let e : 1 + length (take i ss) ≡ i + 1 = omega (arith, length-take-le i ss within) in e) (before_all (at_start ss) 1 (take i ss) (before_start ss 1))
 
 pub passed_rest : (ss : List Statement) (i : ℕ) → i ≤ length ss → tables ss ≡ after_all (passed ss i) (i + 1) (drop i ss)
 passed_rest ss i within =
-    ap (after_all at_start 1) (sym (take-append-drop i ss)) ∙ after_both at_start 1 (take i ss) (drop i ss)
+    ap (after_all (at_start ss) 1) (sym (take-append-drop i ss)) ∙ after_both (at_start ss) 1 (take i ss) (drop i ss)
     ∙ ap (λ n. after_all (passed ss i) n (drop i ss)) (let e : 1 + length (take i ss) ≡ i + 1 = omega (arith, length-take-le i ss within) in e)
 
 pub passed_keeps : (ss : List Statement) (i : ℕ) → i ≤ length ss → Keeps (passed ss i) (tables ss) (i + 1)
@@ -25,5 +25,5 @@ passed_keeps ss i within = subst (λ u. Keeps (passed ss i) u (i + 1)) (sym (pas
 
 pub passed_more : (ss : List Statement) (i : ℕ) (d : Statement) → i < length ss → passed ss (i + 1) ≡ after (passed ss i) (i + 1) (get_or ss i d).kind
 passed_more ss i d inside =
-    ap (after_all at_start 1) (take_more ss i d inside) ∙ after_both at_start 1 (take i ss) (get_or ss i d ∷ [])
+    ap (after_all (at_start ss) 1) (take_more ss i d inside) ∙ after_both (at_start ss) 1 (take i ss) (get_or ss i d ∷ [])
     ∙ ap (λ n. after (passed ss i) n (get_or ss i d).kind) (let e : 1 + length (take i ss) ≡ i + 1 = omega (arith, length-take-le i ss (let l : i ≤ length ss = omega arith in l)) in e)

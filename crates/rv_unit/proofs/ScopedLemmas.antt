@@ -16,6 +16,7 @@ use Rattle.rv_text.specs.declared.node.Symbol.TheVariants as symbols
 use Rattle.rv_text.specs.Nodes.{symbol_of}
 use Rattle.rv_unit_laws.specs.Tables as laws
 use Rattle.rv_unit_laws.proofs.BeforeLemmas.{IsBefore, before_all, before_start}
+use Rattle.rv_unit_laws.proofs.BoundLemmas.{bound_all}
 use Rattle.rv_unit_laws.proofs.OpenedLemmas.{IsStood, stood_all, stood_start, stands_same, open_inside, find_passes}
 use Rattle.rv_unit.specs.declared.unit.Unit.{Unit as SourceUnit}
 use Rattle.rv_unit_tables.specs.Tables.{tables_of}
@@ -26,12 +27,12 @@ use Rattle.rv_unit_tables.proofs.LookupsLemmas.{numeric_label_none}
 
 -- the tables of a unit stand before the ordinal after its last statement
 pub whole_before : (u : SourceUnit) → IsFilled u → IsBefore (tables_of u.tables) (1 + length (said u))
-whole_before u f = subst (λ t. IsBefore t (1 + length (said u))) (sym f.tables) (before_all laws.at_start 1 (said u) (before_start 1))
+whole_before u f = subst (λ t. IsBefore t (1 + length (said u))) (sym f.tables) (before_all (laws.at_start (said u)) 1 (said u) (before_start (said u) 1))
 
 -- ---- what the statements before an ordinal say alone
 
 pub passed_stood : (ss : List SpecStatement) (i : ℕ) → IsStood (passed ss i)
-passed_stood ss i = stood_all laws.at_start 1 (take i ss) stood_start
+passed_stood ss i = stood_all (laws.at_start ss) 1 (take i ss) (stood_start ss)
 
 stands_passed : (ss : List SpecStatement) (i : ℕ) (p : laws.SectionOffset) → i ≤ length ss → p.section < length (laws.opened_of (passed ss i)).sections → laws.stands (laws.opened_of (laws.tables ss)) p ≡ laws.stands (laws.opened_of (passed ss i)) p
 stands_passed ss i p within inside =
@@ -59,9 +60,12 @@ past_name ss i p name within =
     let t = passed ss i in
     let o = i + 1 in
     let keeps = passed_keeps ss i within in
-    ap (λ f. laws.assigned_first f (laws.labelled (laws.opened_of all) (laws.label_of all.labels false o name) Open)) (keeps.assignments (λ s. bytes_eq s.name name))
+    let bound : all.bindings ≡ t.bindings = bound_all (laws.at_start ss) 1 ss ∙ sym (bound_all (laws.at_start ss) 1 (take i ss)) in
+    ap (λ b. laws.weakened (b name) (laws.own_named all false o name)) bound
+    ∙ ap (laws.weakened (t.bindings name))
+    (ap (λ f. laws.assigned_first f (laws.labelled (laws.opened_of all) (laws.label_of all.labels false o name) Open)) (keeps.assignments (λ s. bytes_eq s.name name))
     ∙ ap (λ l. laws.assigned_first (laws.assigned_before t.assignments o name) (laws.labelled (laws.opened_of all) l Open)) (keeps.labels (λ l. bytes_eq l.name name))
-    ∙ ap (laws.assigned_first (laws.assigned_before t.assignments o name)) (labelled_passed ss i name within (laws.label_of t.labels false o name) refl)
+    ∙ ap (laws.assigned_first (laws.assigned_before t.assignments o name)) (labelled_passed ss i name within (laws.label_of t.labels false o name) refl))
 
 pub past_here : (ss : List SpecStatement) (i : ℕ) (p : laws.SectionOffset) → i ≤ length ss → p.section < length (laws.opened_of (passed ss i)).sections → laws.meaning (laws.tables ss) false (i + 1) p Here ≡ laws.meaning (passed ss i) false (i + 1) p Here
 past_here ss i p within inside = stands_passed ss i p within inside

@@ -70,7 +70,7 @@ at_limit u i section f inside is =
 
 -- each statement has a place
 pub places_count : (u : SourceUnit) → IsFilled u → length u.places.items ≡ length u.statements.items
-places_count u f = sym (length-map u.places.items offset_of) ∙ ap length f.stand ∙ places_length laws.at_start 1 (said u) ∙ length-map u.statements.items statement_of
+places_count u f = sym (length-map u.places.items offset_of) ∙ ap length f.stand ∙ places_length (laws.at_start (said u)) 1 (said u) ∙ length-map u.statements.items statement_of
 
 -- a unit's statement and place at an index
 pub is_at : (u : SourceUnit) (i : ℕ) (x : Statement) (p d : SectionOffset) → IsFilled u → i < length u.statements.items → x ≡ get_or u.statements.items i x → p ≡ get_or u.places.items i d
@@ -80,7 +80,7 @@ is_at u i x p d f inside is at = record {
   within = below;
   ordinal = refl;
   place = ap offset_of at ∙ sym (get_or-map offset_of u.places.items i d (offset_of d) seated) ∙ ap (λ l. get_or l i (offset_of d)) f.stand
-      ∙ place_at laws.at_start 1 ss i (offset_of d) (statement_of x) below
+      ∙ place_at (laws.at_start ss) 1 ss i (offset_of d) (statement_of x) below
       ∙ ap (λ (y : SpecStatement). laws.stood (passed ss i) (1 + i) y.kind) here
       ∙ ap (λ n. laws.stood (passed ss i) n (statement_of x).kind) (let e : 1 + i ≡ i + 1 = omega arith in e);
   more = passed_more ss i (statement_of x) below ∙ ap (λ (y : SpecStatement). laws.after (passed ss i) (i + 1) y.kind) here;
@@ -106,13 +106,13 @@ depth_next u i o p kind depth next at is more =
 
 -- each statement has options
 pub options_count : (u : SourceUnit) → IsFilled u → length u.options.items ≡ length (said u)
-options_count u f = sym (length-map u.options.items options_of) ∙ ap length f.options ∙ options_length laws.at_start 1 (said u)
+options_count u f = sym (length-map u.options.items options_of) ∙ ap length f.options ∙ options_length (laws.at_start (said u)) 1 (said u)
 
 -- the options in which it stands
 pub options_found : (u : SourceUnit) (i : ℕ) (o d : Options) → IsFilled u → i < length (said u) → o ≡ get_or u.options.items i d → options_of o ≡ (passed (said u) i).options
 options_found u i o d f inside at =
     ap options_of at ∙ sym (get_or-map options_of u.options.items i d (options_of d) seated) ∙ ap (λ l. get_or l i (options_of d)) f.options
-    ∙ options_at laws.at_start 1 (said u) i (options_of d) inside
+    ∙ options_at (laws.at_start (said u)) 1 (said u) i (options_of d) inside
   where
     seated : i < length u.options.items
     seated = subst (λ n. i < n) (sym (options_count u f)) inside

@@ -33,7 +33,7 @@ pub record IsFilled (u : SourceUnit) : Type 0 where
 
 -- the tables of the first `count` statements
 abbrev pub passed : List Statement → ℕ → laws.Tables
-passed ss count = laws.after_all laws.at_start 1 (take count ss)
+passed ss count = laws.after_all (laws.at_start ss) 1 (take count ss)
 
 -- the statement at this index from 0 has this ordinal, stands at this offset and says this
 pub record IsStatementOf (u : SourceUnit) (i o : ℕ) (p : SectionOffset) (kind : StatementKind) : Type 0 where

@@ -4,6 +4,8 @@
 //! once (`early_..`), later definitions are no constants, since where these stand depends on that size. And a check in
 //! the order of the source (`past_..`) asks by the statements before alone, as if nothing came after: it uses the full
 //! tables all the same, by ordinals, so that a source needs one set of tables.
+//!
+//! A weak name has no place in any of them, as another file's may stand for it.
 
 ghost use Rattle.std.specs.Prelude.{◌≡◌, ℕ, ◌+◌, ◌≤◌, ◌<◌, ◌||◌, true, false, is_some, length};
 ghost use Rattle.rv_text_laws.specs.Bytes.{value as digits_value};
@@ -62,6 +64,16 @@ impl<'a> Unit<'a> {
         ensures { IsIndexed (self.now).tables → (o : ℕ) →
             IsBefore (tables_of (self.now).tables) o →
             meaning_of result ≡ laws.named (tables_of (self.now).tables) true ordinal name.now }
+    {
+        self.tables.weakened(name, self.own_named(ordinal, name))
+    }
+
+    /// What a name means in its own file.
+    fn own_named(&self, ordinal: u32, name: &[u8]) -> Meaning
+        ensures { IsIndexed (self.now).tables → (o : ℕ) →
+            IsBefore (tables_of (self.now).tables) o →
+            meaning_of result
+            ≡ laws.own_named (tables_of (self.now).tables) true ordinal name.now }
     {
         match self.tables.assignment_before(ordinal, name) {
             Some(assignment) => assignment.meaning,
@@ -174,6 +186,17 @@ impl<'a> Unit<'a> {
         ensures { IsIndexed (self.now).tables → (o : ℕ) →
             IsBefore (tables_of (self.now).tables) o →
             meaning_of result ≡ laws.named (tables_of (self.now).tables) false ordinal name.now }
+    {
+        self.tables
+            .weakened(name, self.early_own_named(ordinal, name))
+    }
+
+    /// What a name means in its own file, by what is defined before.
+    fn early_own_named(&self, ordinal: u32, name: &[u8]) -> Meaning
+        ensures { IsIndexed (self.now).tables → (o : ℕ) →
+            IsBefore (tables_of (self.now).tables) o →
+            meaning_of result
+            ≡ laws.own_named (tables_of (self.now).tables) false ordinal name.now }
     {
         match self.tables.assignment_before(ordinal, name) {
             Some(assignment) => assignment.meaning,

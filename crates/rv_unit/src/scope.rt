@@ -76,7 +76,7 @@ impl<'u, 'a> Scope<'u, 'a> {
         self.unit.meaning(self.ordinal, place, symbol)
     }
 
-    /// Where a symbol of the statement that is next stands in this source; none where it is another file's.
+    /// Where a symbol of the statement that is next stands in this source; none where it stands nowhere in it.
     pub fn definition(&self, symbol: Symbol<'a>) -> Option<Definition>
         ensures { (index : ℕ) → IsFilled (self.now).unit.now → IsScope self.now index →
             option_map definition_of result
@@ -99,6 +99,33 @@ impl<'u, 'a> Scope<'u, 'a> {
                     self.unit.tables.numeric_label_after(self.ordinal, digits),
                 )
             }
+        }
+    }
+
+    /// Where a symbol of the statement that is next stands, whatever other files say; none where it is weak, or another
+    /// file's.
+    pub fn sure_definition(&self, symbol: Symbol<'a>) -> Option<Definition>
+        ensures { (index : ℕ) → IsFilled (self.now).unit.now → IsScope self.now index →
+            option_map definition_of result
+            ≡ laws.sure_definition (laws.tables (said (self.now).unit.now)) (index + 1)
+            (symbol_of symbol.entry) }
+    {
+        if self.gives_way(symbol) {
+            return None;
+        }
+        self.definition(symbol)
+    }
+
+    /// Whether another file's definition may stand for a symbol's own.
+    fn gives_way(&self, symbol: Symbol<'a>) -> bool
+        ensures { result
+            ≡ laws.gives_way (tables_of (self.now).unit.now.tables) (symbol_of symbol.entry) }
+    {
+        match symbol {
+            Symbol::Name(name) => self.unit.tables.is_weak(name),
+            Symbol::Here => false,
+            Symbol::Backward(_) => false,
+            Symbol::Forward(_) => false,
         }
     }
 

@@ -5,7 +5,7 @@ ghost use Rattle.rv_text_laws.specs.Codes.{limit};
 ghost use Rattle.rv_statement.specs.Limits.{most_statements};
 ghost use Rattle.rv_statement.specs.View.{statement_of};
 ghost use Rattle.rv_unit_laws.specs.Faults.{first_fault};
-ghost use Rattle.rv_unit_laws.specs.Tables.{assigned_ever, binding_of};
+ghost use Rattle.rv_unit_laws.specs.Tables.{tables, assigned_ever};
 ghost use Rattle.rv_unit_tables.specs.Options.{options_of};
 ghost use Rattle.rv_unit_tables.specs.Tables.{tables_of, assignment_of};
 
@@ -111,9 +111,9 @@ impl<'a> Unit<'a> {
         self.tables.extents.as_slice()
     }
 
-    /// The binding of a name: what the last `.globl` or `.local` that lists it says.
+    /// The binding of a name: what the last `.globl`, `.local` or `.weak` that lists it says.
     pub fn binding(&self, name: &[u8]) -> Binding
-        ensures { IsFilled self.now → result ≡ binding_of (said self.now) name.now }
+        ensures { IsFilled self.now → result ≡ (tables (said self.now)).bindings name.now }
     {
         self.tables.binding(name)
     }

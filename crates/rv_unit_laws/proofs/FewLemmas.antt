@@ -23,15 +23,15 @@ few_within n ss others e = go (drop n ss) refl e
     go (s ∷ more) is f = absurd (cc)
 
 pub few : (ss : List Statement) → first_fault ss ≡ None → length ss ≤ most_statements
-few ss e = (few_within most_statements ss (first_fault_from (tables ss) at_start 1 ss) e).0
+few ss e = (few_within most_statements ss (first_fault_from (tables ss) (at_start ss) 1 ss) e).0
 
 -- and then no statement has one
-pub no_fault_from : (ss : List Statement) → first_fault ss ≡ None → first_fault_from (tables ss) at_start 1 ss ≡ None
-no_fault_from ss e = (few_within most_statements ss (first_fault_from (tables ss) at_start 1 ss) e).1
+pub no_fault_from : (ss : List Statement) → first_fault ss ≡ None → first_fault_from (tables ss) (at_start ss) 1 ss ≡ None
+no_fault_from ss e = (few_within most_statements ss (first_fault_from (tables ss) (at_start ss) 1 ss) e).1
 
 -- of statements that are not too many the first faulty one counts
-pub first_of_few : (ss : List Statement) → length ss ≤ most_statements → first_fault ss ≡ first_fault_from (tables ss) at_start 1 ss
-first_of_few ss few = ap (λ more. past_most more (first_fault_from (tables ss) at_start 1 ss)) (drop_all most_statements ss few)
+pub first_of_few : (ss : List Statement) → length ss ≤ most_statements → first_fault ss ≡ first_fault_from (tables ss) (at_start ss) 1 ss
+first_of_few ss few = ap (λ more. past_most more (first_fault_from (tables ss) (at_start ss) 1 ss)) (drop_all most_statements ss few)
 
 -- else the first that is too many
 past_at : (n : ℕ) (ss : List Statement) (s : Statement) (others : Option Fault) → slice_get ss n ≡ Some s → past_most (drop n ss) others ≡ Some (record { code = limit; line = s.line })
@@ -44,4 +44,4 @@ past_at zero (x ∷ ss) s others e = ap (past_most_of others) e
 past_at (suc n) (x ∷ ss) s others e = past_at n ss s others e
 
 pub first_past : (ss : List Statement) (s : Statement) → slice_get ss most_statements ≡ Some s → first_fault ss ≡ Some (record { code = limit; line = s.line })
-first_past ss s e = past_at most_statements ss s (first_fault_from (tables ss) at_start 1 ss) e
+first_past ss s e = past_at most_statements ss s (first_fault_from (tables ss) (at_start ss) 1 ss) e

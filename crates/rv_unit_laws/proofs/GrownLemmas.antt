@@ -12,7 +12,7 @@ use Rattle.rv_statement.specs.Statement.{StatementKind, Label, Numbered, Instruc
 use Rattle.rv_statement.specs.declared.directive.Choice.{Choice}
 use Rattle.rv_unit_laws.specs.Sections.{Section, text_section, current_section, entered_by}
 use Rattle.rv_unit_laws.specs.Contributions.{AlignmentForm, As_power, As_bytes, Contribution, Nothing, Bytes, Zero_bytes, Alignment, contribution}
-use Rattle.rv_unit_laws.specs.Tables.{Tables, Assignment, at_start, here, value, is_power, is_power_below, greatest_alignment, alignment_of, power_alignment, byte_alignment, alignment_as, contribution_alignment, or_none, data_bytes, contributed, counted_in, changed_at, is_defined, may_set, with_assignment, with_section, with_data, with_contribution, with_choice, with_chosen, with_bindings, with_numeric_label, assigned_by, chosen, after, after_directive, after_all, opened_of, ends_of, alignments_of, Extent, least_alignment, empty_extent, extended}
+use Rattle.rv_unit_laws.specs.Tables.{Tables, Assignment, at_start, here, value, is_power, is_power_below, greatest_alignment, alignment_of, power_alignment, byte_alignment, alignment_as, contribution_alignment, or_none, data_bytes, contributed, counted_in, changed_at, is_defined, may_set, with_assignment, with_section, with_data, with_contribution, with_choice, with_chosen, with_numeric_label, assigned_by, chosen, after, after_directive, after_all, opened_of, ends_of, alignments_of, Extent, least_alignment, empty_extent, extended}
 use Rattle.rv_unit_laws.proofs.EnteringLemmas.{with_new, sections_count, entering}
 
 -- ---- powers of two
@@ -268,11 +268,9 @@ grows_directive t o d =
     let named = with_assignment entered (assigned_by v o d) in
     let chose = with_chosen named (chosen d) in
     let contributed = with_contribution chose v (contribution d) in
-    grows_then t contributed (with_bindings contributed d)
-    (grows_then t chose contributed
+    grows_then t chose contributed
     (grows_then t named chose (grows_then t entered named (grows_section t (entered_by d)) (grows_set entered (assigned_by v o d))) (grows_chosen named (chosen d)))
-    (grows_contribution chose v (contribution d)))
-    (grows_same contributed (with_bindings contributed d) refl)
+    (grows_contribution chose v (contribution d))
 
 pub grows_after : (t : Tables) (o : ℕ) (says : StatementKind) → Grows t (after t o says)
 grows_after t o (Label name) =
@@ -286,13 +284,13 @@ pub grows_all : (t : Tables) (o : ℕ) (ss : List Statement) → Grows t (after_
 grows_all t o [] = grows_same t t refl
 grows_all t o (s ∷ ss) = grows_then t (after t o s.kind) (after_all (after t o s.kind) (suc o) ss) (grows_after t o s.kind) (grows_all (after t o s.kind) (suc o) ss)
 
-start_powers : (j : ℕ) → IsPower (slice_index_or (alignments_of at_start) j 1)
-start_powers zero = (1, refl)
-start_powers (suc zero) = (0, refl)
-start_powers (suc (suc j)) = (0, refl)
+start_powers : (all : List Statement) (j : ℕ) → IsPower (slice_index_or (alignments_of (at_start all)) j 1)
+start_powers all zero = (1, refl)
+start_powers all (suc zero) = (0, refl)
+start_powers all (suc (suc j)) = (0, refl)
 
-pub grown_all : (o : ℕ) (ss : List Statement) → ArePowers (alignments_of (after_all at_start o ss))
-grown_all o ss = (grows_all at_start o ss).powers start_powers
+pub grown_all : (all : List Statement) (o : ℕ) (ss : List Statement) → ArePowers (alignments_of (after_all (at_start all) o ss))
+grown_all all o ss = (grows_all (at_start all) o ss).powers (start_powers all)
 
 -- ---- what a directive contributes to its section
 

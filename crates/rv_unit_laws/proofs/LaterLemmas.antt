@@ -10,7 +10,7 @@ use Rattle.rv_statement.specs.Statement.{StatementKind, Label, Numbered, Instruc
 use Rattle.rv_statement.specs.declared.directive.Choice.{Choice}
 use Rattle.rv_unit_laws.specs.Sections.{Section, entered_by}
 use Rattle.rv_unit_laws.specs.Contributions.{Contribution, Nothing, Bytes, Zero_bytes, Alignment, contribution}
-use Rattle.rv_unit_laws.specs.Tables.{Tables, Labelled, NumericLabel, Assignment, here, after, after_directive, after_all, value, assigned, assigned_by, chosen, with_label, with_numeric_label, with_assignment, with_section, with_contribution, with_choice, with_chosen, with_bindings, is_defined, may_set}
+use Rattle.rv_unit_laws.specs.Tables.{Tables, Labelled, NumericLabel, Assignment, here, after, after_directive, after_all, value, assigned, assigned_by, chosen, with_label, with_numeric_label, with_assignment, with_section, with_contribution, with_choice, with_chosen, is_defined, may_set}
 use Rattle.rv_unit_laws.proofs.EnteringLemmas.{with_new, entering}
 use Rattle.rv_unit_laws.proofs.FoundLemmas.{find_same}
 
@@ -146,11 +146,9 @@ keeps_directive t o d =
     let named = with_assignment entered (assigned_by v o d) in
     let chose = with_chosen named (chosen d) in
     let contributed = with_contribution chose v (contribution d) in
-    keeps_then t contributed (with_bindings contributed d) o
-    (keeps_then t chose contributed o
+    keeps_then t chose contributed o
     (keeps_then t named chose o (keeps_then t entered named o (keeps_section t (entered_by d) o) (keeps_named entered o v d)) (keeps_chosen named (chosen d) o))
-    (keeps_contribution chose v (contribution d) o))
-    (keeps_same contributed (with_bindings contributed d) o refl refl refl)
+    (keeps_contribution chose v (contribution d) o)
 
 keeps_after : (t : Tables) (o : ℕ) (s : StatementKind) → Keeps t (after t o s) o
 keeps_after t o (Label name) = keeps_label t o name

@@ -1,5 +1,6 @@
 pub mod FoundLemmas
 pub mod BeforeLemmas
+pub mod BoundLemmas
 pub mod MeantLemmas
 pub mod EnteringLemmas
 pub mod AloneLemmas

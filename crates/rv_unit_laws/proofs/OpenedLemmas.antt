@@ -233,8 +233,8 @@ pub stood_all : (t : Tables) (o : ℕ) (ss : List Statement) → IsStood t → I
 stood_all t o [] h = h
 stood_all t o (s ∷ ss) h = stood_all (after t o s.kind) (suc o) ss (stood_after t o s.kind h)
 
-pub stood_start : IsStood at_start
-stood_start = record { opened = (text_section, refl); inside = record { labels = refl; numeric_labels = refl } }
+pub stood_start : (ss : List Statement) → IsStood (at_start ss)
+stood_start ss = record { opened = (text_section, refl); inside = record { labels = refl; numeric_labels = refl } }
 
 -- what is found stands inside
 pub find_passes : {X : Type 0} (p q : X → Bool) (xs : List X) (x : X) → list_all q xs ≡ true → find p xs ≡ Some x → q x ≡ true

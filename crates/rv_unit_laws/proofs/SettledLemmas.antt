@@ -10,7 +10,8 @@ use Rattle.rv_text_laws.specs.declared.operator.BinaryOperator.TheVariants.{Mult
 use Rattle.rv_text_laws.specs.Expression.{Primary, Literal, Symbol, Here, Reference, Tree, Leaf, Unary, Paren, Binary}
 use Rattle.rv_text_laws.specs.Values.{Meaning, Known, InSection, Open, Refused, Value, Constant, Symbolic, Difference, Faulty, refused, apart, sum, difference, constants, both, alone, meant, primary_value, value_of}
 use Rattle.rv_statement.specs.Statement.{Expression}
-use Rattle.rv_unit_laws.specs.Tables.{Tables, SectionOffset, Labelled, NumericLabel, Assignment, label_of, assigned_before, assigned_ever, assigned_later, assigned_first, labelled, numeric_label_after, forward_in, meaning, value, opened_of}
+use Rattle.rv_statement.specs.declared.directive.Binding.{Binding}
+use Rattle.rv_unit_laws.specs.Tables.{Tables, SectionOffset, Labelled, NumericLabel, Assignment, label_of, assigned_before, assigned_ever, assigned_later, assigned_first, labelled, weakened, own_named, numeric_label_after, forward_in, meaning, value, opened_of}
 use Rattle.rv_unit_laws.proofs.BeforeLemmas.{IsBefore, label_below, below}
 
 -- ---- values
@@ -163,6 +164,13 @@ label_stays found (Some k) at is l e = by (nat_lt k.ordinal at) (sym e ∙ is)
     by true f = sym f
     by false f = absurd (cc)
 
+-- a weak name has no place, before and later
+weakened_later : (b : Binding) (m now : Meaning) → (is_settled m ≡ true → now ≡ m) → is_settled (weakened b m) ≡ true → weakened b now ≡ weakened b m
+weakened_later b (Known n) now same e = ap (weakened b) (same refl)
+weakened_later b (InSection section offset) now same e = ap (weakened b) (same refl)
+weakened_later b Open now same e = absurd (cc)
+weakened_later b (Refused code) now same e = absurd (cc)
+
 module _ (t : Tables) (o at : ℕ) (before : IsBefore t o) where
   named_later : (name : List ℕ) (first : Option Assignment) (found : Option Labelled) → label_of t.labels false at name ≡ found
       → is_settled (assigned_first first (labelled (opened_of t) found Open)) ≡ true
@@ -180,7 +188,9 @@ module _ (t : Tables) (o at : ℕ) (before : IsBefore t o) where
   -- what has a number or a location where locations defined later do not count has the same where they do
   pub later_agrees : (p : SectionOffset) → Agree (λ q. meaning t false at p q) (λ q. meaning t true at p q)
   later_agrees p (Literal number) e = refl
-  later_agrees p (Symbol name) e = named_later name (assigned_before t.assignments at name) (label_of t.labels false at name) refl e
+  later_agrees p (Symbol name) e =
+      weakened_later (t.bindings name) (own_named t false at name) (own_named t true at name)
+      (named_later name (assigned_before t.assignments at name) (label_of t.labels false at name) refl) e
   later_agrees p Here e = refl
   later_agrees p (Reference digits true) e = ahead_later (numeric_label_after t.numeric_labels at (digits_value 10 digits)) e
   later_agrees p (Reference digits false) e = refl

@@ -8,7 +8,7 @@ use Rattle.rv_statement.specs.Statement.{StatementKind, Label, Numbered, Instruc
 use Rattle.rv_statement.specs.declared.directive.Choice.{Choice}
 use Rattle.rv_unit_laws.specs.Sections.{Section, entered_by, current_section}
 use Rattle.rv_unit_laws.specs.Contributions.{Contribution, Nothing, Bytes, Zero_bytes, Alignment, contribution}
-use Rattle.rv_unit_laws.specs.Tables.{Tables, Extent, Assignment, at_start, here, value, longest_section, within, padding, counted, or_none, contents_size, alignment_as, contributed, contribution_alignment, counted_in, changed_at, is_defined, may_set, with_assignment, with_section, with_data, with_contribution, with_choice, with_chosen, with_bindings, with_numeric_label, assigned_by, chosen, after, after_directive, after_all, tables, opened_of, ends_of}
+use Rattle.rv_unit_laws.specs.Tables.{Tables, Extent, Assignment, at_start, here, value, longest_section, within, padding, counted, or_none, contents_size, alignment_as, contributed, contribution_alignment, counted_in, changed_at, is_defined, may_set, with_assignment, with_section, with_data, with_contribution, with_choice, with_chosen, with_numeric_label, assigned_by, chosen, after, after_directive, after_all, tables, opened_of, ends_of}
 use Rattle.rv_unit_laws.proofs.EnteringLemmas.{entering, with_new}
 use Rattle.rv_unit_laws.proofs.GrownLemmas.{data_ends, end_new}
 
@@ -87,9 +87,7 @@ short_directive t o d h =
     let entered = with_section t (entered_by d) in
     let named = with_assignment entered (assigned_by v o d) in
     let chose = with_chosen named (chosen d) in
-    let put = with_contribution chose v (contribution d) in
-    short_same put (with_bindings put d) refl
-    (short_contribution chose v (contribution d) (short_chosen named (chosen d) (short_set entered (assigned_by v o d) (short_section t (entered_by d) h))))
+    short_contribution chose v (contribution d) (short_chosen named (chosen d) (short_set entered (assigned_by v o d) (short_section t (entered_by d) h)))
 
 pub short_after : (t : Tables) (o : ℕ) (says : StatementKind) → AreShort t → AreShort (after t o says)
 short_after t o (Label name) h =
@@ -103,10 +101,10 @@ pub short_all : (t : Tables) (o : ℕ) (ss : List Statement) → AreShort t → 
 short_all t o [] h = h
 short_all t o (s ∷ ss) h = short_all (after t o s.kind) (suc o) ss (short_after t o s.kind h)
 
-pub short_start : AreShort at_start
-short_start zero = omega arith
-short_start (suc zero) = omega arith
-short_start (suc (suc j)) = omega arith
+pub short_start : (ss : List Statement) → AreShort (at_start ss)
+short_start ss zero = omega arith
+short_start ss (suc zero) = omega arith
+short_start ss (suc (suc j)) = omega arith
 
 pub all_short : (ss : List Statement) → AreShort (tables ss)
-all_short ss = short_all at_start 1 ss short_start
+all_short ss = short_all (at_start ss) 1 ss (short_start ss)

@@ -2,7 +2,9 @@
 -- assignments (GNU as, "Symbols", "Expressions" and "Pseudo Ops").
 --
 -- One step a statement (`after`), and a source's tables are all steps in a row: so what stands before
--- a statement and what the whole source gives are one definition, at two lists of statements.
+-- a statement and what the whole source gives are one definition, at two lists of statements. The
+-- bindings of names stand there from the start: sizes count at once, and a distance from a weak label
+-- is no constant, wherever `.weak` stands.
 
 use Rattle.std.specs.Prelude.{ℕ, zero, suc, ◌+◌, ◌-◌, ◌*◌, ◌^◌, Bool, true, false, not, ◌&&◌, ◌||◌, ◌==◌, nat_lt, nat_le, max, List, [], ◌∷◌, ◌++◌, length, map, flat_map, reverse, Option, Some, None, is_some, slice_index_or, if◌then◌else◌}
 use Rattle.std.specs.List.{find, list_any}
@@ -17,7 +19,7 @@ use Rattle.rv_statement.specs.declared.directive.Choice.{Choice}
 use Rattle.rv_unit_laws.specs.Sections.{Section, Opened, text_section, most_sections, place_of_name, entered_by, section_at}
 use Rattle.rv_unit_laws.specs.Options.{Options, first_options, options_then, kept_then}
 use Rattle.rv_statement.specs.declared.directive.Binding.{Binding}
-use Rattle.rv_unit_laws.specs.Bindings.{Bindings, all_local, bindings_then}
+use Rattle.rv_unit_laws.specs.Bindings.{Bindings, bindings_after, bindings_of, is_weak}
 use Rattle.rv_unit_laws.specs.Contributions.{Contents, Numbers, Texts, AlignmentForm, As_power, As_bytes, Contribution, Nothing, Bytes, Zero_bytes, Alignment, contribution}
 
 -- where something stands: the index of its section in the source, and the bytes of data before it
@@ -72,11 +74,13 @@ pub record Tables : Type 0 where
   -- the options that are set, and those that were kept, the latest first
   pub options : Options
   pub kept : List Options
+  -- those of the whole source
   pub bindings : Bindings
 
--- a source begins in .text, which is always its first section
-abbrev pub at_start : Tables
-at_start = record {
+-- the tables before the first statement of a source: it begins in .text, which is always its first
+-- section
+abbrev pub at_start : List Statement → Tables
+at_start ss = record {
   extents = empty_extent text_section ∷ [];
   current = 0;
   labels = [];
@@ -84,8 +88,13 @@ at_start = record {
   assignments = [];
   options = first_options;
   kept = [];
-  bindings = all_local;
+  bindings = bindings_of ss;
 }
+
+-- tables with what statements say of bindings besides: with that of a source, those at the start of
+-- an empty one are its own
+abbrev pub bound_tables : List Statement → Tables → Tables
+bound_tables ss t = record t { bindings = bindings_after ss t.bindings }
 
 -- the sections alone, the bytes of each, and the alignment of each
 abbrev pub opened_of : Tables → Opened
@@ -155,13 +164,23 @@ abbrev pub assigned_first : Option Assignment → Meaning → Meaning
 assigned_first (Some s) other = s.meaning
 assigned_first None other = other
 
--- a name: its latest earlier assignment, else its label, else the location that it is set to; else
--- it is another file's
-abbrev pub named : Tables → Bool → ℕ → List ℕ → Meaning
-named t all ordinal name =
+-- a name in its own file: its latest earlier assignment, else its label, else the location that it
+-- is set to; else it is another file's
+abbrev pub own_named : Tables → Bool → ℕ → List ℕ → Meaning
+own_named t all ordinal name =
     assigned_first (assigned_before t.assignments ordinal name)
     (labelled (opened_of t) (label_of t.labels all ordinal name)
     (assigned_later all (assigned_ever t.assignments name)))
+
+-- a place whose name is weak has no known distance from others: another file's may be meant; a
+-- constant stays what it is
+abbrev pub weakened : Binding → Meaning → Meaning
+weakened binding (InSection section offset) =
+    if is_weak binding then Open else InSection section offset
+weakened binding other = other
+
+abbrev pub named : Tables → Bool → ℕ → List ℕ → Meaning
+named t all ordinal name = weakened (t.bindings name) (own_named t all ordinal name)
 
 -- a numeric reference; where later definitions do not count, one that comes later is no constant
 abbrev pub forward_in : Opened → Bool → Option NumericLabel → Meaning
@@ -229,8 +248,8 @@ abbrev pub numeric_definition : Option NumericLabel → Option Definition
 numeric_definition None = None
 numeric_definition (Some m) = Some (definition_at m.ordinal)
 
--- the definition of a symbol in an expression of the statement of this ordinal; none where it is
--- another file's
+-- the definition in its file of a symbol in an expression of the statement of this ordinal; none
+-- where it has none there
 abbrev pub definition : Tables → ℕ → Primary → Option Definition
 definition t ordinal (Literal number) = None
 definition t ordinal (Symbol name) =
@@ -242,6 +261,15 @@ definition t ordinal (Reference digits true) =
     numeric_definition (numeric_label_after t.numeric_labels ordinal (digits_value 10 digits))
 definition t ordinal (Reference digits false) =
     numeric_definition (numeric_label_before t.numeric_labels ordinal (digits_value 10 digits))
+
+-- whether another file's definition of a symbol may be meant in place of its own
+abbrev pub gives_way : Tables → Primary → Bool
+gives_way t (Symbol name) = is_weak (t.bindings name)
+gives_way t _ = false
+
+-- the definition that a symbol means whatever other files say; none where that is theirs to say
+abbrev pub sure_definition : Tables → ℕ → Primary → Option Definition
+sure_definition t ordinal q = if gives_way t q then None else definition t ordinal q
 
 -- ---- sizes
 
@@ -439,16 +467,13 @@ abbrev pub assigned_by : (Expression → Value) → ℕ → Directive → Option
 assigned_by v ordinal (Sets name e) = assigned name ordinal (v e)
 assigned_by v ordinal _ = None
 
-abbrev pub with_bindings : Tables → Directive → Tables
-with_bindings t d = record t { bindings = bindings_then d t.bindings }
-
--- a directive enters a section, gives a name its value, chooses an option, contributes to its
--- section or binds names
+-- a directive enters a section, gives a name its value, chooses an option or contributes to its
+-- section
 abbrev pub after_directive : Tables → ℕ → Directive → Tables
 after_directive t ordinal d =
     let v = value t false ordinal (here t) in
     let named = with_assignment (with_section t (entered_by d)) (assigned_by v ordinal d) in
-    with_bindings (with_contribution (with_chosen named (chosen d)) v (contribution d)) d
+    with_contribution (with_chosen named (chosen d)) v (contribution d)
 
 -- the tables after a statement of this ordinal; a faulty one defines nothing
 abbrev pub after : Tables → ℕ → StatementKind → Tables
@@ -464,11 +489,7 @@ after_all t ordinal (s ∷ ss) = after_all (after t ordinal s.kind) (suc ordinal
 
 -- the tables of a source
 abbrev pub tables : List Statement → Tables
-tables ss = after_all at_start 1 ss
-
--- the binding of a name in a source: what the last `.globl` or `.local` that lists it says
-abbrev pub binding_of : List Statement → List ℕ → Binding
-binding_of ss name = (tables ss).bindings name
+tables ss = after_all (at_start ss) 1 ss
 
 -- whether a statement enters a section
 abbrev pub enters : StatementKind → Bool
@@ -485,7 +506,7 @@ places_from t ordinal (s ∷ ss) =
     stood t ordinal s.kind ∷ places_from (after t ordinal s.kind) (suc ordinal) ss
 
 abbrev pub places : List Statement → List SectionOffset
-places ss = places_from at_start 1 ss
+places ss = places_from (at_start ss) 1 ss
 
 -- the options in which each statement stands: those that the statements before it set
 abbrev pub options_from : Tables → ℕ → List Statement → List Options
@@ -493,4 +514,4 @@ options_from t ordinal [] = []
 options_from t ordinal (s ∷ ss) = t.options ∷ options_from (after t ordinal s.kind) (suc ordinal) ss
 
 abbrev pub all_options : List Statement → List Options
-all_options ss = options_from at_start 1 ss
+all_options ss = options_from (at_start ss) 1 ss

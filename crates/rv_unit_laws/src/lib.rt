@@ -3,7 +3,7 @@
 //!
 //! It takes statements as `rv_statement` has them (`specs/Statement`), and defines, each in a module of `specs/`: the
 //! sections of a source (`Sections`), what a directive contributes to its section (`Contributions`), what `.option` sets
-//! (`Options`), which names are global (`Bindings`), the tables that the statements fill one after the other, what a name means in each of them and in which
+//! (`Options`), which names other files can mean (`Bindings`), the tables that the statements fill one after the other, what a name means in each of them and in which
 //! options each stands (`Tables`: `after`, `tables`, `meaning`, `definition`, `all_options`), and the faults (`Faults`:
 //! `first_fault`).
 //!

@@ -14,8 +14,8 @@ pub record FillsTo (t : Tables) (done : ℕ) (rest all : List Statement) (so_far
   pub fills : after_all t (done + 1) rest ≡ tables all
   pub stand : so_far ++ places_from t (done + 1) rest ≡ places all
 
-pub fills_start : (t : Tables) (all : List Statement) → t ≡ at_start → FillsTo t 0 all all []
-fills_start t all is = subst (λ u. FillsTo u 0 all all []) (sym is) (record { before = before_start 1; fills = refl; stand = refl })
+pub fills_start : (t : Tables) (all : List Statement) → t ≡ at_start all → FillsTo t 0 all all []
+fills_start t all is = subst (λ u. FillsTo u 0 all all []) (sym is) (record { before = before_start all 1; fills = refl; stand = refl })
 
 pub fills_more : (t u : Tables) (done : ℕ) (s : Statement) (rest more all : List Statement) (so_far new : List SectionOffset) (p : SectionOffset) → FillsTo t done rest all so_far → rest ≡ s ∷ more → u ≡ after t (done + 1) s.kind → p ≡ stood t (done + 1) s.kind → new ≡ so_far ++ p ∷ []
     → FillsTo u (done + 1) more all new

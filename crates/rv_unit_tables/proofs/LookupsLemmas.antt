@@ -47,11 +47,11 @@ indexed_first es k ss s only first same name =
     by false = refl
 
 -- a name that is set, and one that is not
-pub named_set : (t : laws.Tables) (o : ℕ) (name : List ℕ) (s : laws.Assignment) → IsBefore t o → laws.assigned_ever t.assignments name ≡ Some s → laws.named t false o name ≡ s.meaning
+pub named_set : (t : laws.Tables) (o : ℕ) (name : List ℕ) (s : laws.Assignment) → IsBefore t o → laws.assigned_ever t.assignments name ≡ Some s → laws.own_named t false o name ≡ s.meaning
 named_set t o name s h is =
     ap (λ f. laws.assigned_first f (laws.labelled (laws.opened_of t) (laws.label_of t.labels false o name) (laws.assigned_later false (laws.assigned_ever t.assignments name)))) (set_now t o name h ∙ is)
 
-pub named_other : (t : laws.Tables) (o : ℕ) (name : List ℕ) → IsBefore t o → laws.assigned_ever t.assignments name ≡ None → laws.named t false o name ≡ laws.labelled (laws.opened_of t) (laws.label_of t.labels true 0 name) Open
+pub named_other : (t : laws.Tables) (o : ℕ) (name : List ℕ) → IsBefore t o → laws.assigned_ever t.assignments name ≡ None → laws.own_named t false o name ≡ laws.labelled (laws.opened_of t) (laws.label_of t.labels true 0 name) Open
 named_other t o name h is =
     ap (λ f. laws.assigned_first f (laws.labelled (laws.opened_of t) (laws.label_of t.labels false o name) Open)) (set_now t o name h ∙ is)
     ∙ ap (λ l. laws.labelled (laws.opened_of t) l Open) (label_before t o name h)

@@ -2,9 +2,10 @@
 //!
 //! Nothing is refused here but for want of memory: which statement is the first with a fault is asked later, of the
 //! full tables. So a faulty statement has an effect too, or none, as a second label of a name. A statement stands where
-//! its section ends before it, but one that enters a section stands after that.
+//! its section ends before it, but one that enters a section stands after that. The bindings of names are gathered
+//! before all else: a distance from a weak label is no constant, wherever `.weak` stands, and sizes count at once.
 
-ghost use Rattle.std.specs.Prelude.{◌≡◌, ◌≤◌, ℕ, false, length, option_map, map, OnOk, IfOk, IfSome};
+ghost use Rattle.std.specs.Prelude.{◌≡◌, ◌≤◌, ℕ, false, [], length, option_map, map, OnOk, IfOk, IfSome};
 ghost use Rattle.rv_text_laws.specs.Expression.{Primary, Here, Tree as Expression};
 ghost use Rattle.rv_text_laws.specs.Values as values;
 ghost use Rattle.rv_text_laws.specs.Values.{Symbolic, value_of};
@@ -14,6 +15,7 @@ ghost use Rattle.rv_text.specs.Eval.{meaning_of, value_told, IsOutcome};
 ghost use Rattle.rv_statement.specs.Limits.{most_statements};
 ghost use Rattle.rv_statement.specs.Statement.{Aligns_to_power, Aligns_to_bytes, Zeros};
 ghost use Rattle.rv_statement.specs.View.{statement_kind, opening_of, statement_of};
+ghost use Rattle.rv_unit_laws.specs.Bindings.{bound_by};
 ghost use Rattle.rv_unit_laws.specs.Sections.{entered_by};
 ghost use Rattle.rv_unit_laws.specs.Tables as laws;
 ghost use Rattle.rv_unit_laws.proofs.BeforeLemmas.{IsBefore};
@@ -230,7 +232,7 @@ impl<'a> Tables<'a> {
             StatementKind::Plain(_) => Ok(()),
             StatementKind::With(..) => Ok(()),
             StatementKind::WithFunction(..) => Ok(()),
-            StatementKind::Binds(binding, names) => self.bind(*binding, names.as_slice()),
+            StatementKind::Binds(..) => Ok(()),
             StatementKind::Ignored => Ok(()),
         }
     }
@@ -255,23 +257,70 @@ impl<'a> Tables<'a> {
         Ok(before)
     }
 
-    /// What all statements change from the start on, and where each stands, in which options.
-    pub fn fill(
+    /// The bindings of names after a statement.
+    fn bind_by(&mut self, kind: &StatementKind<'a>) -> Result<(), AllocError>
+        ensures tables { OnOk result (tables_of self.new
+            ≡ record
+            (tables_of self.old) {
+              bindings = bound_by (statement_kind kind.now) (tables_of self.old).bindings;
+            }) }
+        ensures indexed { OnOk result (IsIndexed self.old → IsIndexed self.new) }
+    {
+        match kind {
+            StatementKind::Binds(binding, names) => self.bind(*binding, names.as_slice()),
+            StatementKind::Label(_) => Ok(()),
+            StatementKind::Numbered(_) => Ok(()),
+            StatementKind::Plain(_) => Ok(()),
+            StatementKind::With(..) => Ok(()),
+            StatementKind::WithFunction(..) => Ok(()),
+            StatementKind::Enters(_) => Ok(()),
+            StatementKind::Opens(_) => Ok(()),
+            StatementKind::Sets(_) => Ok(()),
+            StatementKind::AlignsToPower(_) => Ok(()),
+            StatementKind::AlignsToBytes(_) => Ok(()),
+            StatementKind::Value(..) => Ok(()),
+            StatementKind::Values(..) => Ok(()),
+            StatementKind::Ascii(_) => Ok(()),
+            StatementKind::Asciz(_) => Ok(()),
+            StatementKind::Zeros(_) => Ok(()),
+            StatementKind::Chooses(_) => Ok(()),
+            StatementKind::Ignored => Ok(()),
+        }
+    }
+
+    /// The bindings of names after all statements.
+    fn bind_names(&mut self, statements: &[Statement<'a>]) -> Result<(), AllocError>
+        ensures tables { OnOk result (tables_of self.new
+            ≡ laws.bound_tables (map statement_of statements.now) (tables_of self.old)) }
+        ensures indexed { OnOk result (IsIndexed self.old → IsIndexed self.new) }
+    {
+        for statement in statements {
+            self.bind_by(&statement.kind)?;
+        }
+        Ok(())
+    }
+
+    /// What all statements change where the bindings of names are known, and where each stands, in which options.
+    fn stand_all(
         &mut self,
         alloc: Global,
         statements: &[Statement<'a>],
     ) -> Result<Filled, AllocError>
         requires { length statements.now ≤ most_statements }
         ensures tables { OnOk result
-            (tables_of self.old ≡ laws.at_start → IsIndexed self.old →
+            (tables_of self.old ≡ laws.at_start (map statement_of statements.now) →
+            IsIndexed self.old →
             tables_of self.new ≡ laws.tables (map statement_of statements.now)) }
         ensures indexed { OnOk result
-            (tables_of self.old ≡ laws.at_start → IsIndexed self.old → IsIndexed self.new) }
+            (tables_of self.old ≡ laws.at_start (map statement_of statements.now) →
+            IsIndexed self.old → IsIndexed self.new) }
         ensures places { IfOk result
-            (λ filled. tables_of self.old ≡ laws.at_start → IsIndexed self.old →
+            (λ filled. tables_of self.old ≡ laws.at_start (map statement_of statements.now) →
+            IsIndexed self.old →
             map offset_of filled.places.items ≡ laws.places (map statement_of statements.now)) }
         ensures options { IfOk result
-            (λ filled. tables_of self.old ≡ laws.at_start → IsIndexed self.old
+            (λ filled. tables_of self.old ≡ laws.at_start (map statement_of statements.now) →
+            IsIndexed self.old
             → map options_of filled.options.items
             ≡ laws.all_options (map statement_of statements.now)) }
     {
@@ -285,5 +334,29 @@ impl<'a> Tables<'a> {
             places.push(place)?;
         }
         Ok(Filled { places, options })
+    }
+
+    /// What all statements change from the start on, and where each stands, in which options.
+    pub fn fill(
+        &mut self,
+        alloc: Global,
+        statements: &[Statement<'a>],
+    ) -> Result<Filled, AllocError>
+        requires { length statements.now ≤ most_statements }
+        ensures tables { OnOk result
+            (tables_of self.old ≡ laws.at_start [] → IsIndexed self.old →
+            tables_of self.new ≡ laws.tables (map statement_of statements.now)) }
+        ensures indexed { OnOk result
+            (tables_of self.old ≡ laws.at_start [] → IsIndexed self.old → IsIndexed self.new) }
+        ensures places { IfOk result
+            (λ filled. tables_of self.old ≡ laws.at_start [] → IsIndexed self.old →
+            map offset_of filled.places.items ≡ laws.places (map statement_of statements.now)) }
+        ensures options { IfOk result
+            (λ filled. tables_of self.old ≡ laws.at_start [] → IsIndexed self.old
+            → map options_of filled.options.items
+            ≡ laws.all_options (map statement_of statements.now)) }
+    {
+        self.bind_names(statements)?;
+        self.stand_all(alloc, statements)
     }
 }

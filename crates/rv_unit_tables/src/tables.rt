@@ -5,7 +5,7 @@
 //! keeps the ordinals of its statements in order: what came before a statement is then found by halving. A label stands
 //! once, in a map by its name.
 
-ghost use Rattle.std.specs.Prelude.{◌≡◌, ℕ, ◌-◌, ◌^◌, min, ◌<◌, ◌||◌, ◌==◌, List, false, true, not, is_some, nat_lt, length, Some, None, option_map, map, reverse, IfOk, OnOk};
+ghost use Rattle.std.specs.Prelude.{◌≡◌, ℕ, ◌-◌, ◌^◌, min, ◌<◌, ◌||◌, ◌==◌, List, [], false, true, not, is_some, nat_lt, length, Some, None, option_map, map, reverse, IfOk, OnOk};
 ghost use Rattle.std.specs.List.{find};
 ghost use Rattle.rv_text_laws.specs.Bytes.{value as digits_value};
 ghost use Rattle.rv_text_laws.specs.Values.{Open};
@@ -14,7 +14,7 @@ ghost use Rattle.rv_text.specs.Expr.{tree_of_expr};
 ghost use Rattle.rv_text.specs.Eval.{meaning_of, IsOutcome};
 ghost use Rattle.rv_statement.specs.declared.directive.Choice.TheVariants.{Pop};
 ghost use Rattle.rv_statement.specs.View.{statement_kind, now_of};
-ghost use Rattle.rv_unit_laws.specs.Bindings.{bound};
+ghost use Rattle.rv_unit_laws.specs.Bindings.{bound, is_weak};
 ghost use Rattle.rv_unit_laws.specs.Sections as sections;
 ghost use Rattle.rv_unit_laws.specs.Tables as laws;
 ghost use Rattle.rv_unit_laws.proofs.BeforeLemmas.{IsBefore};
@@ -89,14 +89,14 @@ pub struct Tables<'a> {
     /// The options that are set, and those that were kept, in their order.
     pub(crate) options: Options,
     pub(crate) kept: Vec<Options>,
-    /// What was said last of each name of which a binding was said.
+    /// What the source says last of each name of which it says a binding.
     pub(crate) bindings: IndexMap<&'a [u8], Binding>,
 }
 
 impl<'a> Tables<'a> {
     /// The tables before the first statement.
     pub fn new(alloc: Global) -> Result<Self, AllocError>
-        ensures tables { IfOk result (λ b. tables_of b ≡ laws.at_start) }
+        ensures tables { IfOk result (λ b. tables_of b ≡ laws.at_start []) }
         ensures indexed { IfOk result (λ b. IsIndexed b) }
     {
         let section = Section::text();
@@ -254,6 +254,30 @@ impl<'a> Tables<'a> {
     fn named(&self, name: &[u8]) -> Meaning
         ensures { IsIndexed self.now → (o : ℕ) → IsBefore (tables_of self.now) o →
             meaning_of result ≡ laws.named (tables_of self.now) false o name.now }
+    {
+        self.weakened(name, self.own_named(name))
+    }
+
+    /// What a name means that means this in its own file: a place whose name is weak is open, as another file's may stand
+    /// for it.
+    pub fn weakened(&self, name: &[u8], meaning: Meaning) -> Meaning
+        ensures { meaning_of result
+            ≡ laws.weakened ((tables_of self.now).bindings name.now) (meaning_of meaning) }
+    {
+        match meaning {
+            Meaning::InSection(..) => if self.is_weak(name) {
+                Meaning::Open
+            } else {
+                meaning
+            },
+            meaning => meaning,
+        }
+    }
+
+    /// What a name means so far in its own file.
+    fn own_named(&self, name: &[u8]) -> Meaning
+        ensures { IsIndexed self.now → (o : ℕ) → IsBefore (tables_of self.now) o →
+            meaning_of result ≡ laws.own_named (tables_of self.now) false o name.now }
     {
         match self.assignment(name) {
             Some(assignment) => assignment.meaning,
@@ -499,6 +523,13 @@ impl<'a> Tables<'a> {
         ensures { result ≡ (tables_of self.now).bindings name.now }
     {
         self.bindings.get(&name).copied().unwrap_or(Binding::Local)
+    }
+
+    /// Whether a name is weak.
+    pub fn is_weak(&self, name: &[u8]) -> bool
+        ensures { result ≡ is_weak ((tables_of self.now).bindings name.now) }
+    {
+        matches!(self.binding(name), Binding::Weak)
     }
 
     /// The options that were kept last are set again, if there are any.

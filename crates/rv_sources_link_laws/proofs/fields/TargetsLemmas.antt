@@ -118,7 +118,7 @@ pub all_settled : (ss : List Statement) (o : Object) (is : IsObjectOf ss o) → 
 all_settled ss o is = settled ss is.sites is.good is.located
 
 pub firsts : (ss : List Statement) (o : Object) (is : IsObjectOf ss o) → AllByRecursion (IsFirst is.sites) is.sites
-firsts ss o is = all_map (λ z. (1 ≤ z.located.ordinal) × IsFirst is.sites z) (IsFirst is.sites) is.sites (λ z k. k.1) (found_from 1 at_start ss is.sites is.located)
+firsts ss o is = all_map (λ z. (1 ≤ z.located.ordinal) × IsFirst is.sites z) (IsFirst is.sites) is.sites (λ z k. k.1) (found_from 1 (at_start ss) ss is.sites is.located)
 
 -- no statement stands beyond its section
 abbrev IsLow : Object → Site → Type 0

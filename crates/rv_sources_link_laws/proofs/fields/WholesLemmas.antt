@@ -119,13 +119,13 @@ front_of : (P : Located → Type 0) (xs ys : List Located) → AllByRecursion P 
 front_of P [] ys h = tt
 front_of P (x ∷ xs) ys (h, hs) = (h, front_of P xs ys hs)
 
-pub sound : (ss : List Statement) (sites : List Site) → statements_fault ss ≡ None → map (λ s. s.located) sites ≡ located_from 1 1 at_start ss
+pub sound : (ss : List Statement) (sites : List Site) → statements_fault ss ≡ None → map (λ s. s.located) sites ≡ located_from 1 1 (at_start ss) ss
     → AllByRecursion (λ z. IsSound (tables ss) z.located) sites
 sound ss sites good is =
     of_located (IsSound (tables ss)) sites
     (subst (λ l. AllByRecursion (IsSound (tables ss)) l) (sym is)
-    (front_of (IsSound (tables ss)) (located_from 1 1 at_start ss) []
-    (sound_from (tables ss) (located_from 1 1 at_start ss ++ []) (no_second (first_fault ss) (code_fault ss) good))))
+    (front_of (IsSound (tables ss)) (located_from 1 1 (at_start ss) ss) []
+    (sound_from (tables ss) (located_from 1 1 (at_start ss) ss ++ []) (no_second (first_fault ss) (code_fault ss) good))))
 
 -- a label stands where its statement stands
 abbrev pub StandsAlone : Tables → Type 0

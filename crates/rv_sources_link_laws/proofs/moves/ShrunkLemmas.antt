@@ -106,7 +106,7 @@ AreSectionsOf t all number symbols index sections xs = AreInOrder (IsSectionOf t
 pub record IsObjectOf (ss : List Statement) (o : Object) : Type 0 where
   pub good : statements_fault ss ≡ None
   pub sites : List Site
-  pub located : map (λ s. s.located) sites ≡ located_from 1 1 at_start ss
+  pub located : map (λ s. s.located) sites ≡ located_from 1 1 (at_start ss) ss
   pub places : AllByRecursion (StandsInData sites) (tables ss).assignments
   pub number : Numbering
   pub sections : AreSectionsOf (tables ss) sites number o.symbols 0 (opened_of (tables ss)).sections o.sections

@@ -30,14 +30,14 @@ flagged file [] (o ∷ os) h = absurd h
 flagged file (ss ∷ sources) [] h = absurd h
 flagged file (ss ∷ sources) (o ∷ os) (is, h) =
     let others = located_of (suc file) sources in
-    let here : located_from file 1 at_start ss
+    let here : located_from file 1 (at_start ss) ss
     ≡ map (renumbered file) (map (λ s. s.located) is.sites) =
-    renumbers file 1 at_start ss ∙ ap (map (renumbered file)) (sym is.located) in
+    renumbers file 1 (at_start ss) ss ∙ ap (map (renumbered file)) (sym is.located) in
     ap (λ b. b || list_any (λ o. o.rvc) os)
     (is.rvc ∙ sym (own file is.sites) ∙ ap (list_any is_compressed_code) (sym here))
-    ∙ ap (λ b. list_any is_compressed_code (located_from file 1 at_start ss) || b)
+    ∙ ap (λ b. list_any is_compressed_code (located_from file 1 (at_start ss) ss) || b)
     (flagged (suc file) sources os h)
-    ∙ sym (list_any-append is_compressed_code (located_from file 1 at_start ss) others)
+    ∙ sym (list_any-append is_compressed_code (located_from file 1 (at_start ss) ss) others)
 
 -- relaxation changes no flag
 shortened_flags : (sizes : ℕ → ℕ → Sizes) (file : ℕ) (os : List Object)

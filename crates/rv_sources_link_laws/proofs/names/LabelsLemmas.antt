@@ -171,7 +171,7 @@ numeric_alone (Some m) d e =
     let same : record { ordinal = m.ordinal; plus = 0 } ≡ d = cc in sym (ap (λ (d : Definition). d.plus) same)
 
 pub labels_stand : (ss : List Statement) (ordinal : ℕ) (q : Primary) (d : Definition) → is_label (tables ss) ordinal q ≡ true → definition (tables ss) ordinal q ≡ Some d → d.plus ≡ 0
-labels_stand ss ordinal (Symbol name) d is_one defined = label_alone name (tables ss) (one_name name 1 at_start ss (before_start 1) tt) ordinal d is_one defined
+labels_stand ss ordinal (Symbol name) d is_one defined = label_alone name (tables ss) (one_name name 1 (at_start ss) ss (before_start ss 1) tt) ordinal d is_one defined
 labels_stand ss ordinal (Literal n) d is_one defined = absurd (cc)
 labels_stand ss ordinal Here d is_one defined = absurd (cc)
 labels_stand ss ordinal (Reference digits true) d is_one defined = numeric_alone (numeric_label_after (tables ss).numeric_labels ordinal (digits_value 10 digits)) d defined

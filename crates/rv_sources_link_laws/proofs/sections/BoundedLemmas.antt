@@ -128,7 +128,7 @@ all_small t ordinal [] h = h
 all_small t ordinal (s ∷ ss) h = all_small (after t ordinal s.kind) (suc ordinal) ss (after_small t ordinal s.kind h)
 
 source_small : (ss : List Statement) → AreSmall (tables ss).extents
-source_small ss = all_small at_start 1 ss (omega arith, (omega arith, tt))
+source_small ss = all_small (at_start ss) 1 ss (omega arith, (omega arith, tt))
 
 alignment_small : (es : List Extent) (j : ℕ) → AllByRecursion IsSmall es → slice_index_or (map (λ (e : Extent). e.alignment) es) j 1 ≤ 4096
 alignment_small [] j h = omega arith

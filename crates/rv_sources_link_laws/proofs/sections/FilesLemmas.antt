@@ -91,7 +91,7 @@ module _ (starts : Starts) where
       go false more = more low (omega (arith, h))
 
   by_ordinals : (ss : List Statement) (o : Object) (is : IsObjectOf ss o) → by_ordinal o.rows ≡ flat_map rows_at is.sites
-  by_ordinals ss o is = ap by_ordinal is.rows ∙ rows_stay 0 (flat_map rows_at is.sites) (rise_from 1 at_start ss is.sites is.located 0 (omega arith))
+  by_ordinals ss o is = ap by_ordinal is.rows ∙ rows_stay 0 (flat_map rows_at is.sites) (rise_from 1 (at_start ss) ss is.sites is.located 0 (omega arith))
 
   pub rows_all : (file : ℕ) (sources : List (List Statement)) (os : List Object) (h : AreObjectsOf sources os) → linked_rows starts file os ≡ all_rows starts file sources os h
   rows_all file [] [] h = refl
@@ -126,7 +126,7 @@ files_from p starts file (ss ∷ sources) (o ∷ os) (is, h) f = (
   files_from p starts (suc file) sources os h (λ i. subst (λ n. IsFile p starts n (slice_index_or sources i []) (sites_by starts sources os h i)) (let e : file + suc i ≡ suc file + i = omega arith in e) (f (suc i))),
 )
 
-tables_by : (sources : List (List Statement)) (i : ℕ) → slice_index_or (map tables sources) i at_start ≡ tables (slice_index_or sources i [])
+tables_by : (sources : List (List Statement)) (i : ℕ) → slice_index_or (map tables sources) i (at_start []) ≡ tables (slice_index_or sources i [])
 tables_by [] i = refl
 tables_by (ss ∷ sources) zero = refl
 tables_by (ss ∷ sources) (suc i) = tables_by sources i
@@ -143,7 +143,7 @@ module _ (sources : List (List Statement)) (os : List Object) (m : Map) (starts 
 
   pub files : AreFiles p starts 1 sources os h
   files = files_from p starts 1 sources os h (λ i. record {
-    tables = ap (λ n. slice_index_or (map tables sources) n at_start) (let e : 1 + i - 1 ≡ i = omega arith in e) ∙ tables_by sources i;
+    tables = ap (λ n. slice_index_or (map tables sources) n (at_start [])) (let e : 1 + i - 1 ≡ i = omega arith in e) ∙ tables_by sources i;
     mapped = λ j. ap (λ s. mapped_in (mapped_of s) (1 + i) j) statements_ours ∙ mapped_by starts 1 i j sources os h;
     address = λ n. ap (λ s. address_at s (1 + i) n) statements_ours ∙ address_by starts 1 i n sources os h;
     stands = λ n. ap (λ s. section_in starts (find (Test starts (1 + i) n) s)) statements_ours ∙ section_by starts 1 i n sources os h;

@@ -45,7 +45,7 @@ module _ (starts : Starts) (says : ℕ → Site → List ℕ) where
   found_by [] (o ∷ os) h i = absurd h
   found_by (ss ∷ sources) [] h i = absurd h
   found_by (ss ∷ sources) (o ∷ os) (is, h) zero =
-      all_map (IsFound 1 is.sites) (IsFound 0 is.sites) is.sites (λ z f. (omega arith, f.1)) (found_from 1 at_start ss is.sites is.located)
+      all_map (IsFound 1 is.sites) (IsFound 0 is.sites) is.sites (λ z f. (omega arith, f.1)) (found_from 1 (at_start ss) ss is.sites is.located)
   found_by (ss ∷ sources) (o ∷ os) (is, h) (suc i) = found_by sources os h i
 
   -- ---- a function that gives each site's code for its statement

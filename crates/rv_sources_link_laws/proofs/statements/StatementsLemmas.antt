@@ -116,8 +116,8 @@ module _ (starts : Starts) where
   statements_all file [] (o ∷ os) h = absurd h
   statements_all file (ss ∷ sources) [] h = absurd h
   statements_all file (ss ∷ sources) (o ∷ os) (is, h) =
-      let own : located_from file 1 at_start ss ≡ map (renumbered file) (map (λ s. s.located) is.sites) =
-      renumbers file 1 at_start ss ∙ ap (map (renumbered file)) (sym is.located) in
+      let own : located_from file 1 (at_start ss) ss ≡ map (renumbered file) (map (λ s. s.located) is.sites) =
+      renumbers file 1 (at_start ss) ss ∙ ap (map (renumbered file)) (sym is.located) in
       ap (λ l. statements_of (l ++ located_of (suc file) sources) (rows_from file is.sites ++ all_rows (suc file) sources os h)) own
       ∙ statements_are file is.sites (located_of (suc file) sources) (all_rows (suc file) sources os h)
       ∙ ap (λ l. map (statement_at file) is.sites ++ l) (statements_all (suc file) sources os h)

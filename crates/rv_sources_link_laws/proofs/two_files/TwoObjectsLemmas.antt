@@ -16,7 +16,7 @@ use Rattle.rv_source_laws.proofs.SettlingLemmas.{settled_least}
 use Rattle.rv_sources_link_laws.specs.TwoFiles.{first_source, second_source, first_object, second_object, first_sites, second_sites, first_number, second_number}
 
 no_site : Site
-no_site = record { located = located_now 1 1 at_start (record { line = 1; kind = Label [] }); offset = 0; bytes = 0; instructions = 0; coded = [] }
+no_site = record { located = located_now 1 1 (at_start []) (record { line = 1; kind = Label [] }); offset = 0; bytes = 0; instructions = 0; coded = [] }
 
 abbrev nth : List Site → ℕ → Site
 nth sites n = slice_index_or sites n no_site
@@ -38,7 +38,7 @@ first_is = record {
   sites = first_sites;
   located = refl;
   places = tt;
-  least = settled_least (located_from 1 1 at_start first_source) (map (λ s. s.bytes) first_sites) refl;
+  least = settled_least (located_from 1 1 (at_start first_source) first_source) (map (λ s. s.bytes) first_sites) refl;
   number = first_number;
   sections = (
     record {
@@ -89,7 +89,7 @@ second_is = record {
   sites = second_sites;
   located = refl;
   places = ((λ e. absurd (cc)), tt);
-  least = settled_least (located_from 1 1 at_start second_source) (map (λ s. s.bytes) second_sites) refl;
+  least = settled_least (located_from 1 1 (at_start second_source) second_source) (map (λ s. s.bytes) second_sites) refl;
   number = second_number;
   sections = (
     record {

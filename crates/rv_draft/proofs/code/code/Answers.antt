@@ -23,7 +23,7 @@ use Rattle.rv_draft.proofs.WholeLemmas.{code_more, code_wrong, code_whole, size_
 use Rattle.rv_draft.proofs.code.code.Goals as goal
 
 pub loop-index-init : goal.loop-index-init
-loop-index-init c = (c.new-scope.ensures.unit, c.new-scope.ensures.start, c.in_ok-coder.ensures.begun _ _, c.in_ok-coder.ensures.count ∙ ap length c.sections.ensures, ap bytes_of_sizes c.in_ok-coder.ensures.none ∙ sym (take_none (code_lengths (tables (said c.args.unit.now)) (located_from 1 1 at_start (said c.args.unit.now)) c.args.layout.now.sizes.items)))
+loop-index-init c = (c.new-scope.ensures.unit, c.new-scope.ensures.start, c.in_ok-coder.ensures.begun _ _, c.in_ok-coder.ensures.count ∙ ap length c.sections.ensures, ap bytes_of_sizes c.in_ok-coder.ensures.none ∙ sym (take_none (code_lengths (tables (said c.args.unit.now)) (located_from 1 1 (at_start (said c.args.unit.now)) (said c.args.unit.now)) c.args.layout.now.sizes.items)))
 
 pub bounds-places-index : goal.bounds-places-index
 bounds-places-index c =
@@ -45,7 +45,7 @@ add-requires c =
     let within = subst (λ n. i < n) (sym (length-map u.statements.items statement_of)) inside in
     let on : c.rvc-compressed.result ≡ (located_at (said u) i (statement_of x)).options.rvc =
     c.rvc-compressed.ensures ∙ ap (λ (o : Options). o.rvc) (c.options_at.ensures c.requires.filled within) in
-    let all = located_from 1 1 at_start (said u) in
+    let all = located_from 1 1 (at_start (said u)) (said u) in
     let told = size_here (tables (said u)) all c.args.layout.now.sizes.items i (located_at (said u) i (statement_of x)) (drop (i + 1) all) c.requires.sizes at.next in
     record {
       asked =
@@ -90,7 +90,7 @@ loop-index-preserved c =
     let on : rvc ≡ (located_at (said u) i (statement_of x)).options.rvc =
     c.rvc-compressed.ensures ∙ ap (λ (o : Options). o.rvc) (c.options_at.ensures c.requires.filled within) in
     let t = tables (said u) in
-    let all = located_from 1 1 at_start (said u) in
+    let all = located_from 1 1 (at_start (said u)) (said u) in
     let st = located_at (said u) i (statement_of x) in
     let sizes = c.args.layout.now.sizes.items in
     let asked = c.size-wanted.result in
@@ -137,7 +137,7 @@ returns-in_err-add-clause-code c =
     (c.in_err-add.ensures i filled c.loop-index.invariant.1) in
     let found = err_from_is_err_and c.from_residual-in_err-add.result c.from_residual-in_err-add.ensures.1 in
     rw (found.1, found.2)
-    (code_wrong u i c.size-wanted.result x p rvc e.section.executable c.loop-index.coder c.add.new.self faults c.in_err-add.field-0.0 at c.loop-index.invariant.2 known wrong (code_lengths (tables (said u)) (located_from 1 1 at_start (said u)) c.args.layout.now.sizes.items))
+    (code_wrong u i c.size-wanted.result x p rvc e.section.executable c.loop-index.coder c.add.new.self faults c.in_err-add.field-0.0 at c.loop-index.invariant.2 known wrong (code_lengths (tables (said u)) (located_from 1 1 (at_start (said u)) (said u)) c.args.layout.now.sizes.items))
 
 pub returns-clause-code : goal.returns-clause-code
 returns-clause-code c =
@@ -145,7 +145,7 @@ returns-clause-code c =
     let i = c.loop-index.index in
     let past = subst (λ l. length l ≤ i) c.statements-statements.ensures c.loop-index-test.false in
     let t = tables (said u) in
-    let all = located_from 1 1 at_start (said u) in
+    let all = located_from 1 1 (at_start (said u)) (said u) in
     let sizes = c.args.layout.now.sizes.items in
     let lengths = code_lengths t all sizes in
     let told : bytes_of_sizes c.loop-index.coder.sizes.items ≡ lengths = c.loop-index.invariant.4 ∙ take_past lengths i (subst (λ n. n ≤ i) (sym (lengths_count t all sizes c.requires.sizes ∙ c.requires.count)) past) in

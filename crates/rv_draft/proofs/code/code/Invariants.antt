@@ -12,4 +12,4 @@ abbrev pub invariant-loop-index : goal.invariant-loop-index
 invariant-loop-index l =
     (l.scope.unit.now ≡ l.unit) × IsScope l.scope l.index × CodeTo (said l.unit) l.index l.coder
     × (length l.coder.sections.items ≡ length l.unit.tables.extents.items)
-    × (bytes_of_sizes l.coder.sizes.items ≡ take l.index (code_lengths (tables (said l.unit)) (located_from 1 1 at_start (said l.unit)) l.layout.sizes.items))
+    × (bytes_of_sizes l.coder.sizes.items ≡ take l.index (code_lengths (tables (said l.unit)) (located_from 1 1 (at_start (said l.unit)) (said l.unit)) l.layout.sizes.items))

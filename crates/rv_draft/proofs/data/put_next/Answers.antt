@@ -70,7 +70,7 @@ put_code-requires c =
     let next = drop_more c.args.items.now i none c.requires.item in
     let within = subst (λ n. i < n) (sym (length-map u.statements.items statement_of)) c.requires.within in
     let options = c.options_at-options.ensures c.requires.filled within in
-    let all = located_from 1 1 at_start ss in
+    let all = located_from 1 1 (at_start ss) ss in
     record {
       fits = item_low ss c.args.items.now i (statement_of x) item c.requires.laid at.here next;
       made = made_spot _ u i x c.rvc.result item.bytes c.requires.same c.requires.filled c.requires.next at (c.rvc.ensures ∙ ap (λ (o : Options). o.rvc) options)

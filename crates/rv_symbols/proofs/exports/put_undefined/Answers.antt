@@ -2,7 +2,8 @@ use Rattle.std.proofs.Common.{◌+◌, [], ◌∷◌, ◌++◌, map, drop, get_o
 use Rattle.std.proofs.lemmas.List.{map-append}
 use Rattle.rv_object.specs.declared.symbol.Definition.TheVariants.{Undefined}
 use Rattle.rv_object.specs.Parts.{symbol_of}
-use Rattle.rv_assemble_laws.specs.Symbols.{global_symbol}
+use Rattle.rv_assemble_laws.specs.Symbols.{shared_symbol}
+use Rattle.rv_symbols.specs.Source.{tables_of}
 use Rattle.std.specs.Prelude.{option_map}
 use Rattle.rv_map.specs.Name.{is_name}
 use Rattle.rv_statement.specs.View.{now_of}
@@ -17,14 +18,16 @@ invariant_of-undefined c =
     record { shown = all_got is_name (map now_of names) i _ (got_map now_of names i ∙ ap (option_map now_of) (some_at names i (record { ref_ptr = (0, 0); now = [] }) c.loop-name-test.true)) c.requires }
 
 pub loop-name-preserved : goal.loop-name-preserved
-loop-name-preserved c =
+loop-name-preserved c = λ sites h.
+    let t = tables_of c.args.source.now in
     let i = c.loop-name.name-index in
     let names = c.args.names.now in
     let name = get_or names i (record { ref_ptr = (0, 0); now = [] }) in
     let old = map symbol_of c.loop-name.symbols.items in
-    let rest = map (λ name. global_symbol name Undefined) (drop (i + 1) (map now_of names)) in
+    let rest = map (λ name. shared_symbol t name Undefined) (drop (i + 1) (map now_of names)) in
     ap (λ l. map symbol_of l ++ rest) c.in_ok-push.ensures.items
     ∙ ap (λ l. l ++ rest) (map-append symbol_of c.loop-name.symbols.items _)
-    ∙ append_assoc old (global_symbol name.now Undefined ∷ []) rest
-    ∙ ap (λ l. old ++ map (λ name. global_symbol name Undefined) l) (sym (drop_next (map now_of names) i name.now (got_map now_of names i ∙ ap (option_map now_of) (some_at names i (record { ref_ptr = (0, 0); now = [] }) c.loop-name-test.true))))
-    ∙ c.loop-name.invariant
+    ∙ ap (λ b. (old ++ record { name = name.now; binding = b; definition = Undefined } ∷ []) ++ rest) (c.outer_binding.ensures sites h)
+    ∙ append_assoc old (shared_symbol t name.now Undefined ∷ []) rest
+    ∙ ap (λ l. old ++ map (λ name. shared_symbol t name Undefined) l) (sym (drop_next (map now_of names) i name.now (got_map now_of names i ∙ ap (option_map now_of) (some_at names i (record { ref_ptr = (0, 0); now = [] }) c.loop-name-test.true))))
+    ∙ c.loop-name.invariant sites h

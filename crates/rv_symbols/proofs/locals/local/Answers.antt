@@ -1,7 +1,7 @@
 use Rattle.std.proofs.Common.{◌≡◌, [], ◌∷◌, sym, ap, ◌∙◌, subst}
 use Rattle.rv_statement.specs.View.{statement_of}
-use Rattle.rv_unit_laws.specs.Bindings.{is_global}
-use Rattle.rv_source_laws.specs.Resolves.{defined_name}
+use Rattle.rv_unit_laws.specs.Bindings.{is_shared}
+use Rattle.rv_source_laws.specs.Exports.{defined_name}
 use Rattle.rv_assemble_laws.specs.Symbols.{local_symbol, site_definition, named_symbols}
 use Rattle.rv_symbols.specs.Source.{name_in, tables_of}
 use Rattle.rv_symbols.specs.Found.{is_number}
@@ -13,25 +13,25 @@ pub returns-in_default-clause-symbols : goal.returns-in_default-clause-symbols
 returns-in_default-clause-symbols c = λ sites s h at kind.
     let x = c.args.source.now in
     let t = tables_of x in
-    local_none (λ n. is_global (t.bindings n)) (site_definition t sites s s.located.kind) (defined_name t s.located.ordinal s.located.kind)
+    local_none (λ n. is_shared (t.bindings n)) (site_definition t sites s s.located.kind) (defined_name t s.located.ordinal s.located.kind)
     (ap name_in (sym c.in_default.is) ∙ named_at t _ c.args.index s (statement_of c.args.statement.now).kind (ordinal_is x sites h c.args.index s at) kind (c.defined.ensures.name sites h))
 
-pub returns-then-is_global-clause-symbols : goal.returns-then-is_global-clause-symbols
-returns-then-is_global-clause-symbols c = λ sites s h at kind.
+pub returns-then-is_shared-clause-symbols : goal.returns-then-is_shared-clause-symbols
+returns-then-is_shared-clause-symbols c = λ sites s h at kind.
     let x = c.args.source.now in
     let t = tables_of x in
-    local_global (λ n. is_global (t.bindings n)) (site_definition t sites s s.located.kind) (defined_name t s.located.ordinal s.located.kind) c.in-Some.name.now
+    local_global (λ n. is_shared (t.bindings n)) (site_definition t sites s s.located.kind) (defined_name t s.located.ordinal s.located.kind) c.in-Some.name.now
     (ap name_in (sym c.in-Some.is) ∙ named_at t _ c.args.index s (statement_of c.args.statement.now).kind (ordinal_is x sites h c.args.index s at) kind (c.defined.ensures.name sites h))
-    (sym (c.is_global.ensures sites h) ∙ c.if-is_global.true)
+    (sym (c.is_shared.ensures sites h) ∙ c.if-is_shared.true)
 
 pub returns-then-is_number-clause-symbols : goal.returns-then-is_number-clause-symbols
 returns-then-is_number-clause-symbols c = λ sites s h at kind.
     let x = c.args.source.now in
     let t = tables_of x in
     let d : c.definition-definition.result ≡ site_definition t sites s s.located.kind = c.definition-definition.ensures sites s h at ∙ ap (site_definition t sites s) kind in
-    local_number (λ n. is_global (t.bindings n)) (site_definition t sites s s.located.kind) (defined_name t s.located.ordinal s.located.kind) c.in-Some.name.now
+    local_number (λ n. is_shared (t.bindings n)) (site_definition t sites s s.located.kind) (defined_name t s.located.ordinal s.located.kind) c.in-Some.name.now
     (ap name_in (sym c.in-Some.is) ∙ named_at t _ c.args.index s (statement_of c.args.statement.now).kind (ordinal_is x sites h c.args.index s at) kind (c.defined.ensures.name sites h))
-    (sym (c.is_global.ensures sites h) ∙ c.if-is_global.false)
+    (sym (c.is_shared.ensures sites h) ∙ c.if-is_shared.false)
     (ap is_number (sym d) ∙ sym c.is_number.ensures ∙ c.if-is_number.true)
 
 pub returns-clause-symbols : goal.returns-clause-symbols
@@ -40,7 +40,7 @@ returns-clause-symbols c = λ sites s h at kind.
     let t = tables_of x in
     let d : c.definition-definition.result ≡ site_definition t sites s s.located.kind = c.definition-definition.ensures sites s h at ∙ ap (site_definition t sites s) kind in
     subst (λ e. local_symbol c.in-Some.name.now e ∷ [] ≡ named_symbols t sites s) (sym d)
-    (local_one (λ n. is_global (t.bindings n)) (site_definition t sites s s.located.kind) (defined_name t s.located.ordinal s.located.kind) c.in-Some.name.now
+    (local_one (λ n. is_shared (t.bindings n)) (site_definition t sites s s.located.kind) (defined_name t s.located.ordinal s.located.kind) c.in-Some.name.now
     (ap name_in (sym c.in-Some.is) ∙ named_at t _ c.args.index s (statement_of c.args.statement.now).kind (ordinal_is x sites h c.args.index s at) kind (c.defined.ensures.name sites h))
-    (sym (c.is_global.ensures sites h) ∙ c.if-is_global.false)
+    (sym (c.is_shared.ensures sites h) ∙ c.if-is_shared.false)
     (ap is_number (sym d) ∙ sym c.is_number.ensures ∙ c.if-is_number.false))

@@ -11,7 +11,7 @@ use Rattle.rv_source_laws.specs.Located.{located_from}
 use Rattle.rv_object.specs.declared.symbol.Definition.TheVariants.{Undefined}
 use Rattle.rv_object.specs.Object.{Symbol}
 use Rattle.rv_object.specs.Parts.{symbol_of}
-use Rattle.rv_assemble_laws.specs.Symbols.{SymbolUse, references, local_symbols, exports, global_symbol, symbols_of}
+use Rattle.rv_assemble_laws.specs.Symbols.{SymbolUse, references, local_symbols, exports, shared_symbol, symbols_of}
 use Rattle.rv_symbols.specs.Settings.{AreFirsts}
 use Rattle.std.specs.List.{AllByRecursion}
 use Rattle.rv_assemble_laws.specs.IsObjectOf.{IsNumbered}
@@ -43,11 +43,11 @@ returns c = λ sites w.
     let h : IsSource x sites = record {
       filled = subst IsFilled (sym unit) c.requires.filled;
       firsts = subst (λ v. AreFirsts x.firsts.ordinals (tables (said v)).assignments) (sym unit) (c.in_ok-source.ensures.firsts c.requires.filled);
-      located = w.located ∙ ap (λ v. located_from 1 1 at_start (said v)) (sym unit);
+      located = w.located ∙ ap (λ v. located_from 1 1 (at_start (said v)) (said v)) (sym unit);
       at = w.at ∙ sym c.in_ok-source.ensures.offsets;
     } in
     let same : tables_of x ≡ t = ap (λ v. tables (said v)) unit in
-    let rises : Rises 1 (length ss) rs = subst (Rises 1 (length ss)) w.named (rises_from t 1 (length ss) at_start ss sites w.located (omega arith)) in
+    let rises : Rises 1 (length ss) rs = subst (Rises 1 (length ss)) w.named (rises_from t 1 (length ss) (at_start ss) ss sites w.located (omega arith)) in
     let defs : map (option_map definition_of) c.in_ok-definitions.definitions.items ≡ map (definition_in t) rs = c.in_ok-definitions.ensures.found c.requires.filled rises in
     let meant = c.in_ok-meant.meant.items in
     let marks : AreMarks t rs meant (length c.args.offsets.now) = c.in_ok-meant.ensures.marks t (ap (map (option_map definition_of)) c.as_slice.ensures.value ∙ defs) in
@@ -59,13 +59,14 @@ returns c = λ sites w.
     let own : map symbol_of c.put_exports.new.symbols.items ≡ own_symbols t sites =
     c.in_ok-put_exports.ensures.symbols sites h ∙ ap (λ l. l ++ exports (tables_of x) sites) (c.in_ok-symbols.ensures.symbols sites h those) ∙ ap (λ (v : Tables). own_symbols v sites) same in
     let names : map now_of c.in_ok-missing.missing.keys ≡ missing_names t rs = c.in_ok-missing.ensures.names t (ap (map (option_map definition_of)) c.as_slice-3.ensures.value ∙ defs) in
-    let undefined : List (List ℕ) → List Symbol = λ ns. map (λ name. global_symbol name Undefined) ns in
+    let undefined : Tables → List (List ℕ) → List Symbol = λ v ns. map (λ name. shared_symbol v name Undefined) ns in
     record {
       symbols =
-          c.in_ok-put_undefined.ensures
-          ∙ ap (λ l. l ++ undefined (map now_of c.as_slice-6.result.now)) own
-          ∙ ap (λ l. own_symbols t sites ++ undefined l) (ap (map now_of) c.as_slice-6.ensures.keys ∙ names ∙ ap (missing_names t) (sym w.named))
-          ∙ append_assoc (local_symbols t sites [] sites) (exports t sites) (undefined (missing_names t (references t sites)));
+          c.in_ok-put_undefined.ensures sites h
+          ∙ ap (λ (v : Tables). map symbol_of c.put_exports.new.symbols.items ++ undefined v (map now_of c.as_slice-6.result.now)) same
+          ∙ ap (λ l. l ++ undefined t (map now_of c.as_slice-6.result.now)) own
+          ∙ ap (λ l. own_symbols t sites ++ undefined t l) (ap (map now_of) c.as_slice-6.ensures.keys ∙ names ∙ ap (missing_names t) (sym w.named))
+          ∙ append_assoc (local_symbols t sites [] sites) (exports t sites) (undefined t (missing_names t (references t sites)));
       number = number_in t sites;
       numbers =
           sym (c.in_ok-numbers.ensures sites t h (ap (map (option_map definition_of)) c.as_slice-5.ensures.value ∙ defs)

@@ -42,7 +42,7 @@ items-requires-clause-sizes c =
     let ss = said u in
     let code = c.in_ok-code.code in
     ap length c.as_slice-sizes.ensures.value ∙ sizes_count (tables ss) (located (ss ∷ [])) _ code.sections.items code.sizes.items c.in_ok-code.ensures.code
-    ∙ ap length (one_file ss) ∙ stated_length 1 1 at_start ss ∙ length-map u.statements.items statement_of
+    ∙ ap length (one_file ss) ∙ stated_length 1 1 (at_start ss) ss ∙ length-map u.statements.items statement_of
 
 pub returns-in_err-items-clause-refuses : goal.returns-in_err-items-clause-refuses
 returns-in_err-items-clause-refuses c =
@@ -60,9 +60,9 @@ pub data-requires-clause-made : goal.data-requires-clause-made
 data-requires-clause-made c =
     let ss = said c.args.unit.now in
     let t = tables ss in
-    let all = located_from 1 1 at_start ss in
+    let all = located_from 1 1 (at_start ss) ss in
     let code = c.in_ok-code.code in
-    let sized = subst (λ l. AreSized t 1 at_start ss c.in_ok-items.items.items l) c.as_slice-sizes.ensures.value c.in_ok-items.ensures.sized in
+    let sized = subst (λ l. AreSized t 1 (at_start ss) ss c.in_ok-items.items.items l) c.as_slice-sizes.ensures.value c.in_ok-items.ensures.sized in
     subst (AreMade t all) (sym c.as_slice.ensures.value)
     (made_all ss (code_lengths t all c.in_ok-layout.layout.sizes.items) code.sections.items code.sizes.items c.in_ok-items.items.items c.in_ok-code.ensures.code sized
     (lengths_of_sizes t all c.in_ok-layout.layout.sizes.items c.in_ok-layout.ensures.sizes))
@@ -81,7 +81,7 @@ returns-clause-draft c =
       wide = all_wide u.statements.items;
       whole = c.in_ok-code.ensures.code;
       items = c.in_ok-items.ensures.items;
-      sized = subst (λ l. AreSized (tables ss) 1 at_start ss c.in_ok-items.items.items l) c.as_slice-sizes.ensures.value c.in_ok-items.ensures.sized;
+      sized = subst (λ l. AreSized (tables ss) 1 (at_start ss) ss c.in_ok-items.items.items l) c.as_slice-sizes.ensures.value c.in_ok-items.ensures.sized;
       low = c.in_ok-items.ensures.low;
       figures = subst (λ is. (codes : List (List Coded)) → HaveCode ss is codes → IsData ss is codes c.in_ok-code.code.sections.items found.sections.items found.fields.items) c.as_slice.ensures.value c.in_ok-filled.ensures.data;
       least = least_lengths ss c.in_ok-layout.layout.sizes.items c.requires.good c.in_ok-layout.ensures.sizes c.in_ok-layout.ensures.least;

@@ -9,4 +9,4 @@ abbrev pub invariant-loop-index : goal.invariant-loop-index
 invariant-loop-index l =
     (l.depth ≡ length (passed (said l.self) l.index).kept)
     × (l.depth ≤ l.index)
-    × (first_fault_from (tables (said l.self)) (passed (said l.self) l.index) (l.index + 1) (drop l.index (said l.self)) ≡ first_fault_from (tables (said l.self)) at_start 1 (said l.self))
+    × (first_fault_from (tables (said l.self)) (passed (said l.self) l.index) (l.index + 1) (drop l.index (said l.self)) ≡ first_fault_from (tables (said l.self)) (at_start (said l.self)) 1 (said l.self))
