@@ -16,7 +16,7 @@ use Rattle.rv_placement.specs.declared.placement.Placement.{Placement}
 use Rattle.rv_placement.specs.Placement.{starts_of, section_at}
 use Rattle.rv_link.specs.declared.fixed.Input.{Input}
 use Rattle.rv_link.specs.declared.fixed.Fixed.{Fixed}
-use Rattle.rv_resolve.specs.Shown.{shown_globals}
+use Rattle.rv_resolve.specs.Shown.{outer_in}
 
 abbrev pub objects_of : Fixed → List Object
 objects_of f = map short_object_of f.objects.now
@@ -42,12 +42,12 @@ IsInputOf f x = IsInput (objects_of f) f.placement.now x
 
 -- the value of a relocation where objects stand so
 abbrev pub worth : List Object → Placement → InputSection → Relocation → ℤ
-worth os p i r = unwrap_or (value (shown_globals os p) (starts_of p) os i r) (pos 0)
+worth os p i r = unwrap_or (value (outer_in os p) (starts_of p) os i r) (pos 0)
 
 -- a relocation has a value, and its field takes it
 pub record IsTaken (os : List Object) (p : Placement)
     (i : InputSection) (r : Relocation) : Type 0 where
-  pub found : IsTrue (is_some (value (shown_globals os p) (starts_of p) os i r))
+  pub found : IsTrue (is_some (value (outer_in os p) (starts_of p) os i r))
   pub alone : is_low r.kind ≡ true → r.addend ≡ pos 0
   pub takes : Takes r.kind (worth os p i r)
 
@@ -57,7 +57,7 @@ IsInside ms size r = 0 < width_of r.kind → new_offset ms r.place + width_of r.
 
 -- the bytes of a section in the program
 abbrev pub linked_in : List Object → Placement → InputSection → List ℕ
-linked_in os p i = linked_bytes (shown_globals os p) (starts_of p) os i
+linked_in os p i = linked_bytes (outer_in os p) (starts_of p) os i
 
 abbrev pub bytes_of : Fixed → Input → List ℕ
 bytes_of f x = linked_in (objects_of f) f.placement.now (input_of f x)

@@ -36,7 +36,7 @@ ArePast files start _ = ⊥
 
 -- ---- names
 
--- a name that has two definitions
+-- a name that has two global definitions
 abbrev pub AreDoubled : List Object → LinkFault → Type 0
 AreDoubled os (Duplicate name) = first_duplicate os ≡ Some name.items
 AreDoubled os OutOfMemory = ⊤
@@ -69,9 +69,9 @@ AreUnplaced os start _ = ⊥
 
 -- where sections stand, the entry has no even address
 abbrev pub IsOddEntry : List Object → Placement → Type 0
-IsOddEntry os p = (a : ℕ) → entry_of (starts_of p) 1 os ≡ Some a → a % 2 ≡ 0 → ⊥
+IsOddEntry os p = (a : ℕ) → entry_of (starts_of p) os ≡ Some a → a % 2 ≡ 0 → ⊥
 
--- no global `_start` at an even place of a section of text
+-- `_start` means no even place of a section of text
 abbrev pub LacksEntry : List Object → ℕ → Type 0
 LacksEntry os start =
     (has_entry os ≡ false) ⊎ ((p : Placement) × IsPlacement os start p × IsOddEntry os p)

@@ -7,7 +7,7 @@ use Rattle.rv_map.specs.declared.map.Region.{Region}
 use Rattle.rv_object.specs.Object.{Section, Object}
 use Rattle.rv_object_laws.specs.Inputs.{Starts, InputSection, goes_to_text, goes_to_rodata, goes_to_data, inputs_from, inputs_of, inputs, Stand, end_of, contents}
 use Rattle.rv_map.specs.Map.{Map}
-use Rattle.rv_object_laws.specs.Names.{object_at, globals_of, global_names, shown_linker_symbols}
+use Rattle.rv_object_laws.specs.Names.{object_at, outer_address, globals_of, global_names, shown_linker_symbols}
 use Rattle.rv_resolve.specs.declared.names.Names.{Names}
 use Rattle.rv_resolve.specs.Names.{IsNames}
 use Rattle.rv_resolve.specs.Resolved.{AreResolved}
@@ -73,8 +73,8 @@ pub record IsNamed (os : List Object) (names : Names) : Type 0 where
   pub once : AreDistinct (global_names os)
   pub meant : first_undefined os ≡ None
   pub resolved : (starts : Starts) (m : Map)
-      → m.globals ≡ globals_of starts 1 os ++ shown_linker_symbols os m
-      → AreResolved starts os m.globals
+      → m.globals ≡ globals_of starts os ++ shown_linker_symbols os m
+      → AreResolved starts os (outer_address os m.globals)
 
 -- names of objects whose sections stand from some address on
 pub record IsPlaced (os : List Object) (names : Names) (p : Placement) : Type 0 where

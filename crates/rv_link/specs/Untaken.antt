@@ -10,7 +10,7 @@ use Rattle.rv_object_laws.specs.Inputs.{InputSection, inputs}
 use Rattle.rv_object_laws.specs.IsLinkOf.{is_loaded}
 use Rattle.rv_placement.specs.declared.placement.Placement.{Placement}
 use Rattle.rv_placement.specs.Placement.{starts_of}
-use Rattle.rv_resolve.specs.Shown.{shown_globals}
+use Rattle.rv_resolve.specs.Shown.{outer_in}
 use Rattle.rv_link_values.specs.Values.{IsValueOf, IsDangling}
 use Rattle.rv_link.specs.declared.fault.LinkFault.{LinkFault}
 use Rattle.rv_link.specs.declared.fault.LinkFault.TheVariants.{Overflow, OddTarget, DanglingPcrel, OutOfMemory}
@@ -27,13 +27,13 @@ IsFirst Passes Fails (x ∷ xs) = Fails x ⊎ (Passes x × IsFirst Passes Fails 
 abbrev pub IsUnfit : List Object → Placement → InputSection → Relocation →
     (ℤ → Type 0) → Type 0
 IsUnfit os p i r Refused =
-    (v : ℤ) × IsValueOf (shown_globals os p) (starts_of p) os i r v × Refused v
+    (v : ℤ) × IsValueOf (outer_in os p) (starts_of p) os i r v × Refused v
 
 -- why a relocation cannot be applied
 abbrev pub IsUntaken : List Object → Placement → InputSection → LinkFault → Relocation → Type 0
 IsUntaken os p i Overflow r = IsUnfit os p i r (λ v. Refuses r.kind v patches.Overflow)
 IsUntaken os p i OddTarget r = IsUnfit os p i r (λ v. Refuses r.kind v patches.OddTarget)
-IsUntaken os p i DanglingPcrel r = IsDangling (shown_globals os p) (starts_of p) os i r
+IsUntaken os p i DanglingPcrel r = IsDangling (outer_in os p) (starts_of p) os i r
 IsUntaken os p i _ r = ⊥
 
 -- by the relocations of a section

@@ -16,7 +16,7 @@ ghost use Rattle.rv_relax.specs.Plan.{moves_of};
 ghost use Rattle.rv_placement.specs.Placement.{starts_of};
 ghost use Rattle.rv_link.specs.Regions.{IsFixed};
 ghost use Rattle.rv_link.specs.Untaken.{IsUntaken, AreUntakenOf, OrMemory};
-ghost use Rattle.rv_resolve.specs.Shown.{shown_globals};
+ghost use Rattle.rv_resolve.specs.Shown.{outer_in};
 ghost use Rattle.rv_link.specs.Filled.{
   AreTakenOf,
   IsInside,
@@ -76,7 +76,7 @@ impl<'p, 'o, 'a> Fixed<'p, 'o, 'a> {
         requires fixed { IsFixed self.now }
         requires input { IsInputOf self.now input.now }
         ensures found { IfOk result
-            (λ v. value (shown_globals (objects_of self.now) (self.now).placement.now)
+            (λ v. value (outer_in (objects_of self.now) (self.now).placement.now)
             (starts_of (self.now).placement.now) (objects_of self.now)
             (input_of self.now input.now) (relocation_of relocation.now) ≡ Some v) }
         ensures alone { IfOk result

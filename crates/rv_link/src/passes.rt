@@ -151,7 +151,7 @@ fn entry(
 ) -> Result<u64, LinkFault>
     requires { IsPlaced (map short_object_of objects.now) names.now placement.now }
     ensures entry { IfOk result
-        (λ a. entry_of (starts_of placement.now) 1 (map short_object_of objects.now) ≡ Some a) }
+        (λ a. entry_of (starts_of placement.now) (map short_object_of objects.now) ≡ Some a) }
     ensures even { IfOk result (λ a. a % 2 ≡ 0) }
     ensures refuses { IfErr result (λ fault. (fault ≡ EntryMissing)
         × IsOddEntry (map short_object_of objects.now) placement.now) }

@@ -13,7 +13,7 @@ use Rattle.rv_object.specs.declared.row.Row.{Row}
 use Rattle.rv_object.specs.Object.{Section, Object}
 use Rattle.rv_object_laws.specs.Moves.{Move, moves, new_offset, has_room, lost}
 use Rattle.rv_object_laws.specs.Inputs.{Starts, goes_to_text, goes_to_rodata, goes_to_data, goes_to_bss, inputs, start_of, Holds, gaps_of, greatest, contents}
-use Rattle.rv_object_laws.specs.Names.{globals_of, global_names, shown_linker_symbols, entry_of}
+use Rattle.rv_object_laws.specs.Names.{Outer, outer_address, globals_of, global_names, shown_linker_symbols, entry_of}
 use Rattle.rv_object_laws.specs.Values.{IsRelocated, linked_bytes}
 
 -- ---- rows
@@ -64,6 +64,10 @@ is_loaded s = s.loaded
 abbrev pub most_files : ℕ
 most_files = 1024
 
+-- the addresses of symbols that their own objects don't surely define
+abbrev pub outer_of : List Object → Linked → Outer
+outer_of os l = outer_address os l.map.globals
+
 pub record IsLinkOf (os : List Object) (text_start : ℕ) (l : Linked) : Type 0 where
   pub few : length os ≤ most_files
   -- the text begins at a page below the stack
@@ -86,28 +90,28 @@ pub record IsLinkOf (os : List Object) (text_start : ℕ) (l : Linked) : Type 0 
   pub room : AllByRecursion
       (λ i. IsTrue (list_all has_room (moves (start_of starts i) i.section)))
       (inputs goes_to_text os)
-  -- no name has two global definitions; a linker's name is shown where none has it
+  -- no name has two global definitions; a linker's name is shown where no object defines it
   pub once : AreDistinct (global_names os)
-  pub globals : l.map.globals ≡ globals_of starts 1 os ++ shown_linker_symbols os l.map
-  -- a run begins at the global `_start`, an even place of a section of text
-  pub entry : entry_of starts 1 os ≡ Some l.map.entry
+  pub globals : l.map.globals ≡ globals_of starts os ++ shown_linker_symbols os l.map
+  -- a run begins at what `_start` means, an even place of a section of text
+  pub entry : entry_of starts os ≡ Some l.map.entry
   -- whose address is even, too
   pub even : l.map.entry % 2 ≡ 0
   pub rows : l.map.rows ≡ rows_of starts 1 os
   -- a text shows the map: its numbers are below 2 ^ 64
   pub readable : IsMap l.map
   pub relocated : AllByRecursion
-      (λ i. AllByRecursion (IsRelocated l.map.globals starts os i) i.section.relocations)
+      (λ i. AllByRecursion (IsRelocated (outer_of os l) starts os i) i.section.relocations)
       (inputs is_loaded os)
   -- the regions hold the bytes of their sections
   pub text_bytes : l.text
-      ≡ contents (linked_bytes l.map.globals starts os) starts l.map.text.start
+      ≡ contents (linked_bytes (outer_of os l) starts os) starts l.map.text.start
       (inputs goes_to_text os)
   pub rodata_bytes : l.rodata
-      ≡ contents (linked_bytes l.map.globals starts os) starts l.map.rodata.start
+      ≡ contents (linked_bytes (outer_of os l) starts os) starts l.map.rodata.start
       (inputs goes_to_rodata os)
   pub data_bytes : l.data
-      ≡ contents (linked_bytes l.map.globals starts os) starts l.map.data.start
+      ≡ contents (linked_bytes (outer_of os l) starts os) starts l.map.data.start
       (inputs goes_to_data os)
   -- there is compressed code where an object has some
   pub rvc : l.rvc ≡ list_any (λ o. o.rvc) os

@@ -1,10 +1,10 @@
 -- The names that a map shows, by where the sections of objects stand (GNU ld, "Symbols").
 
-use Rattle.std.specs.Prelude.{ℕ, List, [], ◌++◌, filter, flat_map}
+use Rattle.std.specs.Prelude.{ℕ, List, [], ◌++◌, flat_map}
 use Rattle.rv_map.specs.Globals.{shown}
 use Rattle.rv_map.specs.Map.{Map, Global}
-use Rattle.rv_object.specs.Object.{Symbol, Object}
-use Rattle.rv_object_laws.specs.Names.{globals_of, shown_linker_symbols, defined_address, is_exported}
+use Rattle.rv_object.specs.Object.{Object}
+use Rattle.rv_object_laws.specs.Names.{Export, Outer, outer_address, globals_of, shown_linker_symbols, export_address}
 use Rattle.rv_placement.specs.declared.placement.Placement.{Placement}
 use Rattle.rv_placement.specs.Placement.{starts_of}
 
@@ -21,11 +21,15 @@ regions_of p = record {
   rows = [];
 }
 
--- the global definitions with addresses, then the linker's names that nobody defines
+-- the definitions that names mean, with addresses, then the linker's names that nobody defines
 abbrev pub shown_globals : List Object → Placement → List Global
-shown_globals os p = globals_of (starts_of p) 1 os ++ shown_linker_symbols os (regions_of p)
+shown_globals os p = globals_of (starts_of p) os ++ shown_linker_symbols os (regions_of p)
 
--- the global definitions with addresses among symbols of an object
-abbrev pub shown_symbols : (ℕ → ℕ) → Object → List Symbol → List Global
-shown_symbols starts o ss =
-    flat_map (λ s. shown s.name (defined_address starts o s.definition)) (filter is_exported ss)
+-- what symbols mean that their own objects don't surely define
+abbrev pub outer_in : List Object → Placement → Outer
+outer_in os p = outer_address os (shown_globals os p)
+
+-- the definitions with addresses among some
+abbrev pub shown_exports : Placement → List Export → List Global
+shown_exports p es =
+    flat_map (λ e. shown e.symbol.name (export_address (starts_of p) e)) es

@@ -1,14 +1,13 @@
 -- References without a meaning (gABI, "Symbol Table", SHN_UNDEF; GNU ld, "Symbols").
 
-use Rattle.std.specs.Prelude.{ℕ, Bool, true, false, List, [], ◌∷◌, Option, Some, None, codes, if◌then◌else◌}
+use Rattle.std.specs.Prelude.{ℕ, Bool, true, false, ◌||◌, List, [], ◌∷◌, Option, Some, None, codes, if◌then◌else◌}
 use Rattle.std.specs.List.{slice_get}
 use Rattle.std.specs.Option.{option_or}
 use Rattle.rv_map.specs.Globals.{is_one_of}
 use Rattle.rv_object.specs.declared.symbol.Definition.{Definition}
 use Rattle.rv_object.specs.declared.symbol.Definition.TheVariants as definitions
 use Rattle.rv_object.specs.Object.{Section, Symbol, Object}
-use Rattle.rv_object_laws.specs.Names.{is_defined}
-use Rattle.rv_resolve.specs.Exports.{Export, export_of}
+use Rattle.rv_object_laws.specs.Names.{Export, is_sure, is_weak, chosen}
 
 abbrev pub is_loaded_at : Option Section → Bool
 is_loaded_at None = false
@@ -28,16 +27,15 @@ linker_names =
     codes "_etext" ∷ codes "__bss_start" ∷ codes "_edata" ∷ codes "_end"
     ∷ codes "__global_pointer$" ∷ []
 
--- what a name means to all files, by its definition, has an address
-abbrev pub is_known : List ℕ → Option Export → Bool
-is_known name (Some e) = has_address e.object e.symbol.definition
-is_known name None = is_one_of linker_names name
+-- what a symbol's name means to all files has an address: its definition; where it has none, the
+-- linker gives the name, or the symbol is weak and so is 0
+abbrev pub is_known : Symbol → Option Export → Bool
+is_known s (Some e) = has_address e.object e.symbol.definition
+is_known s None = is_one_of linker_names s.name || is_weak s.binding
 
 abbrev pub is_resolved : List Object → Object → Symbol → Bool
 is_resolved os o s =
-    if is_defined s.definition
-    then has_address o s.definition
-    else is_known s.name (export_of os s.name)
+    if is_sure s then has_address o s.definition else is_known s (chosen os s.name)
 
 -- the name of a symbol without an address; one that an object doesn't have has the name without
 -- bytes

@@ -25,7 +25,7 @@ HavePlacedRows os = AllByRecursion HasPlacedRows os
 abbrev pub BeginsEven : List Object → ℕ → Type 0
 BeginsEven os start =
     (starts : Starts) → Stand starts start (inputs goes_to_text os)
-    → (a : ℕ) → entry_of starts 1 os ≡ Some a → a % 2 ≡ 0
+    → (a : ℕ) → entry_of starts os ≡ Some a → a % 2 ≡ 0
 
 -- and, within the limits of a link, each of them starts at an address that is looked at
 abbrev pub StartBelow : List Object → ℕ → Type 0
