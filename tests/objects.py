@@ -12,8 +12,14 @@ KINDS = {
 }
 SECTION = re.compile(r"section (?P<name>\S*) (?P<flags>[wax]+|-) (?P<align>\d+)(?: size (?P<size>\S+)|: ?(?P<bytes>[0-9a-f ]*))")
 RELOC = re.compile(r"reloc (?P<place>\S+) (?P<kind>\w+)(?: (?P<symbol>[^+\s-]*)(?P<addend>[+-]\S+)?)?")
-SYMBOL = re.compile(r"symbol (?P<name>\S*) (?P<binding>local|global) (?P<where>\w+) (?P<value>\S+)")
+SYMBOL = re.compile(r"symbol (?P<name>\S*) (?P<binding>local|global|weak|\d+) (?P<where>\w+) (?P<value>\S+)")
 FLAGS = {"w": 1, "a": 2, "x": 4, "-": 0}
+BINDINGS = {"local": 0, "global": 1, "weak": 2}
+
+
+def binding(word):
+    """The number of a binding, by its name or as it stands."""
+    return BINDINGS[word] if word in BINDINGS else int(word)
 
 
 def parsed(text):
@@ -30,7 +36,7 @@ def parsed(text):
             symbols.append(it)
         else:
             raise ValueError(f"no line of an object: {line}")
-    return flags, sections, sorted(symbols, key=lambda it: it["binding"] == "global")
+    return flags, sections, sorted(symbols, key=lambda it: it["binding"] != "local")
 
 
 def object_of(text):
@@ -59,7 +65,7 @@ def object_of(text):
         if rows:
             add(".rela" + it["name"], 4, 0, b"".join(struct.pack("<QQq", *row) for row in rows), 8, table, index, 24)
     places = {"undefined": 0, "absolute": 0xFFF1, "symtab": table}
-    rows = [(named(it["name"]), 16 * (it["binding"] == "global"), 0, places.get(it["where"]) if it["where"] in places
+    rows = [(named(it["name"]), 16 * binding(it["binding"]), 0, places.get(it["where"]) if it["where"] in places
         else int(it["where"]), int(it["value"], 0), 0) for it in symbols]
     local = 1 + sum(it["binding"] == "local" for it in symbols)
     add(".symtab", 2, 0, bytes(24) + b"".join(struct.pack("<IBBHQQ", *row) for row in rows), 8, table + 1, local, 24)
