@@ -1,14 +1,16 @@
 -- The place of a symbol is one that a symbol of its object names.
 
-use Rattle.std.proofs.Common.{◌≡◌, ℕ, zero, suc, ◌+◌, ◌-◌, ◌<◌, ◌≤◌, ◌⊎◌, inl, inr, Bool, true, false, cond, ◌&&◌, nat_lt, List, [], ◌∷◌, Option, Some, None, slice_index_or, refl, sym, ap, ◌∙◌, arith}
-use Rattle.std.specs.Prelude.{◌==◌, if◌then◌else◌, filter, option_and_then, bytes_eq}
-use Rattle.std.specs.List.{find, list_any, slice_get}
+use Rattle.std.proofs.Common.{◌≡◌, ℕ, zero, suc, ◌+◌, ◌-◌, ◌<◌, ◌≤◌, ◌⊎◌, inl, inr, Bool, true, false, cond, ◌&&◌, nat_lt, List, [], ◌∷◌, Option, Some, None, slice_index_or, refl, sym, ap, subst, ◌∙◌, arith}
+use Rattle.std.specs.Prelude.{◌==◌, if◌then◌else◌, option_and_then, bytes_eq}
+use Rattle.std.specs.List.{AllByRecursion, find, list_any, slice_get}
 use Rattle.std.proofs.lemmas.Bool.{eqb-true, eq-eqb, lt-ltb, and_from, or_left, or_right, or_cases, cases_lt}
+use Rattle.rv_object.specs.declared.symbol.Binding.{Binding}
 use Rattle.rv_object.specs.declared.symbol.Definition.{Definition}
 use Rattle.rv_object.specs.declared.symbol.Definition.TheVariants as definitions
 use Rattle.rv_object.specs.Object.{Symbol, Object, Relocation}
 use Rattle.rv_object_laws.specs.Inputs.{InputSection}
-use Rattle.rv_object_laws.specs.Names.{is_defined, is_exported, exported, Place, place_in, global_place, symbol_place, no_object, object_at}
+use Rattle.rv_object_laws.specs.Names.{is_global, is_weak, is_sure, is_export, Export, exports_in, exports_from, exports_where, candidates, chosen, Place, place_in, shared_place, symbol_place, no_object, object_at}
+use Rattle.rv_object_laws.proofs.TextInputsLemmas.{all_append}
 use Rattle.rv_object_laws.specs.CallSites.{is_inside, is_entered, target_place}
 
 -- a definition names a place of a section
@@ -34,17 +36,14 @@ any_got q [] n x is h = absurd (cc)
 any_got q (y ∷ ys) zero x is h = any_first q y ys (let same : y ≡ x = cc in ap q same ∙ h)
 any_got q (y ∷ ys) (suc n) x is h = any_later q y ys (any_got q ys n x is h)
 
-any_found : {A : Type 0} (test kept q : A → Bool) (xs : List A) (x : A) → find test (filter kept xs) ≡ Some x → q x ≡ true → list_any q xs ≡ true
-any_found test kept q [] x is h = absurd (cc)
-any_found {A} test kept q (y ∷ ys) x is h = by (kept y) is (λ e. any_found test kept q ys x e h)
+-- what holds of each holds of the one that is found
+all_found : {A : Type 0} (P : A → Type 0) (test : A → Bool) (xs : List A) (x : A) → AllByRecursion P xs → find test xs ≡ Some x → P x
+all_found P test [] x all is = absurd (cc)
+all_found P test (y ∷ ys) x all is = by (test y) is (λ e. all_found P test ys x all.1 e)
   where
-    first : (b : Bool) → cond b (Some y) (find test (filter kept ys)) ≡ Some x → (find test (filter kept ys) ≡ Some x → list_any q ys ≡ true) → list_any q (y ∷ ys) ≡ true
-    first true e more = any_first q y ys (let same : y ≡ x = cc in ap q same ∙ h)
-    first false e more = any_later q y ys (more e)
-
-    by : (b : Bool) → find test (cond b (y ∷ filter kept ys) (filter kept ys)) ≡ Some x → (find test (filter kept ys) ≡ Some x → list_any q ys ≡ true) → list_any q (y ∷ ys) ≡ true
-    by true e more = first (test y) e more
-    by false e more = any_later q y ys (more e)
+    by : (b : Bool) → cond b (Some y) (find test ys) ≡ Some x → (find test ys ≡ Some x → P x) → P x
+    by true e more = subst P (let same : y ≡ x = cc in same) all.0
+    by false e more = more e
 
 pub any_weaker : {A : Type 0} (p q : A → Bool) (xs : List A) → ((x : A) → p x ≡ true → q x ≡ true) → list_any p xs ≡ true → list_any q xs ≡ true
 any_weaker p q [] f h = h
@@ -73,30 +72,73 @@ stands file definitions.Undefined p h = absurd (cc)
 stands file (definitions.Absolute n) p h = absurd (cc)
 stands file (definitions.Skipped n) p h = absurd (cc)
 
--- of the global of a name
-global_named : (whole : List Object) (file : ℕ) (os : List Object) (name : List ℕ) (p : Place) → 1 ≤ file → ((n : ℕ) → object_at whole (file + n) ≡ slice_index_or os n no_object)
-    → global_place file os name ≡ Some p → IsNamed whole p
-global_named whole file [] name p some each h = absurd (cc)
-global_named whole file (o ∷ os) name p some each h =
-    by (find (λ s. bytes_eq s.name name) (exported o)) refl h
-    (λ e. global_named whole (suc file) os name p (omega (arith, some)) (λ n. ap (object_at whole) (let same : suc file + n ≡ file + suc n = omega arith in same) ∙ each (suc n)) e)
+-- a definition for all files is a symbol of its object
+record IsExport (os : List Object) (e : Export) : Type 0 where
+  counted : 1 ≤ e.file
+  object : object_at os e.file ≡ e.object
+  symbol : slice_get e.object.symbols e.index ≡ Some e.symbol
+
+exports_are_in : (os : List Object) (test : Binding → Bool) (file : ℕ) (o : Object) → 1 ≤ file → object_at os file ≡ o → (index : ℕ) (ss : List Symbol) → ((n : ℕ) → slice_get o.symbols (index + n) ≡ slice_get ss n)
+    → AllByRecursion (IsExport os) (exports_in test file o index ss)
+exports_are_in os test file o some at index [] each = tt
+exports_are_in os test file o some at index (s ∷ ss) each = by (is_export test s) (exports_are_in os test file o some at (suc index) ss later)
+  where
+    it : Export
+    it = record { file = file; object = o; index = index; symbol = s }
+
+    rest : List Export
+    rest = exports_in test file o (suc index) ss
+
+    later : (n : ℕ) → slice_get o.symbols (suc index + n) ≡ slice_get ss n
+    later n = ap (slice_get o.symbols) (let same : suc index + n ≡ index + suc n = omega arith in same) ∙ each (suc n)
+
+    here : slice_get o.symbols index ≡ Some s
+    here = ap (slice_get o.symbols) (let same : index ≡ index + 0 = omega arith in same) ∙ each 0
+
+    by : (b : Bool) → AllByRecursion (IsExport os) rest → AllByRecursion (IsExport os) (if b then it ∷ rest else rest)
+    by true all = (record { counted = some; object = at; symbol = here }, all)
+    by false all = all
+
+exports_are : (whole : List Object) (test : Binding → Bool) (file : ℕ) (os : List Object) → 1 ≤ file → ((n : ℕ) → object_at whole (file + n) ≡ slice_index_or os n no_object) → AllByRecursion (IsExport whole) (exports_from test file os)
+exports_are whole test file [] some each = tt
+exports_are whole test file (o ∷ os) some each =
+    all_append (IsExport whole) (exports_in test file o 0 o.symbols) (exports_from test (suc file) os) (exports_are_in whole test file o some here 0 o.symbols (λ n. ap (slice_get o.symbols) (let same : 0 + n ≡ n = omega arith in same)))
+    (exports_are whole test (suc file) os (omega (arith, some)) later)
   where
     here : object_at whole file ≡ o
     here = ap (object_at whole) (let same : file ≡ file + 0 = omega arith in same) ∙ each 0
 
-    by : (f : Option Symbol) → find (λ s. bytes_eq s.name name) (exported o) ≡ f → (elim f [ Some s ↦ place_in file s.definition | None ↦ global_place (suc file) os name ]) ≡ Some p
-        → (global_place (suc file) os name ≡ Some p → IsNamed whole p) → IsNamed whole p
-    by None found is more = more is
-    by (Some s) found is more =
-        let it = stands file s.definition p is in
-        let named : is_named o p ≡ true = any_found (λ (x : Symbol). bytes_eq x.name name) is_exported (λ (x : Symbol). names_at p.section p.offset x.definition) o.symbols s found it.names in
-        let same = it.file_is in
-        record { counted = omega (arith, some, same); named = ap (λ x. is_named x p) (ap (object_at whole) (sym it.file_is) ∙ here) ∙ named }
+    later : (n : ℕ) → object_at whole (suc file + n) ≡ slice_index_or os n no_object
+    later n = ap (object_at whole) (let same : suc file + n ≡ file + suc n = omega arith in same) ∙ each (suc n)
+
+candidates_are : (os : List Object) → AllByRecursion (IsExport os) (candidates os)
+candidates_are os = all_append (IsExport os) (exports_where is_global os) (exports_where is_weak os) (exports_are os is_global 1 os (omega arith) each) (exports_are os is_weak 1 os (omega arith) each)
+  where
+    each : (n : ℕ) → object_at os (1 + n) ≡ slice_index_or os n no_object
+    each n = ap (λ m. slice_index_or os m no_object) (let same : 1 + n - 1 ≡ n = omega arith in same)
+
+-- of what a name means
+shared_named : (os : List Object) (name : List ℕ) (p : Place) → shared_place os name ≡ Some p → IsNamed os p
+shared_named os name p h = by (chosen os name) refl h
+  where
+    named_by : (e : Export) → IsExport os e → place_in e.file e.symbol.definition ≡ Some p → IsNamed os p
+    named_by e it is =
+        let at = stands e.file e.symbol.definition p is in
+        let same = at.file_is in
+        let some = it.counted in
+        record {
+          counted = omega (arith, some, same);
+          named = ap (λ x. is_named x p) (ap (object_at os) (sym at.file_is) ∙ it.object) ∙ any_got (λ (x : Symbol). names_at p.section p.offset x.definition) e.object.symbols e.index e.symbol it.symbol at.names;
+        }
+
+    by : (c : Option Export) → chosen os name ≡ c → option_and_then (λ e. place_in e.file e.symbol.definition) c ≡ Some p → IsNamed os p
+    by None found is = absurd (cc)
+    by (Some e) found is = named_by e (all_found (IsExport os) (λ x. bytes_eq x.symbol.name name) (candidates os) e (candidates_are os) found) is
 
 pub symbol_named : (os : List Object) (file : ℕ) (o : Object) (n : ℕ) (s : Symbol) (p : Place) → 1 ≤ file → object_at os file ≡ o → slice_get o.symbols n ≡ Some s → symbol_place os file s ≡ Some p → IsNamed os p
-symbol_named os file o n s p some at got h = by (is_defined s.definition) h
+symbol_named os file o n s p some at got h = by (is_sure s) h
   where
-    by : (b : Bool) → (if b then place_in file s.definition else global_place 1 os s.name) ≡ Some p → IsNamed os p
+    by : (b : Bool) → (if b then place_in file s.definition else shared_place os s.name) ≡ Some p → IsNamed os p
     by true is =
         let it = stands file s.definition p is in
         let same = it.file_is in
@@ -104,7 +146,7 @@ symbol_named os file o n s p some at got h = by (is_defined s.definition) h
           counted = omega (arith, some, same);
           named = ap (λ x. is_named x p) (ap (object_at os) (sym it.file_is) ∙ at) ∙ any_got (λ (x : Symbol). names_at p.section p.offset x.definition) o.symbols n s got it.names;
         }
-    by false is = global_named os 1 os s.name p (omega arith) (λ k. ap (λ m. slice_index_or os m no_object) (let same : 1 + k - 1 ≡ k = omega arith in same)) is
+    by false is = shared_named os s.name p is
 
 -- so is the place of a relocation's symbol
 pub target_named : (os : List Object) (i : InputSection) (r : Relocation) (p : Place) → 1 ≤ i.file → object_at os i.file ≡ i.object → target_place os i r ≡ Some p → IsNamed os p

@@ -1,7 +1,7 @@
 -- The sections of objects as the linker takes them: which region each goes to, and where it starts
 -- (gABI, "Sections"; GNU ld, "SECTIONS Command"; this project's layout).
 
-use Rattle.std.specs.Prelude.{◌≡◌, ℕ, suc, ◌+◌, ◌-◌, Bool, true, false, not, ◌&&◌, nat_lt, ⊤, max, List, [], ◌∷◌, ◌++◌, replicate, if◌then◌else◌}
+use Rattle.std.specs.Prelude.{◌≡◌, ℕ, suc, ◌+◌, ◌-◌, Bool, true, false, nat_lt, ⊤, max, List, [], ◌∷◌, ◌++◌, if◌then◌else◌}
 use Rattle.rv_layout_laws.specs.Alignment.{aligned}
 use Rattle.rv_isa_laws.specs.Bytes.{zeros}
 use Rattle.rv_map.specs.declared.map.Region.{Region}

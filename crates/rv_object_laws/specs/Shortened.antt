@@ -11,8 +11,7 @@ use Rattle.rv_isa_laws.specs.Bytes.{little_endian}
 use Rattle.rv_encode.specs.Word.{form, word}
 use Rattle.rv_compress.specs.declared.form.Compressed.TheVariants as compressed
 use Rattle.rv_compress.specs.Parcel.{parcel}
-use Rattle.rv_layout_laws.specs.declared.site.Site.{Site}
-use Rattle.rv_layout_laws.specs.Calls.{IsGreatestClosed, is_call as is_call_site}
+use Rattle.rv_layout_laws.specs.Calls.{IsGreatestClosed}
 use Rattle.rv_image.specs.Linked.{Linked}
 use Rattle.rv_object.specs.declared.symbol.Definition.{Definition}
 use Rattle.rv_object.specs.declared.symbol.Definition.TheVariants as definitions
