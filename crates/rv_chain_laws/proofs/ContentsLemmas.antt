@@ -5,7 +5,7 @@ use Rattle.std.proofs.lemmas.Bool.Decides.{nat_tests}
 use Rattle.std.proofs.lemmas.Bool.{cases_lt, and_parts, and_from, eqb-true}
 use Rattle.std.proofs.lemmas.List.{length-replicate, get_or-replicate}
 use Rattle.std.proofs.Math.ListN.{get_or-eq_default}
-use Rattle.std.specs.Prelude.{◌&&◌, ◌||◌, ◌==◌, not, nat_lt, if◌then◌else◌, slice_index, slice_index_or, option_map, codes, IsTrue, max}
+use Rattle.std.specs.Prelude.{◌&&◌, ◌||◌, ◌==◌, not, nat_lt, if◌then◌else◌, slice_index, slice_index_or, flat_map, option_map, option_and_then, bytes_eq, codes, IsTrue, max}
 use Rattle.std.specs.List.{AllByRecursion, find, list_any}
 use Rattle.rv_layout_laws.specs.Alignment.{aligned}
 use Rattle.rv_isa_laws.specs.Bytes.{zeros}
@@ -17,7 +17,9 @@ use Rattle.rv_compress.specs.Parcel.{StandsFor}
 use Rattle.rv_isa_laws.specs.Reader.{Reader}
 use Rattle.rv_isa_laws.specs.Run.{NoInstruction, Got, fetch}
 use Rattle.rv_statement.specs.Statement.{StatementKind, Label, Numbered, Instruction, Directs, Statement, Expression, Directive, Sets}
+use Rattle.rv_statement.specs.declared.directive.Binding.{Binding}
 use Rattle.rv_pseudo_laws.specs.Code.{Part}
+use Rattle.rv_unit_laws.specs.Bindings.{is_global, is_weak}
 use Rattle.rv_unit_laws.specs.Contributions.{Contribution, Nothing, Bytes, Zero_bytes, Alignment, contribution}
 use Rattle.rv_unit_laws.specs.Options.{Options}
 use Rattle.rv_unit_laws.specs.Sections.{Section, is_nobits, goes_to_text, goes_to_rodata, goes_to_data, goes_to_bss}
@@ -30,8 +32,9 @@ use Rattle.rv_image.specs.Executable.{linked_image}
 use Rattle.rv_isa_laws.specs.Platform.{stack_start, stack_end}
 use Rattle.rv_image.specs.Memory.{mem_of}
 use Rattle.rv_source_laws.specs.Located.{located}
-use Rattle.rv_source_laws.specs.Program.{MaybeMapped, Mapped, Program, program, number, seated, mapped_of}
-use Rattle.rv_source_laws.specs.Resolves.{is_global_in, is_start, begins_run, starts_at}
+use Rattle.rv_source_laws.specs.Exports.{names_where}
+use Rattle.rv_source_laws.specs.Program.{MaybeMapped, Mapped, Program, Export, export, exports_at, exports_where, candidates, chosen, program, number, seated, mapped_of, address_of, tables_in}
+use Rattle.rv_source_laws.specs.Resolves.{is_label, run_start}
 use Rattle.rv_source_laws.specs.Lines.{parts, Line, Lie, expansion}
 use Rattle.rv_source_laws.specs.Fits.{IsRowOf, CodeFits, IsPaddingIn, ContributionFits, SizeFits, InputSection, input_section, input_sections, input_sections_of_file, input_sections_of, greatest, Holds, Stand, end_of}
 use Rattle.rv_source_laws.specs.Start.{is_within, is_in, right_at, first_byte, byte_of, spelled, spelled_contribution}
@@ -292,6 +295,24 @@ seated_all P (e ∷ es) h = go e.row refl h (λ hs. seated_all P es hs)
     go : (o : Option Row) → e.row ≡ o → AllByRecursion P (seated e.located o ++ mapped_of es) → (AllByRecursion P (mapped_of es) → AllByRecursion (Seated P) es) → Seated P e × AllByRecursion (Seated P) es
     go None none hs more = (λ r some. absurd (cc), more hs)
     go (Some row) is (q, qs) more = (λ r some. (let same : row ≡ r = cc in subst (λ x. P (record { located = e.located; row = x })) same q), more qs)
+
+-- ---- definitions for all files
+
+-- what holds of all statements holds of those that define names
+all_exports : (P : MaybeMapped → Type 0) (e : MaybeMapped) (names : List (List ℕ)) → P e → AllByRecursion (λ (x : Export). P x.statement) (map (export e) names)
+all_exports P e [] h = tt
+all_exports P e (name ∷ names) h = (h, all_exports P e names h)
+
+all_where : (P : MaybeMapped → Type 0) (test : Binding → Bool) (p : Program) (statements : List MaybeMapped) → AllByRecursion P statements → AllByRecursion (λ (x : Export). P x.statement) (flat_map (exports_at test p) statements)
+all_where P test p [] h = tt
+all_where P test p (e ∷ es) (h, hs) =
+    all_join (λ (x : Export). P x.statement) (exports_at test p e) (flat_map (exports_at test p) es)
+    (all_exports P e (names_where test (tables_in p e.located.file) e.located) h) (all_where P test p es hs)
+
+all_candidates : (P : MaybeMapped → Type 0) (p : Program) → AllByRecursion P p.statements → AllByRecursion (λ (x : Export). P x.statement) (candidates p)
+all_candidates P p h =
+    all_join (λ (x : Export). P x.statement) (exports_where is_global p) (exports_where is_weak p)
+    (all_where P is_global p p.statements h) (all_where P is_weak p p.statements h)
 
 -- ---- a linked program
 
@@ -660,26 +681,30 @@ module _ (sources : List (List Statement)) (a : ℕ) (relax : Bool) (l : Linked)
     lies_in_text : AllByRecursion (In goes_to_text (LiesIn map_of.text.start map_of.text.end)) p.mapped
     lies_in_text = lies goes_to_text map_of.text.start a map_of.text.end text_holds.0 text_holds.1 text_holds.2
 
-    entry_of : (o : Option MaybeMapped) → find (λ e. begins_run sources e.located) p.statements ≡ o → starts_at o ≡ Some map_of.entry → map_of.entry ≤ map_of.text.end
+    abbrev IsInText : MaybeMapped → Type 0
+    IsInText = Seated (In goes_to_text (LiesIn map_of.text.start map_of.text.end))
+
+    entry_of : (o : Option Export) → chosen p (codes "_start") ≡ o → option_and_then run_start o ≡ Some map_of.entry → map_of.entry ≤ map_of.text.end
     entry_of None e there = absurd (cc)
-    entry_of (Some entry) e there = at_row entry.row refl there
+    entry_of (Some x) e there = begins (is_label x.statement.located.kind && goes_to_text x.statement.located.home) refl there
       where
-        found : Seated (In goes_to_text (LiesIn map_of.text.start map_of.text.end)) entry × (begins_run sources entry.located ≡ true)
-        found = all_found (Seated (In goes_to_text (LiesIn map_of.text.start map_of.text.end))) (λ e. begins_run sources e.located) p.statements entry e (seated_all _ p.statements lies_in_text)
+        found : IsInText x.statement
+        found = (all_found (λ (y : Export). IsInText y.statement) (λ (y : Export). bytes_eq y.name (codes "_start")) (candidates p) x e (all_candidates IsInText p (seated_all _ p.statements lies_in_text))).0
 
-        goes : goes_to_text entry.located.home ≡ true
-        goes = (and_parts (is_start entry.located.kind) (goes_to_text entry.located.home) (and_parts (is_start entry.located.kind && goes_to_text entry.located.home) (is_global_in sources entry.located.file (codes "_start")) found.1).0).1
-
-        at_row : (o : Option Row) → entry.row ≡ o → option_map (λ (r : Row). r.address) o ≡ Some map_of.entry → map_of.entry ≤ map_of.text.end
-        at_row None none same = absurd (cc)
-        at_row (Some r) some same =
-            let lie = found.0 r some goes in
+        at_row : (o : Option Row) → x.statement.row ≡ o → goes_to_text x.statement.located.home ≡ true → option_map (λ (r : Row). r.address) o ≡ Some map_of.entry → map_of.entry ≤ map_of.text.end
+        at_row None none goes same = absurd (cc)
+        at_row (Some r) some goes same =
+            let lie = found r some goes in
             let here : r.address ≡ map_of.entry = cc in
             omega arith
 
+        begins : (b : Bool) → (is_label x.statement.located.kind && goes_to_text x.statement.located.home) ≡ b → (if b then address_of x.statement else None) ≡ Some map_of.entry → map_of.entry ≤ map_of.text.end
+        begins true good same = at_row x.statement.row refl (and_parts (is_label x.statement.located.kind) (goes_to_text x.statement.located.home) good).1 same
+        begins false good same = absurd (cc)
+
     pub entry_low : map_of.entry < 2 ^ 64
     entry_low =
-        let low = entry_of (find (λ e. begins_run sources e.located) p.statements) refl h.resolves.entry in
+        let low = entry_of (chosen p (codes "_start")) refl h.resolves.entry in
         let room = text_room in
         omega arith
 
