@@ -10,7 +10,7 @@ use Rattle.rv_statement.specs.Statement.{StatementKind, Directs, Sets}
 use Rattle.rv_statement.specs.declared.directive.Binding.{Binding as SourceBinding}
 use Rattle.rv_statement.specs.declared.directive.Binding.TheVariants as source
 use Rattle.rv_unit_laws.specs.Bindings.{is_shared}
-use Rattle.rv_unit_laws.specs.Tables.{Tables, Definition, Assignment, definition, assigned_ever}
+use Rattle.rv_unit_laws.specs.Tables.{Tables, Definition, Assignment, definition, gives_way, assigned_ever}
 use Rattle.rv_source_laws.specs.Exports.{defined_name, names_where}
 use Rattle.rv_object.specs.declared.symbol.Binding.{Binding}
 use Rattle.rv_object.specs.declared.symbol.Binding.TheVariants.{Local, Global, Weak}
@@ -197,7 +197,15 @@ abbrev pub IsDefinedBy : List Site → Primary → Option Definition → Symbol 
 IsDefinedBy sites q (Some d) x = IsOwn sites d x
 IsDefinedBy sites q None x = IsOuter q x
 
--- the symbol that a statement of this ordinal means by a name, `.` or a numeric reference
+abbrev pub is_weak : Binding → Bool
+is_weak Local = false
+is_weak Global = false
+is_weak Weak = true
+
+-- the symbol that a statement of this ordinal means by a name, `.` or a numeric reference: it is weak
+-- where another file's definition may be meant
 abbrev pub StandsFor : Tables → List Site → ℕ → Primary → Option Symbol → Type 0
 StandsFor t sites ordinal q None = ⊥
-StandsFor t sites ordinal q (Some x) = IsNamed q x × IsDefinedBy sites q (definition t ordinal q) x
+StandsFor t sites ordinal q (Some x) =
+    IsNamed q x × (is_weak x.binding ≡ gives_way t q)
+    × IsDefinedBy sites q (definition t ordinal q) x
