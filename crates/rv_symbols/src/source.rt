@@ -7,6 +7,7 @@ ghost use Rattle.rv_unit_laws.specs.Tables.{tables, assigned_ever};
 ghost use Rattle.rv_unit_tables.specs.Tables.{assignment_of};
 ghost use Rattle.rv_unit.specs.Unit.{said, IsFilled};
 ghost use Rattle.rv_map.specs.Name.{is_name};
+ghost use Rattle.rv_object.specs.Valid.{is_shown};
 ghost use Rattle.rv_source_laws.specs.Exports.{sets_first, defined_name};
 ghost use Rattle.rv_assemble_laws.specs.Sites.{Site};
 ghost use Rattle.rv_assemble_laws.specs.Symbols.{site_at, after_found, assigned_definition, site_definition, outer_binding};
@@ -62,8 +63,9 @@ impl<'u, 'a> Source<'u, 'a> {
 
     /// The binding in an object of a name that other files can mean, or define.
     pub(crate) fn outer_binding(&self, name: &[u8]) -> ObjectBinding
-        ensures { (sites : List Site) → IsSource self.now sites
+        ensures binding { (sites : List Site) → IsSource self.now sites
             → result ≡ outer_binding ((tables_of self.now).bindings name.now) }
+        ensures shown { is_name name.now ≡ true → is_shown result name.now ≡ true }
     {
         match self.unit.binding(name) {
             Binding::Local => ObjectBinding::Global,

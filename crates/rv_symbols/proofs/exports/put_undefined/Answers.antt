@@ -15,7 +15,9 @@ pub invariant_of-undefined : goal.invariant_of-undefined
 invariant_of-undefined c =
     let i = c.loop-name.name-index in
     let names = c.args.names.now in
-    record { shown = all_got is_name (map now_of names) i _ (got_map now_of names i ∙ ap (option_map now_of) (some_at names i (record { ref_ptr = (0, 0); now = [] }) c.loop-name-test.true)) c.requires }
+    let name = get_or names i (record { ref_ptr = (0, 0); now = [] }) in
+    let at = got_map now_of names i ∙ ap (option_map now_of) (some_at names i (record { ref_ptr = (0, 0); now = [] }) c.loop-name-test.true) in
+    record { shown = c.outer_binding.ensures.shown (all_got is_name (map now_of names) i name.now at c.requires) }
 
 pub loop-name-preserved : goal.loop-name-preserved
 loop-name-preserved c = λ sites h.
@@ -27,7 +29,7 @@ loop-name-preserved c = λ sites h.
     let rest = map (λ name. shared_symbol t name Undefined) (drop (i + 1) (map now_of names)) in
     ap (λ l. map symbol_of l ++ rest) c.in_ok-push.ensures.items
     ∙ ap (λ l. l ++ rest) (map-append symbol_of c.loop-name.symbols.items _)
-    ∙ ap (λ b. (old ++ record { name = name.now; binding = b; definition = Undefined } ∷ []) ++ rest) (c.outer_binding.ensures sites h)
+    ∙ ap (λ b. (old ++ record { name = name.now; binding = b; definition = Undefined } ∷ []) ++ rest) (c.outer_binding.ensures.binding sites h)
     ∙ append_assoc old (shared_symbol t name.now Undefined ∷ []) rest
     ∙ ap (λ l. old ++ map (λ name. shared_symbol t name Undefined) l) (sym (drop_next (map now_of names) i name.now (got_map now_of names i ∙ ap (option_map now_of) (some_at names i (record { ref_ptr = (0, 0); now = [] }) c.loop-name-test.true))))
     ∙ c.loop-name.invariant sites h

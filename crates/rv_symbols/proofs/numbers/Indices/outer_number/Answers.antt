@@ -1,4 +1,4 @@
-use Rattle.std.proofs.Common.{◌≡◌, ◌+◌, ◌∙◌, length, ap, sym, rules}
+use Rattle.std.proofs.Common.{◌+◌, ◌∙◌, length, ap, sym}
 use Rattle.std.specs.Prelude.{unwrap_or, position}
 use Rattle.std.specs.Str.{bytes_eq}
 use Rattle.rv_text.specs.Nodes.{symbol_of}
