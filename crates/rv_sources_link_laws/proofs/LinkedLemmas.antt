@@ -30,7 +30,7 @@ use Rattle.rv_object.specs.Object.{Section, Object}
 use Rattle.rv_object_laws.specs.Inputs as objects
 use Rattle.rv_object_laws.specs.Inputs.{Starts, InputSection, inputs_from, inputs_of, inputs, contents, Holds, Stand}
 use Rattle.rv_object_laws.specs.Values.{initial_bytes, linked_bytes, IsRelocated}
-use Rattle.rv_object_laws.specs.IsLinkOf.{IsLinkOf, is_loaded}
+use Rattle.rv_object_laws.specs.IsLinkOf.{IsLinkOf, is_loaded, outer_of}
 use Rattle.rv_assemble_laws.proofs.FaultlessLemmas.{no_first_fault}
 use Rattle.rv_assemble_laws.specs.Templates.{Open}
 use Rattle.rv_assemble_laws.specs.Sites.{Site, part_bytes, sites_in, end_of as sites_end}
@@ -39,6 +39,7 @@ use Rattle.rv_assemble_laws.specs.IsObjectOf.{Numbering, contents_of}
 use Rattle.rv_sources_link_laws.proofs.statements.OrderedLemmas.{filled}
 use Rattle.rv_sources_link_laws.proofs.fields.WholesLemmas.{numbers_by, worths_of, AreObjectsAt, objects_at, worths_are, IsSound, sound, StandsAlone, labels, IsWhole, relocated_at}
 use Rattle.rv_sources_link_laws.proofs.names.GlobalsLemmas.{low_rows}
+use Rattle.rv_sources_link_laws.proofs.names.PairLemmas.{AreGiven}
 use Rattle.rv_sources_link_laws.proofs.statements.StatementsLemmas.{AreObjectsOf, renumbered, renumbers, row_in, rows_from, mapped_at, all_rows}
 use Rattle.rv_sources_link_laws.proofs.statements.SettledLemmas.{settled}
 use Rattle.rv_sources_link_laws.proofs.sections.SectionsLemmas.{said, split}
@@ -160,7 +161,8 @@ good_all (ss ∷ sources) (o ∷ os) (is, h) = (no_first_fault ss is.good, good_
 
 -- ---- all regions
 
-module _ (sources : List (List Statement)) (os : List Object) (text_start : ℕ) (l : Linked) (h : AreObjectsOf sources os) (link : IsLinkOf os text_start l) where
+module _ (sources : List (List Statement)) (os : List Object) (text_start : ℕ) (l : Linked) (h : AreObjectsOf sources os) (link : IsLinkOf os text_start l)
+    (given : AreGiven (program sources l.map) os) where
   abbrev p : Program
   p = program sources l.map
 
@@ -172,7 +174,7 @@ module _ (sources : List (List Statement)) (os : List Object) (text_start : ℕ)
 
   -- what the fields of code take
   abbrev worths : ℕ → ℕ → ℕ → Open → ℤ
-  worths = worths_of l.map.globals starts os numbers
+  worths = worths_of (outer_of os l) starts os numbers
 
   abbrev says : ℕ → Site → List ℕ
   says file z = said p file (worths file) z
@@ -181,7 +183,7 @@ module _ (sources : List (List Statement)) (os : List Object) (text_start : ℕ)
   bytes_of m = code_of starts says sources os h m
 
   abbrev Q : InputSection → Type 0
-  Q i = AllByRecursion (IsRelocated l.map.globals starts os i) i.section.relocations
+  Q i = AllByRecursion (IsRelocated (outer_of os l) starts os i) i.section.relocations
 
   module _ (spells : Mapped → List ℕ) (stores : Bool) (P : Mapped → Type 0) (goes : Section → Bool) (goes_source : SourceSection → Bool)
       (loads : (s : SourceSection) → goes_source s ≡ true → s.loaded ≡ true)
@@ -209,6 +211,7 @@ module _ (sources : List (List Statement)) (os : List Object) (text_start : ℕ)
           low = low_rows starts file is.sites two.0;
           sound = subst (λ t. AllByRecursion (λ z. IsSound t z.located) is.sites) (sym f.tables) (sound ss is.sites is.good is.located);
           labels = subst StandsAlone (sym f.tables) (labels ss);
+          given = given;
           worth = worths_are p os starts numbers file o is.number g;
           stands = f.stands;
           itself = all_map (IsFound 1 is.sites) (λ z. site_at is.sites z.located.ordinal ≡ Some z) is.sites (λ z k. k.1) (found_from 1 (at_start ss) ss is.sites is.located);
@@ -339,10 +342,10 @@ module _ (sources : List (List Statement)) (os : List Object) (text_start : ℕ)
     code = bytes_of;
     written = written_by p.mapped at_home in_text;
     below = link.below;
-    text = link.text_bytes ∙ ap (λ n. contents (linked_bytes l.map.globals starts os) starts n (inputs objects.goes_to_text os)) link.text.0
+    text = link.text_bytes ∙ ap (λ n. contents (linked_bytes (outer_of os l) starts os) starts n (inputs objects.goes_to_text os)) link.text.0
         ∙ text_region.bytes refl ∙ ap (λ n. source_contents bytes_of n (source.input_sections goes_to_text sources l.map)) (sym link.text.0);
-    rodata = link.rodata_bytes ∙ ap (λ n. contents (linked_bytes l.map.globals starts os) starts n (inputs objects.goes_to_rodata os)) link.rodata.0
+    rodata = link.rodata_bytes ∙ ap (λ n. contents (linked_bytes (outer_of os l) starts os) starts n (inputs objects.goes_to_rodata os)) link.rodata.0
         ∙ rodata_region.bytes refl ∙ ap (λ n. source_contents (spelled p) n (source.input_sections goes_to_rodata sources l.map)) (sym link.rodata.0);
-    «data» = link.data_bytes ∙ ap (λ n. contents (linked_bytes l.map.globals starts os) starts n (inputs objects.goes_to_data os)) link.data.0
+    «data» = link.data_bytes ∙ ap (λ n. contents (linked_bytes (outer_of os l) starts os) starts n (inputs objects.goes_to_data os)) link.data.0
         ∙ data_region.bytes refl ∙ ap (λ n. source_contents (spelled p) n (source.input_sections goes_to_data sources l.map)) (sym link.data.0);
   }

@@ -22,7 +22,7 @@ use Rattle.rv_sources_link_laws.specs.Joins.{AreObjectsOf}
 use Rattle.rv_sources_link_laws.proofs.sections.AssembledLemmas.{AreAssembled}
 use Rattle.rv_sources_link_laws.proofs.sections.FilesLemmas.{AreFiles, files, statements_ours}
 use Rattle.rv_sources_link_laws.proofs.calls.FinalsLemmas.{IsResized, AreCut, AreFinal, all_final}
-use Rattle.rv_sources_link_laws.proofs.names.JoinedLemmas.{resolves}
+use Rattle.rv_sources_link_laws.proofs.names.JoinedLemmas.{given, resolves}
 use Rattle.rv_sources_link_laws.proofs.LinkedLemmas.{linked}
 use Rattle.rv_sources_link_laws.proofs.moves.MovedLemmas.{all_map}
 use Rattle.rv_sources_link_laws.proofs.moves.PiecesLemmas.{ArePieces, text_is, have_bytes}
@@ -88,7 +88,7 @@ module _ (sources : List (List Statement)) (os : List Object) (text_start : ℕ)
       (have_bytes p starts at sizes size 0 (inputs goes_to_text os) (source.input_sections source_text sources l.map) are_pieces (apart p starts at sizes 1 os) by)
 
   pub joined : (relax : Bool) → Shortened relax sources l.map → IsLinked sources text_start relax l
-  joined relax shortened = linked sources ws text_start l are made relax sized shortened (resolves sources ws text_start l are made)
+  joined relax shortened = linked sources ws text_start l are made (given sources ws text_start l are made) relax sized shortened (resolves sources ws text_start l are made)
 
 -- ---- without relaxation
 

@@ -1,8 +1,12 @@
 pub mod ExportedLemmas
+pub mod PairLemmas
+pub mod PairedLemmas
+pub mod MatchedLemmas
+pub mod AlikeLemmas
 pub mod KnownLemmas
 pub mod LabelsLemmas
-pub mod NamesLemmas
 pub mod GlobalsLemmas
+pub mod MadeLemmas
 pub mod JoinedLemmas
 pub mod EntryLemmas
 pub mod FlaggedLemmas

@@ -8,7 +8,6 @@ use Rattle.rv_isa.specs.declared.kind.Kind.{Kind}
 use Rattle.rv_isa.specs.declared.kind.Kind.TheVariants as kind
 use Rattle.rv_isa.specs.declared.operation.BranchOperation.{BranchOperation}
 use Rattle.rv_isa.specs.Operations.{of_branch}
-use Rattle.rv_encode.specs.Word.{form}
 use Rattle.rv_compress.specs.declared.form.Compressed.TheVariants.{J as ShortJump}
 use Rattle.rv_compress.specs.Parcel.{IsShortOf}
 use Rattle.rv_statement.specs.declared.mnemonic.Mnemonic.{Mnemonic}

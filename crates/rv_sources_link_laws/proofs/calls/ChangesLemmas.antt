@@ -22,8 +22,7 @@ use Rattle.rv_source_laws.specs.Located.{Located}
 use Rattle.rv_source_laws.specs.Program.{Program, tables_in, form as program_form}
 use Rattle.rv_source_laws.specs.Sizes.{target_in}
 use Rattle.rv_source_laws.specs.Sized.{is_call}
-use Rattle.rv_source_laws.specs.Shortened as line
-use Rattle.rv_source_laws.specs.Shortened.{calls, link_register, Placed, aim_of, aim_offset, sites_by, sites_at, alignment_sites, call_sites, shortenable, has_compressed, is_compressible}
+use Rattle.rv_source_laws.specs.Shortened.{link_register, Placed, aim_of, aim_offset, sites_by, alignment_sites, call_sites, shortenable, has_compressed, is_compressible}
 use Rattle.rv_object.specs.Object.{Relocation, Section, Symbol, Object, stored}
 use Rattle.rv_object.specs.Padding.{no_operations}
 use Rattle.rv_object.specs.Valid.{is_align, held}

@@ -13,7 +13,6 @@ use Rattle.rv_object.specs.declared.row.Row.{Row}
 use Rattle.rv_object.specs.Object.{Section, Object}
 use Rattle.rv_object_laws.specs.CallSites.{in_order}
 use Rattle.rv_object_laws.specs.Inputs.{goes_to_text}
-use Rattle.rv_object_laws.specs.Names.{exported}
 use Rattle.rv_object_laws.specs.Shortened.{Sizes, is_shortened, cut, cuts, cuts_at, cuts_in, shortened_text, shortened_section, shortened_sections, shortened_definition, shortened_symbol, shortened_row, shortened_object}
 use Rattle.rv_source_laws.specs.Shortened.{calls}
 use Rattle.rv_source_laws.proofs.HomesLemmas.{all_filter}
@@ -26,6 +25,7 @@ use Rattle.rv_sources_link_laws.proofs.calls.CutsLemmas.{link_of, sort_of}
 use Rattle.rv_sources_link_laws.proofs.calls.CutStepsLemmas as walk
 use Rattle.rv_sources_link_laws.proofs.calls.CutStepsLemmas.{cut_site}
 use Rattle.rv_sources_link_laws.proofs.calls.CutSectionsLemmas.{section_left, resized}
+use Rattle.rv_sources_link_laws.proofs.names.ExportedLemmas.{exported}
 use Rattle.rv_sources_link_laws.proofs.sections.FiledLemmas as filed
 use Rattle.rv_sources_link_laws.proofs.moves.MovedLemmas as moved
 use Rattle.rv_sources_link_laws.proofs.statements.SettledLemmas.{IsSettled, IsSiteIn, sites_are_in, of_sections}

@@ -23,7 +23,7 @@ use Rattle.rv_assemble_laws.specs.IsObjectOf.{Numbering, relocation_at, relocati
 use Rattle.rv_sources_link_laws.proofs.fields.PatchesLemmas.{is_data, IsKnownIn}
 use Rattle.rv_sources_link_laws.proofs.statements.StatementsLemmas.{row_address}
 use Rattle.rv_sources_link_laws.proofs.statements.SettledLemmas.{IsSettled, IsSiteIn, sites_are_in}
-use Rattle.rv_sources_link_laws.proofs.names.KnownLemmas.{still, meant_of}
+use Rattle.rv_sources_link_laws.proofs.names.KnownLemmas.{still, outer_in, meant_of}
 use Rattle.rv_sources_link_laws.proofs.names.GlobalsLemmas.{IsLow}
 use Rattle.rv_sources_link_laws.proofs.fields.WholesLemmas.{IsSound, IsWhole}
 use Rattle.rv_sources_link_laws.proofs.sections.SectionsLemmas.{split, each, AtOffsets, AreAt, at_sites, of_parts, meant_in}
@@ -42,7 +42,7 @@ module _ (p : Program) (os : List Object) (starts : Starts) (file : ℕ) (sites 
 
   module _ (index : ℕ) (section : SourceSection) (x : Section) (is : IsSectionOf t sites number o.symbols index section (sites_in index sites) x)
       (at : slice_get sections index ≡ Some section) (none : alignments_of x ≡ []) (loaded : section.loaded ≡ true)
-      (relocated : AllByRecursion (IsRelocated p.map.globals starts os (record { file = file; object = o; index = index; section = x })) x.relocations) where
+      (relocated : AllByRecursion (IsRelocated (outer_in p os) starts os (record { file = file; object = o; index = index; section = x })) x.relocations) where
     abbrev pub i : InputSection
     i = record { file = file; object = o; index = index; section = x }
 
@@ -53,10 +53,10 @@ module _ (p : Program) (os : List Object) (starts : Starts) (file : ℕ) (sites 
     ps = parts t own
 
     abbrev pub worth : Relocation → ℤ
-    worth r = unwrap_or (value p.map.globals starts os i r) (pos 0)
+    worth r = unwrap_or (value (outer_in p os) starts os i r) (pos 0)
 
     abbrev pub s : Option ℕ → ℕ
-    s symbol = unwrap_or (target p.map.globals (starts file) o symbol) 0
+    s symbol = unwrap_or (target (outer_in p os) (starts file) o symbol) 0
 
     abbrev pub new : ℕ → ℕ
     new = new_offset (moves (starts file index) x)
@@ -88,16 +88,16 @@ module _ (p : Program) (os : List Object) (starts : Starts) (file : ℕ) (sites 
     Known q = AllByRecursion (λ (f : Open). K f.ordinal f.symbol) (template_fields q.ordinal q.template)
 
     abbrev pub Q : Relocation → Type 0
-    Q r = IsRelocated p.map.globals starts os i r
+    Q r = IsRelocated (outer_in p os) starts os i r
 
     pub relocations_are : x.relocations ≡ relocations_from number 0 ps
     relocations_are = is.relocations ∙ ap (λ b. if b then relocations_from number 0 ps else []) loaded
 
     known_field : (ordinal : ℕ) (q : Option Primary) → AllByRecursion (IsNumbered t sites number o.symbols) (use_of ordinal q)
-        → is_some (target p.map.globals (starts file) o (option_map (number ordinal) q)) ≡ true → K ordinal q
+        → is_some (target (outer_in p os) (starts file) o (option_map (number ordinal) q)) ≡ true → K ordinal q
     known_field ordinal None h r = tt
     known_field ordinal (Some q) (h, tt) r =
-        let m = meant_of p.statements p.map.globals low starts file t sites number o sections are settled plain address ordinal q h r in
+        let m = meant_of p os whole.given low starts file sites number o sections are settled plain address ordinal q h r in
         record { at = m.at; is = m.is; meant = m.worth; low = m.below }
 
     known_fields : (offset : ℕ) (fs : List Open) → AllByRecursion (IsNumbered t sites number o.symbols) (flat_map (λ (f : Open). use_of f.ordinal f.symbol) fs)

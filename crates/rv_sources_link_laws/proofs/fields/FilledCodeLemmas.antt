@@ -22,7 +22,7 @@ use Rattle.rv_unit_laws.specs.Sections.{Section as SourceSection}
 use Rattle.rv_unit_laws.specs.Tables.{Tables, Definition, definition, Labelled, label_of, first_definition, labelled_definition}
 use Rattle.rv_map.specs.Limits.{IsGlobal}
 use Rattle.rv_source_laws.specs.Located.{has_row}
-use Rattle.rv_source_laws.specs.Program.{Mapped, Program, tables_in, address_at, address_by, in_operand, has_values, address as address_in, number as number_of, value as value_in_map}
+use Rattle.rv_source_laws.specs.Program.{Mapped, Program, tables_in, address_at, home_address, own_address, own_value as own_value_in_map, in_operand, have_values, has_value, has_values, address as address_in, number as number_of, value as value_in_map}
 use Rattle.rv_source_laws.specs.Fits.{IsPaired}
 use Rattle.rv_source_laws.specs.Lines.{other_operand, operand_of, operand_number, operand_value, field_value, is_low_part, distance, takes_upper, pair_of, pair_distance, label_section, upper_at, section_of}
 use Rattle.rv_object.specs.Object.{Section, Object}
@@ -38,6 +38,7 @@ use Rattle.rv_assemble_laws.specs.Sites.{Site, form, part_of, coded_templates, s
 use Rattle.rv_assemble_laws.specs.Symbols.{use_of, references_in, site_at}
 use Rattle.rv_assemble_laws.specs.IsObjectOf.{Numbering, relocation_at, IsNumbered}
 use Rattle.rv_sources_link_laws.proofs.statements.StatementsLemmas.{row_in, row_address}
+use Rattle.rv_sources_link_laws.proofs.names.KnownLemmas.{outer_in}
 use Rattle.rv_sources_link_laws.proofs.statements.SettledLemmas.{IsSettled}
 use Rattle.rv_sources_link_laws.proofs.fields.WholesLemmas.{IsWhole}
 use Rattle.rv_sources_link_laws.proofs.statements.CodingLemmas.{IsFilledBy, IsFilledPart, AreFilledParts}
@@ -76,6 +77,42 @@ label_some t ordinal (Named name) e = labelled_some _ (label_of t.labels true 0 
 label_some t ordinal Here e = absurd (cc)
 label_some t ordinal (Reference digits forward) e = e
 
+-- ---- operands have values where the one that is no register has
+
+module _ (p : Program) (s : Mapped) where
+  abbrev has_maybe : Option Operand → Bool
+  has_maybe None = true
+  has_maybe (Some oper) = has_value p s oper
+
+  have_one : (ex : Expression) → is_some (value_in_map p s ex) ≡ true → have_values p s (ex ∷ []) ≡ true
+  have_one ex some = and_from (is_some (value_in_map p s ex)) true some refl
+
+  none_valued : (os : List Operand) → flat_map in_operand os ≡ [] → list_all (has_value p s) os ≡ true
+  none_valued [] e = refl
+  none_valued (Register r ∷ os) e = none_valued os e
+  none_valued (Accesses set ∷ os) e = none_valued os e
+  none_valued (Word w ∷ os) e = none_valued os e
+  none_valued (Quoted w ∷ os) e = none_valued os e
+  none_valued (Of_value ex ∷ os) e = absurd (cc)
+  none_valued (Applied function ex ∷ os) e = absurd (cc)
+  none_valued (Target ex ∷ os) e = absurd (cc)
+
+  others_none : (ex : Expression) (es : List Expression) → ◌≡◌ {A = List Expression} (ex ∷ es) (ex ∷ []) → es ≡ []
+  others_none ex es e = cc
+
+  all_valued : (os : List Operand) → flat_map in_operand os ≡ in_maybe (other_operand os) → has_maybe (other_operand os) ≡ true → list_all (has_value p s) os ≡ true
+  all_valued [] e h = refl
+  all_valued (Register r ∷ os) e h = all_valued os e h
+  all_valued (Accesses set ∷ os) e h = none_valued os e
+  all_valued (Word w ∷ os) e h = none_valued os e
+  all_valued (Quoted w ∷ os) e h = none_valued os e
+  all_valued (Of_value ex ∷ os) e h =
+      and_from (has_value p s (Of_value ex)) (list_all (has_value p s) os) h (none_valued os (others_none ex (flat_map in_operand os) e))
+  all_valued (Applied function ex ∷ os) e h =
+      and_from (has_value p s (Applied function ex)) (list_all (has_value p s) os) h (none_valued os (others_none ex (flat_map in_operand os) e))
+  all_valued (Target ex ∷ os) e h =
+      and_from (has_value p s (Target ex)) (list_all (has_value p s) os) h (none_valued os (others_none ex (flat_map in_operand os) e))
+
 module _ (p : Program) (os : List Object) (starts : Starts) (file : ℕ) (sites : List Site) (number : Numbering) (o : Object) (sections : List SourceSection)
     (low : AllByRecursion IsGlobal p.map.globals) (are : AreSectionsOf (tables_in p file) sites number o.symbols 0 sections o.sections)
     (settled : AllByRecursion (IsSettled sections) sites) (all_worths : ℕ → ℕ → Open → ℤ) (whole : IsWhole p os starts file sites number o all_worths)
@@ -83,7 +120,7 @@ module _ (p : Program) (os : List Object) (starts : Starts) (file : ℕ) (sites 
     (address : (n : ℕ) → address_at p.statements file n ≡ option_and_then (row_address starts file) (site_at sites n)) where
   module _ (index : ℕ) (section : SourceSection) (x : Section) (is : IsSectionOf (tables_in p file) sites number o.symbols index section (sites_in index sites) x)
       (at : slice_get sections index ≡ Some section) (none : alignments_of x ≡ []) (loaded : section.loaded ≡ true)
-      (relocated : AllByRecursion (IsRelocated p.map.globals starts os (record { file = file; object = o; index = index; section = x })) x.relocations) where
+      (relocated : AllByRecursion (IsRelocated (outer_in p os) starts os (record { file = file; object = o; index = index; section = x })) x.relocations) where
     abbrev T : Tables
     T = tables_in p file
 
@@ -91,7 +128,7 @@ module _ (p : Program) (os : List Object) (starts : Starts) (file : ℕ) (sites 
     start = starts file index
 
     module _ (there : slice_get o.sections index ≡ Some x) (z : Site) (h : Facts p os starts file sites number o sections low are settled all_worths whole plain address index section x is at none loaded relocated z) (shown : has_row z.located ≡ true) (own : IsOwn p os starts file sites number o sections low are settled all_worths whole plain address index section x is at none loaded relocated 0 (sites_in index sites) z)
-        (w : ℕ → Open → ℤ) (w_is : (n : ℕ) (f : Open) → w n f ≡ worth_at p.map.globals starts os file o index x none number n f)
+        (w : ℕ → Open → ℤ) (w_is : (n : ℕ) (f : Open) → w n f ≡ worth_at (outer_in p os) starts os file o index x none number n f)
         (mnemonic : Mnemonic) (os' : List Operand) (e : z.located.kind ≡ Instruction mnemonic os')
         (c : IsCode (form (tables_in p file) z.located) z.located.options.rvc mnemonic os' z.bytes z.coded z.instructions) where
       abbrev V : Expression → Value
@@ -126,7 +163,7 @@ module _ (p : Program) (os : List Object) (starts : Starts) (file : ℕ) (sites 
       place = starts file z.located.section + z.offset
 
       abbrev worth : ℕ → Open → ℤ
-      worth n f = worth_at p.map.globals starts os file o index x none number n f
+      worth n f = worth_at (outer_in p os) starts os file o index x none number n f
 
       abbrev Related : ℕ → List Open → Type 0
       Related n fs = AllByRecursion (λ (f : Open). Q p os starts file sites number o sections low are settled all_worths whole plain address index section x is at none loaded relocated (relocation_at number n f)) fs
@@ -165,7 +202,7 @@ module _ (p : Program) (os : List Object) (starts : Starts) (file : ℕ) (sites 
           let r = (subst (λ l. Related n l) are_fields related).0 in
           let known = (subst (λ l. Knows l) are_fields knows).0 in
           let own_value : worth n f ≡ taken k a =
-          worth_is p.map.globals starts os file o index x none number k plain_kind ordinal q plus n known.at known.meant
+          worth_is (outer_in p os) starts os file o index x none number k plain_kind ordinal q plus n known.at known.meant
           ∙ ap (value_of k known.at (int_wrap w64 (pos plus))) (sym at_n) ∙ as' known.at known.is a in
           record {
             field = f;
@@ -225,12 +262,11 @@ module _ (p : Program) (os : List Object) (starts : Starts) (file : ℕ) (sites 
       alone : flat_map in_operand os' ≡ in_maybe (other_operand os')
       alone = (row p os starts file sites number o sections low are settled all_worths whole plain address index section x is at none loaded relocated z h mnemonic os' e c).alone
 
-      valued_none : in_maybe (other_operand os') ≡ [] → has_values p s ≡ true
-      valued_none f = ap (λ es. list_all (λ ex. is_some (value_in_map p s ex)) es) (alone ∙ f)
+      valued_by : has_maybe p s (other_operand os') ≡ true → has_values p s ≡ true
+      valued_by h = all_valued p s os' alone h
 
-      valued_one : (ex : Expression) → in_maybe (other_operand os') ≡ ex ∷ [] → is_some (value_in_map p s ex) ≡ true → has_values p s ≡ true
-      valued_one ex f some =
-          ap (λ es. list_all (λ ex. is_some (value_in_map p s ex)) es) (alone ∙ f) ∙ and_from (is_some (value_in_map p s ex)) true some refl
+      valued_one : (ex : Expression) → has_maybe p s (other_operand os') ≡ have_values p s (ex ∷ []) → is_some (value_in_map p s ex) ≡ true → has_values p s ≡ true
+      valued_one ex f some = valued_by (f ∙ have_one p s ex some)
 
       known_value : (ex : Expression) → is_some (constants V ex) ≡ true → is_some (value_in_map p s ex) ≡ true
       known_value ex known = known_some (address_in p s.located) (V ex) known
@@ -241,10 +277,10 @@ module _ (p : Program) (os : List Object) (starts : Starts) (file : ℕ) (sites 
       closed_fills (Open_part k i ∷ ps) f = absurd (cc)
       closed_fills (Joined k i j ∷ ps) f = absurd (cc)
 
-      all_closed : in_maybe (other_operand os') ≡ [] → IsPaired p s (other_operand os') → are_closed c.ps ≡ true → Result
-      all_closed f paired closed = made (valued_none f) paired (closed_fills c.ps closed)
+      all_closed : has_maybe p s (other_operand os') ≡ true → IsPaired p s (other_operand os') → are_closed c.ps ≡ true → Result
+      all_closed f paired closed = made (valued_by f) paired (closed_fills c.ps closed)
 
-      known_closed : (ex : Expression) → in_maybe (other_operand os') ≡ ex ∷ [] → IsPaired p s (other_operand os') → are_closed c.ps ≡ true → is_some (constants V ex) ≡ true → Result
+      known_closed : (ex : Expression) → has_maybe p s (other_operand os') ≡ have_values p s (ex ∷ []) → IsPaired p s (other_operand os') → are_closed c.ps ≡ true → is_some (constants V ex) ≡ true → Result
       known_closed ex f paired closed known = made (valued_one ex f (known_value ex known)) paired (closed_fills c.ps closed)
 
       -- ---- what stands in the first part
@@ -271,7 +307,7 @@ module _ (p : Program) (os : List Object) (starts : Starts) (file : ℕ) (sites 
 
       -- ---- a part of an address
 
-      module _ (oper : Operand) (f : other_operand os' ≡ Some oper) (ex : Expression) (one : in_operand oper ≡ ex ∷ []) (paired : IsPaired p s (Some oper))
+      module _ (oper : Operand) (f : other_operand os' ≡ Some oper) (ex : Expression) (one : has_value p s oper ≡ have_values p s (ex ∷ [])) (paired : IsPaired p s (Some oper))
           (q : Primary) (meaning : Meaning) (plus : ℕ) (symbolic : V ex ≡ Symbolic q meaning plus) where
         symbol_as : (k : Kind) → symbol_field k ordinal (V ex) ≡ open_at k ordinal (Some q) plus ∷ []
         symbol_as k = ap (symbol_field k ordinal) symbolic
@@ -284,7 +320,7 @@ module _ (p : Program) (os : List Object) (starts : Starts) (file : ℕ) (sites 
             marked_one (is_marked k z.located) z.located (open_at k ordinal (Some q) plus) (field_of T V ordinal (operand_of z.located.kind) k)
             (ap (λ l. field_of T V ordinal l k) (operand_as p os starts file sites number o sections low are settled all_worths whole plain address index section x is at none loaded relocated z h mnemonic os' e c oper f) ∙ field_as ∙ symbol_as k) in
             let known = (subst (λ l. Knows l) fields_are (first (Open_part k i) [] ps_are).known_first).0 in
-            made (valued_one ex (ap in_maybe f ∙ one) (value_some ex q meaning plus known.at symbolic known.is)) (subst (IsPaired p s) (sym f) paired)
+            made (valued_one ex (ap (has_maybe p s) f ∙ one) (value_some ex q meaning plus known.at symbolic known.is)) (subst (IsPaired p s) (sym f) paired)
             (subst (λ ps. AllByRecursion Fills ps) (sym ps_are) ((λ n a at_n r k' u. field_filled k (marks (is_marked k z.located) z.located) (fields (Open_part k i)) q plus fields_are (marks_relax (is_marked k z.located) z.located) plain_kind as' n a at_n r k'), tt))
 
         -- the address itself
@@ -350,7 +386,7 @@ module _ (p : Program) (os : List Object) (starts : Starts) (file : ℕ) (sites 
 
         far_result : AllByRecursion IsFar c.ps → are_closed c.ps ≡ false → Result
         far_result far open_one =
-            made (valued_one ex (ap in_maybe f) (far_known c.ps z.coded c.coded_as far open_one (subst (λ l. AllByRecursion (Known p os starts file sites number o sections low are settled all_worths whole plain address index section x is at none loaded relocated) l) (parts_are p os starts file sites number o sections low are settled all_worths whole plain address index section x is at none loaded relocated z h mnemonic os' e c) h.knows)))
+            made (valued_one ex (ap (has_maybe p s) f) (far_known c.ps z.coded c.coded_as far open_one (subst (λ l. AllByRecursion (Known p os starts file sites number o sections low are settled all_worths whole plain address index section x is at none loaded relocated) l) (parts_are p os starts file sites number o sections low are settled all_worths whole plain address index section x is at none loaded relocated z h mnemonic os' e c) h.knows)))
             (subst (IsPaired p s) (sym f) tt) (far_fills c.ps far)
 
         -- by two instructions
@@ -375,7 +411,7 @@ module _ (p : Program) (os : List Object) (starts : Starts) (file : ℕ) (sites 
         pair_result : (k : Kind) (i j : Inst) → is_low_part k ≡ true → c.ps ≡ Open_part kind.PcrelHi20 i ∷ Open_part k j ∷ [] → Result
         pair_result k i j low_part ps_are =
             let known = (subst (λ l. Knows l) (target_field kind.PcrelHi20 refl) (first (Open_part kind.PcrelHi20 i) (Open_part k j ∷ []) ps_are).known_first).0 in
-            made (valued_one ex (ap in_maybe f) (value_some ex q meaning plus known.at symbolic known.is)) (subst (IsPaired p s) (sym f) tt)
+            made (valued_one ex (ap (has_maybe p s) f) (value_some ex q meaning plus known.at symbolic known.is)) (subst (IsPaired p s) (sym f) tt)
             (subst (λ ps. AllByRecursion Fills ps) (sym ps_are) (upper_fills i, (lower_fills k j low_part (by (upper_or_not p os starts file sites number o sections low are settled all_worths whole plain address index section x is at none loaded relocated z h)), tt)))
           where
             by : NoUpper p os starts file sites number o sections low are settled all_worths whole plain address index section x is at none loaded relocated z ⊎ HasUpper p os starts file sites number o sections low are settled all_worths whole plain address index section x is at none loaded relocated z → HasUpper p os starts file sites number o sections low are settled all_worths whole plain address index section x is at none loaded relocated z
@@ -397,7 +433,7 @@ module _ (p : Program) (os : List Object) (starts : Starts) (file : ℕ) (sites 
             ∙ ap (label_field T k ordinal) symbolic ∙ ap (λ l. low_field_at k l plus) defined
 
         abbrev worth_option : ℕ → Option ℤ
-        worth_option n = value p.map.globals starts os (record { file = file; object = o; index = index; section = x }) (relocation_at number n field)
+        worth_option n = value (outer_in p os) starts os (record { file = file; object = o; index = index; section = x }) (relocation_at number n field)
 
         pair_at : (n : ℕ) → Related n (fields (Open_part k i)) → Uses (fields (Open_part k i)) → IsLabelPair p os starts file sites number o sections low are settled all_worths whole plain address d plus (worth_option n)
         pair_at n related uses =
@@ -406,15 +442,13 @@ module _ (p : Program) (os : List Object) (starts : Starts) (file : ℕ) (sites 
             label_pair p os starts file sites number o sections low are settled all_worths whole plain address d plus (worth_option n) labelled (zero_addend plus (r.alone (low_same k low_part).0))
             (low_value p os starts file sites number o sections low are settled all_worths whole plain address index x k (low_same k low_part).0 d.ordinal plus n stands) r.found
 
-        meant_as : (n : ℕ) (w' : IsLabelPair p os starts file sites number o sections low are settled all_worths whole plain address d plus (worth_option n)) → meant_in p file ordinal q ≡ Some w'.place
-        meant_as n w' = ap (address_as) defined ∙ w'.stood
-          where
-            address_as : Option Definition → Option ℕ
-            address_as l = address_by p.statements p.map.globals file q l
+        own_as : (n : ℕ) (w' : IsLabelPair p os starts file sites number o sections low are settled all_worths whole plain address d plus (worth_option n)) → own_value_in_map p s ex ≡ Some (add w'.place plus)
+        own_as n w' =
+            symbolic_some (own_address p s.located) (V ex) q meaning plus w'.place symbolic (ap (option_and_then (home_address p.statements file)) defined ∙ w'.stood)
 
         pair_as : (n : ℕ) (w' : IsLabelPair p os starts file sites number o sections low are settled all_worths whole plain address d plus (worth_option n)) → pair_of p s ex ≡ Some w'.upper
         pair_as n w' =
-            ap (λ a. upper_at p file a (label_section p s.located (V ex))) (number_is ex q meaning plus w'.place symbolic (meant_as n w'))
+            ap (λ a. upper_at p file (unwrap_or a 0) (label_section p s.located (V ex))) (own_as n w')
             ∙ ap (λ v. upper_at p file (add w'.place plus) (label_section p s.located v)) symbolic
             ∙ ap (λ l. upper_at p file (add w'.place plus) (option_and_then (λ (d : Definition). section_of p file d.ordinal) l)) defined
             ∙ w'.pair
@@ -430,7 +464,7 @@ module _ (p : Program) (os : List Object) (starts : Starts) (file : ℕ) (sites 
         label_result ps_are =
             let here = first (Open_part k i) [] ps_are in
             let w' = pair_at z.offset here.related_first here.used_first in
-            made (valued_one ex (ap in_maybe f) (value_some ex q meaning plus w'.place symbolic (meant_as z.offset w')))
+            made (valued_by (ap (has_maybe p s) f ∙ ap is_some (own_as z.offset w')))
             (subst (IsPaired p s) (sym f) (ap is_some (pair_as z.offset w')))
             (subst (λ ps. AllByRecursion Fills ps) (sym ps_are) (label_fills, tt))
 
@@ -440,17 +474,17 @@ module _ (p : Program) (os : List Object) (starts : Starts) (file : ℕ) (sites 
       is_hi k i hi = ap (λ k. Open_part k i ∷ []) hi
 
       by_operand : (oper : Option Operand) → other_operand os' ≡ oper → Shape (constants V) oper c.ps → Result
-      by_operand None f shape = all_closed (ap in_maybe f) (subst (IsPaired p s) (sym f) tt) shape
-      by_operand (Some (Register r)) f shape = all_closed (ap in_maybe f) (subst (IsPaired p s) (sym f) tt) shape
-      by_operand (Some (Accesses set)) f shape = all_closed (ap in_maybe f) (subst (IsPaired p s) (sym f) tt) shape
-      by_operand (Some (Word w')) f shape = all_closed (ap in_maybe f) (subst (IsPaired p s) (sym f) tt) shape
-      by_operand (Some (Quoted q)) f shape = all_closed (ap in_maybe f) (subst (IsPaired p s) (sym f) tt) shape
-      by_operand (Some (Of_value ex)) f (closed, known) = known_closed ex (ap in_maybe f) (subst (IsPaired p s) (sym f) tt) closed known
-      by_operand (Some (Applied Hi ex)) f (inl (closed, known)) = known_closed ex (ap in_maybe f) (subst (IsPaired p s) (sym f) tt) closed known
+      by_operand None f shape = all_closed (ap (has_maybe p s) f) (subst (IsPaired p s) (sym f) tt) shape
+      by_operand (Some (Register r)) f shape = all_closed (ap (has_maybe p s) f) (subst (IsPaired p s) (sym f) tt) shape
+      by_operand (Some (Accesses set)) f shape = all_closed (ap (has_maybe p s) f) (subst (IsPaired p s) (sym f) tt) shape
+      by_operand (Some (Word w')) f shape = all_closed (ap (has_maybe p s) f) (subst (IsPaired p s) (sym f) tt) shape
+      by_operand (Some (Quoted q)) f shape = all_closed (ap (has_maybe p s) f) (subst (IsPaired p s) (sym f) tt) shape
+      by_operand (Some (Of_value ex)) f (closed, known) = known_closed ex (ap (has_maybe p s) f) (subst (IsPaired p s) (sym f) tt) closed known
+      by_operand (Some (Applied Hi ex)) f (inl (closed, known)) = known_closed ex (ap (has_maybe p s) f) (subst (IsPaired p s) (sym f) tt) closed known
       by_operand (Some (Applied Hi ex)) f (inr ((k, (i, hi, ps_are)), open_one)) =
           let (q, (meaning, (plus, symbolic))) = upper_symbolic (V ex) open_one (fault_none p os starts file sites number o sections low are settled all_worths whole plain address index section x is at none loaded relocated z h mnemonic os' e c (Applied Hi ex) f) in
           absolute_part (Applied Hi ex) f ex refl tt q meaning plus symbolic kind.Hi20 i (ps_are ∙ is_hi k i hi) refl refl refl (λ at_q a. absolute_is at_q plus) (λ a. refl)
-      by_operand (Some (Applied Lo ex)) f (inl (closed, known)) = known_closed ex (ap in_maybe f) (subst (IsPaired p s) (sym f) tt) closed known
+      by_operand (Some (Applied Lo ex)) f (inl (closed, known)) = known_closed ex (ap (has_maybe p s) f) (subst (IsPaired p s) (sym f) tt) closed known
       by_operand (Some (Applied Lo ex)) f (inr ((k, (i, inl lo, ps_are)), open_one)) =
           let (q, (meaning, (plus, symbolic))) = low_symbolic mnemonic (V ex) open_one (fault_none p os starts file sites number o sections low are settled all_worths whole plain address index section x is at none loaded relocated z h mnemonic os' e c (Applied Lo ex) f) in
           absolute_part (Applied Lo ex) f ex refl tt q meaning plus symbolic kind.Lo12I i (ps_are ∙ ap (λ k. Open_part k i ∷ []) lo) refl refl refl (λ at_q a. absolute_is at_q plus) (λ a. refl)

@@ -2,7 +2,7 @@
 
 use Rattle.std.proofs.Common.{◌≡◌, ℕ, ◌+◌, ◌%◌, ◌<◌, Bool, true, false, List, [], ◌∷◌, refl, sym, ap, ◌∙◌, arith, Option, Some, None}
 use Rattle.std.proofs.lemmas.Bool.{eq-eqb, eqb-true, ne_eqb}
-use Rattle.std.specs.Prelude.{◌^◌, ℤ, pos, ◌&&◌, ◌==◌, if◌then◌else◌, is_some, unwrap_or, option_map, option_and_then}
+use Rattle.std.specs.Prelude.{◌^◌, ℤ, pos, not, ◌&&◌, ◌==◌, if◌then◌else◌, is_some, unwrap_or, option_map, option_and_then}
 use Rattle.std.specs.List.{AllByRecursion, slice_get, find}
 use Rattle.rv_isa.specs.declared.kind.Kind.{Kind}
 use Rattle.rv_text_laws.specs.Expression.{Here}
@@ -18,15 +18,15 @@ use Rattle.rv_object.specs.declared.symbol.Definition.{Definition as Defined}
 use Rattle.rv_object.specs.Object.{Relocation, Section, Symbol, Object}
 use Rattle.rv_object_laws.specs.Moves.{alignments_of, moves}
 use Rattle.rv_object_laws.specs.Inputs.{Starts}
-use Rattle.rv_object_laws.specs.Names.{is_defined, place_in, global_place, symbol_place}
+use Rattle.rv_object_laws.specs.Names.{is_sure_by, place_in, shared_place, symbol_place}
 use Rattle.rv_object_laws.specs.Values.{value, value_at, value_in, paired, own_value, high_at, is_low, is_high, IsRelocated}
 use Rattle.rv_assemble_laws.specs.Templates.{Open, open_at}
 use Rattle.rv_assemble_laws.specs.Sites.{Site, sites_in}
-use Rattle.rv_assemble_laws.specs.Symbols.{site_at, StandsFor}
+use Rattle.rv_assemble_laws.specs.Symbols.{site_at, after_site, StandsFor}
 use Rattle.rv_assemble_laws.specs.IsObjectOf.{Numbering, relocation_at, relocations_from}
 use Rattle.rv_sources_link_laws.proofs.statements.StatementsLemmas.{mapped_at, mapped_from, row_address, site_section}
 use Rattle.rv_sources_link_laws.proofs.statements.SettledLemmas.{IsSettled}
-use Rattle.rv_sources_link_laws.proofs.names.KnownLemmas.{still, all_found}
+use Rattle.rv_sources_link_laws.proofs.names.KnownLemmas.{still, all_found, same_weak, outer_in}
 use Rattle.rv_sources_link_laws.proofs.statements.OrderedLemmas.{its_section}
 use Rattle.rv_sources_link_laws.proofs.names.GlobalsLemmas.{IsLow}
 use Rattle.rv_sources_link_laws.proofs.fields.WholesLemmas.{IsWhole}
@@ -72,46 +72,47 @@ module _ (p : Program) (os : List Object) (starts : Starts) (file : ℕ) (sites 
     pub site : Site
     pub found_at : site_at sites d ≡ Some site
     pub has_place : site.located.placed ≡ true
-    pub worth : v ≡ value_in p.map.globals starts file o site.located.section (add site.offset 0) (slice_get o.sections site.located.section)
+    pub worth : v ≡ value_in (outer_in p os) starts file o site.located.section (add site.offset 0) (slice_get o.sections site.located.section)
 
   pub low_value : (index : ℕ) (x : Section) (k : Kind) → is_low k ≡ true → (d plus n : ℕ) → StandsFor T sites d Here (slice_get o.symbols (number d Here))
-      → IsLowValue d (value p.map.globals starts os (record { file = file; object = o; index = index; section = x }) (relocation_at number n (open_at k d (Some Here) plus)))
+      → IsLowValue d (value (outer_in p os) starts os (record { file = file; object = o; index = index; section = x }) (relocation_at number n (open_at k d (Some Here) plus)))
   low_value index x k is_low_kind d plus n stands = go (slice_get o.symbols (number d Here)) refl stands
     where
       V : Option ℤ
-      V = value p.map.globals starts os (record { file = file; object = o; index = index; section = x }) (relocation_at number n (open_at k d (Some Here) plus))
+      V = value (outer_in p os) starts os (record { file = file; object = o; index = index; section = x }) (relocation_at number n (open_at k d (Some Here) plus))
 
-      by_pair : V ≡ paired p.map.globals starts os file o (Some (number d Here))
+      by_pair : V ≡ paired (outer_in p os) starts os file o (Some (number d Here))
       by_pair =
-          ap (λ b. if b then paired p.map.globals starts os file o (Some (number d Here))
-          else Some (own_value p.map.globals (starts file) o (starts file index) x (relocation_at number n (open_at k d (Some Here) plus)))) is_low_kind
+          ap (λ b. if b then paired (outer_in p os) starts os file o (Some (number d Here))
+          else Some (own_value (outer_in p os) (starts file) o (starts file index) x (relocation_at number n (open_at k d (Some Here) plus)))) is_low_kind
 
       go : (y : Option Symbol) → slice_get o.symbols (number d Here) ≡ y → StandsFor T sites d Here y → IsLowValue d V
       go None e h = absurd h
-      go (Some y) e (named, (site, found, placed, is)) = record {
+      go (Some y) e (named, weak, (site, found, placed, is)) = record {
         site = site;
         found_at = found;
         has_place = placed;
-        worth = by_pair ∙ ap (λ l. value_at p.map.globals starts os (option_and_then (symbol_place os file) l)) e
-            ∙ ap (λ (def : Defined). value_at p.map.globals starts os (if is_defined def then place_in file def else global_place 1 os y.name)) is
-            ∙ ap (λ (w : Object). value_in p.map.globals starts file w site.located.section (add site.offset 0) (slice_get w.sections site.located.section)) whole.object;
+        worth = by_pair ∙ ap (λ l. value_at (outer_in p os) starts os (option_and_then (symbol_place os file) l)) e
+            ∙ ap (λ (def : Defined). value_at (outer_in p os) starts os (if is_sure_by y.binding def then place_in file def else shared_place os y.name)) is
+            ∙ ap (λ b. value_at (outer_in p os) starts os (if not b then place_in file (after_site site 0) else shared_place os y.name)) (same_weak y.binding ∙ weak)
+            ∙ ap (λ (w : Object). value_in (outer_in p os) starts file w site.located.section (add site.offset 0) (slice_get w.sections site.located.section)) whole.object;
       }
 
   module _ (index : ℕ) (section : SourceSection) (x : Section) (is : IsSectionOf (tables_in p file) sites number o.symbols index section (sites_in index sites) x)
       (at : slice_get sections index ≡ Some section) (none : alignments_of x ≡ []) (loaded : section.loaded ≡ true)
-      (relocated : AllByRecursion (IsRelocated p.map.globals starts os (record { file = file; object = o; index = index; section = x })) x.relocations) where
+      (relocated : AllByRecursion (IsRelocated (outer_in p os) starts os (record { file = file; object = o; index = index; section = x })) x.relocations) where
     -- the upper part at an offset of the section
-    pub high_is : (offset : ℕ) → value_in p.map.globals starts file o index offset (Some x)
-        ≡ option_map (own_value p.map.globals (starts file) o (starts file index) x) (find (IsUpperAt offset) (relocations_from number 0 (parts T (sites_in index sites))))
+    pub high_is : (offset : ℕ) → value_in (outer_in p os) starts file o index offset (Some x)
+        ≡ option_map (own_value (outer_in p os) (starts file) o (starts file index) x) (find (IsUpperAt offset) (relocations_from number 0 (parts T (sites_in index sites))))
     high_is offset =
-        ap (λ (test : Relocation → Bool). option_map (own_value p.map.globals (starts file) o (starts file index) x) (find test x.relocations))
+        ap (λ (test : Relocation → Bool). option_map (own_value (outer_in p os) (starts file) o (starts file index) x) (find test x.relocations))
         (λ i r. is_high r.kind && (still x none (starts file index) r.place i == still x none (starts file index) offset i))
-        ∙ ap (λ rs. option_map (own_value p.map.globals (starts file) o (starts file index) x) (find (IsUpperAt offset) rs)) (relocations_are p os starts file sites number o sections low are settled all_worths whole plain address index section x is at none loaded relocated)
+        ∙ ap (λ rs. option_map (own_value (outer_in p os) (starts file) o (starts file index) x) (find (IsUpperAt offset) rs)) (relocations_are p os starts file sites number o sections low are settled all_worths whole plain address index section x is at none loaded relocated)
 
     -- of a statement that has both parts
     pub own_low : (there : slice_get o.sections index ≡ Some x) (z : Site) → Facts p os starts file sites number o sections low are settled all_worths whole plain address index section x is at none loaded relocated z → has_row z.located ≡ true → (u : HasUpper p os starts file sites number o sections low are settled all_worths whole plain address index section x is at none loaded relocated z) → IsOwn p os starts file sites number o sections low are settled all_worths whole plain address index section x is at none loaded relocated 0 (sites_in index sites) z
         → (k : Kind) → is_low k ≡ true → (n : ℕ) → StandsFor T sites z.located.ordinal Here (slice_get o.symbols (number z.located.ordinal Here))
-        → value p.map.globals starts os (record { file = file; object = o; index = index; section = x }) (relocation_at number n (open_at k z.located.ordinal (Some Here) 0))
+        → value (outer_in p os) starts os (record { file = file; object = o; index = index; section = x }) (relocation_at number n (open_at k z.located.ordinal (Some Here) 0))
         ≡ Some (distance (starts file z.located.section + z.offset) (target_in p (mapped_at starts file z)))
     own_low there z h shown u own k is_low_kind n stands =
         let found = low_value index x k is_low_kind z.located.ordinal 0 n stands in
@@ -120,12 +121,12 @@ module _ (p : Program) (os : List Object) (starts : Starts) (file : ℕ) (sites 
         let below = h.below shown in
         let whole_offset : add z.offset 0 ≡ z.offset = omega (arith, below) in
         found.worth
-        ∙ ap (λ (w : Site). value_in p.map.globals starts file o w.located.section (add w.offset 0) (slice_get o.sections w.located.section)) same
-        ∙ ap (λ j. value_in p.map.globals starts file o j (add z.offset 0) (slice_get o.sections j)) h.inside.stands
-        ∙ ap (value_in p.map.globals starts file o index (add z.offset 0)) there
-        ∙ ap (λ n. value_in p.map.globals starts file o index n (Some x)) whole_offset
+        ∙ ap (λ (w : Site). value_in (outer_in p os) starts file o w.located.section (add w.offset 0) (slice_get o.sections w.located.section)) same
+        ∙ ap (λ j. value_in (outer_in p os) starts file o j (add z.offset 0) (slice_get o.sections j)) h.inside.stands
+        ∙ ap (value_in (outer_in p os) starts file o index (add z.offset 0)) there
+        ∙ ap (λ n. value_in (outer_in p os) starts file o index n (Some x)) whole_offset
         ∙ high_is z.offset
-        ∙ ap (option_map (own_value p.map.globals (starts file) o (starts file index) x)) (own u)
+        ∙ ap (option_map (own_value (outer_in p os) (starts file) o (starts file index) x)) (own u)
         ∙ ap (λ w. Some w) u.worth
 
   -- ---- of the statement at a label
@@ -162,14 +163,14 @@ module _ (p : Program) (os : List Object) (starts : Starts) (file : ℕ) (sites 
       by_section : (x : Section) × (slice_get o.sections j ≡ Some x) × IsSectionOf T sites number o.symbols j s.located.home (sites_in j sites) x → IsLabelPair d plus v
       by_section (x, there, is) = by_loaded s.located.home.loaded refl
         where
-          valued : v ≡ value_in p.map.globals starts file o j offset (Some x)
-          valued = low_is.worth ∙ ap (value_in p.map.globals starts file o j offset) there
+          valued : v ≡ value_in (outer_in p os) starts file o j offset (Some x)
+          valued = low_is.worth ∙ ap (value_in (outer_in p os) starts file o j offset) there
 
           by_loaded : (b : Bool) → s.located.home.loaded ≡ b → IsLabelPair d plus v
           by_loaded false e =
               let none : x.relocations ≡ [] = is.relocations ∙ ap (λ b. if b then relocations_from number 0 (parts T (sites_in j sites)) else []) e in
               let nothing : v ≡ None =
-              valued ∙ ap (λ rs. option_map (own_value p.map.globals (starts file) o (starts file j) x) (high_at (moves (starts file j) x) offset rs)) none in
+              valued ∙ ap (λ rs. option_map (own_value (outer_in p os) (starts file) o (starts file j) x) (high_at (moves (starts file j) x) offset rs)) none in
               let f : true ≡ false = sym some ∙ ap is_some nothing in absurd (cc)
           by_loaded true loaded = main
             where
@@ -179,7 +180,7 @@ module _ (p : Program) (os : List Object) (starts : Starts) (file : ℕ) (sites 
               none : alignments_of x ≡ []
               none = plain j x there
 
-              relocated : AllByRecursion (IsRelocated p.map.globals starts os (record { file = file; object = o; index = j; section = x })) x.relocations
+              relocated : AllByRecursion (IsRelocated (outer_in p os) starts os (record { file = file; object = o; index = j; section = x })) x.relocations
               relocated = whole.relocated j x there (is.loaded ∙ loaded)
 
               shown : has_row s.located ≡ true
@@ -197,7 +198,7 @@ module _ (p : Program) (os : List Object) (starts : Starts) (file : ℕ) (sites 
               target_place = omega (arith, none_after, no_plus, bound)
 
               worth_of : Relocation → ℤ
-              worth_of r = own_value p.map.globals (starts file) o (starts file j) x r
+              worth_of r = own_value (outer_in p os) (starts file) o (starts file j) x r
 
               Rest : Option Relocation
               Rest = find (IsUpperAt offset) (relocations_from number 0 (parts T (sites_in j sites)))

@@ -1,30 +1,29 @@
 -- Where the symbols of objects stand in the line of text, and where their sources say that they stand.
 
-use Rattle.std.proofs.Common.{◌≡◌, ℕ, zero, suc, ◌+◌, ◌-◌, ◌≤◌, Bool, true, false, List, [], ◌∷◌, ◌++◌, map, refl, sym, ap, ◌∙◌, subst, arith, Option, Some, None, inl, inr}
+use Rattle.std.proofs.Common.{◌≡◌, ℕ, zero, suc, ◌+◌, ◌-◌, ◌≤◌, Bool, true, false, List, [], ◌∷◌, map, refl, sym, ap, ◌∙◌, subst, arith, Option, Some, None, inl, inr}
 use Rattle.std.proofs.lemmas.Bool.{and_parts, le-leb, eq-eqb}
 use Rattle.std.proofs.lemmas.List.Folds.{list_any-append}
-use Rattle.std.specs.Prelude.{⊤, ◌&&◌, ◌||◌, ◌==◌, nat_le, if◌then◌else◌, filter, flat_map, option_and_then, bytes_eq, slice_index_or}
-use Rattle.std.specs.List.{AllByRecursion, find, list_any, slice_get}
-use Rattle.rv_map.specs.Globals.{is_one_of}
+use Rattle.std.specs.Prelude.{⊤, not, ◌&&◌, ◌||◌, ◌==◌, nat_le, if◌then◌else◌, option_and_then, bytes_eq, slice_index_or}
+use Rattle.std.specs.List.{AllByRecursion, list_any, slice_get}
 use Rattle.rv_text_laws.specs.Expression.{Primary, Symbol as Named, Literal, Here, Reference}
 use Rattle.rv_text_laws.specs.Values.{Meaning, Known, InSection as InData, Open as OpenAddress, Refused, add}
 use Rattle.rv_statement.specs.Statement.{StatementKind, Label, Numbered, Instruction, Directs, Statement, Enters, Sets}
-use Rattle.rv_unit_laws.specs.Bindings.{is_global}
 use Rattle.rv_unit_laws.specs.Sections.{Section as SourceSection, goes_to_text as source_text}
-use Rattle.rv_unit_laws.specs.Tables.{Tables, Assignment, Definition, tables, at_start, definition, opened_of, assigned_ever, longest_section}
+use Rattle.rv_unit_laws.specs.Tables.{Tables, Assignment, Definition, tables, at_start, definition, gives_way, sure_definition, opened_of, assigned_ever, longest_section}
 use Rattle.rv_source_laws.specs.Located.{Located, has_row}
-use Rattle.rv_source_laws.specs.Program.{MaybeMapped, Program, tables_in}
-use Rattle.rv_source_laws.specs.Fits as source
-use Rattle.rv_source_laws.specs.Resolves.{defined_name, global_names_of}
-use Rattle.rv_source_laws.specs.Shortened.{Placed, Aim, aim, assigned_aim, defined_aim, defines, global_aim, aim_by, aim_of, aim_offset}
-use Rattle.rv_object.specs.declared.symbol.Definition.{Definition as Defined}
+use Rattle.rv_source_laws.specs.Program as source
+use Rattle.rv_source_laws.specs.Program.{MaybeMapped, Program, tables_in, chosen}
+use Rattle.rv_source_laws.specs.Fits as fits
+use Rattle.rv_source_laws.specs.Exports.{defined_name}
+use Rattle.rv_source_laws.specs.Shortened.{Placed, aim, assigned_aim, defined_aim, export_aim, shared_aim, aim_by, aim_of, aim_offset}
 use Rattle.rv_object.specs.Object.{Section, Symbol, Object, size_of}
 use Rattle.rv_object_laws.specs.CallSites.{base, is_text_place, is_in_section, text_offset}
 use Rattle.rv_object_laws.specs.Inputs.{Starts, InputSection, goes_to_text, inputs_from, inputs_of, inputs}
-use Rattle.rv_object_laws.specs.Names.{Place, is_defined, place_in, global_place, symbol_place, no_object, object_at}
+use Rattle.rv_object_laws.specs.Names as objects
+use Rattle.rv_object_laws.specs.Names.{Place, is_weak, is_sure, is_sure_by, place_in, shared_place, symbol_place, no_object, object_at}
 use Rattle.rv_object_laws.specs.Shortened.{Sizes}
 use Rattle.rv_assemble_laws.specs.Sites.{Site, sites_in, end_of}
-use Rattle.rv_assemble_laws.specs.Symbols.{site_at, after_found, assigned_definition, site_definition, global_symbol, exports_of, IsNamed, IsOwn, IsOuter, IsDefinedBy, StandsFor}
+use Rattle.rv_assemble_laws.specs.Symbols.{site_at, after_found, assigned_definition, site_definition, IsNamed, IsOwn, IsOuter, IsDefinedBy, StandsFor}
 use Rattle.rv_assemble_laws.specs.IsObjectOf.{IsInData, StandsInData, IsObjectOf}
 use Rattle.rv_sources_link_laws.specs.Joins.{AreObjectsOf}
 use Rattle.rv_sources_link_laws.proofs.fields.AimsLemmas as aims
@@ -32,10 +31,13 @@ use Rattle.rv_sources_link_laws.proofs.fields.AimsLemmas.{IsFirst}
 use Rattle.rv_sources_link_laws.proofs.sections.AssembledLemmas.{IsSectionOf}
 use Rattle.rv_sources_link_laws.proofs.statements.CodeOfLemmas.{found_from}
 use Rattle.rv_sources_link_laws.proofs.names.ExportedLemmas.{exported_are}
+use Rattle.rv_sources_link_laws.proofs.names.PairLemmas.{IsAlike, IsPair, IsMade, AreMade}
+use Rattle.rv_sources_link_laws.proofs.names.AlikeLemmas.{chosen_alike}
+use Rattle.rv_sources_link_laws.proofs.names.MadeLemmas.{rises}
 use Rattle.rv_sources_link_laws.proofs.sections.FiledLemmas as filed
 use Rattle.rv_sources_link_laws.proofs.sections.FiledLemmas.{offsets_low}
-use Rattle.rv_sources_link_laws.proofs.calls.FinalsLemmas.{AreFinal}
-use Rattle.rv_sources_link_laws.proofs.names.KnownLemmas.{all_found}
+use Rattle.rv_sources_link_laws.proofs.calls.FinalsLemmas.{IsFinalFile, AreFinal}
+use Rattle.rv_sources_link_laws.proofs.names.KnownLemmas.{all_found, same_weak}
 use Rattle.rv_sources_link_laws.proofs.moves.MovedLemmas.{all_map, IsBound, AddsInData, adds}
 use Rattle.rv_sources_link_laws.proofs.statements.OrderedLemmas.{its_section}
 use Rattle.rv_sources_link_laws.proofs.moves.PiecesLemmas.{ArePieces, lines}
@@ -149,7 +151,7 @@ lows ss o is = of_sections (opened_of (tables ss)).sections (IsLow o) is.sites (
 short_bounds : (ss : List Statement) (o : Object) (is : IsObjectOf ss o) → AllByRecursion IsBound is.sites
 short_bounds ss o is = subst (λ S. AllByRecursion IsBound S) (assembled_sites ss o is) (filed.bounds ss o (assembled ss o is))
 
-module _ (p : Program) (starts : Starts) (at : ℕ → List Site) (sizes : ℕ → ℕ → Sizes) (os : List Object) (bs : List source.InputSection) (h : ArePieces p starts at sizes (inputs goes_to_text os) bs) where
+module _ (p : Program) (starts : Starts) (at : ℕ → List Site) (sizes : ℕ → ℕ → Sizes) (os : List Object) (bs : List fits.InputSection) (h : ArePieces p starts at sizes (inputs goes_to_text os) bs) where
   abbrev pub line : List Placed
   line = lines p starts at sizes 0 (inputs goes_to_text os) bs h
 
@@ -247,128 +249,110 @@ module _ (p : Program) (starts : Starts) (at : ℕ → List Site) (sizes : ℕ �
         go OpenAddress k = refl
         go (Refused code) k = refl
 
-    named_kind : (z : Site) (kind : StatementKind) (name : List ℕ) → z.located.kind ≡ kind → site_at is.sites z.located.ordinal ≡ Some z → ((n : List ℕ) → kind ≡ Label n → z.located.placed ≡ true)
-        → is_one_of (filter (λ n. is_global (t.bindings n)) (defined_name t z.located.ordinal kind)) name ≡ true
-        → text_to (place_in f (site_definition t is.sites z kind)) ≡ option_and_then (aim_offset line) (defined_aim t (renumbered f z.located) kind)
-    named_kind z (Label n) name e itself labelled some = place_at z.located.ordinal z z.offset itself (labelled n refl) (λ text. refl)
-    named_kind z (Directs (Sets n x)) name e itself labelled some =
-        assigned_place (assigned_ever t.assignments n) (λ a k. all_found (StandsInData is.sites) (λ s. bytes_eq s.name n) t.assignments is.places a k)
-    named_kind z (Numbered digits) name e itself labelled some = absurd (cc)
-    named_kind z (Instruction m ops) name e itself labelled some = absurd (cc)
-    named_kind z (Directs (Enters section)) name e itself labelled some = absurd (cc)
-    named_kind z (Directs _) name e itself labelled some = absurd (cc)
+    aim_kind : (z : Site) (kind : StatementKind) (name : List ℕ) → site_at is.sites z.located.ordinal ≡ Some z → ((n : List ℕ) → kind ≡ Label n → z.located.placed ≡ true)
+        → defined_name t z.located.ordinal kind ≡ name ∷ []
+        → option_and_then (aim_offset line) (defined_aim t (renumbered f z.located) kind) ≡ text_to (place_in f (site_definition t is.sites z kind))
+    aim_kind z (Label n) name itself labelled e = sym (place_at z.located.ordinal z z.offset itself (labelled n refl) (λ text. refl))
+    aim_kind z (Directs (Sets n x)) name itself labelled e =
+        sym (assigned_place (assigned_ever t.assignments n) (λ a k. all_found (StandsInData is.sites) (λ s. bytes_eq s.name n) t.assignments is.places a k))
+    aim_kind z (Numbered digits) name itself labelled e = absurd (cc)
+    aim_kind z (Instruction m ops) name itself labelled e = absurd (cc)
+    aim_kind z (Directs (Enters section)) name itself labelled e = absurd (cc)
+    aim_kind z (Directs _) name itself labelled e = absurd (cc)
 
-  -- ---- the one global definition of a name
+  -- ---- the definition that a name means
 
-  found_named : (name : List ℕ) (d : Defined) (names : List (List ℕ)) (more : List Symbol) → is_one_of names name ≡ true
-      → (s : Symbol) × (find (λ s. bytes_eq s.name name) (map (λ n. global_symbol n d) names ++ more) ≡ Some s) × (s.definition ≡ d)
-  found_named name d [] more e = absurd (cc)
-  found_named name d (n ∷ names) more e = go (bytes_eq n name) e (λ k. found_named name d names more k)
+  -- a definition of the sources stands in the line where that of the objects stands, or neither does
+  abbrev AimsAlike : source.Export → objects.Export → Type 0
+  AimsAlike x e = option_and_then (aim_offset line) (export_aim p x) ≡ text_to (place_in e.file e.symbol.definition)
+
+  shared_alike : (name : List ℕ) → IsAlike AimsAlike (chosen p name) (objects.chosen os name)
+      → text_to (shared_place os name) ≡ option_and_then (aim_offset line) (shared_aim p (Named name))
+  shared_alike name = go (chosen p name) (objects.chosen os name)
     where
-      rest : Option Symbol
-      rest = find (λ s. bytes_eq s.name name) (map (λ n. global_symbol n d) names ++ more)
+      go : (x : Option source.Export) (e : Option objects.Export) → IsAlike AimsAlike x e
+          → text_to (option_and_then (λ (e : objects.Export). place_in e.file e.symbol.definition) e) ≡ option_and_then (aim_offset line) (option_and_then (export_aim p) x)
+      go None None h = refl
+      go None (Some e) h = absurd h
+      go (Some x) None h = absurd h
+      go (Some x) (Some e) h = sym h
 
-      go : (b : Bool) → (b || is_one_of names name) ≡ true → (is_one_of names name ≡ true → (s : Symbol) × (rest ≡ Some s) × (s.definition ≡ d))
-          → (s : Symbol) × ((if b then Some (global_symbol n d) else rest) ≡ Some s) × (s.definition ≡ d)
-      go true k ih = (global_symbol n d, refl, refl)
-      go false k ih = ih k
+  module _ (f : ℕ) (ss : List Statement) (o : Object) (is : IsObjectOf ss o) (here : IsHere f ss o is) (ys : List Site) (c : IsFinalFile (sizes f) ss o is ys) where
+    abbrev seen : Site → MaybeMapped
+    seen z = statement_at starts f (c.final z)
 
-  not_named : (name : List ℕ) (d : Defined) (names : List (List ℕ)) (more : List Symbol) → is_one_of names name ≡ false
-      → find (λ s. bytes_eq s.name name) (map (λ n. global_symbol n d) names ++ more) ≡ find (λ s. bytes_eq s.name name) more
-  not_named name d [] more e = refl
-  not_named name d (n ∷ names) more e = go (bytes_eq n name) e (λ k. not_named name d names more k)
-    where
-      rest : Option Symbol
-      rest = find (λ s. bytes_eq s.name name) (map (λ n. global_symbol n d) names ++ more)
+    abbrev Alike : Site → Type 0
+    Alike z = IsPair AimsAlike (tables ss) is.sites seen f o z
 
-      go : (b : Bool) → (b || is_one_of names name) ≡ false → (is_one_of names name ≡ false → rest ≡ find (λ s. bytes_eq s.name name) more)
-          → (if b then Some (global_symbol n d) else rest) ≡ find (λ s. bytes_eq s.name name) more
-      go true k ih = absurd (cc)
-      go false k ih = ih k
-
-  -- where an entry of the statements is aimed
-  abbrev aimed : MaybeMapped → Option Aim
-  aimed e = defined_aim (tables_in p e.located.file) e.located e.located.kind
-
-  abbrev aim_found : Option MaybeMapped → Option ℕ
-  aim_found e = option_and_then (aim_offset line) (option_and_then aimed e)
-
-  module _ (name : List ℕ) (f : ℕ) (ss : List Statement) (o : Object) (is : IsObjectOf ss o) (here : IsHere f ss o is) (final : Site → Site) (stays : (z : Site) → (final z).located ≡ z.located)
-      (later : Option Place) (more : List MaybeMapped) (rest : text_to later ≡ aim_found (find (λ e. defines p name e.located) more)) where
-    abbrev by_found : Option Symbol → Option Place
-    by_found x = elim x [ Some s ↦ place_in f s.definition | None ↦ later ]
-
-    own_names : (zs : List Site) → AllByRecursion (IsSettled (opened_of (tables ss)).sections) zs → AllByRecursion (IsFirst is.sites) zs
-        → text_to (by_found (find (λ s. bytes_eq s.name name) (flat_map (exports_of (tables ss) is.sites) zs)))
-        ≡ aim_found (find (λ e. defines p name e.located) (map (statement_at starts f) (map final zs) ++ more))
-    own_names [] k u = rest
-    own_names (z ∷ zs) (k, ks) (u, us) = go (is_one_of names name) refl (own_names zs ks us)
+    alike_from : (zs : List Site) → AllByRecursion (IsSettled (opened_of (tables ss)).sections) zs → AllByRecursion (IsFirst is.sites) zs → AllByRecursion Alike zs
+    alike_from [] k u = tt
+    alike_from (z ∷ zs) (k, ks) (u, us) = ((λ name index e shared. aimed name e), alike_from zs ks us)
       where
-        names : List (List ℕ)
-        names = global_names_of (tables ss) z.located
+        aimed : (name : List ℕ) → defined_name (tables ss) z.located.ordinal z.located.kind ≡ name ∷ []
+            → option_and_then (aim_offset line) (defined_aim (tables_in p f) (renumbered f (c.final z).located) (c.final z).located.kind)
+            ≡ text_to (place_in f (site_definition (tables ss) is.sites z z.located.kind))
+        aimed name e =
+            ap (λ (l : Located). option_and_then (aim_offset line) (defined_aim (tables_in p f) (renumbered f l) l.kind)) (c.stays z)
+            ∙ ap (λ t. option_and_then (aim_offset line) (defined_aim t (renumbered f z.located) z.located.kind)) here.tables
+            ∙ aim_kind f ss o is here z z.located.kind name u k.labelled e
 
-        d : Defined
-        d = site_definition (tables ss) is.sites z z.located.kind
+    made_file : IsMade AimsAlike p f o (map (statement_at starts f) ys)
+    made_file = record {
+      t = tables ss;
+      sites = is.sites;
+      seen = seen;
+      tables = here.tables;
+      own_are = ap (map (statement_at starts f)) c.sites ∙ map_twice is.sites;
+      located = λ z. ap (renumbered f) (c.stays z);
+      rise = rises 1 (at_start ss) ss is.sites is.located;
+      exported_are = exported_are ss o is;
+      pairs = alike_from is.sites (all_settled ss o is) (firsts ss o is);
+    }
+      where
+        map_twice : (zs : List Site) → map (statement_at starts f) (map c.final zs) ≡ map seen zs
+        map_twice [] = refl
+        map_twice (z ∷ zs) = ap (λ l. seen z ∷ l) (map_twice zs)
 
-        tail : List Symbol
-        tail = flat_map (exports_of (tables ss) is.sites) zs
-
-        others : List MaybeMapped
-        others = map (statement_at starts f) (map final zs) ++ more
-
-        e : MaybeMapped
-        e = statement_at starts f (final z)
-
-        test : defines p name e.located ≡ is_one_of names name
-        test = ap (λ (l : Located). is_one_of (global_names_of (tables_in p f) (renumbered f l)) name) (stays z) ∙ ap (λ t. is_one_of (global_names_of t (renumbered f z.located)) name) here.tables
-
-        aimed_is : aimed e ≡ defined_aim (tables ss) (renumbered f z.located) z.located.kind
-        aimed_is = ap (λ (l : Located). defined_aim (tables_in p f) (renumbered f l) l.kind) (stays z) ∙ ap (λ t. defined_aim t (renumbered f z.located) z.located.kind) here.tables
-
-        go : (b : Bool) → is_one_of names name ≡ b → text_to (by_found (find (λ s. bytes_eq s.name name) tail)) ≡ aim_found (find (λ e. defines p name e.located) others)
-            → text_to (by_found (find (λ s. bytes_eq s.name name) (map (λ n. global_symbol n d) names ++ tail)))
-            ≡ aim_found (if defines p name e.located then Some e else find (λ e. defines p name e.located) others)
-        go true q ih =
-            let (s, found, same) = found_named name d names tail q in
-            ap (λ x. text_to (by_found x)) found ∙ ap (λ x. text_to (place_in f x)) same
-            ∙ named_kind f ss o is here z z.located.kind name refl u (λ n e. k.labelled n e) q
-            ∙ ap (option_and_then (aim_offset line)) (sym aimed_is)
-            ∙ ap (λ b. aim_found (if b then Some e else find (λ e. defines p name e.located) others)) (sym (test ∙ q))
-        go false q ih =
-            ap (λ x. text_to (by_found x)) (not_named name d names tail q) ∙ ih ∙ ap (λ b. aim_found (if b then Some e else find (λ e. defines p name e.located) others)) (sym (test ∙ q))
-
-  pub globals : (name : List ℕ) (f : ℕ) (sources : List (List Statement)) (us : List Object) (k : AreObjectsOf sources us) (ws : List Object) (q : shrunk.AreObjectsOf sources ws)
-      → AreFinal sizes f sources us k ws q → AreHere f sources us k
-      → text_to (global_place f us name) ≡ aim_found (find (λ e. defines p name e.located) (all_statements starts f sources ws q))
-  globals name f [] [] k [] q c a = refl
-  globals name f [] [] k (w ∷ ws) q c a = absurd q
-  globals name f [] (o ∷ us) k ws q c a = absurd k
-  globals name f (ss ∷ sources) [] k ws q c a = absurd k
-  globals name f (ss ∷ sources) (o ∷ us) (is, k) [] q c a = absurd q
-  globals name f (ss ∷ sources) (o ∷ us) (is, k) (w ∷ ws) (js, q) (c, cs) (a, as') =
-      let rest = globals name (suc f) sources us k ws q cs as' in
-      ap (λ (l : List Symbol). text_to (by_found name f ss o is a c.final c.stays (global_place (suc f) us name) (all_statements starts (suc f) sources ws q) rest (find (λ (s : Symbol). bytes_eq s.name name) l))) (exported_are ss o is)
-      ∙ own_names name f ss o is a c.final c.stays (global_place (suc f) us name) (all_statements starts (suc f) sources ws q) rest is.sites (all_settled ss o is) (firsts ss o is)
-      ∙ ap (λ l. aim_found (find (λ e. defines p name e.located) (map (statement_at starts f) l ++ all_statements starts (suc f) sources ws q))) (sym c.sites)
+  made : (f : ℕ) (sources : List (List Statement)) (us : List Object) (k : AreObjectsOf sources us) (ws : List Object) (q : shrunk.AreObjectsOf sources ws)
+      → AreFinal sizes f sources us k ws q → AreHere f sources us k → AreMade AimsAlike p f us (all_statements starts f sources ws q)
+  made f [] [] k [] q c a = refl
+  made f [] [] k (w ∷ ws) q c a = absurd q
+  made f [] (o ∷ us) k ws q c a = absurd k
+  made f (ss ∷ sources) [] k ws q c a = absurd k
+  made f (ss ∷ sources) (o ∷ us) (is, k) [] q c a = absurd q
+  made f (ss ∷ sources) (o ∷ us) (is, k) (w ∷ ws) (js, q) (c, cs) (a, as') = (
+    map (statement_at starts f) js.sites,
+    all_statements starts (suc f) sources ws q,
+    refl,
+    made_file f ss o is a js.sites c,
+    made (suc f) sources us k ws q cs as',
+  )
 
   -- ---- what a statement means by a name
 
   module _ (sources : List (List Statement)) (k : AreObjectsOf sources os) (ws : List Object) (q : shrunk.AreObjectsOf sources ws) (c : AreFinal sizes 1 sources os k ws q) (a : AreHere 1 sources os k)
       (statements : p.statements ≡ all_statements starts 1 sources ws q) where
-    global_is : (name : List ℕ) → text_to (global_place 1 os name) ≡ option_and_then (aim_offset line) (global_aim p (Named name))
-    global_is name = globals name 1 sources os k ws q c a ∙ ap (λ l. aim_found (find (λ e. defines p name e.located) l)) (sym statements)
+    shared_is : (name : List ℕ) → text_to (shared_place os name) ≡ option_and_then (aim_offset line) (shared_aim p (Named name))
+    shared_is name = shared_alike name ((chosen_alike AimsAlike p os (subst (λ l. AreMade AimsAlike p 1 os l) (sym statements) (made 1 sources os k ws q c a))).chosen name)
 
     module _ (f : ℕ) (ss : List Statement) (o : Object) (is : IsObjectOf ss o) (here : IsHere f ss o is) where
-      outer_is : (name : Primary) (x : Symbol) → IsNamed name x → IsOuter name x → text_to (symbol_place os f x) ≡ option_and_then (aim_offset line) (global_aim p name)
-      outer_is (Named n) x named none =
-          ap (λ d. text_to (if is_defined d then place_in f d else global_place 1 os x.name)) none ∙ ap (λ m. text_to (global_place 1 os m)) named ∙ global_is n
+      abbrev stands_at : Symbol → Option ℕ
+      stands_at x = text_to (symbol_place os f x)
+
+      unsure : (n : List ℕ) (x : Symbol) → x.name ≡ n → is_sure x ≡ false → stands_at x ≡ option_and_then (aim_offset line) (shared_aim p (Named n))
+      unsure n x named e = ap (λ b. text_to (if b then place_in f x.definition else shared_place os x.name)) e ∙ ap (λ m. text_to (shared_place os m)) named ∙ shared_is n
+
+      outer_is : (name : Primary) (x : Symbol) → IsNamed name x → IsOuter name x → stands_at x ≡ option_and_then (aim_offset line) (shared_aim p name)
+      outer_is (Named n) x named none = unsure n x named (ap (is_sure_by x.binding) none)
       outer_is (Literal n) x named none = absurd none
       outer_is Here x named none = absurd none
       outer_is (Reference digits forward) x named none = absurd none
 
-      own_is : (ordinal : ℕ) (name : Primary) (d : Definition) (x : Symbol) → definition (tables ss) ordinal name ≡ Some d → IsOwn is.sites d x → text_to (symbol_place os f x) ≡ aim_offset line (aim f d.ordinal)
-      own_is ordinal name d x e (z, found, placed, there) =
-          ap (λ d. text_to (if is_defined d then place_in f d else global_place 1 os x.name)) there
+      own_is : (ordinal : ℕ) (name : Primary) (d : Definition) (x : Symbol) → definition (tables ss) ordinal name ≡ Some d → IsOwn is.sites d x → is_weak x.binding ≡ false
+          → stands_at x ≡ aim_offset line (aim f d.ordinal)
+      own_is ordinal name d x e (z, found, placed, there) strong =
+          ap (λ b. text_to (if b then place_in f x.definition else shared_place os x.name)) (ap (is_sure_by x.binding) there ∙ ap not strong)
+          ∙ ap (λ d. text_to (place_in f d)) there
           ∙ place_at f ss o is here d.ordinal z (add z.offset d.plus) found placed (λ text. stays text (adds (tables ss) is.sites is.places ordinal name d e))
         where
           low : source_text z.located.home ≡ true → z.offset ≤ longest_section
@@ -381,12 +365,35 @@ module _ (p : Program) (starts : Starts) (at : ℕ → List Site) (sizes : ℕ �
               ap (add z.offset) none ∙ (let g : add z.offset 0 ≡ z.offset = omega (arith, bound) in g)
           stays text (inr aside) = absurd (code_not f ss o is here z (aside z found) text)
 
+      abbrev aimed_at : Primary → Option Definition → Option ℕ
+      aimed_at name d = option_and_then (aim_offset line) (aim_by p f name d)
+
+      -- a place of the file's own: the name's, or if that is weak what all files say
+      own_by : (ordinal : ℕ) (name : Primary) (d : Definition) (x : Symbol) → definition (tables ss) ordinal name ≡ Some d → IsNamed name x → IsOwn is.sites d x
+          → is_weak x.binding ≡ gives_way (tables ss) name → (b : Bool) → gives_way (tables ss) name ≡ b → stands_at x ≡ aimed_at name (if b then None else Some d)
+      own_by ordinal name d x e named own weak false g = own_is ordinal name d x e own (weak ∙ g)
+      own_by ordinal (Named n) d x e named (z, found, placed, there) weak true g = unsure n x named (ap (is_sure_by x.binding) there ∙ ap not (weak ∙ g))
+      own_by ordinal (Literal n) d x e named own weak true g = absurd (cc)
+      own_by ordinal Here d x e named own weak true g = absurd (cc)
+      own_by ordinal (Reference digits forward) d x e named own weak true g = absurd (cc)
+
+      none_either : (b : Bool) → ◌≡◌ {A = Option Definition} None (if b then None else None)
+      none_either true = refl
+      none_either false = refl
+
       pub meant : (l : Located) (name : Primary) (y : Option Symbol) → StandsFor (tables ss) is.sites l.ordinal name y
           → text_to (option_and_then (symbol_place os f) y) ≡ option_and_then (aim_offset line) (aim_of p (renumbered f l) name)
       meant l name None s = absurd s
-      meant l name (Some x) (named, s) = go (definition (tables ss) l.ordinal name) refl s ∙ ap (λ d. option_and_then (aim_offset line) (aim_by p f name d)) (ap (λ t. definition t l.ordinal name) (sym here.tables))
+      meant l name (Some x) (named, bound, s) =
+          go (definition (tables ss) l.ordinal name) refl s ∙ ap (aimed_at name) (ap (λ t. sure_definition t l.ordinal name) (sym here.tables))
         where
+          weak : is_weak x.binding ≡ gives_way (tables ss) name
+          weak = same_weak x.binding ∙ bound
+
+          sure : (d : Option Definition) → definition (tables ss) l.ordinal name ≡ d → aimed_at name (if gives_way (tables ss) name then None else d) ≡ aimed_at name (sure_definition (tables ss) l.ordinal name)
+          sure d e = ap (λ d. aimed_at name (if gives_way (tables ss) name then None else d)) (sym e)
+
           go : (d : Option Definition) → definition (tables ss) l.ordinal name ≡ d → IsDefinedBy is.sites name d x
-              → text_to (symbol_place os f x) ≡ option_and_then (aim_offset line) (aim_by p f name (definition (tables ss) l.ordinal name))
-          go (Some d) e s = own_is l.ordinal name d x e s ∙ ap (λ d. option_and_then (aim_offset line) (aim_by p f name d)) (sym e)
-          go None e s = outer_is name x named s ∙ ap (λ d. option_and_then (aim_offset line) (aim_by p f name d)) (sym e)
+              → stands_at x ≡ aimed_at name (sure_definition (tables ss) l.ordinal name)
+          go (Some d) e s = own_by l.ordinal name d x e named s weak (gives_way (tables ss) name) refl ∙ sure (Some d) e
+          go None e s = outer_is name x named s ∙ ap (aimed_at name) (none_either (gives_way (tables ss) name)) ∙ sure None e

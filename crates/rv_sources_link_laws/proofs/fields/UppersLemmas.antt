@@ -37,6 +37,7 @@ use Rattle.rv_assemble_laws.specs.Sites.{Site, Part, form, part_of, part_bytes, 
 use Rattle.rv_assemble_laws.specs.Symbols.{site_at}
 use Rattle.rv_assemble_laws.specs.IsObjectOf.{Numbering, relocation_at, relocations_from}
 use Rattle.rv_sources_link_laws.proofs.statements.StatementsLemmas.{mapped_at, mapped_from, row_address}
+use Rattle.rv_sources_link_laws.proofs.names.KnownLemmas.{outer_in}
 use Rattle.rv_sources_link_laws.proofs.statements.SettledLemmas.{IsSettled}
 use Rattle.rv_sources_link_laws.proofs.fields.WholesLemmas.{IsWhole}
 use Rattle.rv_sources_link_laws.proofs.statements.CodingLemmas.{all_few}
@@ -189,7 +190,7 @@ module _ (p : Program) (os : List Object) (starts : Starts) (file : ℕ) (sites 
     (address : (n : ℕ) → address_at p.statements file n ≡ option_and_then (row_address starts file) (site_at sites n)) where
   module _ (index : ℕ) (section : SourceSection) (x : Section) (is : IsSectionOf (tables_in p file) sites number o.symbols index section (sites_in index sites) x)
       (at : slice_get sections index ≡ Some section) (none : alignments_of x ≡ []) (loaded : section.loaded ≡ true)
-      (relocated : AllByRecursion (IsRelocated p.map.globals starts os (record { file = file; object = o; index = index; section = x })) x.relocations) where
+      (relocated : AllByRecursion (IsRelocated (outer_in p os) starts os (record { file = file; object = o; index = index; section = x })) x.relocations) where
     abbrev T : Tables
     T = tables_in p file
 
@@ -206,7 +207,7 @@ module _ (p : Program) (os : List Object) (starts : Starts) (file : ℕ) (sites 
     m z = mapped_at starts file z
 
     abbrev worth_of : Relocation → ℤ
-    worth_of r = own_value p.map.globals (starts file) o (starts file index) x r
+    worth_of r = own_value (outer_in p os) (starts file) o (starts file index) x r
 
     pub record NoUpper (z : Site) : Type 0 where
       pub none_at : (offset : ℕ) → find (IsUpperAt offset) (relocations_from number z.offset (parts_of (tables_in p file) z)) ≡ None
@@ -218,7 +219,7 @@ module _ (p : Program) (os : List Object) (starts : Starts) (file : ℕ) (sites 
       pub found_at : (offset : ℕ) → find (IsUpperAt offset) (relocations_from number z.offset (parts_of (tables_in p file) z))
           ≡ (if z.offset == offset then Some (relocation_at number z.offset field) else None)
       pub has : have_upper (parts_in p (mapped_at starts file z)) ≡ true
-      pub worth : own_value p.map.globals (starts file) o (starts file index) x (relocation_at number z.offset field)
+      pub worth : own_value (outer_in p os) (starts file) o (starts file index) x (relocation_at number z.offset field)
           ≡ distance (starts file z.located.section + z.offset) (target_in p (mapped_at starts file z))
       pub some : 0 < z.bytes
       pub shown : has_row z.located ≡ true
@@ -294,7 +295,7 @@ module _ (p : Program) (os : List Object) (starts : Starts) (file : ℕ) (sites 
                         ap (λ l. find (IsUpperAt offset) (relocations_from number z.offset l)) whole_parts
                         ∙ one_found number offset z.located.ordinal z.offset bytes own_field ts refl (low_templates rest coded k);
                     has = have_is ∙ ap (list_any takes_upper) ps_are;
-                    worth = own_is p.map.globals starts os file o index x none number kind.PcrelHi20 z.located.ordinal q plus z.offset known.at known.meant
+                    worth = own_is (outer_in p os) starts os file o index x none number kind.PcrelHi20 z.located.ordinal q plus z.offset known.at known.meant
                         ∙ relative_is known.at plus (starts file index + z.offset)
                         ∙ ap (λ a. distance a (add known.at plus)) start_as ∙ ap (distance (starts file z.located.section + z.offset)) (sym number_is);
                     some = count;

@@ -12,10 +12,9 @@ use Rattle.rv_source_laws.specs.Program.{Program, tables_in}
 use Rattle.rv_source_laws.specs.Lines.{section_of}
 use Rattle.rv_source_laws.specs.Fits.{mapped_in}
 use Rattle.rv_source_laws.proofs.HeldLemmas.{no_lowest, no_fault}
-use Rattle.rv_map.specs.Map.{Global}
 use Rattle.rv_object.specs.Object.{Progbits, Section, Object}
 use Rattle.rv_object_laws.specs.Inputs.{Starts, InputSection, inputs_from}
-use Rattle.rv_object_laws.specs.Names.{object_at, no_object}
+use Rattle.rv_object_laws.specs.Names.{Outer, object_at, no_object}
 use Rattle.rv_object_laws.specs.Values.{value, IsRelocated}
 use Rattle.rv_assemble_laws.specs.Templates.{Open}
 use Rattle.rv_assemble_laws.specs.Sites.{Site, sites_in}
@@ -26,6 +25,8 @@ use Rattle.rv_assemble_laws.specs.IsObjectOf.{Numbering, relocation_at}
 use Rattle.rv_sources_link_laws.proofs.statements.StatementsLemmas.{mapped_from, site_section}
 use Rattle.rv_sources_link_laws.proofs.statements.SettledLemmas.{of_located}
 use Rattle.rv_sources_link_laws.proofs.names.LabelsLemmas.{labels_stand}
+use Rattle.rv_sources_link_laws.proofs.names.KnownLemmas.{outer_in}
+use Rattle.rv_sources_link_laws.proofs.names.PairLemmas.{AreGiven}
 use Rattle.rv_sources_link_laws.proofs.names.GlobalsLemmas.{IsLow}
 use Rattle.rv_sources_link_laws.proofs.moves.ShrunkLemmas.{AreObjectsOf}
 
@@ -35,7 +36,7 @@ use Rattle.rv_sources_link_laws.proofs.moves.ShrunkLemmas.{AreObjectsOf}
 abbrev pub AreWorths : Program → List Object → Starts → ℕ → Object → Numbering → (ℕ → ℕ → Open → ℤ) → Type 0
 AreWorths p os starts file o number worths =
     (j : ℕ) (x : Section) → slice_get o.sections j ≡ Some x → (offset : ℕ) (f : Open)
-    → worths j offset f ≡ unwrap_or (value p.map.globals starts os (record { file = file; object = o; index = j; section = x }) (relocation_at number offset f)) (pos 0)
+    → worths j offset f ≡ unwrap_or (value (outer_in p os) starts os (record { file = file; object = o; index = j; section = x }) (relocation_at number offset f)) (pos 0)
 
 abbrev no_section : Section
 no_section = record { name = []; loaded = false; executable = false; writable = false; contents = Progbits []; alignment = 1; relocations = [] }
@@ -49,10 +50,10 @@ numbers_by (ss ∷ sources) (o ∷ os) (is, h) zero = is.number
 numbers_by (ss ∷ sources) (o ∷ os) (is, h) (suc i) = numbers_by sources os h i
 
 -- what the fields of all files take: files are numbered from 1
-abbrev pub worths_of : List Global → Starts → List Object → (ℕ → Numbering) → ℕ → ℕ → ℕ → Open → ℤ
-worths_of globals starts os numbers file section offset f =
+abbrev pub worths_of : Outer → Starts → List Object → (ℕ → Numbering) → ℕ → ℕ → ℕ → Open → ℤ
+worths_of outer starts os numbers file section offset f =
     unwrap_or
-    (value globals starts os
+    (value outer starts os
     (record { file = file; object = object_at os file; index = section; section = unwrap_or (slice_get (object_at os file).sections section) no_section })
     (relocation_at (numbers (file - 1)) offset f))
     (pos 0)
@@ -92,13 +93,13 @@ objects_at sources os h =
     (λ i. ap (λ n. numbers_by sources os h n) (let e : 1 + i - 1 ≡ i = omega arith in e))
 
 pub worths_are : (p : Program) (os : List Object) (starts : Starts) (numbers : ℕ → Numbering) (file : ℕ) (o : Object) (number : Numbering) → IsObjectAt os numbers file o number
-    → AreWorths p os starts file o number (worths_of p.map.globals starts os numbers file)
+    → AreWorths p os starts file o number (worths_of (outer_in p os) starts os numbers file)
 worths_are p os starts numbers file o number is j x at offset f =
-    ap (λ y. unwrap_or (value p.map.globals starts os
+    ap (λ y. unwrap_or (value (outer_in p os) starts os
     (record { file = file; object = y; index = j; section = unwrap_or (slice_get y.sections j) no_section }) (relocation_at (numbers (file - 1)) offset f)) (pos 0)) is.object
-    ∙ ap (λ y. unwrap_or (value p.map.globals starts os
+    ∙ ap (λ y. unwrap_or (value (outer_in p os) starts os
     (record { file = file; object = o; index = j; section = unwrap_or y no_section }) (relocation_at (numbers (file - 1)) offset f)) (pos 0)) at
-    ∙ ap (λ n. unwrap_or (value p.map.globals starts os (record { file = file; object = o; index = j; section = x }) (relocation_at n offset f)) (pos 0)) is.numbered
+    ∙ ap (λ n. unwrap_or (value (outer_in p os) starts os (record { file = file; object = o; index = j; section = x }) (relocation_at n offset f)) (pos 0)) is.numbered
 
 -- ---- code without faults
 
@@ -142,12 +143,13 @@ pub record IsWhole (p : Program) (os : List Object) (starts : Starts) (file : �
   pub low : AllByRecursion (IsLow starts file) sites
   pub sound : AllByRecursion (λ z. IsSound (tables_in p file) z.located) sites
   pub labels : StandsAlone (tables_in p file)
+  pub given : AreGiven p os
   pub worth : AreWorths p os starts file o number worths
   pub stands : (n : ℕ) → section_of p file n ≡ site_section starts (site_at sites n)
   pub itself : AllByRecursion (λ z. site_at sites z.located.ordinal ≡ Some z) sites
   -- all fields of loaded sections are filled
   pub relocated : (j : ℕ) (x : Section) → slice_get o.sections j ≡ Some x → x.loaded ≡ true
-      → AllByRecursion (IsRelocated p.map.globals starts os (record { file = file; object = o; index = j; section = x })) x.relocations
+      → AllByRecursion (IsRelocated (outer_in p os) starts os (record { file = file; object = o; index = j; section = x })) x.relocations
 
 -- those of the sections of an object that go somewhere, from an index on
 pub relocated_at : (goes : Section → Bool) (Q : InputSection → Type 0) (file : ℕ) (o : Object) (index : ℕ) (xs : List Section) → AllByRecursion Q (inputs_from goes file o index xs)

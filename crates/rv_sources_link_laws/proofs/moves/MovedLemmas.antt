@@ -9,15 +9,17 @@ use Rattle.rv_text_laws.specs.Expression.{Primary, Symbol as Named, Literal, Her
 use Rattle.rv_text_laws.specs.Values.{Meaning, Known, InSection as InData, Open as OpenAddress, Refused, add}
 use Rattle.rv_statement.specs.Statement.{StatementKind, Label, Numbered, Instruction, Directs, Enters, Sets}
 use Rattle.rv_unit_laws.specs.Tables.{Tables, NumericLabel, Labelled, Assignment, Definition, definition, definition_at, is_location, assigned_before, assigned_ever, assigned_definition as defined_by, labelled_definition, first_definition, numeric_definition, label_of, numeric_label_before, numeric_label_after, longest_section}
-use Rattle.rv_source_laws.specs.Resolves.{global_names_of}
+use Rattle.rv_unit_laws.specs.Bindings.{is_shared as is_shared_name}
+use Rattle.rv_source_laws.specs.Exports.{names_where}
 use Rattle.rv_object.specs.declared.symbol.Definition.{Definition as Defined}
 use Rattle.rv_object.specs.declared.symbol.Definition.TheVariants.{Undefined, Absolute, InSection, Skipped}
 use Rattle.rv_object.specs.Object.{Symbol}
 use Rattle.rv_object_laws.specs.Moves.{Move, dropped, new_offset}
-use Rattle.rv_object_laws.specs.Names.{is_defined, is_global, is_exported}
+use Rattle.rv_object_laws.specs.Names.{is_defined, is_shared}
 use Rattle.rv_assemble_laws.specs.Sites.{Site, Part}
-use Rattle.rv_assemble_laws.specs.Symbols.{SymbolUse, references_in, site_at, after_found, assigned_definition, site_definition, global_symbol, exports_of, IsNamed, IsOwn, IsOuter, IsDefinedBy, StandsFor}
+use Rattle.rv_assemble_laws.specs.Symbols.{SymbolUse, references_in, site_at, after_found, assigned_definition, site_definition, shared_symbol, exports_of, IsNamed, IsOwn, IsOuter, IsDefinedBy, StandsFor}
 use Rattle.rv_assemble_laws.specs.IsObjectOf.{Numbering, IsNumbered, IsInData, StandsInData}
+use Rattle.rv_sources_link_laws.proofs.names.ExportedLemmas.{is_exported}
 use Rattle.rv_sources_link_laws.proofs.names.KnownLemmas.{all_found}
 use Rattle.rv_sources_link_laws.proofs.moves.ShrinkingLemmas.{slice_map}
 
@@ -99,7 +101,7 @@ module _ (t : Tables) (sites : List Site) (places : AllByRecursion (StandsInData
   exported_moved (x ∷ xs) = go (is_exported x) (is_exported (moved_symbol x)) same (exported_moved xs)
     where
       same : is_exported (moved_symbol x) ≡ is_exported x
-      same = ap (λ b. is_global x.binding && b) (defined_still x.definition)
+      same = ap (λ b. is_shared x.binding && b) (defined_still x.definition)
 
       go : (b c : Bool) → c ≡ b → filter is_exported (map moved_symbol xs) ≡ map moved_symbol (filter is_exported xs)
           → (if c then moved_symbol x ∷ filter is_exported (map moved_symbol xs) else filter is_exported (map moved_symbol xs))
@@ -192,7 +194,7 @@ module _ (t : Tables) (sites : List Site) (places : AllByRecursion (StandsInData
 
   stands_same : (ordinal : ℕ) (q : Primary) (x : Option Symbol) → StandsFor t sites ordinal q x → StandsFor t sites' ordinal q (option_map moved_symbol x)
   stands_same ordinal q None h = h
-  stands_same ordinal q (Some x) (named, h) = (named_same q x named, defined_same q (definition t ordinal q) x (adds t sites places ordinal q) h)
+  stands_same ordinal q (Some x) (named, weak, h) = (named_same q x named, weak, defined_same q (definition t ordinal q) x (adds t sites places ordinal q) h)
 
   pub uses_same : (number : Numbering) (symbols : List Symbol) (p : Part)
       → AllByRecursion (IsNumbered t sites number symbols) (references_in p) → AllByRecursion (IsNumbered t sites' number (map moved_symbol symbols)) (references_in p)
@@ -235,18 +237,18 @@ module _ (t : Tables) (sites : List Site) (places : AllByRecursion (StandsInData
   definition_moves z (Directs (Enters section)) = here_moves z
   definition_moves z (Directs _) = here_moves z
 
-  named_moves : (d d' : Defined) → def d ≡ d' → (names : List (List ℕ)) → map moved_symbol (map (λ name. global_symbol name d) names) ≡ map (λ name. global_symbol name d') names
+  named_moves : (d d' : Defined) → def d ≡ d' → (names : List (List ℕ)) → map moved_symbol (map (λ name. shared_symbol t name d) names) ≡ map (λ name. shared_symbol t name d') names
   named_moves d d' e [] = refl
   named_moves d d' e (name ∷ names) =
-      ap (λ x. global_symbol name x ∷ map moved_symbol (map (λ name. global_symbol name d) names)) e ∙ ap (λ (l : List Symbol). global_symbol name d' ∷ l) (named_moves d d' e names)
+      ap (λ x. shared_symbol t name x ∷ map moved_symbol (map (λ name. shared_symbol t name d) names)) e ∙ ap (λ (l : List Symbol). shared_symbol t name d' ∷ l) (named_moves d d' e names)
 
   pub exports_move : (zs : List Site) → map moved_symbol (flat_map (exports_of t sites) zs) ≡ flat_map (exports_of t sites') (map mv zs)
   exports_move [] = refl
   exports_move (z ∷ zs) =
       map-append moved_symbol (exports_of t sites z) (flat_map (exports_of t sites) zs)
       ∙ ap (λ l. l ++ map moved_symbol (flat_map (exports_of t sites) zs))
-      (named_moves (site_definition t sites z z.located.kind) (site_definition t sites' (mv z) z.located.kind) (definition_moves z z.located.kind) (global_names_of t z.located))
-      ∙ ap (λ l. map (λ name. global_symbol name (site_definition t sites' (mv z) l.kind)) (global_names_of t l) ++ map moved_symbol (flat_map (exports_of t sites) zs)) (sym (stays z))
+      (named_moves (site_definition t sites z z.located.kind) (site_definition t sites' (mv z) z.located.kind) (definition_moves z z.located.kind) (names_where is_shared_name t z.located))
+      ∙ ap (λ l. map (λ name. shared_symbol t name (site_definition t sites' (mv z) l.kind)) (names_where is_shared_name t l) ++ map moved_symbol (flat_map (exports_of t sites) zs)) (sym (stays z))
       ∙ ap (λ l. exports_of t sites' (mv z) ++ l) (exports_move zs)
 
   -- ---- the whole

@@ -2,13 +2,14 @@
 
 use Rattle.std.proofs.Common.{◌≡◌, ℕ, zero, suc, ◌+◌, ◌-◌, ◌%◌, ◌≤◌, Bool, true, false, List, [], ◌∷◌, ◌++◌, map, take, drop, refl, sym, ap, ◌∙◌, subst, arith, ℤ, pos, Option, Some, None, option_map}
 use Rattle.std.proofs.lemmas.Bool.{and_parts}
+use Rattle.std.proofs.lemmas.List.{map-append}
 use Rattle.std.specs.Prelude.{⊤, ◌^◌, not, ◌&&◌, ◌==◌, IsTrue, is_some, unwrap_or, option_and_then, filter, if◌then◌else◌, bytes_eq, slice_index_or}
 use Rattle.std.specs.List.{AllByRecursion, find, slice_get}
 use Rattle.rv_isa.specs.declared.kind.Kind.{Kind}
 use Rattle.rv_isa.specs.declared.kind.Kind.TheVariants as kinds
 use Rattle.rv_reloc.specs.Values.{value_of}
 use Rattle.rv_reloc.specs.Ranges.{Takes}
-use Rattle.rv_map.specs.Map.{Global}
+use Rattle.rv_object.specs.declared.symbol.Binding.{Binding}
 use Rattle.rv_object.specs.declared.symbol.Definition.{Definition}
 use Rattle.rv_object.specs.declared.symbol.Definition.TheVariants.{Undefined, Absolute, InSection, Skipped}
 use Rattle.rv_object.specs.declared.row.Row.{Row}
@@ -16,11 +17,13 @@ use Rattle.rv_object.specs.Object.{Contents, Progbits, Note, Nobits, Relocation,
 use Rattle.rv_object.specs.Valid.{is_align}
 use Rattle.rv_object_laws.specs.Moves.{Move, alignments_of, by_place, has_padding, plan, moves, new_offset, kept, lost}
 use Rattle.rv_object_laws.specs.Inputs.{Starts, InputSection, start_of}
-use Rattle.rv_object_laws.specs.Names.{Place, defined_address, offset_address, symbol_address, symbol_address_by, is_defined, is_global, is_exported, exported, place_in, global_place, symbol_place, no_object, object_at}
+use Rattle.rv_object_laws.specs.Names.{Export, Outer, Place, is_shared, is_global, is_weak, is_export, is_sure_by, is_sure, exports_in, exports_from, exports_where, candidates, chosen, defined_address, offset_address, symbol_address, is_defined, place_in, shared_place, symbol_place, no_object, object_at}
 use Rattle.rv_object_laws.specs.Values.{target, own_value, is_high, is_low, high_at, value_in, value_at, paired, value, IsRelocated, patched_at, applied, initial_bytes, linked_bytes}
 use Rattle.rv_object_laws.specs.IsLinkOf.{moves_at}
 use Rattle.rv_sources_link_laws.proofs.fields.PatchesLemmas.{take_drop}
-use Rattle.rv_sources_link_laws.proofs.names.KnownLemmas.{still}
+use Rattle.rv_sources_link_laws.proofs.names.ExportedLemmas.{is_exported, exported}
+use Rattle.rv_sources_link_laws.proofs.names.KnownLemmas.{still, all_found}
+use Rattle.rv_sources_link_laws.proofs.sections.SectionsLemmas.{join}
 
 -- ---- what it is
 
@@ -61,6 +64,10 @@ shrunk_definition f o (Skipped n) = Skipped n
 
 abbrev pub shrunk_symbol : (ℕ → ℕ) → Object → Symbol → Symbol
 shrunk_symbol f o x = record { name = x.name; binding = x.binding; definition = shrunk_definition f o x.definition }
+
+-- addresses for which only names and bindings count
+abbrev pub IsBlind : Outer → Type 0
+IsBlind g = (f : ℕ → ℕ) (o : Object) (x : Symbol) → g (shrunk_symbol f o x) ≡ g x
 
 abbrev pub shrunk_row : (ℕ → ℕ) → Object → Row → Row
 shrunk_row f o r = record {
@@ -152,12 +159,18 @@ module _ (f : ℕ → ℕ) (o : Object) where
       ap (offset_address (f section) (new_offset (moves_in f o section) offset)) (section_is section) ∙ address_by (f section) offset (slice_get o.sections section)
   defined_same (Skipped n) = refl
 
-  module _ (g : List Global) where
-    symbol_by : (name : List ℕ) (d : Definition) → symbol_address_by g f o' name (shrunk_definition f o d) ≡ symbol_address_by g f o name d
-    symbol_by name Undefined = refl
-    symbol_by name (Absolute n) = refl
-    symbol_by name (InSection section offset) = defined_same (InSection section offset)
-    symbol_by name (Skipped n) = refl
+  sure_still : (b : Binding) (d : Definition) → is_sure_by b (shrunk_definition f o d) ≡ is_sure_by b d
+  sure_still b Undefined = refl
+  sure_still b (Absolute n) = refl
+  sure_still b (InSection section offset) = refl
+  sure_still b (Skipped n) = refl
+
+  module _ (g : Outer) (blind : IsBlind g) where
+    symbol_same : (x : Symbol) → symbol_address g f o' (shrunk_symbol f o x) ≡ symbol_address g f o x
+    symbol_same x =
+        ap (λ b. if b then defined_address f o' (shrunk_definition f o x.definition) else g (shrunk_symbol f o x)) (sure_still x.binding x.definition)
+        ∙ ap (λ a. if is_sure x then a else g (shrunk_symbol f o x)) (defined_same x.definition)
+        ∙ ap (λ a. if is_sure x then defined_address f o x.definition else a) (blind f o x)
 
     pub target_same : (symbol : Option ℕ) → target g f o' symbol ≡ target g f o symbol
     target_same None = refl
@@ -165,7 +178,7 @@ module _ (f : ℕ → ℕ) (o : Object) where
       where
         go : (x : Option Symbol) → option_and_then (symbol_address g f o') (option_map (shrunk_symbol f o) x) ≡ option_and_then (symbol_address g f o) x
         go None = refl
-        go (Some x) = symbol_by x.name x.definition
+        go (Some x) = symbol_same x
 
     pub own_same : (start : ℕ) (s : Section) (r : Relocation)
         → own_value g f o' start (shrunk_section start s) (shrunk_relocation (moves start s) r) ≡ own_value g f o start s r
@@ -181,23 +194,77 @@ module _ (f : ℕ → ℕ) (o : Object) where
   defined_still (InSection section offset) = refl
   defined_still (Skipped n) = refl
 
-  exported_by : (xs : List Symbol) → filter is_exported (map (shrunk_symbol f o) xs) ≡ map (shrunk_symbol f o) (filter is_exported xs)
+  exported_by : (xs : List Symbol)
+      → filter is_exported (map (shrunk_symbol f o) xs) ≡ map (shrunk_symbol f o) (filter is_exported xs)
   exported_by [] = refl
-  exported_by (x ∷ xs) = go (is_exported x) (is_exported (shrunk_symbol f o x)) same (exported_by xs)
+  exported_by (x ∷ xs) =
+      ap (λ b. if is_shared x.binding && b then shrunk_symbol f o x ∷ rest else rest) (defined_still x.definition) ∙ go (is_exported x) (exported_by xs)
     where
-      same : is_exported (shrunk_symbol f o x) ≡ is_exported x
-      same = ap (λ b. is_global x.binding && b) (defined_still x.definition)
+      rest : List Symbol
+      rest = filter is_exported (map (shrunk_symbol f o) xs)
 
-      go : (b c : Bool) → c ≡ b → filter is_exported (map (shrunk_symbol f o) xs) ≡ map (shrunk_symbol f o) (filter is_exported xs)
-          → (if c then shrunk_symbol f o x ∷ filter is_exported (map (shrunk_symbol f o) xs) else filter is_exported (map (shrunk_symbol f o) xs))
-          ≡ map (shrunk_symbol f o) (if b then x ∷ filter is_exported xs else filter is_exported xs)
-      go true true e ih = ap (λ (l : List Symbol). shrunk_symbol f o x ∷ l) ih
-      go false false e ih = ih
-      go true false e ih = absurd (cc)
-      go false true e ih = absurd (cc)
+      go : (b : Bool) → rest ≡ map (shrunk_symbol f o) (filter is_exported xs)
+          → (if b then shrunk_symbol f o x ∷ rest else rest) ≡ map (shrunk_symbol f o) (if b then x ∷ filter is_exported xs else filter is_exported xs)
+      go true ih = ap (λ (l : List Symbol). shrunk_symbol f o x ∷ l) ih
+      go false ih = ih
 
   pub exported_same : exported o' ≡ map (shrunk_symbol f o) (exported o)
   exported_same = exported_by o.symbols
+
+-- ---- definitions for all files
+
+module _ (starts : Starts) where
+  abbrev pub shrunk_export : Export → Export
+  shrunk_export e = record {
+    file = e.file;
+    object = shrunk_object (starts e.file) e.object;
+    index = e.index;
+    symbol = shrunk_symbol (starts e.file) e.object e.symbol;
+  }
+
+  exports_by : (test : Binding → Bool) (file : ℕ) (o : Object) (index : ℕ) (xs : List Symbol)
+      → exports_in test file (shrunk_object (starts file) o) index (map (shrunk_symbol (starts file) o) xs) ≡ map shrunk_export (exports_in test file o index xs)
+  exports_by test file o index [] = refl
+  exports_by test file o index (x ∷ xs) =
+      ap (λ b. if test x.binding && b then shrunk_export own ∷ rest else rest) (defined_still (starts file) o x.definition)
+      ∙ go (is_export test x) (exports_by test file o (suc index) xs)
+    where
+      own : Export
+      own = record { file = file; object = o; index = index; symbol = x }
+
+      rest : List Export
+      rest = exports_in test file (shrunk_object (starts file) o) (suc index) (map (shrunk_symbol (starts file) o) xs)
+
+      go : (b : Bool) → rest ≡ map shrunk_export (exports_in test file o (suc index) xs)
+          → (if b then shrunk_export own ∷ rest else rest) ≡ map shrunk_export (if b then own ∷ exports_in test file o (suc index) xs else exports_in test file o (suc index) xs)
+      go true ih = ap (λ l. shrunk_export own ∷ l) ih
+      go false ih = ih
+
+  pub exports_same : (test : Binding → Bool) (file : ℕ) (us : List Object) → exports_from test file (shrunk_objects starts file us) ≡ map shrunk_export (exports_from test file us)
+  exports_same test file [] = refl
+  exports_same test file (o ∷ us) =
+      ap (λ l. l ++ exports_from test (suc file) (shrunk_objects starts (suc file) us)) (exports_by test file o 0 o.symbols)
+      ∙ ap (λ l. map shrunk_export (exports_in test file o 0 o.symbols) ++ l) (exports_same test (suc file) us)
+      ∙ sym (map-append shrunk_export (exports_in test file o 0 o.symbols) (exports_from test (suc file) us))
+
+  find_shrunk : (name : List ℕ) (es : List Export)
+      → find (λ e. bytes_eq e.symbol.name name) (map shrunk_export es) ≡ option_map shrunk_export (find (λ e. bytes_eq e.symbol.name name) es)
+  find_shrunk name [] = refl
+  find_shrunk name (e ∷ es) = go (bytes_eq e.symbol.name name) (find_shrunk name es)
+    where
+      go : (b : Bool) → find (λ e. bytes_eq e.symbol.name name) (map shrunk_export es) ≡ option_map shrunk_export (find (λ e. bytes_eq e.symbol.name name) es)
+          → (if b then Some (shrunk_export e) else find (λ e. bytes_eq e.symbol.name name) (map shrunk_export es))
+          ≡ option_map shrunk_export (if b then Some e else find (λ e. bytes_eq e.symbol.name name) es)
+      go true ih = refl
+      go false ih = ih
+
+  pub chosen_same : (os : List Object) (name : List ℕ) → chosen (shrunk_objects starts 1 os) name ≡ option_map shrunk_export (chosen os name)
+  chosen_same os name =
+      ap (find (λ e. bytes_eq e.symbol.name name))
+      (ap (λ l. l ++ exports_where is_weak (shrunk_objects starts 1 os)) (exports_same is_global 1 os)
+      ∙ ap (λ l. map shrunk_export (exports_where is_global os) ++ l) (exports_same is_weak 1 os)
+      ∙ sym (map-append shrunk_export (exports_where is_global os) (exports_where is_weak os)))
+      ∙ find_shrunk name (candidates os)
 
 -- ---- high parts
 
@@ -309,10 +376,10 @@ module _ (starts : Starts) (os : List Object) where
   placed_by file o Undefined e = refl
   placed_by file o (Absolute n) e = refl
   placed_by file o (InSection section offset) e =
-      ap (λ (x : Object). Some (place_of file section (new_offset (moves_in (starts file) x section) offset))) (sym e)
+      ap (λ (x : Object). Some (put file section (new_offset (moves_in (starts file) x section) offset))) (sym e)
     where
-      place_of : ℕ → ℕ → ℕ → Place
-      place_of file section offset = record { file = file; section = section; offset = offset }
+      put : ℕ → ℕ → ℕ → Place
+      put file section offset = record { file = file; section = section; offset = offset }
   placed_by file o (Skipped n) e = refl
 
   on_file : (file : ℕ) (d : Definition) → 1 ≤ file → OnFile (place_in file d)
@@ -321,57 +388,63 @@ module _ (starts : Starts) (os : List Object) where
   on_file file (InSection section offset) h = h
   on_file file (Skipped n) h = tt
 
-  find_shrunk : (f : ℕ → ℕ) (o : Object) (name : List ℕ) (xs : List Symbol)
-      → find (λ s. bytes_eq s.name name) (map (shrunk_symbol f o) xs) ≡ option_map (shrunk_symbol f o) (find (λ s. bytes_eq s.name name) xs)
-  find_shrunk f o name [] = refl
-  find_shrunk f o name (x ∷ xs) = go (bytes_eq x.name name) (find_shrunk f o name xs)
+  -- a definition of its file
+  abbrev pub IsHere : Export → Type 0
+  IsHere e = (1 ≤ e.file) × (object_at os e.file ≡ e.object)
+
+  here_in : (test : Binding → Bool) (file : ℕ) (o : Object) (index : ℕ) (xs : List Symbol) → 1 ≤ file → object_at os file ≡ o → AllByRecursion IsHere (exports_in test file o index xs)
+  here_in test file o index [] h e = tt
+  here_in test file o index (x ∷ xs) h e = go (is_export test x) (here_in test file o (suc index) xs h e)
     where
-      go : (b : Bool) → find (λ s. bytes_eq s.name name) (map (shrunk_symbol f o) xs) ≡ option_map (shrunk_symbol f o) (find (λ s. bytes_eq s.name name) xs)
-          → (if b then Some (shrunk_symbol f o x) else find (λ s. bytes_eq s.name name) (map (shrunk_symbol f o) xs))
-          ≡ option_map (shrunk_symbol f o) (if b then Some x else find (λ s. bytes_eq s.name name) xs)
-      go true ih = refl
+      go : (b : Bool) → AllByRecursion IsHere (exports_in test file o (suc index) xs)
+          → AllByRecursion IsHere (if b then record { file = file; object = o; index = index; symbol = x } ∷ exports_in test file o (suc index) xs else exports_in test file o (suc index) xs)
+      go true ih = ((h, e), ih)
       go false ih = ih
 
-  global_by : (file : ℕ) (us : List Object) (name : List ℕ) → AreAt os file us → global_place file (shrunk_objects starts file us) name ≡ option_map shrunk_place (global_place file us name)
-  global_by file [] name h = refl
-  global_by file (u ∷ us) name (e, h) =
-      ap (λ o. by_found o (global_place (suc file) (shrunk_objects starts (suc file) us) name)) (ap (find (λ s. bytes_eq s.name name)) (exported_same (starts file) u) ∙ find_shrunk (starts file) u name (exported u))
-      ∙ go (find (λ s. bytes_eq s.name name) (exported u)) (global_by (suc file) us name h)
-    where
-      by_found : Option Symbol → Option Place → Option Place
-      by_found x rest = elim x [ Some s ↦ place_in file s.definition | None ↦ rest ]
+  here_from : (test : Binding → Bool) (file : ℕ) (us : List Object) → 1 ≤ file → AreAt os file us → AllByRecursion IsHere (exports_from test file us)
+  here_from test file [] h e = tt
+  here_from test file (o ∷ us) h (e, es) =
+      join IsHere (exports_in test file o 0 o.symbols) (exports_from test (suc file) us) (here_in test file o 0 o.symbols h e) (here_from test (suc file) us (omega arith) es)
 
-      go : (x : Option Symbol) → global_place (suc file) (shrunk_objects starts (suc file) us) name ≡ option_map shrunk_place (global_place (suc file) us name)
-          → by_found (option_map (shrunk_symbol (starts file) u) x) (global_place (suc file) (shrunk_objects starts (suc file) us) name)
-          ≡ option_map shrunk_place (by_found x (global_place (suc file) us name))
-      go None ih = ih
-      go (Some x) ih = placed_by file u x.definition e
+  chosen_here : (name : List ℕ) (e : Export) → chosen os name ≡ Some e → IsHere e
+  chosen_here name e found =
+      all_found IsHere (λ e. bytes_eq e.symbol.name name) (candidates os)
+      (join IsHere (exports_where is_global os) (exports_where is_weak os) (here_from is_global 1 os (omega arith) (all_at os)) (here_from is_weak 1 os (omega arith) (all_at os))) e found
 
-  global_on : (file : ℕ) (us : List Object) (name : List ℕ) → 1 ≤ file → OnFile (global_place file us name)
-  global_on file [] name h = tt
-  global_on file (u ∷ us) name h = go (find (λ s. bytes_eq s.name name) (exported u)) (global_on (suc file) us name (omega arith))
+  abbrev place_of : Option Export → Option Place
+  place_of c = option_and_then (λ e. place_in e.file e.symbol.definition) c
+
+  shared_by : (name : List ℕ) → shared_place os' name ≡ option_map shrunk_place (shared_place os name)
+  shared_by name = ap place_of (chosen_same starts os name) ∙ go (chosen os name) (chosen_here name)
     where
-      go : (x : Option Symbol) → OnFile (global_place (suc file) us name) → OnFile (elim x [ Some s ↦ place_in file s.definition | None ↦ global_place (suc file) us name ])
-      go None ih = ih
-      go (Some x) ih = on_file file x.definition h
+      go : (c : Option Export) → ((e : Export) → c ≡ Some e → IsHere e) → place_of (option_map (shrunk_export starts) c) ≡ option_map shrunk_place (place_of c)
+      go None h = refl
+      go (Some e) h = placed_by e.file e.object e.symbol.definition (h e refl).1
+
+  shared_on : (name : List ℕ) → OnFile (shared_place os name)
+  shared_on name = go (chosen os name) (chosen_here name)
+    where
+      go : (c : Option Export) → ((e : Export) → c ≡ Some e → IsHere e) → OnFile (place_of c)
+      go None h = tt
+      go (Some e) h = on_file e.file e.symbol.definition (h e refl).0
 
   symbol_by_place : (file : ℕ) (o : Object) (x : Symbol) → object_at os file ≡ o → symbol_place os' file (shrunk_symbol (starts file) o x) ≡ option_map shrunk_place (symbol_place os file x)
   symbol_by_place file o x e =
-      ap (λ b. if b then place_in file (shrunk_definition (starts file) o x.definition) else global_place 1 os' x.name) (defined_still (starts file) o x.definition) ∙ go (is_defined x.definition)
+      ap (λ b. if b then place_in file (shrunk_definition (starts file) o x.definition) else shared_place os' x.name) (sure_still (starts file) o x.binding x.definition) ∙ go (is_sure x)
     where
-      go : (b : Bool) → (if b then place_in file (shrunk_definition (starts file) o x.definition) else global_place 1 os' x.name)
-          ≡ option_map shrunk_place (if b then place_in file x.definition else global_place 1 os x.name)
+      go : (b : Bool) → (if b then place_in file (shrunk_definition (starts file) o x.definition) else shared_place os' x.name)
+          ≡ option_map shrunk_place (if b then place_in file x.definition else shared_place os x.name)
       go true = placed_by file o x.definition e
-      go false = global_by 1 os x.name (all_at os)
+      go false = shared_by x.name
 
   symbol_on : (file : ℕ) (x : Symbol) → 1 ≤ file → OnFile (symbol_place os file x)
-  symbol_on file x h = go (is_defined x.definition)
+  symbol_on file x h = go (is_sure x)
     where
-      go : (b : Bool) → OnFile (if b then place_in file x.definition else global_place 1 os x.name)
+      go : (b : Bool) → OnFile (if b then place_in file x.definition else shared_place os x.name)
       go true = on_file file x.definition h
-      go false = global_on 1 os x.name (omega arith)
+      go false = shared_on x.name
 
-  module _ (g : List Global) where
+  module _ (g : Outer) (blind : IsBlind g) where
     value_by : (file : ℕ) (o : Object) (section offset : ℕ) (x : Option Section)
         → value_in g starts file (shrunk_object (starts file) o) section (new_offset (moves_at (starts file section) x) offset) (option_map (shrunk_section (starts file section)) x)
         ≡ value_in g starts file o section offset x
@@ -386,7 +459,7 @@ module _ (starts : Starts) (os : List Object) where
         go : (r : Option Relocation) → option_map (own_value g (starts file) (shrunk_object (starts file) o) start (shrunk_section start s)) (option_map (shrunk_relocation (moves start s)) r)
             ≡ option_map (own_value g (starts file) o start s) r
         go None = refl
-        go (Some r) = ap Some (own_same (starts file) o g start s r)
+        go (Some r) = ap Some (own_same (starts file) o g blind start s r)
 
     value_same : (p : Option Place) → OnFile p → value_at g starts os' (option_map shrunk_place p) ≡ value_at g starts os p
     value_same None h = refl
@@ -421,11 +494,11 @@ module _ (starts : Starts) (os : List Object) where
           go : (b : Bool) → (if b then paired g starts os' i.file i'.object r.symbol else Some (own_value g (starts i.file) i'.object (start_of starts i) i'.section (shrunk_relocation ms r)))
               ≡ (if b then paired g starts os i.file i.object r.symbol else Some (own_value g (starts i.file) i.object (start_of starts i) i.section r))
           go true = paired_same i.file i.object least here r.symbol
-          go false = ap Some (own_same (starts i.file) i.object g (start_of starts i) i.section r)
+          go false = ap Some (own_same (starts i.file) i.object g blind (start_of starts i) i.section r)
 
       relocated_one : (r : Relocation) → IsRelocated g starts os i r → IsRelocated g starts os' i' (shrunk_relocation ms r)
       relocated_one r h = record {
-        resolved = subst (λ t. IsTrue (is_some t)) (sym (target_same (starts i.file) i.object g r.symbol)) h.resolved;
+        resolved = subst (λ t. IsTrue (is_some t)) (sym (target_same (starts i.file) i.object g blind r.symbol)) h.resolved;
         found = subst (λ v. IsTrue (is_some v)) (sym (input_value r)) h.found;
         alone = h.alone;
         takes = subst (λ v. Takes r.kind (unwrap_or v (pos 0))) (sym (input_value r)) h.takes;

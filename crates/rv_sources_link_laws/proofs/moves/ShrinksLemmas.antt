@@ -7,23 +7,25 @@ use Rattle.std.specs.List.{AllByRecursion, slice_get}
 use Rattle.rv_layout_laws.specs.Alignment.{aligned}
 use Rattle.rv_text_laws.specs.Values.{Meaning, Known, InSection as InData, Open as OpenAddress, Refused, add}
 use Rattle.rv_statement.specs.Statement.{StatementKind, Label, Numbered, Instruction, Directs, Statement, Enters, Sets}
+use Rattle.rv_unit_laws.specs.Bindings.{is_shared}
 use Rattle.rv_unit_laws.specs.Sections.{Section as SourceSection, goes_to_text as source_text}
 use Rattle.rv_unit_laws.specs.Tables.{Tables, Assignment, tables, is_location, assigned_ever, opened_of}
 use Rattle.rv_source_laws.specs.Located.{has_row}
-use Rattle.rv_source_laws.specs.Resolves.{global_names_of}
+use Rattle.rv_source_laws.specs.Exports.{names_where}
 use Rattle.rv_object.specs.declared.symbol.Definition.{Definition as Defined}
 use Rattle.rv_object.specs.declared.symbol.Definition.TheVariants.{InSection}
 use Rattle.rv_object.specs.declared.row.Row.{Row}
 use Rattle.rv_object.specs.Object.{Section, Object}
 use Rattle.rv_object_laws.specs.Moves.{by_place, has_padding, new_offset, plan, moves}
 use Rattle.rv_object_laws.specs.Inputs.{Starts, InputSection, goes_to_text, begins_at, inputs_from, inputs_of, start_of, size, Stand}
-use Rattle.rv_object_laws.specs.Names.{exported, is_in_text, can_begin}
+use Rattle.rv_object_laws.specs.Names.{is_in_text, can_begin}
 use Rattle.rv_object_laws.specs.IsLinkOf.{moves_at}
 use Rattle.rv_assemble_laws.specs.Sites.{Site, Part, sites_in}
-use Rattle.rv_assemble_laws.specs.Symbols.{references_in, site_at, after_found, assigned_definition, site_definition, global_symbol, exports_of}
+use Rattle.rv_assemble_laws.specs.Symbols.{references_in, site_at, after_found, assigned_definition, site_definition, shared_symbol, exports_of}
 use Rattle.rv_assemble_laws.specs.IsObjectOf.{IsNumbered, row_of, rows_at, IsInData, StandsInData}
 use Rattle.rv_sources_link_laws.proofs.sections.AssembledLemmas.{IsSectionOf, AreSectionsOf, IsAssembled, AreAssembled}
 use Rattle.rv_sources_link_laws.proofs.statements.SettledLemmas.{IsSettled, sites_are_in, of_sections}
+use Rattle.rv_sources_link_laws.proofs.names.ExportedLemmas.{exported}
 use Rattle.rv_sources_link_laws.proofs.names.KnownLemmas.{all_found}
 use Rattle.rv_sources_link_laws.proofs.sections.SectionsLemmas.{split, join}
 use Rattle.rv_sources_link_laws.proofs.fields.WholesLemmas.{relocated_at}
@@ -219,7 +221,7 @@ module _ (ss : List Statement) (o : Object) (is : IsAssembled ss o) (f : ℕ →
   definition_begins z (Directs (Enters section)) k even = place_begins z k even
   definition_begins z (Directs _) k even = place_begins z k even
 
-  named_begins : (d : Defined) → can_begin o' (shrunk_definition f o d) ≡ can_begin o d → (names : List (List ℕ)) → AllByRecursion (BeginsSame f o) (map (λ name. global_symbol name d) names)
+  named_begins : (d : Defined) → can_begin o' (shrunk_definition f o d) ≡ can_begin o d → (names : List (List ℕ)) → AllByRecursion (BeginsSame f o) (map (λ name. shared_symbol t name d) names)
   named_begins d e [] = tt
   named_begins d e (name ∷ names) = (e, named_begins d e names)
 
@@ -227,7 +229,7 @@ module _ (ss : List Statement) (o : Object) (is : IsAssembled ss o) (f : ℕ →
   exports_begin [] h k = tt
   exports_begin (z ∷ zs) (h, hs) (k, ks) =
       join (BeginsSame f o) (exports_of t is.sites z) (flat_map (exports_of t is.sites) zs)
-      (named_begins (site_definition t is.sites z z.located.kind) (definition_begins z z.located.kind h k) (global_names_of t z.located)) (exports_begin zs hs ks)
+      (named_begins (site_definition t is.sites z z.located.kind) (definition_begins z z.located.kind h k) (names_where is_shared t z.located)) (exports_begin zs hs ks)
 
   pub begins_same : AllByRecursion (BeginsSame f o) (exported o)
   begins_same = subst (λ l. AllByRecursion (BeginsSame f o) l) (sym is.exported_are) (exports_begin is.sites all_settled evens)

@@ -15,7 +15,7 @@ use Rattle.rv_source_laws.specs.Fits.{is_low}
 use Rattle.rv_object.specs.Object.{Section, Symbol, Object}
 use Rattle.rv_object.specs.Padding.{no_operations, operations_in}
 use Rattle.rv_object_laws.specs.Moves.{alignments_of}
-use Rattle.rv_object_laws.specs.Names.{exported}
+use Rattle.rv_sources_link_laws.proofs.names.ExportedLemmas.{exported}
 use Rattle.rv_assemble_laws.specs.Coded.{is_constant, constants, IsCode}
 use Rattle.rv_assemble_laws.specs.Refusals.{statements_fault}
 use Rattle.rv_assemble_laws.specs.Symbols.{exports}

@@ -1,10 +1,12 @@
 -- Objects with the linker's moves made are linked to the same program.
 
 use Rattle.std.proofs.Common.{◌≡◌, ℕ, suc, ◌+◌, ◌-◌, ◌≤◌, Bool, true, false, List, [], ◌∷◌, ◌++◌, map, length, refl, sym, ap, ◌∙◌, subst, arith, Option, Some, None, option_map}
+use Rattle.std.proofs.lemmas.Bool.{and_parts}
 use Rattle.std.proofs.lemmas.List.{map-append}
-use Rattle.std.specs.Prelude.{⊤, not, ◌&&◌, ◌||◌, nat_le, nat_lt, max, IsTrue, option_and_then, filter, flat_map, if◌then◌else◌, bytes_eq, codes}
-use Rattle.std.specs.List.{AllByRecursion, find, list_all, list_any, slice_get}
-use Rattle.rv_map.specs.Globals.{is_one_of, AreDistinct, shown, linker_symbols}
+use Rattle.std.specs.Prelude.{⊤, not, ◌&&◌, ◌||◌, nat_le, nat_lt, max, IsTrue, is_some, option_and_then, filter, flat_map, if◌then◌else◌, bytes_eq, codes}
+use Rattle.std.specs.List.{AllByRecursion, list_all, list_any, slice_get}
+use Rattle.std.specs.Option.{option_or}
+use Rattle.rv_map.specs.Globals.{AreDistinct, global_address, shown, linker_symbols}
 use Rattle.rv_layout_laws.specs.Alignment.{aligned}
 use Rattle.rv_isa_laws.specs.Bytes.{zeros}
 use Rattle.rv_map.specs.Map.{Global}
@@ -12,14 +14,18 @@ use Rattle.rv_map.specs.declared.map.Region.{Region}
 use Rattle.rv_map.specs.declared.map.Row.{Row as MapRow}
 use Rattle.rv_image.specs.Linked.{Linked}
 use Rattle.rv_object.specs.declared.row.Row.{Row}
+use Rattle.rv_object.specs.declared.symbol.Binding.{Binding}
+use Rattle.rv_object.specs.declared.symbol.Binding.TheVariants as bindings
 use Rattle.rv_object.specs.Object.{Contents, Progbits, Note, Nobits, Section, Symbol, Object, size_of}
 use Rattle.rv_object_laws.specs.Moves.{Move, alignments_of, plan, moves, new_offset, kept, has_room, lost}
 use Rattle.rv_object_laws.specs.Inputs.{Starts, InputSection, is_nobits, goes_to_text, goes_to_rodata, goes_to_data, goes_to_bss, inputs_from, inputs_of, inputs, raised, begins_at, start_of, size, Stand, end_of, Holds, gaps_of, greatest, contents}
-use Rattle.rv_object_laws.specs.Names.{defined_address, exported, globals_of, global_names, shown_linker_symbols, can_begin, begins_run, entry_by, entry_of, object_at}
+use Rattle.rv_object_laws.specs.Names.{Export, Outer, is_shared, is_global, is_weak, is_defined, is_export, exports_in, exports_from, exports_where, names_of, candidates, chosen, is_this, is_chosen, chosen_exports, export_address, globals_of, global_names, shown_linker_symbols, can_begin, begins_run, run_start, entry_of, object_at}
 use Rattle.rv_object_laws.specs.Values.{initial_bytes, linked_bytes, IsRelocated}
-use Rattle.rv_object_laws.specs.IsLinkOf.{moves_at, map_row, row_in, inserted_row, by_ordinal, rows_of, is_loaded, IsLinkOf}
+use Rattle.rv_object_laws.specs.IsLinkOf.{moves_at, map_row, row_in, inserted_row, by_ordinal, rows_of, is_loaded, outer_of, IsLinkOf}
+use Rattle.rv_sources_link_laws.proofs.names.ExportedLemmas.{is_exported, exported}
+use Rattle.rv_sources_link_laws.proofs.names.KnownLemmas.{all_found}
 use Rattle.rv_sources_link_laws.proofs.sections.SectionsLemmas.{join}
-use Rattle.rv_sources_link_laws.proofs.moves.ShrinkingLemmas.{shrunk_contents, shrunk_section, sections_from, moves_in, shrunk_definition, shrunk_symbol, shrunk_row, shrunk_object, shrunk_objects, shrunk_input, none_left, stays, moves_none, section_is, defined_same, exported_same, AreAt, all_at, relocated_all, linked_same}
+use Rattle.rv_sources_link_laws.proofs.moves.ShrinkingLemmas.{shrunk_contents, shrunk_section, sections_from, moves_in, shrunk_definition, shrunk_row, shrunk_object, shrunk_objects, shrunk_input, shrunk_export, IsBlind, none_left, stays, moves_none, section_is, defined_same, exports_same, chosen_same, AreAt, all_at, relocated_all, linked_same}
 
 -- what a section owes so that its moves change no other
 pub record IsTidy (start : ℕ) (s : Section) : Type 0 where
@@ -34,7 +40,8 @@ BeginsSame f o x = can_begin (shrunk_object f o) (shrunk_definition f o x.defini
 
 abbrev pub AllBegin : Starts → ℕ → List Object → Type 0
 AllBegin starts file [] = ⊤
-AllBegin starts file (o ∷ os) = AllByRecursion (BeginsSame (starts file) o) (exported o) × AllBegin starts (suc file) os
+AllBegin starts file (o ∷ os) =
+    AllByRecursion (BeginsSame (starts file) o) (exported o) × AllBegin starts (suc file) os
 
 -- ---- lists
 
@@ -114,61 +121,110 @@ module _ (starts : Starts) where
 
   -- ---- symbols
 
-  module _ (f : ℕ → ℕ) (o : Object) where
-    named_same : (xs : List Symbol) → map (λ s. s.name) (map (shrunk_symbol f o) xs) ≡ map (λ s. s.name) xs
-    named_same [] = refl
-    named_same (x ∷ xs) = ap (λ (l : List (List ℕ)). x.name ∷ l) (named_same xs)
+  abbrev moved : Export → Export
+  moved = shrunk_export starts
 
-    shown_same : (xs : List Symbol)
-        → flat_map (λ s. shown s.name (defined_address f (shrunk_object f o) s.definition)) (map (shrunk_symbol f o) xs) ≡ flat_map (λ s. shown s.name (defined_address f o s.definition)) xs
-    shown_same [] = refl
-    shown_same (x ∷ xs) =
-        ap (λ a. shown x.name a ++ flat_map (λ s. shown s.name (defined_address f (shrunk_object f o) s.definition)) (map (shrunk_symbol f o) xs)) (defined_same f o x.definition)
-        ∙ ap (λ l. shown x.name (defined_address f o x.definition) ++ l) (shown_same xs)
+  named_same : (es : List Export) → names_of (map moved es) ≡ names_of es
+  named_same [] = refl
+  named_same (e ∷ es) = ap (λ (l : List (List ℕ)). e.symbol.name ∷ l) (named_same es)
 
-    begin_same : (xs : List Symbol) → AllByRecursion (BeginsSame f o) xs
-        → find (begins_run (shrunk_object f o)) (map (shrunk_symbol f o) xs) ≡ option_map (shrunk_symbol f o) (find (begins_run o) xs)
-    begin_same [] h = refl
-    begin_same (x ∷ xs) (h, hs) =
-        ap (λ b. if bytes_eq x.name (codes "_start") && b then Some (shrunk_symbol f o x) else find (begins_run (shrunk_object f o)) (map (shrunk_symbol f o) xs)) h
-        ∙ go (bytes_eq x.name (codes "_start") && can_begin o x.definition) (begin_same xs hs)
+  address_same : (e : Export) → export_address starts (moved e) ≡ export_address starts e
+  address_same e = defined_same (starts e.file) e.object e.symbol.definition
+
+  module _ (os : List Object) where
+    abbrev left : List Object
+    left = shrunk_objects starts 1 os
+
+    some_same : (name : List ℕ) → is_some (chosen left name) ≡ is_some (chosen os name)
+    some_same name = ap is_some (chosen_same starts os name) ∙ go (chosen os name)
       where
-        go : (b : Bool) → find (begins_run (shrunk_object f o)) (map (shrunk_symbol f o) xs) ≡ option_map (shrunk_symbol f o) (find (begins_run o) xs)
-            → (if b then Some (shrunk_symbol f o x) else find (begins_run (shrunk_object f o)) (map (shrunk_symbol f o) xs))
-            ≡ option_map (shrunk_symbol f o) (if b then Some x else find (begins_run o) xs)
-        go true ih = refl
+        go : (c : Option Export) → is_some (option_map moved c) ≡ is_some c
+        go None = refl
+        go (Some e) = refl
+
+    names_same : global_names left ≡ global_names os
+    names_same = ap names_of (exports_same starts is_global 1 os) ∙ named_same (exports_where is_global os)
+
+    this_same : (e : Export) → is_chosen left (moved e) ≡ is_chosen os e
+    this_same e = ap (is_this (moved e)) (chosen_same starts os e.symbol.name) ∙ go (chosen os e.symbol.name)
+      where
+        go : (c : Option Export) → is_this (moved e) (option_map moved c) ≡ is_this e c
+        go None = refl
+        go (Some f) = refl
+
+    kept_same : (es : List Export) → filter (is_chosen left) (map moved es) ≡ map moved (filter (is_chosen os) es)
+    kept_same [] = refl
+    kept_same (e ∷ es) = ap (λ b. if b then moved e ∷ rest else rest) (this_same e) ∙ go (is_chosen os e) (kept_same es)
+      where
+        rest : List Export
+        rest = filter (is_chosen left) (map moved es)
+
+        go : (b : Bool) → rest ≡ map moved (filter (is_chosen os) es)
+            → (if b then moved e ∷ rest else rest) ≡ map moved (if b then e ∷ filter (is_chosen os) es else filter (is_chosen os) es)
+        go true ih = ap (λ l. moved e ∷ l) ih
         go false ih = ih
 
-    found_same : (x : Option Symbol)
-        → option_and_then (λ s. defined_address f (shrunk_object f o) s.definition) (option_map (shrunk_symbol f o) x) ≡ option_and_then (λ s. defined_address f o s.definition) x
-    found_same None = refl
-    found_same (Some x) = defined_same f o x.definition
+    pub globals_same : globals_of starts left ≡ globals_of starts os
+    globals_same =
+        ap (flat_map (λ e. shown e.symbol.name (export_address starts e)))
+        (ap (filter (is_chosen left)) (exports_same starts is_shared 1 os) ∙ kept_same (exports_where is_shared os))
+        ∙ flat_join (λ e. shown e.symbol.name (export_address starts e)) moved (chosen_exports os) (λ e. ap (shown e.symbol.name) (address_same e))
 
-  names_same : (file : ℕ) (us : List Object) → global_names (shrunk_objects starts file us) ≡ global_names us
-  names_same file [] = refl
-  names_same file (o ∷ us) =
-      ap (λ l. map (λ s. s.name) l ++ global_names (shrunk_objects starts (suc file) us)) (exported_same (starts file) o)
-      ∙ ap (λ l. l ++ global_names (shrunk_objects starts (suc file) us)) (named_same (starts file) o (exported o))
-      ∙ ap (λ l. map (λ s. s.name) (exported o) ++ l) (names_same (suc file) us)
+  -- ---- the entry
 
-  globals_same : (file : ℕ) (us : List Object) → globals_of starts file (shrunk_objects starts file us) ≡ globals_of starts file us
-  globals_same file [] = refl
-  globals_same file (o ∷ us) =
-      let f = starts file in
-      ap (λ l. flat_map (λ s. shown s.name (defined_address f (shrunk_object f o) s.definition)) l ++ globals_of starts (suc file) (shrunk_objects starts (suc file) us)) (exported_same f o)
-      ∙ ap (λ l. l ++ globals_of starts (suc file) (shrunk_objects starts (suc file) us)) (shown_same f o (exported o))
-      ∙ ap (λ l. flat_map (λ s. shown s.name (defined_address f o s.definition)) (exported o) ++ l) (globals_same (suc file) us)
+  abbrev Begins : Export → Type 0
+  Begins e = BeginsSame (starts e.file) e.object e.symbol
 
-  entry_same : (file : ℕ) (us : List Object) → AllBegin starts file us → entry_of starts file (shrunk_objects starts file us) ≡ entry_of starts file us
-  entry_same file [] h = refl
-  entry_same file (o ∷ us) (h, hs) =
-      let f = starts file in
-      let D = λ (s : Symbol). defined_address f (shrunk_object f o) s.definition in
-      let rest = entry_of starts (suc file) (shrunk_objects starts (suc file) us) in
-      ap (λ l. entry_by (option_and_then D (find (begins_run (shrunk_object f o)) l)) rest) (exported_same f o)
-      ∙ ap (λ x. entry_by (option_and_then D x) rest) (begin_same f o (exported o) h)
-      ∙ ap (λ a. entry_by a rest) (found_same f o (find (begins_run o) (exported o)))
-      ∙ ap (entry_by (option_and_then (λ s. defined_address f o s.definition) (find (begins_run o) (exported o)))) (entry_same (suc file) us hs)
+  shared_too : (b : Binding) (defined : Bool) → is_shared b ≡ true → defined ≡ true → (is_shared b && defined) ≡ true
+  shared_too b defined s d = ap (λ c. c && defined) s ∙ d
+
+  begin_in : (test : Binding → Bool) → ((b : Binding) → test b ≡ true → is_shared b ≡ true) → (file : ℕ) (o : Object) (index : ℕ) (xs : List Symbol)
+      → AllByRecursion (BeginsSame (starts file) o) (filter is_exported xs) → AllByRecursion Begins (exports_in test file o index xs)
+  begin_in test shares file o index [] h = tt
+  begin_in test shares file o index (x ∷ xs) h =
+      go (is_export test x) refl (is_exported x) refl h (begin_in test shares file o (suc index) xs)
+    where
+      own : Export
+      own = record { file = file; object = o; index = index; symbol = x }
+
+      go : (b : Bool) → is_export test x ≡ b → (c : Bool) → is_exported x ≡ c
+          → AllByRecursion (BeginsSame (starts file) o) (if c then x ∷ filter is_exported xs else filter is_exported xs)
+          → (AllByRecursion (BeginsSame (starts file) o) (filter is_exported xs) → AllByRecursion Begins (exports_in test file o (suc index) xs))
+          → AllByRecursion Begins (if b then own ∷ exports_in test file o (suc index) xs else exports_in test file o (suc index) xs)
+      go true e true f (k, ks) ih = (k, ih ks)
+      go true e false f ks ih =
+          let both = and_parts (test x.binding) (is_defined x.definition) e in
+          let g : true ≡ false = sym (shared_too x.binding (is_defined x.definition) (shares x.binding both.0) both.1) ∙ f in absurd (cc)
+      go false e true f (k, ks) ih = ih ks
+      go false e false f ks ih = ih ks
+
+  begin_from : (test : Binding → Bool) → ((b : Binding) → test b ≡ true → is_shared b ≡ true) → (file : ℕ) (us : List Object) → AllBegin starts file us
+      → AllByRecursion Begins (exports_from test file us)
+  begin_from test shares file [] h = tt
+  begin_from test shares file (o ∷ us) (h, hs) =
+      join Begins (exports_in test file o 0 o.symbols) (exports_from test (suc file) us) (begin_in test shares file o 0 o.symbols h) (begin_from test shares (suc file) us hs)
+
+  global_shared : (b : Binding) → is_global b ≡ true → is_shared b ≡ true
+  global_shared bindings.Local e = e
+  global_shared bindings.Global e = e
+  global_shared bindings.Weak e = refl
+
+  weak_shared : (b : Binding) → is_weak b ≡ true → is_shared b ≡ true
+  weak_shared bindings.Local e = e
+  weak_shared bindings.Global e = refl
+  weak_shared bindings.Weak e = e
+
+  entry_same : (os : List Object) → AllBegin starts 1 os → entry_of starts (shrunk_objects starts 1 os) ≡ entry_of starts os
+  entry_same os h = ap (option_and_then (run_start starts)) (chosen_same starts os (codes "_start")) ∙ go (chosen os (codes "_start")) begins
+    where
+      begins : (e : Export) → chosen os (codes "_start") ≡ Some e → Begins e
+      begins e found =
+          all_found Begins (λ e. bytes_eq e.symbol.name (codes "_start")) (candidates os)
+          (join Begins (exports_where is_global os) (exports_where is_weak os) (begin_from is_global global_shared 1 os h) (begin_from is_weak weak_shared 1 os h)) e found
+
+      go : (c : Option Export) → ((e : Export) → c ≡ Some e → Begins e) → option_and_then (run_start starts) (option_map moved c) ≡ option_and_then (run_start starts) c
+      go None k = refl
+      go (Some e) k = ap (λ b. if b then export_address starts (moved e) else None) (k e refl) ∙ ap (λ a. if begins_run e then a else None) (address_same e)
 
   -- ---- rows
 
@@ -237,7 +293,7 @@ module _ (starts : Starts) where
 
   -- ---- bytes
 
-  module _ (os : List Object) (g : List Global) where
+  module _ (os : List Object) (g : Outer) (blind : IsBlind g) where
     abbrev IsInput : InputSection → Type 0
     IsInput i = (1 ≤ i.file) × (object_at os i.file ≡ i.object)
 
@@ -260,14 +316,14 @@ module _ (starts : Starts) where
     contents_same stop [] k h = refl
     contents_same stop (i ∷ is) ((least, here), ks) (h, hs) =
         let start = start_of starts i in
-        ap (λ l. zeros (start - stop) ++ (l ++ contents (linked_bytes g starts (shrunk_objects starts 1 os)) starts (start + size starts (mv i)) (map mv is))) (linked_same starts os g i least here h.initial)
+        ap (λ l. zeros (start - stop) ++ (l ++ contents (linked_bytes g starts (shrunk_objects starts 1 os)) starts (start + size starts (mv i)) (map mv is))) (linked_same starts os g blind i least here h.initial)
         ∙ ap (λ n. zeros (start - stop) ++ (linked_bytes g starts os i ++ contents (linked_bytes g starts (shrunk_objects starts 1 os)) starts (start + n) (map mv is))) (size_same i h)
         ∙ ap (λ l. zeros (start - stop) ++ (linked_bytes g starts os i ++ l)) (contents_same (start + size starts i) is ks hs)
 
     relocated_same : (is : List InputSection) → AllByRecursion IsInput is → AllByRecursion (λ i. AllByRecursion (IsRelocated g starts os i) i.section.relocations) is
         → AllByRecursion (λ i. AllByRecursion (IsRelocated g starts (shrunk_objects starts 1 os) i) i.section.relocations) (map mv is)
     relocated_same [] k h = tt
-    relocated_same (i ∷ is) ((least, here), ks) (h, hs) = (relocated_all starts os g i least here i.section.relocations h, relocated_same is ks hs)
+    relocated_same (i ∷ is) ((least, here), ks) (h, hs) = (relocated_all starts os g blind i least here i.section.relocations h, relocated_same is ks hs)
 
 -- ---- where they go
 
@@ -295,8 +351,19 @@ module _ (os : List Object) (text_start : ℕ) (l : Linked) (link : IsLinkOf os 
     abbrev us : List Object
     us = shrunk_objects st 1 os
 
-    abbrev ok : (goes : Section → Bool) → AllByRecursion (IsInput st os l.map.globals) (inputs goes os)
-    ok goes = are_inputs st os l.map.globals goes 1 os (omega arith) (all_at os)
+    -- what symbols mean that their own objects don't surely define
+    abbrev outer : Outer
+    outer = outer_of os l
+
+    outer_same : outer ≡ outer_of us l
+    outer_same = λ i s.
+        option_or (global_address l.map.globals s.name) (if is_weak s.binding && not (sym (some_same st os s.name) i) then Some 0 else None)
+
+    blind : IsBlind outer
+    blind f o x = refl
+
+    abbrev ok : (goes : Section → Bool) → AllByRecursion (IsInput st os outer blind) (inputs goes os)
+    ok goes = are_inputs st os outer blind goes 1 os (omega arith) (all_at os)
 
     text_is : inputs goes_to_text us ≡ map (shrunk_input st) (inputs goes_to_text os)
     text_is = inputs_same st goes_to_text (λ start s. refl) 1 os
@@ -318,12 +385,13 @@ module _ (os : List Object) (text_start : ℕ) (l : Linked) (link : IsLinkOf os 
     held_in goes region place is h = subst (λ xs. Holds st region place xs) (sym is) (holds_same st region place (inputs goes os) (tidy goes) h)
 
     filled_in : (goes : Section → Bool) (stop : ℕ) → inputs goes us ≡ map (shrunk_input st) (inputs goes os)
-        → contents (linked_bytes l.map.globals st os) st stop (inputs goes os) ≡ contents (linked_bytes l.map.globals st us) st stop (inputs goes us)
+        → contents (linked_bytes outer st os) st stop (inputs goes os) ≡ contents (linked_bytes (outer_of us l) st us) st stop (inputs goes us)
     filled_in goes stop is =
-        sym (contents_same st os l.map.globals stop (inputs goes os) (ok goes) (tidy goes)) ∙ ap (contents (linked_bytes l.map.globals st us) st stop) (sym is)
+        sym (contents_same st os outer blind stop (inputs goes os) (ok goes) (tidy goes)) ∙ ap (contents (linked_bytes outer st us) st stop) (sym is)
+        ∙ ap (λ g. contents (linked_bytes g st us) st stop (inputs goes us)) outer_same
 
     linker_same : shown_linker_symbols os l.map ≡ shown_linker_symbols us l.map
-    linker_same = ap (λ names. filter (λ (g : Global). not (is_one_of names g.name)) (linker_symbols l.map)) (sym (names_same st 1 os))
+    linker_same = λ i. filter (λ (g : Global). not (sym (some_same st os g.name) i)) (linker_symbols l.map)
 
     pub shrunk_link : IsLinkOf us text_start l
     shrunk_link = record {
@@ -341,14 +409,15 @@ module _ (os : List Object) (text_start : ℕ) (l : Linked) (link : IsLinkOf os 
       below = link.below;
       memory = link.memory;
       room = subst (λ xs. AllByRecursion (λ i. IsTrue (list_all has_room (moves (start_of st i) i.section))) xs) (sym text_is) (room_same st (inputs goes_to_text os));
-      once = subst AreDistinct (sym (names_same st 1 os)) link.once;
-      globals = link.globals ∙ ap (λ xs. xs ++ shown_linker_symbols os l.map) (sym (globals_same st 1 os)) ∙ ap (λ xs. globals_of st 1 us ++ xs) linker_same;
-      entry = entry_same st 1 os begins ∙ link.entry;
+      once = subst AreDistinct (sym (names_same st os)) link.once;
+      globals = link.globals ∙ ap (λ xs. xs ++ shown_linker_symbols os l.map) (sym (globals_same st os)) ∙ ap (λ xs. globals_of st us ++ xs) linker_same;
+      entry = entry_same st os begins ∙ link.entry;
       even = link.even;
       rows = link.rows ∙ sym (rows_same st 1 os);
       readable = link.readable;
-      relocated = subst (λ xs. AllByRecursion (λ i. AllByRecursion (IsRelocated l.map.globals st us i) i.section.relocations) xs) (sym loaded_is)
-          (relocated_same st os l.map.globals (inputs is_loaded os) (ok is_loaded) link.relocated);
+      relocated = subst (λ g. AllByRecursion (λ i. AllByRecursion (IsRelocated g st us i) i.section.relocations) (inputs is_loaded us)) outer_same
+          (subst (λ xs. AllByRecursion (λ i. AllByRecursion (IsRelocated outer st us i) i.section.relocations) xs) (sym loaded_is)
+          (relocated_same st os outer blind (inputs is_loaded os) (ok is_loaded) link.relocated));
       text_bytes = link.text_bytes ∙ filled_in goes_to_text l.map.text.start text_is;
       rodata_bytes = link.rodata_bytes ∙ filled_in goes_to_rodata l.map.rodata.start rodata_is;
       data_bytes = link.data_bytes ∙ filled_in goes_to_data l.map.data.start data_is;

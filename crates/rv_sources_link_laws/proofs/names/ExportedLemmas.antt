@@ -1,32 +1,34 @@
--- The global definitions of an object are those that its source exports.
+-- The definitions of an object for other files are those that its source exports.
 
 use Rattle.std.proofs.Common.{◌≡◌, ℕ, Bool, true, false, List, [], ◌∷◌, ◌++◌, refl, ap, ◌∙◌, map, Option, Some, None}
 use Rattle.std.proofs.lemmas.List.{append-nil}
+use Rattle.std.proofs.lemmas.List.Elements.{filter-append}
 use Rattle.std.specs.Prelude.{◌&&◌, not, if◌then◌else◌, filter, flat_map}
 use Rattle.std.specs.List.{list_any}
 use Rattle.rv_text_laws.specs.Values.{Meaning, Known, InSection as InData, Open as OpenAddress, Refused}
 use Rattle.rv_statement.specs.Statement.{StatementKind, Label, Numbered, Instruction, Directs, Statement, Enters, Sets}
-use Rattle.rv_unit_laws.specs.Bindings.{is_global}
+use Rattle.rv_statement.specs.declared.directive.Binding.{Binding as SourceBinding}
+use Rattle.rv_statement.specs.declared.directive.Binding.TheVariants.{Local, Global, Weak}
+use Rattle.rv_unit_laws.specs.Bindings.{is_shared}
 use Rattle.rv_unit_laws.specs.Tables.{Tables, Assignment, tables, assigned_ever}
-use Rattle.rv_source_laws.specs.Resolves.{defined_name, global_names_of}
+use Rattle.rv_source_laws.specs.Exports.{names_where}
 use Rattle.rv_object.specs.declared.symbol.Definition.{Definition as Defined}
 use Rattle.rv_object.specs.declared.symbol.Definition.TheVariants.{Undefined, InSection}
 use Rattle.rv_object.specs.Object.{Symbol, Object}
-use Rattle.rv_object_laws.specs.Names.{is_exported, exported, is_defined}
+use Rattle.rv_object_laws.specs.Names as objects
+use Rattle.rv_object_laws.specs.Names.{is_defined, is_export}
 use Rattle.rv_assemble_laws.specs.Sites.{Site}
-use Rattle.rv_assemble_laws.specs.Symbols.{site_at, after_found, assigned_definition, site_definition, local_symbol, global_symbol, references, unnamed_symbols, named_symbols, local_symbols, exports_of, exports, undefined_symbols, distinct_from, missing_name, is_absolute, is_meant, are_together}
+use Rattle.rv_assemble_laws.specs.Symbols.{site_at, after_found, assigned_definition, site_definition, local_symbol, outer_binding, shared_symbol, references, unnamed_symbols, named_symbols, local_symbols, exports_of, exports, undefined_symbols, distinct_from, missing_name, is_absolute, is_meant, are_together}
 use Rattle.rv_assemble_laws.specs.IsObjectOf.{IsObjectOf}
 
-filter_join : (xs ys : List Symbol) → filter is_exported (xs ++ ys) ≡ filter is_exported xs ++ filter is_exported ys
-filter_join [] ys = refl
-filter_join (x ∷ xs) ys = go (is_exported x) (filter_join xs ys)
-  where
-    go : (b : Bool) → filter is_exported (xs ++ ys) ≡ filter is_exported xs ++ filter is_exported ys
-        → (if b then x ∷ filter is_exported (xs ++ ys) else filter is_exported (xs ++ ys)) ≡ (if b then x ∷ filter is_exported xs else filter is_exported xs) ++ filter is_exported ys
-    go true ih = ap (λ (l : List Symbol). x ∷ l) ih
-    go false ih = ih
+abbrev pub is_exported : Symbol → Bool
+is_exported s = is_export objects.is_shared s
 
--- ---- which symbols are global
+-- the symbols that an object defines for other files
+abbrev pub exported : Object → List Symbol
+exported o = filter is_exported o.symbols
+
+-- ---- which symbols are exported
 
 none_local : (d : List ℕ → Defined) (test : Symbol → Bool) (names : List (List ℕ)) → filter is_exported (filter test (map (λ name. local_symbol name (d name)) names)) ≡ []
 none_local d test [] = refl
@@ -38,7 +40,7 @@ none_local d test (name ∷ names) = go (test (local_symbol name (d name))) (non
     go false ih = ih
 
 none_of : (xs ys : List Symbol) → filter is_exported xs ≡ [] → filter is_exported ys ≡ [] → filter is_exported (xs ++ ys) ≡ []
-none_of xs ys e f = filter_join xs ys ∙ ap (λ l. l ++ filter is_exported ys) e ∙ f
+none_of xs ys e f = filter-append is_exported xs ys ∙ ap (λ l. l ++ filter is_exported ys) e ∙ f
 
 none_unnamed : (b : Bool) (section offset : ℕ) → filter is_exported (if b then local_symbol [] (InSection section offset) ∷ [] else []) ≡ []
 none_unnamed true section offset = refl
@@ -50,18 +52,32 @@ locals_none t sites before (s ∷ rest) =
     none_of (unnamed_symbols t (references t sites) before s) (named_symbols t sites s ++ local_symbols t sites (before ++ s ∷ []) rest)
     (none_unnamed (is_meant t (references t sites) s && not (list_any (λ q. are_together s q && is_meant t (references t sites) q) before)) s.located.section s.offset)
     (none_of (named_symbols t sites s) (local_symbols t sites (before ++ s ∷ []) rest)
-    (none_local (λ name. site_definition t sites s s.located.kind) (λ x. not (is_absolute x)) (filter (λ name. not (is_global (t.bindings name))) (defined_name t s.located.ordinal s.located.kind)))
+    (none_local (λ name. site_definition t sites s s.located.kind) (λ x. not (is_absolute x)) (names_where (λ b. not (is_shared b)) t s.located))
     (locals_none t sites (before ++ s ∷ []) rest))
 
-undefined_none : (names : List (List ℕ)) → filter is_exported (map (λ name. global_symbol name Undefined) names) ≡ []
-undefined_none [] = refl
-undefined_none (name ∷ names) = undefined_none names
+-- what has no definition is no other file's
+never : (b : Bool) → (b && false) ≡ false
+never true = refl
+never false = refl
 
-all_kept : (d : Defined) → is_defined d ≡ true → (names : List (List ℕ)) → filter is_exported (map (λ name. global_symbol name d) names) ≡ map (λ name. global_symbol name d) names
-all_kept d e [] = refl
-all_kept d e (name ∷ names) =
-    ap (λ b. if b then global_symbol name d ∷ filter is_exported (map (λ name. global_symbol name d) names) else filter is_exported (map (λ name. global_symbol name d) names)) e
-    ∙ ap (λ (l : List Symbol). global_symbol name d ∷ l) (all_kept d e names)
+undefined_none : (t : Tables) (names : List (List ℕ)) → filter is_exported (map (λ name. shared_symbol t name Undefined) names) ≡ []
+undefined_none t [] = refl
+undefined_none t (name ∷ names) =
+    let others = filter is_exported (map (λ name. shared_symbol t name Undefined) names) in
+    ap (λ b. if b then shared_symbol t name Undefined ∷ others else others) (never (objects.is_shared (outer_binding (t.bindings name)))) ∙ undefined_none t names
+
+outer_shared : (b : SourceBinding) → objects.is_shared (outer_binding b) ≡ true
+outer_shared Local = refl
+outer_shared Global = refl
+outer_shared Weak = refl
+
+all_kept : (t : Tables) (d : Defined) → is_defined d ≡ true → (names : List (List ℕ)) → filter is_exported (map (λ name. shared_symbol t name d) names) ≡ map (λ name. shared_symbol t name d) names
+all_kept t d e [] = refl
+all_kept t d e (name ∷ names) =
+    let others = filter is_exported (map (λ name. shared_symbol t name d) names) in
+    ap (λ b. if b && is_defined d then shared_symbol t name d ∷ others else others) (outer_shared (t.bindings name))
+    ∙ ap (λ b. if b then shared_symbol t name d ∷ others else others) e
+    ∙ ap (λ (l : List Symbol). shared_symbol t name d ∷ l) (all_kept t d e names)
 
 found_defined : (o : Option Site) (plus : ℕ) → is_defined (after_found o plus) ≡ true
 found_defined None plus = refl
@@ -77,7 +93,7 @@ assigned_defined sites (Some a) = go a.meaning
     go OpenAddress = refl
     go (Refused code) = refl
 
-site_defined : (t : Tables) (sites : List Site) (s : Site) (kind : StatementKind) → is_defined (site_definition t sites s kind) ≡ true
+pub site_defined : (t : Tables) (sites : List Site) (s : Site) (kind : StatementKind) → is_defined (site_definition t sites s kind) ≡ true
 site_defined t sites s (Directs (Sets name e)) = assigned_defined sites (assigned_ever t.assignments name)
 site_defined t sites s (Directs (Enters section)) = refl
 site_defined t sites s (Directs _) = refl
@@ -88,9 +104,9 @@ site_defined t sites s (Instruction mnemonic operands) = refl
 exports_kept : (t : Tables) (sites rest : List Site) → filter is_exported (flat_map (exports_of t sites) rest) ≡ flat_map (exports_of t sites) rest
 exports_kept t sites [] = refl
 exports_kept t sites (s ∷ rest) =
-    filter_join (exports_of t sites s) (flat_map (exports_of t sites) rest)
+    filter-append is_exported (exports_of t sites s) (flat_map (exports_of t sites) rest)
     ∙ ap (λ l. l ++ filter is_exported (flat_map (exports_of t sites) rest))
-    (all_kept (site_definition t sites s s.located.kind) (site_defined t sites s s.located.kind) (global_names_of t s.located))
+    (all_kept t (site_definition t sites s s.located.kind) (site_defined t sites s s.located.kind) (names_where is_shared t s.located))
     ∙ ap (λ l. exports_of t sites s ++ l) (exports_kept t sites rest)
 
 pub exported_are : (ss : List Statement) (o : Object) (is : IsObjectOf ss o) → exported o ≡ exports (tables ss) is.sites
@@ -98,9 +114,9 @@ exported_are ss o is =
     let t = tables ss in
     let own = exports t is.sites in
     ap (filter is_exported) is.symbols
-    ∙ filter_join (local_symbols t is.sites [] is.sites) (own ++ undefined_symbols t is.sites)
+    ∙ filter-append is_exported (local_symbols t is.sites [] is.sites) (own ++ undefined_symbols t is.sites)
     ∙ ap (λ l. l ++ filter is_exported (own ++ undefined_symbols t is.sites)) (locals_none t is.sites [] is.sites)
-    ∙ filter_join own (undefined_symbols t is.sites)
+    ∙ filter-append is_exported own (undefined_symbols t is.sites)
     ∙ ap (λ l. l ++ filter is_exported (undefined_symbols t is.sites)) (exports_kept t is.sites is.sites)
-    ∙ ap (λ l. own ++ l) (undefined_none (distinct_from [] (flat_map (λ r. missing_name t r.ordinal r.symbol) (references t is.sites))))
+    ∙ ap (λ l. own ++ l) (undefined_none t (distinct_from [] (flat_map (λ r. missing_name t r.ordinal r.symbol) (references t is.sites))))
     ∙ append-nil own

@@ -1,55 +1,66 @@
 -- The map of the objects' program resolves the names of the sources.
 
-use Rattle.std.proofs.Common.{◌≡◌, ℕ, List, [], ◌∷◌, ◌++◌, sym, ap, ◌∙◌, subst, Some}
-use Rattle.std.specs.Prelude.{not, filter, flat_map}
-use Rattle.std.specs.List.{AllByRecursion, find}
-use Rattle.rv_map.specs.Globals.{is_one_of, AreDistinct, linker_symbols}
-use Rattle.rv_statement.specs.Statement.{Statement}
+use Rattle.std.proofs.Common.{◌≡◌, ℕ, Bool, List, ◌++◌, sym, ap, ◌∙◌, subst, Some}
+use Rattle.std.specs.Prelude.{not, filter, codes, option_and_then}
+use Rattle.std.specs.List.{AllByRecursion}
+use Rattle.rv_map.specs.Globals.{AreDistinct, shown, linker_symbols}
 use Rattle.rv_map.specs.Limits.{IsRow}
-use Rattle.rv_source_laws.specs.Program.{Program, program, tables_in}
-use Rattle.rv_source_laws.specs.Resolves as source
-use Rattle.rv_source_laws.specs.Resolves.{Resolves}
+use Rattle.rv_statement.specs.Statement.{Statement}
+use Rattle.rv_source_laws.specs.Program as source
+use Rattle.rv_source_laws.specs.Program.{Program, program}
+use Rattle.rv_source_laws.specs.Resolves.{Resolves, definitions, shown_symbols, export_address, run_start}
 use Rattle.rv_image.specs.Linked.{Linked}
 use Rattle.rv_object.specs.Object.{Object}
 use Rattle.rv_object_laws.specs.Names as objects
 use Rattle.rv_object_laws.specs.IsLinkOf.{IsLinkOf}
 use Rattle.rv_sources_link_laws.proofs.sections.FilesLemmas.{files, rows_ours, statements_ours}
-use Rattle.rv_sources_link_laws.proofs.names.NamesLemmas.{names_are, nth_all}
-use Rattle.rv_sources_link_laws.proofs.names.GlobalsLemmas.{globals_are}
-use Rattle.rv_sources_link_laws.proofs.names.EntryLemmas.{entry_is}
+use Rattle.rv_sources_link_laws.proofs.names.PairLemmas.{AreMade, AreChosenAlike, AreGiven}
+use Rattle.rv_sources_link_laws.proofs.names.PairedLemmas.{same_flat}
+use Rattle.rv_sources_link_laws.proofs.names.AlikeLemmas.{chosen_alike, any_given}
+use Rattle.rv_sources_link_laws.proofs.names.MadeLemmas.{PairsOf, all_made}
+use Rattle.rv_sources_link_laws.proofs.names.GlobalsLemmas.{AddressAlike, addresses_alike}
+use Rattle.rv_sources_link_laws.proofs.names.EntryLemmas.{StartsAlike, starts_alike, entry_alike}
 use Rattle.rv_sources_link_laws.proofs.moves.ShrunkLemmas.{AreObjectsOf}
-
-distinct_same : (names : List (List ℕ)) → AreDistinct names → AreDistinct names
-distinct_same [] h = tt
-distinct_same (name ∷ names) (h, hs) = (h, distinct_same names hs)
 
 module _ (sources : List (List Statement)) (os : List Object) (text_start : ℕ) (l : Linked) (h : AreObjectsOf sources os) (link : IsLinkOf os text_start l) where
   abbrev p : Program
   p = program sources l.map
 
-  names : source.global_names sources l.map ≡ objects.global_names os
-  names =
-      ap (flat_map (λ e. source.global_names_of (tables_in p e.located.file) e.located)) (statements_ours sources os l.map link.starts h link.rows)
-      ∙ names_are sources l.map link.starts 1 sources os h (files sources os l.map link.starts h link.rows)
+  alike : (R : source.Export → objects.Export → Type 0) → PairsOf R p link.starts → AreChosenAlike R p os
+  alike R pairs =
+      chosen_alike R p os
+      (subst (λ es. AreMade R p 1 os es) (sym (statements_ours sources os l.map link.starts h link.rows))
+      (all_made R p link.starts pairs 1 sources os h (files sources os l.map link.starts h link.rows)
+      (subst (λ rs. AllByRecursion IsRow rs) (rows_ours sources os l.map link.starts h link.rows) link.readable.rows)))
 
-  definitions : objects.globals_of link.starts 1 os ≡ source.definitions sources l.map
-  definitions =
-      globals_are p link.starts 1 sources os h (files sources os l.map link.starts h link.rows)
-      (subst (λ rs. AllByRecursion IsRow rs) (rows_ours sources os l.map link.starts h link.rows) link.readable.rows)
-      ∙ ap (flat_map (source.defined_by p)) (sym (statements_ours sources os l.map link.starts h link.rows))
+  addresses : AreChosenAlike (AddressAlike p link.starts) p os
+  addresses = alike (AddressAlike p link.starts) (λ file ss o is f low. addresses_alike p link.starts file ss o is f low)
 
-  entry : source.starts_at (find (λ e. source.begins_run sources e.located) p.statements) ≡ Some l.map.entry
+  entries : AreChosenAlike (StartsAlike link.starts) p os
+  entries = alike (StartsAlike link.starts) (λ file ss o is f low. starts_alike p link.starts file ss o is f low)
+
+  pub given : AreGiven p os
+  given = any_given (AddressAlike p link.starts) p os addresses
+
+  both_shown : (x : source.Export) (e : objects.Export) → AddressAlike p link.starts x e → shown x.name (export_address p x) ≡ shown e.symbol.name (objects.export_address link.starts e)
+  both_shown x e (name, address) = ap (λ n. shown n (export_address p x)) name ∙ ap (shown e.symbol.name) address
+
+  definitions_same : objects.globals_of link.starts os ≡ definitions sources l.map
+  definitions_same = sym (same_flat (AddressAlike p link.starts) (λ x. shown x.name (export_address p x)) (λ e. shown e.symbol.name (objects.export_address link.starts e))
+      both_shown (source.chosen_exports p) (objects.chosen_exports os) addresses.shown)
+
+  linkers_same : objects.shown_linker_symbols os l.map ≡ shown_symbols sources l.map
+  linkers_same = ap (λ (f : List ℕ → Bool). filter (λ g. not (f g.name)) (linker_symbols l.map)) (λ i name. sym (given name) i)
+
+  entry : option_and_then run_start (source.chosen p (codes "_start")) ≡ Some l.map.entry
   entry =
-      ap (λ es. source.starts_at (find (λ e. source.begins_run sources e.located) es)) (statements_ours sources os l.map link.starts h link.rows)
-      ∙ entry_is sources p link.starts 1 sources os h (files sources os l.map link.starts h link.rows) (nth_all sources)
-      (subst (λ rs. AllByRecursion IsRow rs) (rows_ours sources os l.map link.starts h link.rows) link.readable.rows)
+      entry_alike link.starts (source.chosen p (codes "_start")) (objects.chosen os (codes "_start")) (entries.chosen (codes "_start"))
       ∙ link.entry
 
   pub resolves : Resolves sources l.map
   resolves = record {
-    globals = link.globals ∙ ap (λ g. g ++ objects.shown_linker_symbols os l.map) definitions
-        ∙ ap (λ ns. source.definitions sources l.map ++ filter (λ g. not (is_one_of ns g.name)) (linker_symbols l.map)) (sym names);
-    once = subst AreDistinct (sym names) (distinct_same (objects.global_names os) link.once);
+    globals = link.globals ∙ ap (λ g. g ++ objects.shown_linker_symbols os l.map) definitions_same ∙ ap (λ g. definitions sources l.map ++ g) linkers_same;
+    once = subst AreDistinct (sym addresses.globals) link.once;
     entry = entry;
     even = link.even;
   }

@@ -3,14 +3,14 @@
 use Rattle.std.proofs.Common.{◌≡◌, ℕ, ◌%◌, ◌<◌, true, false, List, [], ◌∷◌, refl, sym, ap, ◌∙◌, subst, map, Option, Some, None}
 use Rattle.std.proofs.lemmas.Bool.{and_parts}
 use Rattle.std.specs.Prelude.{ℤ, ◌==◌, flat_map, is_some, option_and_then}
-use Rattle.std.specs.List.{AllByRecursion, list_all, slice_get}
+use Rattle.std.specs.List.{AllByRecursion, slice_get}
 use Rattle.rv_text_laws.specs.Expression.{Primary}
 use Rattle.rv_statement.specs.Statement.{StatementKind, Label, Numbered, Instruction, Directs, Expression, Values}
 use Rattle.rv_unit_laws.specs.Sections.{Section as SourceSection}
 use Rattle.rv_unit_laws.specs.Tables.{Tables}
 use Rattle.rv_map.specs.Limits.{IsGlobal}
 use Rattle.rv_source_laws.specs.Located.{has_row}
-use Rattle.rv_source_laws.specs.Program.{Mapped, Program, tables_in, address_at, has_values, value as value_at, expressions}
+use Rattle.rv_source_laws.specs.Program.{Mapped, Program, tables_in, address_at, has_values_by, has_values}
 use Rattle.rv_source_laws.specs.Fits.{SizeFits}
 use Rattle.rv_source_laws.specs.Start.{spelled}
 use Rattle.rv_source_laws.proofs.HeldLemmas.{IsHeld}
@@ -27,6 +27,7 @@ use Rattle.rv_assemble_laws.specs.Symbols.{site_at}
 use Rattle.rv_assemble_laws.specs.IsObjectOf.{Numbering, relocations_from}
 use Rattle.rv_sources_link_laws.proofs.fields.PatchesLemmas.{written, written_from, HasRoom, all_made, makes}
 use Rattle.rv_sources_link_laws.proofs.statements.StatementsLemmas.{row_in, mapped_at, row_address}
+use Rattle.rv_sources_link_laws.proofs.names.KnownLemmas.{outer_in}
 use Rattle.rv_sources_link_laws.proofs.statements.SettledLemmas.{IsSettled, IsSiteIn, sites_are_in}
 use Rattle.rv_sources_link_laws.proofs.statements.FieldedLemmas.{roomy}
 use Rattle.rv_sources_link_laws.proofs.fields.WholesLemmas.{IsWhole}
@@ -58,7 +59,7 @@ module _ (p : Program) (os : List Object) (starts : Starts) (file : ℕ) (sites 
 
   module _ (index : ℕ) (section : SourceSection) (x : Section) (is : IsSectionOf t sites number o.symbols index section (sites_in index sites) x)
       (at : slice_get sections index ≡ Some section) (there : slice_get o.sections index ≡ Some x) (none : alignments_of x ≡ []) (loaded : section.loaded ≡ true)
-      (relocated : AllByRecursion (IsRelocated p.map.globals starts os (record { file = file; object = o; index = index; section = x })) x.relocations) where
+      (relocated : AllByRecursion (IsRelocated (outer_in p os) starts os (record { file = file; object = o; index = index; section = x })) x.relocations) where
     abbrev own : List Site
     own = sites_in index sites
 
@@ -86,14 +87,14 @@ module _ (p : Program) (os : List Object) (starts : Starts) (file : ℕ) (sites 
     all_roomy (z ∷ zs) (h, hs) (sz, szs) = join (λ q. HasRoom q.template) (parts_of t z) (parts t zs) (roomy_of z h sz) (all_roomy zs hs szs)
 
     abbrev own_worth : ℕ → Open → ℤ
-    own_worth = worth_at p.map.globals starts os file o index x none number
+    own_worth = worth_at (outer_in p os) starts os file o index x none number
 
     worth_same : own_worth ≡ all_worths file index
     worth_same = sym (λ i offset f. whole.worth index x there offset f i)
 
     -- the bytes of the section
     pub bytes_linked : initial_bytes x.contents ≡ flat_map part_bytes ps
-        → linked_bytes p.map.globals starts os (record { file = file; object = o; index = index; section = x }) ≡ written_from (written (meant_in p file) (all_worths file index)) 0 ps
+        → linked_bytes (outer_in p os) starts os (record { file = file; object = o; index = index; section = x }) ≡ written_from (written (meant_in p file) (all_worths file index)) 0 ps
     bytes_linked holds =
         let i : InputSection = record { file = file; object = o; index = index; section = x } in
         let kept_all : kept 0 (moves (starts file index) x) (initial_bytes x.contents) ≡ initial_bytes x.contents = ap (λ rs. kept 0 (plan (starts file index) 0 rs) (initial_bytes x.contents)) none in
@@ -174,7 +175,7 @@ module _ (p : Program) (os : List Object) (starts : Starts) (file : ℕ) (sites 
         values width es k =
             let v = form t z.located in
             let ordinal = z.located.ordinal in
-            ap (λ kind. list_all (λ e. is_some (value_at p (mapped_at starts file z) e)) (expressions kind)) k
+            ap (has_values_by p (mapped_at starts file z)) k
             ∙ all_valued (meant_in p file) ordinal width v es
             (subst (λ kind. AllByRecursion (λ q. IsTemplate q.template) (map (part_of ordinal) (templates t z kind))) k template)
             (has_parts (map (part_of ordinal) (templates t z (Directs (Values width es))))

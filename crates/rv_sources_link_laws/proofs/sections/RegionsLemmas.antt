@@ -29,7 +29,7 @@ use Rattle.rv_sources_link_laws.proofs.statements.OrderedLemmas.{filled}
 use Rattle.rv_sources_link_laws.proofs.fields.PatchesLemmas.{written, written_from}
 use Rattle.rv_sources_link_laws.proofs.statements.StatementsLemmas.{mapped_at, mapped_from, row_address}
 use Rattle.rv_sources_link_laws.proofs.statements.SettledLemmas.{IsSettled, IsSiteIn, sites_are_in, follows, sized, bytes_are}
-use Rattle.rv_sources_link_laws.proofs.names.KnownLemmas.{still}
+use Rattle.rv_sources_link_laws.proofs.names.KnownLemmas.{still, outer_in}
 use Rattle.rv_sources_link_laws.proofs.fields.WholesLemmas.{IsWhole}
 use Rattle.rv_sources_link_laws.proofs.sections.SectionsLemmas.{meant_in, said, multiple_from}
 use Rattle.rv_sources_link_laws.proofs.statements.CodeOfLemmas.{IsCodeOf}
@@ -44,7 +44,7 @@ module _ (p : Program) (all : List Object) (starts : Starts) (spells : Mapped �
     pub alignment : begins_at i.section ≡ b.alignment
     pub follow : source.Follow (start_of starts i) (source.rows_of b)
     pub count : size starts i ≡ source.size (source.rows_of b)
-    pub bytes : (stop : ℕ) → start_of starts i ≡ aligned (begins_at i.section) stop → stores ≡ true → linked_bytes p.map.globals starts all i ≡ flat_map spells b.mapped
+    pub bytes : (stop : ℕ) → start_of starts i ≡ aligned (begins_at i.section) stop → stores ≡ true → linked_bytes (outer_in p all) starts all i ≡ flat_map spells b.mapped
     pub each : (stop : ℕ) → start_of starts i ≡ aligned (begins_at i.section) stop → AllByRecursion P b.mapped
 
   abbrev pub AreGood : List InputSection → List source.InputSection → Type 0
@@ -57,7 +57,7 @@ module _ (p : Program) (all : List Object) (starts : Starts) (spells : Mapped �
     pub stand : source.Stand stop bs
     pub end : end_of starts stop is ≡ source.end_of stop bs
     pub gaps : gaps_of starts stop is ≡ source.gaps_of stop bs
-    pub bytes : stores ≡ true → contents (linked_bytes p.map.globals starts all) starts stop is ≡ source_contents spells stop bs
+    pub bytes : stores ≡ true → contents (linked_bytes (outer_in p all) starts all) starts stop is ≡ source_contents spells stop bs
     pub each : AllIn P bs
 
   pub region : (stop : ℕ) (is : List InputSection) (bs : List source.InputSection) → AreGood is bs → Stand starts stop is → IsRegion stop is bs
@@ -78,9 +78,9 @@ module _ (p : Program) (all : List Object) (starts : Starts) (spells : Mapped �
             ∙ ap (λ n. if nat_lt stop there then record { start = stop; end = there } ∷ gaps_of starts n is else gaps_of starts n is) (ap (λ n. there + n) h.count)
             ∙ ap (λ (l : List Region). if nat_lt stop there then record { start = stop; end = there } ∷ l else l) rest.gaps;
         bytes = λ e.
-            ap (λ n. zeros (n - stop) ++ (linked_bytes p.map.globals starts all i ++ contents (linked_bytes p.map.globals starts all) starts (start + size starts i) is)) here
-            ∙ ap (λ l. zeros (there - stop) ++ (l ++ contents (linked_bytes p.map.globals starts all) starts (start + size starts i) is)) (h.bytes stop at e)
-            ∙ ap (λ n. zeros (there - stop) ++ (flat_map spells b.mapped ++ contents (linked_bytes p.map.globals starts all) starts n is)) next
+            ap (λ n. zeros (n - stop) ++ (linked_bytes (outer_in p all) starts all i ++ contents (linked_bytes (outer_in p all) starts all) starts (start + size starts i) is)) here
+            ∙ ap (λ l. zeros (there - stop) ++ (l ++ contents (linked_bytes (outer_in p all) starts all) starts (start + size starts i) is)) (h.bytes stop at e)
+            ∙ ap (λ n. zeros (there - stop) ++ (flat_map spells b.mapped ++ contents (linked_bytes (outer_in p all) starts all) starts n is)) next
             ∙ ap (λ l. zeros (there - stop) ++ (flat_map spells b.mapped ++ l)) (rest.bytes e);
         each = (h.each stop at, rest.each);
       }
@@ -136,7 +136,7 @@ module _ (p : Program) (all : List Object) (starts : Starts) (spells : Mapped �
       t = tables_in p file
 
       abbrev Q : InputSection → Type 0
-      Q i = AllByRecursion (IsRelocated p.map.globals starts all i) i.section.relocations
+      Q i = AllByRecursion (IsRelocated (outer_in p all) starts all i) i.section.relocations
 
       good_one : (index : ℕ) (s : SourceSection) (x : Section) → IsSectionOf t sites number o.symbols index s (sites_in index sites) x → slice_get sections index ≡ Some s → slice_get o.sections index ≡ Some x → alignments_of x ≡ []
           → goes_source s ≡ true → Q (record { file = file; object = o; index = index; section = x })

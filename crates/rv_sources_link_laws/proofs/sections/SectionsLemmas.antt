@@ -13,7 +13,7 @@ use Rattle.rv_text_laws.specs.Expression.{Primary}
 use Rattle.rv_text_laws.specs.Values.{Value, Constant, Symbolic, Difference, Faulty, add, subtract}
 use Rattle.rv_statement.specs.Statement.{StatementKind, Label, Numbered, Instruction, Directs, Expression, Enters, Opens, Binds, Sets, Aligns_to_power, Aligns_to_bytes, Values, Strings, Zeros, Chooses, Ignored}
 use Rattle.rv_pseudo_laws.specs.Code.{Part as CodePart, code as code_parts}
-use Rattle.rv_unit_laws.specs.Tables.{Tables, alignment_of, definition, string_bytes}
+use Rattle.rv_unit_laws.specs.Tables.{Tables, alignment_of, sure_definition, string_bytes}
 use Rattle.rv_map.specs.declared.map.Row.{Row as MapRow}
 use Rattle.rv_source_laws.specs.Program.{Mapped, Program, tables_in, address_by, resolved, number as number_of}
 use Rattle.rv_source_laws.specs.Start.{spelled_said}
@@ -190,7 +190,7 @@ suits_by s file multiple start row v valued (Directs Ignored) b i at m values pl
 module _ (p : Program) (file : ℕ) where
   -- the address of what a statement of the file means by a name
   abbrev pub meant_in : ℕ → Primary → Option ℕ
-  meant_in ordinal q = address_by p.statements p.map.globals file q (definition (tables_in p file) ordinal q)
+  meant_in ordinal q = address_by p file q (sure_definition (tables_in p file) ordinal q)
 
   -- what a site of the file writes, where the fields of a section take these at an offset
   abbrev pub said : (ℕ → ℕ → Open → ℤ) → Site → List ℕ

@@ -6,16 +6,16 @@ use Rattle.std.specs.Prelude.{⊤, not, ◌&&◌, ◌||◌, ◌==◌, nat_lt, if
 use Rattle.std.specs.List.{AllByRecursion, list_any}
 use Rattle.rv_text_laws.specs.Values.{Meaning, Known, InSection as InData, Open as OpenAddress, Refused}
 use Rattle.rv_statement.specs.Statement.{StatementKind, Label, Numbered, Instruction, Directs, Statement, Enters, Sets}
-use Rattle.rv_unit_laws.specs.Bindings.{is_global}
+use Rattle.rv_unit_laws.specs.Bindings.{is_shared}
 use Rattle.rv_unit_laws.specs.Sections.{goes_to_text as source_text}
 use Rattle.rv_unit_laws.specs.Tables.{Tables, Assignment, tables, assigned_ever}
-use Rattle.rv_source_laws.specs.Resolves.{defined_name, global_names_of}
+use Rattle.rv_source_laws.specs.Exports.{names_where}
 use Rattle.rv_object.specs.declared.symbol.Definition.{Definition as Defined}
 use Rattle.rv_object.specs.declared.symbol.Definition.TheVariants.{Undefined, Absolute, InSection, Skipped}
 use Rattle.rv_object.specs.Object.{Symbol, Object}
 use Rattle.rv_object_laws.specs.CallSites.{is_inside, is_entered}
 use Rattle.rv_assemble_laws.specs.Sites.{Site, sites_in}
-use Rattle.rv_assemble_laws.specs.Symbols.{site_at, after_found, assigned_definition, site_definition, local_symbol, global_symbol, references, unnamed_symbols, named_symbols, local_symbols, exports_of, exports, undefined_symbols, is_absolute, is_meant, are_together, distinct_from, missing_name}
+use Rattle.rv_assemble_laws.specs.Symbols.{site_at, after_found, assigned_definition, site_definition, local_symbol, shared_symbol, references, unnamed_symbols, named_symbols, local_symbols, exports_of, exports, undefined_symbols, is_absolute, is_meant, are_together, distinct_from, missing_name}
 use Rattle.rv_assemble_laws.specs.IsObjectOf.{IsInData, StandsInData, IsObjectOf}
 use Rattle.rv_sources_link_laws.proofs.fields.AimsLemmas.{IsFirst}
 use Rattle.rv_sources_link_laws.proofs.names.KnownLemmas.{all_found}
@@ -80,9 +80,9 @@ module _ (t : Tables) (S : List Site) (places : AllByRecursion (StandsInData S) 
       go true ih = (h, ih)
       go false ih = ih
 
-  globals_stood : (d : Defined) → IsStood S d → (names : List (List ℕ)) → AllByRecursion Stood (map (λ name. global_symbol name d) names)
-  globals_stood d h [] = tt
-  globals_stood d h (name ∷ names) = (h, globals_stood d h names)
+  shared_stood : (d : Defined) → IsStood S d → (names : List (List ℕ)) → AllByRecursion Stood (map (λ name. shared_symbol t name d) names)
+  shared_stood d h [] = tt
+  shared_stood d h (name ∷ names) = (h, shared_stood d h names)
 
   unnamed_stood : (b : Bool) (z : Site) → IsFirst S z → AllByRecursion Stood (if b then local_symbol [] (InSection z.located.section z.offset) ∷ [] else [])
   unnamed_stood true z u = (here_stood z u, tt)
@@ -94,13 +94,13 @@ module _ (t : Tables) (S : List Site) (places : AllByRecursion (StandsInData S) 
       join Stood (unnamed_symbols t (references t S) before z) (named_symbols t S z ++ local_symbols t S (before ++ z ∷ []) rest)
       (unnamed_stood (is_meant t (references t S) z && not (list_any (λ q. are_together z q && is_meant t (references t S) q) before)) z u)
       (join Stood (named_symbols t S z) (local_symbols t S (before ++ z ∷ []) rest)
-      (locals_stood (site_definition t S z z.located.kind) (site_stood z z.located.kind u) (λ x. not (is_absolute x)) (filter (λ name. not (is_global (t.bindings name))) (defined_name t z.located.ordinal z.located.kind)))
+      (locals_stood (site_definition t S z z.located.kind) (site_stood z z.located.kind u) (λ x. not (is_absolute x)) (names_where (λ b. not (is_shared b)) t z.located))
       (all_locals (before ++ z ∷ []) rest us))
 
   all_exports : (rest : List Site) → AllByRecursion (IsFirst S) rest → AllByRecursion Stood (flat_map (exports_of t S) rest)
   all_exports [] u = tt
   all_exports (z ∷ rest) (u, us) =
-      join Stood (exports_of t S z) (flat_map (exports_of t S) rest) (globals_stood (site_definition t S z z.located.kind) (site_stood z z.located.kind u) (global_names_of t z.located)) (all_exports rest us)
+      join Stood (exports_of t S z) (flat_map (exports_of t S) rest) (shared_stood (site_definition t S z z.located.kind) (site_stood z z.located.kind u) (names_where is_shared t z.located)) (all_exports rest us)
 
 pub stood : (ss : List Statement) (o : Object) (is : IsObjectOf ss o) → AllByRecursion (λ x. IsStood is.sites x.definition) o.symbols
 stood ss o is =
@@ -109,7 +109,7 @@ stood ss o is =
     (join (λ (x : Symbol). IsStood is.sites x.definition) (local_symbols t is.sites [] is.sites) (exports t is.sites ++ undefined_symbols t is.sites)
     (all_locals t is.sites is.places [] is.sites (firsts ss o is))
     (join (λ (x : Symbol). IsStood is.sites x.definition) (exports t is.sites) (undefined_symbols t is.sites) (all_exports t is.sites is.places is.sites (firsts ss o is))
-    (globals_stood t is.sites is.places Undefined tt (distinct_from [] (flat_map (λ r. missing_name t r.ordinal r.symbol) (references t is.sites))))))
+    (shared_stood t is.sites is.places Undefined tt (distinct_from [] (flat_map (λ r. missing_name t r.ordinal r.symbol) (references t is.sites))))))
 
 -- ---- none stands inside a call
 

@@ -214,8 +214,8 @@ module _ (p : Program) (file ordinal section offset line : ℕ) (options : Optio
       encoded = lines_encoded v fields value before row.address compressed ps coded h.coded_as k.filled_parts;
     }
 
-  valued_alone : (e : Expression) (says : StatementKind) → expressions says ≡ e ∷ [] → is_constant (f e) ≡ true → has_values p (at says) ≡ true
-  valued_alone e says is constant =
+  valued_alone : (e : Expression) (d : Directive) → expressions (Directs d) ≡ e ∷ [] → is_constant (f e) ≡ true → has_values p (at (Directs d)) ≡ true
+  valued_alone e d is constant =
       ap (λ es. list_all (λ e. is_some (resolved a (f e))) es) is ∙ and_from (is_some (resolved a (f e))) true (constant_some a (f e) constant) refl
 
   -- the row of a padding
@@ -234,11 +234,11 @@ module _ (p : Program) (file ordinal section offset line : ℕ) (options : Optio
   directive_fits (Zeros count) (none, is) =
       let constant : is_constant (f count) ≡ true = ap is_constant is in
       let n : number p (at (Directs (Zeros count))) count ≡ row.bytes = ap (λ v. unwrap_or (resolved a v) 0) is in
-      (is_true _ (valued_alone count (Directs (Zeros count)) refl constant), sym n ∙ sym (length-replicate {A = ℕ} (number p (at (Directs (Zeros count))) count) 0), none)
+      (is_true _ (valued_alone count (Zeros count) refl constant), sym n ∙ sym (length-replicate {A = ℕ} (number p (at (Directs (Zeros count))) count) 0), none)
   directive_fits (Aligns_to_power e) (constant, place, multiple, h) =
-      alignment_fits (Aligns_to_power e) (valued_alone e (Directs (Aligns_to_power e)) refl constant) refl place multiple home.executable h
+      alignment_fits (Aligns_to_power e) (valued_alone e (Aligns_to_power e) refl constant) refl place multiple home.executable h
   directive_fits (Aligns_to_bytes e) (constant, place, multiple, h) =
-      alignment_fits (Aligns_to_bytes e) (valued_alone e (Directs (Aligns_to_bytes e)) refl constant) refl place multiple home.executable h
+      alignment_fits (Aligns_to_bytes e) (valued_alone e (Aligns_to_bytes e) refl constant) refl place multiple home.executable h
   directive_fits (Sets name e) (bytes, none) = no_row row bytes none
   directive_fits _ h = absurd h
 
@@ -271,9 +271,9 @@ module _ (p : Program) (file ordinal section offset line : ℕ) (options : Optio
   directive_written (Strings ended strings) h held yes' = true_false home.executable yes' held.0
   directive_written (Zeros count) h held yes' = true_false home.executable yes' held
   directive_written (Aligns_to_power e) (constant, place, multiple, h) held yes' =
-      alignment_written (Aligns_to_power e) (valued_alone e (Directs (Aligns_to_power e)) refl constant) refl home.executable yes' h
+      alignment_written (Aligns_to_power e) (valued_alone e (Aligns_to_power e) refl constant) refl home.executable yes' h
   directive_written (Aligns_to_bytes e) (constant, place, multiple, h) held yes' =
-      alignment_written (Aligns_to_bytes e) (valued_alone e (Directs (Aligns_to_bytes e)) refl constant) refl home.executable yes' h
+      alignment_written (Aligns_to_bytes e) (valued_alone e (Aligns_to_bytes e) refl constant) refl home.executable yes' h
   directive_written (Sets name e) (bytes, none) held yes' = nothing_written p (at (Directs (Sets name e))) refl refl bytes
   directive_written _ h held yes' = absurd h
 

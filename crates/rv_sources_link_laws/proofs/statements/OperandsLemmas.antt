@@ -18,8 +18,8 @@ use Rattle.rv_source_laws.proofs.HeldLemmas.{none_left, no_test}
 use Rattle.rv_object.specs.Object.{Section, Object}
 use Rattle.rv_object_laws.specs.Moves.{alignments_of, moves, new_offset}
 use Rattle.rv_object_laws.specs.Inputs.{Starts}
+use Rattle.rv_object_laws.specs.Names.{Outer}
 use Rattle.rv_object_laws.specs.Values.{target, value, is_low, is_high, own_value, paired}
-use Rattle.rv_map.specs.Map.{Global}
 use Rattle.rv_assemble_laws.specs.InstructionFaults.{target_faults, upper_faults, low_faults, is_labelled, distance_faults, operand_faults}
 use Rattle.rv_assemble_laws.specs.Templates.{Open, open_at}
 use Rattle.rv_assemble_laws.specs.IsObjectOf.{Numbering, relocation_at}
@@ -83,12 +83,12 @@ low_same k e = absurd (cc)
 
 -- ---- the value of a field that counts from its own place
 
-module _ (globals : List Global) (starts : Starts) (os : List Object) (file : ℕ) (o : Object) (index : ℕ) (x : Section) (none : alignments_of x ≡ []) (number : Numbering) where
+module _ (outer : Outer) (starts : Starts) (os : List Object) (file : ℕ) (o : Object) (index : ℕ) (x : Section) (none : alignments_of x ≡ []) (number : Numbering) where
   abbrev pub worth_at : ℕ → Open → ℤ
-  worth_at n f = unwrap_or (value globals starts os (record { file = file; object = o; index = index; section = x }) (relocation_at number n f)) (pos 0)
+  worth_at n f = unwrap_or (value outer starts os (record { file = file; object = o; index = index; section = x }) (relocation_at number n f)) (pos 0)
 
-  pub own_is : (k : Kind) (ordinal : ℕ) (q : Primary) (plus n at : ℕ) → unwrap_or (target globals (starts file) o (Some (number ordinal q))) 0 ≡ at
-      → own_value globals (starts file) o (starts file index) x (relocation_at number n (open_at k ordinal (Some q) plus)) ≡ value_of k at (int_wrap w64 (pos plus)) (starts file index + n)
+  pub own_is : (k : Kind) (ordinal : ℕ) (q : Primary) (plus n at : ℕ) → unwrap_or (target outer (starts file) o (Some (number ordinal q))) 0 ≡ at
+      → own_value outer (starts file) o (starts file index) x (relocation_at number n (open_at k ordinal (Some q) plus)) ≡ value_of k at (int_wrap w64 (pos plus)) (starts file index + n)
   own_is k ordinal q plus n at is =
       ap (λ s. value_of k s (int_wrap w64 (pos plus)) (starts file index + moved_by n)) is
       ∙ ap (λ m. value_of k at (int_wrap w64 (pos plus)) (starts file index + m)) (still x none (starts file index) n)
@@ -96,10 +96,10 @@ module _ (globals : List Global) (starts : Starts) (os : List Object) (file : �
       moved_by : ℕ → ℕ
       moved_by m = new_offset (moves (starts file index) x) m
 
-  pub worth_is : (k : Kind) → is_low k ≡ false → (ordinal : ℕ) (q : Primary) (plus n at : ℕ) → unwrap_or (target globals (starts file) o (Some (number ordinal q))) 0 ≡ at
+  pub worth_is : (k : Kind) → is_low k ≡ false → (ordinal : ℕ) (q : Primary) (plus n at : ℕ) → unwrap_or (target outer (starts file) o (Some (number ordinal q))) 0 ≡ at
       → worth_at n (open_at k ordinal (Some q) plus) ≡ value_of k at (int_wrap w64 (pos plus)) (starts file index + n)
   worth_is k plain ordinal q plus n at is =
-      ap (λ b. unwrap_or (if b then paired globals starts os file o (Some (number ordinal q)) else Some (own_value globals (starts file) o (starts file index) x (relocation_at number n (open_at k ordinal (Some q) plus)))) (pos 0)) plain
+      ap (λ b. unwrap_or (if b then paired outer starts os file o (Some (number ordinal q)) else Some (own_value outer (starts file) o (starts file index) x (relocation_at number n (open_at k ordinal (Some q) plus)))) (pos 0)) plain
       ∙ own_is k ordinal q plus n at is
 
 -- ---- values without faults
