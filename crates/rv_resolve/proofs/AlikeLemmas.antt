@@ -3,18 +3,18 @@
 use Rattle.std.proofs.Common.{◌≡◌, List, map, subst, sym, ap, ◌∙◌}
 use Rattle.rv_map.specs.Globals.{AreDistinct}
 use Rattle.rv_object.specs.Object.{Object}
-use Rattle.rv_object_laws.specs.Names.{global_names}
+use Rattle.rv_object_laws.specs.Names.{is_global, global_names}
 use Rattle.rv_resolve.specs.declared.names.Names.{Names}
-use Rattle.rv_resolve.specs.Chosen.{seen_of, definers_from, names_in}
+use Rattle.rv_resolve.specs.Chosen.{seen_of, definers_from, definers_of, names_in}
 use Rattle.rv_resolve.specs.Names.{Answers, outside, IsNames}
-use Rattle.rv_resolve.proofs.LoadingLemmas.{names_of_files}
+use Rattle.rv_resolve.proofs.ChosenLemmas.{global_names_are}
 
 pub same_names : (os left : List Object) → seen_of left ≡ seen_of os → global_names left ≡ global_names os
-same_names os left same = sym (names_of_files 0 left) ∙ ap (λ q. names_in (definers_from 0 q)) same ∙ names_of_files 0 os
+same_names os left same = sym (global_names_are left) ∙ ap (λ q. names_in (definers_from is_global 0 q)) same ∙ global_names_are os
 
 pub still_names : (os left : List Object) (names : Names) → seen_of left ≡ seen_of os → IsNames os names → IsNames left names
 still_names os left names same h = record {
-  answers = subst (λ q. Answers (definers_from 0 q) names.definitions) (sym same) h.answers;
+  answers = subst (λ q. Answers (definers_of q) names.definitions) (sym same) h.answers;
   distinct = subst AreDistinct (sym (same_names os left same)) h.distinct;
-  meanings = h.meanings ∙ ap (λ q. map (map (outside (definers_from 0 q))) q) (sym same);
+  meanings = h.meanings ∙ ap (λ q. map (map (outside (definers_of q))) q) (sym same);
 }

@@ -1,8 +1,8 @@
 -- What names mean of an object of which calls are cut short.
 
 use Rattle.std.proofs.Common.{◌≡◌, ◌<◌, ◌≤◌, ℕ, Option, Some, None, option_map, List, [], ◌∷◌, length, map, slice_get, get_or, refl, sym, ap, ◌∙◌}
-use Rattle.std.specs.Prelude.{◌&&◌, if◌then◌else◌}
 use Rattle.std.specs.Option.{option_or}
+use Rattle.std.proofs.lemmas.List.{length-map}
 use Rattle.std.proofs.lemmas.Option.{slice_get-map, slice_get_past, slice_get_read}
 use Rattle.rv_object.specs.declared.symbol.Definition.{Definition}
 use Rattle.rv_object.specs.declared.symbol.Definition.TheVariants as definitions
@@ -10,13 +10,12 @@ use Rattle.rv_object.specs.declared.symbol.Symbol.{Symbol as DeclaredSymbol}
 use Rattle.rv_object.specs.Object.{Relocation, Symbol, Object}
 use Rattle.rv_object.specs.Parts.{symbol_of}
 use Rattle.rv_object_laws.specs.Moves.{Move}
-use Rattle.rv_object_laws.specs.Names.{is_defined, is_exported, is_global}
+use Rattle.rv_object_laws.specs.Names.{is_defined}
 use Rattle.rv_shorten.specs.declared.object.ShortObject.{ShortObject}
 use Rattle.rv_shorten.specs.Cutting.{cut_definition, cut_relocation, cut_symbol}
 use Rattle.rv_shorten.specs.View.{moves_of, short_object_of}
-use Rattle.rv_resolve.specs.Exports.{export_of}
 use Rattle.rv_resolve.specs.Moved.{moved_in, symbols_of}
-use Rattle.rv_resolve.specs.Undefined.{first_some, has_address, is_known, is_resolved}
+use Rattle.rv_resolve.specs.Undefined.{first_some, has_address}
 
 -- ---- the symbols that it has
 
@@ -26,6 +25,9 @@ map_twice f g (x ∷ xs) = ap (λ l. f (g x) ∷ l) (map_twice f g xs)
 
 pub symbols_are : (o : ShortObject) → symbols_of o ≡ (short_object_of o).symbols
 symbols_are o = map_twice (cut_symbol (moves_of o)) symbol_of o.whole.now.symbols.items
+
+pub many_symbols : (o : ShortObject) → length (short_object_of o).symbols ≡ length o.whole.now.symbols.items
+many_symbols o = ap length (sym (symbols_are o)) ∙ length-map o.whole.now.symbols.items (moved_in o)
 
 -- by its symbols as the code looks at them
 module _ (o : ShortObject) (xs : List DeclaredSymbol) (index : ℕ) (same : xs ≡ o.whole.now.symbols.items) where
@@ -39,30 +41,31 @@ module _ (o : ShortObject) (xs : List DeclaredSymbol) (index : ℕ) (same : xs �
   pub symbol_past : length xs ≤ index → slice_get (short_object_of o).symbols index ≡ None
   symbol_past past = looked_up ∙ ap (option_map (moved_in o)) (slice_get_past xs index past)
 
--- ---- whether its symbols are its own does not depend on the cuts
+  pub symbol_is : (x : DeclaredSymbol) (s : Symbol) → index < length xs → x ≡ get_or xs index x → slice_get (short_object_of o).symbols index ≡ Some s → moved_in o x ≡ s
+  symbol_is x s inside is at =
+      let same : Some (moved_in o x) ≡ Some s = sym (symbol_there x inside is) ∙ at in
+      cc
 
-defined_cut : (cuts : List (List Move)) (d : Definition) → is_defined (cut_definition cuts d) ≡ is_defined d
+pub object_is : (xs : List ShortObject) (file : ℕ) (x : ShortObject) (o : Object) → file < length xs → x ≡ get_or xs file x → slice_get (map short_object_of xs) file ≡ Some o → short_object_of x ≡ o
+object_is xs file x o inside is at =
+    let same : Some (short_object_of x) ≡ Some o = sym (slice_get-map short_object_of xs file ∙ ap (option_map short_object_of) (slice_get_read xs (length xs) file x refl inside is)) ∙ at in
+    cc
+
+-- ---- whether its symbols are definitions does not depend on the cuts
+
+pub defined_cut : (cuts : List (List Move)) (d : Definition) → is_defined (cut_definition cuts d) ≡ is_defined d
 defined_cut cuts definitions.Undefined = refl
 defined_cut cuts (definitions.Absolute n) = refl
 defined_cut cuts (definitions.InSection section offset) = refl
 defined_cut cuts (definitions.Skipped n) = refl
 
-pub exported_cut : (cuts : List (List Move)) (s : Symbol) → is_exported (cut_symbol cuts s) ≡ is_exported s
-exported_cut cuts s = ap (λ b. is_global s.binding && b) (defined_cut cuts s.definition)
-
 -- ---- nor does whether they have addresses
 
--- a symbol of its own
-pub own_resolved : (os : List Object) (o : Object) (cuts : List (List Move)) (name : List ℕ) (d : Definition) → (d ≡ definitions.Undefined → ⊥)
-    → has_address o d ≡ (if is_defined (cut_definition cuts d) then has_address o (cut_definition cuts d) else is_known name (export_of os name))
-own_resolved os o cuts name definitions.Undefined own = absurd (own refl)
-own_resolved os o cuts name (definitions.Absolute n) own = refl
-own_resolved os o cuts name (definitions.InSection section offset) own = refl
-own_resolved os o cuts name (definitions.Skipped n) own = refl
-
--- and another's
-pub known_resolved : (os : List Object) (o : Object) (s : Symbol) → s.definition ≡ definitions.Undefined → is_known s.name (export_of os s.name) ≡ is_resolved os o s
-known_resolved os o s free = sym (ap (λ d. if is_defined d then has_address o d else is_known s.name (export_of os s.name)) free)
+pub address_cut : (o : Object) (cuts : List (List Move)) (d : Definition) → has_address o (cut_definition cuts d) ≡ has_address o d
+address_cut o cuts definitions.Undefined = refl
+address_cut o cuts (definitions.Absolute n) = refl
+address_cut o cuts (definitions.InSection section offset) = refl
+address_cut o cuts (definitions.Skipped n) = refl
 
 -- ---- nor do the symbols of its relocations
 

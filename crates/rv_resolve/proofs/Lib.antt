@@ -1,11 +1,12 @@
 mod AddingLemmas
 pub mod AlikeLemmas
-mod ChosenLemmas
+pub mod ChosenLemmas
 mod CutsLemmas
 mod DistinctLemmas
 pub mod EntryLemmas
+mod ExportedLemmas
 pub mod FirstSomeLemmas
-pub mod FoundLemmas
+pub mod HeldLemmas
 mod KnownLemmas
 pub mod LinkerNamesLemmas
 mod LoadingLemmas

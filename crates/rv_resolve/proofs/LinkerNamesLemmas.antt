@@ -8,7 +8,7 @@ use Rattle.rv_map.specs.Globals.{global_address, is_one_of}
 use Rattle.rv_map.specs.Map.{Global}
 use Rattle.rv_resolve.proofs.TableLemmas.{same_bytes}
 
-same_tests : (a b : Bool) → (a ≡ true → b ≡ true) → (b ≡ true → a ≡ true) → a ≡ b
+pub same_tests : (a b : Bool) → (a ≡ true → b ≡ true) → (b ≡ true → a ≡ true) → a ≡ b
 same_tests true b f g = sym (f refl)
 same_tests false true f g = g refl
 same_tests false false f g = refl

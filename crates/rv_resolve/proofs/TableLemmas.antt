@@ -1,13 +1,15 @@
 -- One definition more in the table.
 
 use Rattle.std.proofs.Common.{◌≡◌, ℕ, Bool, true, false, cond, Option, Some, None, option_map, List, [], ◌∷◌, ◌++◌, map, is_some, refl, sym, ap, ◌∙◌, append_assoc}
-use Rattle.std.specs.Prelude.{◌||◌, if◌then◌else◌, bytes_eq}
+use Rattle.std.specs.Borrow.{Bor}
+use Rattle.std.specs.Prelude.{◌||◌, ◌&&◌, if◌then◌else◌, bytes_eq}
 use Rattle.std.specs.List.{find}
-use Rattle.std.specs.Option.{option_or}
+use Rattle.std.specs.Option.{option_or, option_copied}
 use Rattle.std.proofs.lemmas.List.{map-append}
 use Rattle.std.proofs.lemmas.List.Folds.{find-append}
 use Rattle.std.proofs.lemmas.Slice.Eq.{bytes_eq-Decides}
 use Rattle.rv_map.specs.Globals.{is_one_of}
+use Rattle.rv_object.specs.declared.symbol.Binding.{Binding}
 use Rattle.rv_resolve.specs.declared.definitions.Definitions.{Definitions}
 use Rattle.rv_resolve.specs.declared.definitions.Exported.{Exported}
 use Rattle.rv_resolve.specs.Chosen.{Seen, Definer, definers_at, names_in, first_named}
@@ -36,22 +38,40 @@ pub still_none : {X Y : Type 0} (f : X → Y) (found : Option X) → option_map 
 still_none f None e = refl
 still_none f (Some x) e = absurd (cc)
 
-module _ (file index : ℕ) (s : Seen) (ds : List Definer) where
+pub is_none : {X : Type 0} (f : Option X) → is_some f ≡ false → f ≡ None
+is_none None e = refl
+is_none (Some x) e = absurd (cc)
+
+pub copied_some : {X : Type 0} (f : Option (Bor X)) → is_some (option_copied f) ≡ is_some f
+copied_some None = refl
+copied_some (Some x) = refl
+
+module _ (test : Binding → Bool) (file index : ℕ) (s : Seen) (ds : List Definer) where
   abbrev it : Definer
   it = record { name = s.name; file = file; symbol = index }
 
   abbrev own : List Definer
-  own = definers_at file index s
+  own = definers_at test file index s
 
-  -- no definition for all files
-  pub none_more : s.exported ≡ false → ds ++ own ≡ ds
+  -- no definition of this binding
+  pub none_more : (test s.binding && s.defined) ≡ false → ds ++ own ≡ ds
   none_more e = ap (λ b. ds ++ (if b then it ∷ [] else [])) e ∙ nothing ds
     where
       nothing : (xs : List Definer) → xs ++ [] ≡ xs
       nothing [] = refl
       nothing (x ∷ xs) = ap (λ l. x ∷ l) (nothing xs)
 
-  module _ (exported : s.exported ≡ true) where
+  -- one whose name stands before changes none that is found
+  pub known_more : is_some (first_named ds s.name) ≡ true → (name : List ℕ) → first_named (ds ++ own) name ≡ first_named ds name
+  known_more known name = find-append (λ (d : Definer). bytes_eq d.name name) ds own ∙ by (first_named ds name) refl (test s.binding && s.defined) (bytes_eq s.name name) refl
+    where
+      by : (f : Option Definer) → first_named ds name ≡ f → (b c : Bool) → bytes_eq s.name name ≡ c → option_or f (first_named (if b then it ∷ [] else []) name) ≡ f
+      by (Some d) e b c same = refl
+      by None e false c same = refl
+      by None e true false same = ap (λ a. cond a (Some it) None) same
+      by None e true true same = absurd (let t : false ≡ true = sym (ap is_some (ap (first_named ds) (same_bytes s.name name same) ∙ e)) ∙ known in cc)
+
+  module _ (exported : (test s.binding && s.defined) ≡ true) where
     alone : own ≡ it ∷ []
     alone = ap (λ b. if b then it ∷ [] else []) exported
 

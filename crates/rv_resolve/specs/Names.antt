@@ -1,6 +1,6 @@
 -- The tables of the code: what they answer.
 
-use Rattle.std.specs.Prelude.{◌≡◌, ◌+◌, ◌++◌, ⊤, ℕ, List, [], map, Option, Some, None, option_map, option_and_then, if◌then◌else◌}
+use Rattle.std.specs.Prelude.{◌≡◌, ◌+◌, ◌-◌, ◌++◌, ◌==◌, ◌&&◌, Bool, false, ⊤, ℕ, List, [], map, Option, Some, None, option_map, option_and_then, if◌then◌else◌}
 use Rattle.std.specs.Borrow.{Bor}
 use Rattle.std.specs.BTreeMap.{get_by}
 use Rattle.std.specs.Cmp.Lexicographic.{slice_cmp}
@@ -9,7 +9,7 @@ use Rattle.std.specs.List.{slice_get}
 use Rattle.std.specs.Ordering.{nat_cmp}
 use Rattle.rv_map.specs.Globals.{AreDistinct}
 use Rattle.rv_object.specs.Object.{Symbol, Object}
-use Rattle.rv_object_laws.specs.Names.{global_names, is_defined, Place}
+use Rattle.rv_object_laws.specs.Names.{Export, chosen, global_names, is_sure, Place}
 use Rattle.rv_resolve.specs.declared.fault.ResolveFault.{ResolveFault}
 use Rattle.rv_resolve.specs.declared.fault.ResolveFault.TheVariants.{Duplicate, OutOfMemory}
 use Rattle.rv_resolve.specs.declared.definitions.Exported.{Exported}
@@ -18,11 +18,16 @@ use Rattle.rv_resolve.specs.declared.meanings.Meanings.{Meanings}
 use Rattle.rv_resolve.specs.declared.names.Meant.{Meant}
 use Rattle.rv_resolve.specs.declared.names.Names.{Names}
 use Rattle.rv_resolve.specs.Chosen.{Definer, Seen, seen_of, definitions, names_in, first_named}
-use Rattle.rv_resolve.specs.Exports.{Export, export_of, first_again}
+use Rattle.rv_resolve.specs.Exports.{first_again}
 
 -- what is kept of a symbol that defines a name for all files
 abbrev pub kept_of : Definer → Exported
 kept_of d = record { file = d.file; symbol = d.symbol }
+
+-- the symbol at an index of a file
+abbrev pub is_kept : (file index : ℕ) → Option Exported → Bool
+is_kept file index None = false
+is_kept file index (Some x) = (x.file == file) && (x.symbol == index)
 
 -- a name is answered with the first of these that has it
 abbrev pub Answers : List Definer → Definitions → Type 0
@@ -49,25 +54,25 @@ IsRefused fault ds =
 
 -- ---- what symbols mean
 
--- what a symbol means that its own object does not define: the first of its name
+-- what a symbol means that its own object does not surely define: the first of its name
 abbrev pub outside : List Definer → Seen → Option Exported
-outside ds s = if s.defined then None else option_map kept_of (first_named ds s.name)
+outside ds s = if s.sure then None else option_map kept_of (first_named ds s.name)
 
 -- a definition is the symbol at an index of a file
 pub record IsAt (os : List Object) (x : Exported) (e : Export) : Type 0 where
-  pub file : x.file ≡ e.file
+  pub file : x.file + 1 ≡ e.file
   pub object : slice_get os x.file ≡ Some e.object
   pub symbol : slice_get e.object.symbols x.symbol ≡ Some e.symbol
 
 abbrev pub meant_of : Export → Meant
-meant_of e = record { file = e.file; definition = e.symbol.definition }
+meant_of e = record { file = e.file - 1; definition = e.symbol.definition }
 
--- what a symbol of a file means: what its own object defines, else the definition of its name
+-- what a symbol of a file means: what its own object surely defines, else the definition of its name
 abbrev pub meant_by : List Object → ℕ → Symbol → Option Meant
 meant_by os file s =
-    if is_defined s.definition
+    if is_sure s
     then Some (record { file = file; definition = s.definition })
-    else option_map meant_of (export_of os s.name)
+    else option_map meant_of (chosen os s.name)
 
 -- what the table has for a symbol, by its file and its index there, both from 0
 abbrev pub meant_at : Meanings → ℕ → ℕ → Option Exported
@@ -76,13 +81,13 @@ meant_at m file index =
     (λ (row : Vec (Option Exported)). option_and_then (λ x. x) (slice_get row.items index))
     (slice_get m.files.items file)
 
--- it has what each symbol of each object means that the object does not define
+-- it has what each symbol of each object means that the object does not surely define
 abbrev pub AreMeanings : List Object → Meanings → Type 0
 AreMeanings os m =
     map (λ (row : Vec (Option Exported)). row.items) m.files.items
     ≡ map (map (outside (definitions os))) (seen_of os)
 
--- the names of objects, of which none has two definitions for all files
+-- the names of objects, of which none has two global definitions
 pub record IsNames (os : List Object) (names : Names) : Type 0 where
   pub answers : Answers (definitions os) names.definitions
   pub distinct : AreDistinct (global_names os)

@@ -3,22 +3,23 @@
 //! `Names` knows by file and symbol which definition a symbol means. So no name is compared here, but for the few that the
 //! linker gives: many references to one long name cost no more than those to a short one.
 
-ghost use Rattle.std.specs.Prelude.{◌≡◌, ◌+◌, ℕ, List, Some, map, option_map, option_and_then};
+ghost use Rattle.std.specs.Prelude.{◌≡◌, ◌+◌, ℕ, List, Some, None, map, option_map, option_and_then, if◌then◌else◌};
 ghost use Rattle.std.specs.List.{slice_get};
+ghost use Rattle.std.specs.Option.{option_or};
 ghost use Rattle.rv_map.specs.Globals.{global_address, linker_symbols};
 ghost use Rattle.rv_object.specs.Object.{Object as SaidObject, Symbol as SaidSymbol};
 ghost use Rattle.rv_object.specs.View.{object_of};
 ghost use Rattle.rv_object_laws.specs.Names as laws;
 ghost use Rattle.rv_placement.specs.Placement.{starts_of, IsPlacement};
 ghost use Rattle.rv_resolve.specs.Entry.{has_entry};
-ghost use Rattle.rv_resolve.specs.Exports.{Export};
 ghost use Rattle.rv_resolve.specs.Names.{IsAt, IsNames, place_of};
-ghost use Rattle.rv_resolve.specs.Shown.{shown_globals, regions_of};
+ghost use Rattle.rv_resolve.specs.Shown.{outer_in, regions_of};
 ghost use Rattle.rv_shorten.specs.View.{short_object_of};
 
 use crate::definitions::Exported;
 use crate::names::{Meant, Names, symbol_at};
-use rv_object::{Definition, Object};
+use crate::symbol::{is_sure, is_weak};
+use rv_object::{Binding, Definition, Object};
 use rv_placement::Placement;
 use rv_shorten::ShortObject;
 
@@ -36,19 +37,19 @@ impl<'o> Names<'o> {
             → IsPlacement (map short_object_of objects.now) start placement.now
             → slice_get (map short_object_of objects.now) file ≡ Some o
             → result ≡ option_and_then
-            (laws.symbol_address (shown_globals (map short_object_of objects.now) placement.now)
+            (laws.symbol_address (outer_in (map short_object_of objects.now) placement.now)
             (starts_of placement.now (file + 1)) o)
             (slice_get o.symbols index) }
     {
         let (symbol, definition) = symbol_at(objects, file, index as usize)?;
-        match self.meant(objects, file, index, definition) {
+        match self.meant(objects, file, index, symbol.binding, definition) {
             Some(meant) => defined_address(objects, placement, meant.file, meant.definition),
-            None => linker_address(placement, symbol.name),
+            None => undefined_address(placement, symbol.binding, symbol.name),
         }
     }
 
     /// Where the symbol at an index of a file stands, both from 0: a file, from 0, a section there, and an offset there
-    /// with the paddings whole. None where it is a number or the linker's, or there is no symbol.
+    /// with the paddings whole. None where it is a number, the linker's, or 0, or there is no symbol.
     pub fn place(
         &self,
         objects: &[ShortObject<'_, '_>],
@@ -61,38 +62,39 @@ impl<'o> Names<'o> {
             ≡ option_and_then (laws.symbol_place (map short_object_of objects.now) (file + 1))
             (slice_get o.symbols index) }
     {
-        let (_, definition) = symbol_at(objects, file, index as usize)?;
-        match self.meant(objects, file, index, definition) {
+        let (symbol, definition) = symbol_at(objects, file, index as usize)?;
+        match self.meant(objects, file, index, symbol.binding, definition) {
             Some(meant) => placed(meant),
             None => None,
         }
     }
 
-    /// Where the symbol at an index of a file stands, both from 0, by its own definition, in objects of which nothing is cut:
-    /// what [`Names::place`] gives.
+    /// Where the symbol at an index of a file stands, both from 0, by its own binding and definition, in objects of which
+    /// nothing is cut: what [`Names::place`] gives.
     pub fn place_of(
         &self,
         objects: &[Object<'_>],
         file: usize,
         index: u32,
+        binding: Binding,
         definition: Definition,
     ) -> Option<(usize, u32, u64)>
         ensures { (o : SaidObject) (s : SaidSymbol) → IsNames (map object_of objects.now) self.now
             → slice_get (map object_of objects.now) file ≡ Some o
-            → slice_get o.symbols index ≡ Some s → s.definition ≡ definition
+            → slice_get o.symbols index ≡ Some s → s.binding ≡ binding → s.definition ≡ definition
             → option_map place_of result
             ≡ laws.symbol_place (map object_of objects.now) (file + 1) s }
     {
-        match definition {
-            Definition::Undefined => match self.meanings.at(file, index) {
-                Some(exported) => place_at(objects, exported),
-                None => None,
-            },
-            _ => placed(Meant { file, definition }),
+        if is_sure(binding, definition) {
+            return placed(Meant { file, definition });
+        }
+        match self.meanings.at(file, index) {
+            Some(exported) => place_at(objects, exported),
+            None => None,
         }
     }
 
-    /// Whether a run can begin: the global `_start` stands at an even place of a section of text, wherever that stands.
+    /// Whether a run can begin: what `_start` means stands at an even place of a section of text, wherever that stands.
     pub fn has_entry(&self, objects: &[ShortObject<'_, '_>]) -> bool
         ensures { IsNames (map short_object_of objects.now) self.now
             → result ≡ has_entry (map short_object_of objects.now) }
@@ -103,11 +105,11 @@ impl<'o> Names<'o> {
         }
     }
 
-    /// Where a run begins: the address of the global `_start`, if that stands at an even place of a section of text.
+    /// Where a run begins: the address of what `_start` means, if that stands at an even place of a section of text.
     pub fn entry(&self, objects: &[ShortObject<'_, '_>], placement: &Placement) -> Option<u64>
         ensures { (start : ℕ) → IsNames (map short_object_of objects.now) self.now
             → IsPlacement (map short_object_of objects.now) start placement.now
-            → result ≡ laws.entry_of (starts_of placement.now) 1 (map short_object_of objects.now) }
+            → result ≡ laws.entry_of (starts_of placement.now) (map short_object_of objects.now) }
     {
         match self.start(objects) {
             Some(meant) => {
@@ -122,10 +124,10 @@ impl<'o> Names<'o> {
     }
 }
 
-/// Where a symbol that is a global definition stands, in objects of which nothing is cut.
+/// Where a definition for all files stands, in objects of which nothing is cut.
 fn place_at(objects: &[Object<'_>], exported: Exported) -> Option<(usize, u32, u64)>
-    ensures { (e : Export) → IsAt (map object_of objects.now) exported e
-        → option_map place_of result ≡ laws.place_in (e.file + 1) e.symbol.definition }
+    ensures { (e : laws.Export) → IsAt (map object_of objects.now) exported e
+        → option_map place_of result ≡ laws.place_in e.file e.symbol.definition }
 {
     let object = objects.get(exported.file)?;
     let symbol = object.symbols.get(exported.symbol)?;
@@ -189,6 +191,18 @@ fn goes_to_text(objects: &[ShortObject<'_, '_>], file: usize, section: u32) -> b
             None => false,
         },
         None => false,
+    }
+}
+
+/// The address of a name that no object defines: what the linker gives; where it gives none, 0 for a weak symbol.
+fn undefined_address(placement: &Placement, binding: Binding, name: &[u8]) -> Option<u64>
+    ensures { (os : List SaidObject) (start : ℕ) → IsPlacement os start placement.now
+        → result ≡ option_or (global_address (linker_symbols (regions_of placement.now)) name.now)
+        (if laws.is_weak binding then Some 0 else None) }
+{
+    match linker_address(placement, name) {
+        Some(address) => Some(address),
+        None => { if is_weak(binding) { Some(0) } else { None } }
     }
 }
 

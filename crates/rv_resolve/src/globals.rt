@@ -1,31 +1,34 @@
 //! The names that a map shows.
 
-ghost use Rattle.std.specs.Prelude.{◌≡◌, ◌++◌, ◌+◌, ℕ, IsTrue, List, [], ◌∷◌, Some, All, map, not, filter, IfOk, OnOk};
+ghost use Rattle.std.specs.Prelude.{◌≡◌, ◌++◌, ◌+◌, ◌<◌, ◌^◌, ℕ, IsTrue, List, [], ◌∷◌, Some, All, map, not, filter, is_some, option_map, IfOk, IfSome, OnOk};
 ghost use Rattle.std.specs.List.{slice_get};
-ghost use Rattle.rv_map.specs.Globals.{global, is_one_of};
+ghost use Rattle.rv_map.specs.Globals.{global};
 ghost use Rattle.rv_map.specs.Limits.{IsGlobal};
 ghost use Rattle.rv_map.specs.Map.{global_of};
 ghost use Rattle.rv_map.specs.Name.{is_name};
-ghost use Rattle.rv_object.specs.Object.{Object as SaidObject};
+ghost use Rattle.rv_object.specs.Object.{Object as SaidObject, Symbol as SaidSymbol};
+ghost use Rattle.rv_object.specs.Parts.{symbol_of};
+ghost use Rattle.rv_object_laws.specs.Moves.{Move};
 ghost use Rattle.rv_object_laws.specs.Names as laws;
-ghost use Rattle.rv_placement.specs.Placement.{starts_of, IsPlacement};
-ghost use Rattle.rv_resolve.specs.Moved.{moved_in, symbols_of};
-ghost use Rattle.rv_resolve.specs.Names.{IsNames};
-ghost use Rattle.rv_resolve.specs.Shown.{shown_globals, regions_of, shown_symbols};
+ghost use Rattle.rv_placement.specs.Placement.{IsPlacement};
+ghost use Rattle.rv_resolve.specs.Chosen.{definer};
+ghost use Rattle.rv_resolve.specs.Names.{IsNames, kept_of, is_kept};
+ghost use Rattle.rv_resolve.specs.Shown.{shown_globals, regions_of, shown_in, is_chosen_at, listed};
+ghost use Rattle.rv_shorten.specs.Cutting.{cut_symbol};
 ghost use Rattle.rv_shorten.specs.View.{short_object_of};
 
 use crate::addresses::{defined_address, global_pointer};
 use crate::names::Names;
-use crate::symbol::is_exported;
+use crate::symbol::is_defined;
 use rv_map::Global;
-use rv_object::Symbol;
+use rv_object::{Binding, Symbol};
 use rv_placement::Placement;
 use rv_shorten::ShortObject;
 use std::alloc::{AllocError, Global as Allocator};
 
 impl<'o> Names<'o> {
-    /// The names that a map shows: the global definitions with addresses, by file and symbol, then the linker's that nobody
-    /// defines.
+    /// The names that a map shows: the definitions that names mean, with addresses, by file and symbol, then the linker's that
+    /// nobody defines.
     pub fn globals(
         &self,
         alloc: Allocator,
@@ -40,7 +43,7 @@ impl<'o> Names<'o> {
     {
         let mut globals = Vec::new(alloc);
         for file in 0..objects.len() {
-            put_globals(
+            self.put_globals(
                 alloc,
                 &mut globals,
                 objects,
@@ -93,7 +96,7 @@ impl<'o> Names<'o> {
             → All (λ g. IsGlobal (global_of g)) globals.new.items) }
         ensures added { OnOk result ((os : List SaidObject) → IsNames os self.now
             → map global_of globals.new.items ≡ map global_of globals.old.items
-            ++ filter (λ g. not (is_one_of (laws.global_names os) g.name))
+            ++ filter (λ g. not (is_some (laws.chosen os g.name)))
             (global name.now address ∷ [])) }
     {
         if self.definitions.by_name.get(name).is_some() {
@@ -103,60 +106,115 @@ impl<'o> Names<'o> {
         globals.push(Global { name, address })?;
         Ok(())
     }
-}
 
-/// Adds the global definitions with addresses among the symbols of a file.
-fn put_globals(
-    alloc: Allocator,
-    globals: &mut Vec<Global>,
-    objects: &[ShortObject<'_, '_>],
-    placement: &Placement,
-    file: usize,
-    object: &ShortObject<'_, '_>,
-) -> Result<(), AllocError>
-    ensures known { OnOk result (All (λ g. IsGlobal (global_of g)) globals.old.items
-        → All (λ g. IsGlobal (global_of g)) globals.new.items) }
-    ensures added { OnOk result ((start : ℕ) (o : SaidObject)
-        → IsPlacement (map short_object_of objects.now) start placement.now
-        → slice_get (map short_object_of objects.now) file ≡ Some o
-        → map global_of globals.new.items ≡ map global_of globals.old.items
-        ++ shown_symbols (starts_of placement.now (file + 1)) o (symbols_of object.now)) }
-{
-    for symbol in &object.whole.symbols {
-        put_global(alloc, globals, objects, placement, file, object, symbol)?;
-    }
-    Ok(())
-}
-
-/// Adds a symbol of a file, if it is a global definition with an address.
-fn put_global(
-    alloc: Allocator,
-    globals: &mut Vec<Global>,
-    objects: &[ShortObject<'_, '_>],
-    placement: &Placement,
-    file: usize,
-    object: &ShortObject<'_, '_>,
-    symbol: &Symbol<'_>,
-) -> Result<(), AllocError>
-    ensures known { OnOk result (All (λ g. IsGlobal (global_of g)) globals.old.items
-        → All (λ g. IsGlobal (global_of g)) globals.new.items) }
-    ensures added { OnOk result ((start : ℕ) (o : SaidObject)
-        → IsPlacement (map short_object_of objects.now) start placement.now
-        → slice_get (map short_object_of objects.now) file ≡ Some o
-        → map global_of globals.new.items ≡ map global_of globals.old.items
-        ++ shown_symbols (starts_of placement.now (file + 1)) o
-        (moved_in object.now symbol.now ∷ [])) }
-{
-    if !is_exported(symbol) {
-        return Ok(());
-    }
-    let definition = object.definition(symbol.definition);
-    match defined_address(objects, placement, file, definition) {
-        Some(address) => {
-            let name = Vec::from_slice(alloc, symbol.name)?;
-            globals.push(Global { name, address })?;
-            Ok(())
+    /// Adds the definitions with addresses that names mean among the symbols of a file.
+    fn put_globals(
+        &self,
+        alloc: Allocator,
+        globals: &mut Vec<Global>,
+        objects: &[ShortObject<'_, '_>],
+        placement: &Placement,
+        file: usize,
+        object: &ShortObject<'_, '_>,
+    ) -> Result<(), AllocError>
+        ensures known { OnOk result (All (λ g. IsGlobal (global_of g)) globals.old.items
+            → All (λ g. IsGlobal (global_of g)) globals.new.items) }
+        ensures added { OnOk result ((start : ℕ) → IsNames (map short_object_of objects.now) self.now
+            → IsPlacement (map short_object_of objects.now) start placement.now
+            → slice_get (map short_object_of objects.now) file ≡ Some (short_object_of object.now)
+            → map global_of globals.new.items ≡ map global_of globals.old.items
+            ++ shown_in (map short_object_of objects.now) placement.now file
+            (short_object_of object.now) 0 (short_object_of object.now).symbols) }
+    {
+        for index in 0..object.whole.symbols.len() {
+            self.put_global(alloc, globals, objects, placement, file, index)?;
         }
-        None => Ok(()),
+        Ok(())
+    }
+
+    /// Adds the symbol at an index of a file, both from 0, if its name means it and it has an address.
+    fn put_global(
+        &self,
+        alloc: Allocator,
+        globals: &mut Vec<Global>,
+        objects: &[ShortObject<'_, '_>],
+        placement: &Placement,
+        file: usize,
+        index: usize,
+    ) -> Result<(), AllocError>
+        ensures known { OnOk result (All (λ g. IsGlobal (global_of g)) globals.old.items
+            → All (λ g. IsGlobal (global_of g)) globals.new.items) }
+        ensures added { OnOk result ((start : ℕ) (o : SaidObject) (s : SaidSymbol)
+            → IsNames (map short_object_of objects.now) self.now
+            → IsPlacement (map short_object_of objects.now) start placement.now
+            → slice_get (map short_object_of objects.now) file ≡ Some o
+            → slice_get o.symbols index ≡ Some s
+            → map global_of globals.new.items ≡ map global_of globals.old.items
+            ++ shown_in (map short_object_of objects.now) placement.now file o index (s ∷ [])) }
+    {
+        match self.shown_at(objects, placement, file, index) {
+            Some((name, address)) => {
+                let name = Vec::from_slice(alloc, name)?;
+                globals.push(Global { name, address })?;
+                Ok(())
+            }
+            None => Ok(()),
+        }
+    }
+
+    /// The name and the address of the symbol at an index of a file, both from 0, if its name means it and it has an address.
+    fn shown_at<'n>(
+        &self,
+        objects: &[ShortObject<'_, 'n>],
+        placement: &Placement,
+        file: usize,
+        index: usize,
+    ) -> Option<(&'n [u8], u64)>
+        ensures named { IfSome result (λ p. IsTrue (is_name p.0.now)) }
+        ensures fits { IfSome result (λ p. p.1 < 2 ^ 64) }
+        ensures shown { (start : ℕ) (o : SaidObject) (s : SaidSymbol)
+            → IsNames (map short_object_of objects.now) self.now
+            → IsPlacement (map short_object_of objects.now) start placement.now
+            → slice_get (map short_object_of objects.now) file ≡ Some o
+            → slice_get o.symbols index ≡ Some s → listed result
+            ≡ shown_in (map short_object_of objects.now) placement.now file o index (s ∷ []) }
+    {
+        let object = objects.get(file)?;
+        let symbol = object.whole.symbols.get(index)?;
+        if !self.is_chosen(file, index, symbol) {
+            return None;
+        }
+        let definition = object.definition(symbol.definition);
+        let address = defined_address(objects, placement, file, definition)?;
+        Some((symbol.name, address))
+    }
+
+    /// Whether the symbol at an index of a file, both from 0, is a definition that its name means. A global one is, as no name
+    /// has two.
+    fn is_chosen(&self, file: usize, index: usize, symbol: &Symbol<'_>) -> bool
+        ensures shared { IsTrue result → IsTrue (laws.is_shared (symbol.now).binding) }
+        ensures chosen { (os : List SaidObject) (o : SaidObject) (cuts : List (List Move))
+            → IsNames os self.now → slice_get os file ≡ Some o
+            → slice_get o.symbols index ≡ Some (cut_symbol cuts (symbol_of symbol.now)) → result
+            ≡ is_chosen_at os file o index (cut_symbol cuts (symbol_of symbol.now)) }
+    {
+        match symbol.binding {
+            Binding::Local => false,
+            Binding::Global => is_defined(symbol.definition),
+            Binding::Weak => {
+                is_defined(symbol.definition) && self.is_named(file, index, symbol.name)
+            }
+        }
+    }
+
+    /// Whether a name means the symbol at an index of a file, both from 0.
+    fn is_named(&self, file: usize, index: usize, name: &[u8]) -> bool
+        ensures { (os : List SaidObject) → IsNames os self.now
+            → result ≡ is_kept file index (option_map kept_of (definer os name.now)) }
+    {
+        match self.definitions.by_name.get(name).copied() {
+            Some(exported) => exported.file == file && exported.symbol == index,
+            None => false,
+        }
     }
 }

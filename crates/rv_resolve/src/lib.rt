@@ -1,11 +1,15 @@
-//! What names mean across objects: the global definitions by their names, what has none, and where a run begins.
+//! What names mean across objects: the definitions by their names, what has none, and where a run begins.
 //!
 //! It takes objects, what relaxation leaves of them (`rv_shorten`), and where their sections stand (`rv_placement`). It gives
-//! [`Names`], the table of the global definitions and of what each symbol means: [`Names::of`] refuses a name that has two
-//! definitions, and looks each symbol's name up once, in the order of names. It names a definition by its file and its symbol
-//! there, so it holds for what relaxation leaves too (`proofs/AlikeLemmas`), of which each other function is asked.
+//! [`Names`], the table of the definitions that names mean and of what each symbol means: [`Names::of`] refuses a name that has
+//! two global definitions, and looks each symbol's name up once, in the order of names. It names a definition by its file and
+//! its symbol there, so it holds for what relaxation leaves too (`proofs/AlikeLemmas`), of which each other function is asked.
 //! [`Names::undefined`] finds the first reference without a meaning. The main contract is that of [`Names::address`]: the address
 //! of a symbol is the one that `rv_object_laws` defines (`specs/Names`, `symbol_address`) by the names of [`Names::globals`].
+//!
+//! A name means its global definition, and the first weak one where it has none; a weak symbol's own place does not come before
+//! these, so it may mean another's. A weak symbol whose name no object defines, nor the linker, is 0; one that means a
+//! definition without an address has none.
 //!
 //! It knows neither bytes, values of relocations, nor how a section's place is found.
 //!
@@ -18,7 +22,7 @@
 //! let address = names.address(&left, &placement, file, index);
 //! ```
 //!
-//! Source: System V gABI, "Symbol Table"; GNU ld, "Symbols".
+//! Source: System V gABI, "Symbol Table" (STB_GLOBAL, STB_WEAK); GNU ld, "Symbols".
 #![tactic(auto)]
 
 mod addresses;

@@ -1,6 +1,6 @@
-//! What symbols mean that their own objects do not define.
+//! What symbols mean that their own objects do not surely define.
 //!
-//! The name of each symbol that its object does not define is looked up once, when all names are known, and what it means is
+//! The name of each symbol that its object does not surely define is looked up once, when all names are known, and what it means is
 //! kept. Looked up for each relocation, references to one long name cost their number times its length.
 
 ghost use Rattle.std.specs.Prelude.{◌≡◌, List, map, IfOk};
@@ -10,20 +10,21 @@ ghost use Rattle.rv_resolve.specs.Chosen.{Definer, seen, definitions as chosen_f
 ghost use Rattle.rv_resolve.specs.Names.{Answers, outside, meant_at, AreMeanings};
 
 use crate::definitions::{Definitions, Exported};
-use rv_object::{Definition, Object, Symbol};
+use crate::symbol::is_sure;
+use rv_object::{Object, Symbol};
 use std::alloc::{AllocError, Global};
 
-/// What symbols mean that their own objects do not define. A name is looked up once for each of its symbols, however many
+/// What symbols mean that their own objects do not surely define. A name is looked up once for each of its symbols, however many
 /// relocations refer to it.
 #[derive(Drop)]
 pub(crate) struct Meanings {
-    /// What a symbol means, by its file and its index there, both from 0; none where its own object defines it, or no object
-    /// does.
+    /// What a symbol means, by its file and its index there, both from 0; none where its own object surely defines it,
+    /// or no object does.
     pub(crate) files: Vec<Vec<Option<Exported>>>,
 }
 
 impl Meanings {
-    /// What the symbols of objects mean, of which these are the global definitions.
+    /// What the symbols of objects mean, of whose names these are the definitions.
     pub(crate) fn of(
         alloc: Global,
         objects: &[Object<'_>],
@@ -40,7 +41,7 @@ impl Meanings {
         Ok(Meanings { files })
     }
 
-    /// What a symbol means, by its file and its index there, both from 0, if its own object does not define it.
+    /// What a symbol means, by its file and its index there, both from 0, if its own object does not surely define it.
     pub(crate) fn at(&self, file: usize, index: u32) -> Option<Exported>
         ensures { result ≡ meant_at self.now file index }
     {
@@ -65,13 +66,13 @@ fn file_meanings(
     Ok(row)
 }
 
-/// What a symbol means that its own object does not define.
+/// What a symbol means that its own object does not surely define.
 fn meaning(definitions: &Definitions<'_>, symbol: &Symbol<'_>) -> Option<Exported>
     ensures { (ds : List Definer) → Answers ds definitions.now
         → result ≡ outside ds (seen (symbol_of symbol.now)) }
 {
-    match symbol.definition {
-        Definition::Undefined => definitions.by_name.get(symbol.name).copied(),
-        _ => None,
+    if is_sure(symbol.binding, symbol.definition) {
+        return None;
     }
+    definitions.by_name.get(symbol.name).copied()
 }

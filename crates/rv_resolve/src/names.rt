@@ -12,8 +12,8 @@ ghost use Rattle.std.specs.List.{slice_get};
 ghost use Rattle.rv_map.specs.Globals.{AreDistinct};
 ghost use Rattle.rv_object.specs.Object.{Object as SaidObject, Symbol as SaidSymbol};
 ghost use Rattle.rv_object.specs.View.{object_of};
-ghost use Rattle.rv_object_laws.specs.Names.{global_names, is_defined};
-ghost use Rattle.rv_resolve.specs.Exports.{Export, export_of, first_duplicate};
+ghost use Rattle.rv_object_laws.specs.Names.{Export, chosen, global_names, is_sure as means_own};
+ghost use Rattle.rv_resolve.specs.Exports.{first_duplicate};
 ghost use Rattle.rv_resolve.specs.Moved.{with_definition};
 ghost use Rattle.rv_resolve.specs.Names.{IsAt, IsNames, IsDuplicate, meant_by, meant_of};
 ghost use Rattle.rv_shorten.specs.View.{short_object_of};
@@ -21,7 +21,8 @@ ghost use Rattle.rv_shorten.specs.View.{short_object_of};
 use crate::definitions::{Definitions, Exported};
 use crate::fault::ResolveFault;
 use crate::meanings::Meanings;
-use rv_object::{Definition, Object, Symbol};
+use crate::symbol::is_sure;
+use rv_object::{Binding, Definition, Object, Symbol};
 use rv_shorten::ShortObject;
 use std::alloc::Global;
 
@@ -32,7 +33,7 @@ pub(crate) struct Meant {
     pub definition: Definition,
 }
 
-/// The global definitions of objects by name, and which of them each symbol means.
+/// The definitions that names mean in all files, and which of them each symbol means.
 #[derive(Drop)]
 pub struct Names<'o> {
     pub(crate) definitions: Definitions<'o>,
@@ -40,7 +41,7 @@ pub struct Names<'o> {
 }
 
 impl<'o> Names<'o> {
-    /// Those of objects. A name that has two is refused: the first second one, by file and symbol.
+    /// Those of objects. A name that has two global definitions is refused: the first second one, by file and symbol.
     pub fn of(alloc: Global, objects: &[Object<'o>]) -> Result<Names<'o>, ResolveFault<'o>>
         ensures names { IfOk result (λ names. IsNames (map object_of objects.now) names) }
         ensures distinct { IfOk result
@@ -56,29 +57,30 @@ impl<'o> Names<'o> {
         })
     }
 
-    /// What the symbol at an index of a file means, both from 0, by its own definition: what its object defines, else the
-    /// global definition of its name.
+    /// What the symbol at an index of a file means, both from 0, by its own binding and definition: what its object surely
+    /// defines, else the definition of its name.
     pub(crate) fn meant(
         &self,
         objects: &[ShortObject<'_, '_>],
         file: usize,
         index: u32,
+        binding: Binding,
         definition: Definition,
     ) -> Option<Meant>
         ensures { (o : SaidObject) (s : SaidSymbol)
             → IsNames (map short_object_of objects.now) self.now
             → slice_get (map short_object_of objects.now) file ≡ Some o
-            → slice_get o.symbols index ≡ Some s → s.definition ≡ definition
+            → slice_get o.symbols index ≡ Some s → s.binding ≡ binding → s.definition ≡ definition
             → result ≡ meant_by (map short_object_of objects.now) file s }
     {
-        match definition {
-            Definition::Undefined => self.meant_outside(objects, file, index),
-            _ => Some(Meant { file, definition }),
+        if is_sure(binding, definition) {
+            return Some(Meant { file, definition });
         }
+        self.meant_outside(objects, file, index)
     }
 
-    /// What a symbol means that its own object does not define.
-    fn meant_outside(
+    /// What a symbol means that its own object does not surely define.
+    pub(crate) fn meant_outside(
         &self,
         objects: &[ShortObject<'_, '_>],
         file: usize,
@@ -87,17 +89,17 @@ impl<'o> Names<'o> {
         ensures { (o : SaidObject) (s : SaidSymbol)
             → IsNames (map short_object_of objects.now) self.now
             → slice_get (map short_object_of objects.now) file ≡ Some o
-            → slice_get o.symbols index ≡ Some s → is_defined s.definition ≡ false
-            → result ≡ option_map meant_of (export_of (map short_object_of objects.now) s.name) }
+            → slice_get o.symbols index ≡ Some s → means_own s ≡ false
+            → result ≡ option_map meant_of (chosen (map short_object_of objects.now) s.name) }
     {
         let exported = self.meanings.at(file, index)?;
         defined(objects, exported)
     }
 
-    /// What the global `_start` is.
+    /// What the name `_start` means.
     pub(crate) fn start(&self, objects: &[ShortObject<'_, '_>]) -> Option<Meant>
         ensures { IsNames (map short_object_of objects.now) self.now → result
-            ≡ option_map meant_of (export_of (map short_object_of objects.now) (codes "_start")) }
+            ≡ option_map meant_of (chosen (map short_object_of objects.now) (codes "_start")) }
     {
         match self.definitions.by_name.get(b"_start".as_slice()).copied() {
             Some(exported) => defined(objects, exported),

@@ -1,28 +1,69 @@
-//! Which symbols are definitions for all files.
+//! Which symbols are definitions for all files, and which are their own objects' whatever others define.
 
 ghost use Rattle.std.specs.Prelude.{◌≡◌, List};
 ghost use Rattle.rv_object.specs.Parts.{symbol_of};
 ghost use Rattle.rv_object_laws.specs.Moves.{Move};
 ghost use Rattle.rv_object_laws.specs.Names as laws;
-ghost use Rattle.rv_shorten.specs.Cutting.{cut_definition, cut_symbol};
+ghost use Rattle.rv_shorten.specs.Cutting.{cut_definition};
 
 use rv_object::{Binding, Definition, Symbol};
 
-/// Whether a symbol is a definition for all files, whatever is cut of its object.
-pub(crate) fn is_exported(symbol: &Symbol<'_>) -> bool
-    ensures { (cuts : List (List Move))
-        → result ≡ laws.is_exported (cut_symbol cuts (symbol_of symbol.now)) }
+/// Whether a symbol is a global definition.
+pub(crate) fn is_global_definition(symbol: &Symbol<'_>) -> bool
+    ensures { result ≡ laws.is_export laws.is_global (symbol_of symbol.now) }
 {
     match symbol.binding {
         Binding::Local => false,
         Binding::Global => is_defined(symbol.definition),
+        Binding::Weak => false,
+    }
+}
+
+/// Whether a symbol is a weak definition.
+pub(crate) fn is_weak_definition(symbol: &Symbol<'_>) -> bool
+    ensures { result ≡ laws.is_export laws.is_weak (symbol_of symbol.now) }
+{
+    match symbol.binding {
+        Binding::Local => false,
+        Binding::Global => false,
+        Binding::Weak => is_defined(symbol.definition),
     }
 }
 
 /// Whether a symbol of this definition is its own object's.
-fn is_defined(definition: Definition) -> bool
-    ensures { (cuts : List (List Move))
-        → result ≡ laws.is_defined (cut_definition cuts definition) }
+pub(crate) fn is_defined(definition: Definition) -> bool
+    ensures { result ≡ laws.is_defined definition }
 {
-    !matches!(definition, Definition::Undefined)
+    match definition {
+        Definition::Undefined => false,
+        Definition::Absolute(_) => true,
+        Definition::InSection(_, _) => true,
+        Definition::Skipped(_) => true,
+    }
+}
+
+/// Whether a symbol means its own object's definition, whatever others define and whatever is cut of its object: a number, or a
+/// place that isn't weak.
+pub(crate) fn is_sure(binding: Binding, definition: Definition) -> bool
+    ensures cut { (cuts : List (List Move))
+        → result ≡ laws.is_sure_by binding (cut_definition cuts definition) }
+    ensures whole { result ≡ laws.is_sure_by binding definition }
+{
+    match definition {
+        Definition::Undefined => false,
+        Definition::Absolute(_) => true,
+        Definition::InSection(_, _) => !is_weak(binding),
+        Definition::Skipped(_) => !is_weak(binding),
+    }
+}
+
+/// Whether a binding is weak.
+pub(crate) fn is_weak(binding: Binding) -> bool
+    ensures { result ≡ laws.is_weak binding }
+{
+    match binding {
+        Binding::Local => false,
+        Binding::Global => false,
+        Binding::Weak => true,
+    }
 }

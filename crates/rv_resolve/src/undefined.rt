@@ -3,17 +3,15 @@
 //! The first of them is told, by file, section and place. Sections that are not loaded are passed over, as nothing of them
 //! comes into the program.
 
-ghost use Rattle.std.specs.Prelude.{◌≡◌, ◌++◌, Some, List, map, option_map, IfNone};
+ghost use Rattle.std.specs.Prelude.{◌≡◌, ◌++◌, Some, None, false, List, map, option_map, IfNone};
 ghost use Rattle.std.specs.List.{slice_get};
 ghost use Rattle.rv_map.specs.Globals.{is_one_of};
 ghost use Rattle.rv_map.specs.Map.{Map};
-ghost use Rattle.rv_object.specs.declared.symbol.Definition.TheVariants.{Undefined};
 ghost use Rattle.rv_object.specs.Object.{Object as SaidObject, Symbol as SaidSymbol};
 ghost use Rattle.rv_object.specs.Parts.{relocation_of, symbol_of};
 ghost use Rattle.rv_object_laws.specs.Inputs.{Starts};
 ghost use Rattle.rv_object_laws.specs.Moves.{Move};
-ghost use Rattle.rv_object_laws.specs.Names.{globals_of, shown_linker_symbols};
-ghost use Rattle.rv_resolve.specs.Exports.{export_of};
+ghost use Rattle.rv_object_laws.specs.Names.{chosen, globals_of, is_sure as means_own, outer_address, shown_linker_symbols};
 ghost use Rattle.rv_resolve.specs.Names.{IsNames, bytes_of};
 ghost use Rattle.rv_resolve.specs.Resolved.{AreResolved};
 ghost use Rattle.rv_resolve.specs.Undefined as laws;
@@ -21,6 +19,7 @@ ghost use Rattle.rv_shorten.specs.Cutting.{cut_symbol};
 ghost use Rattle.rv_shorten.specs.View.{short_object_of};
 
 use crate::names::Names;
+use crate::symbol::{is_sure, is_weak};
 use rv_object::{Definition, Relocation, Symbol};
 use rv_shorten::ShortObject;
 
@@ -31,9 +30,10 @@ impl<'o> Names<'o> {
             → option_map bytes_of result ≡ laws.first_undefined (map short_object_of objects.now) }
         ensures resolved { IfNone result (IsNames (map short_object_of objects.now) self.now
             → (starts : Starts) (m : Map) → m.globals
-            ≡ globals_of starts 1 (map short_object_of objects.now)
+            ≡ globals_of starts (map short_object_of objects.now)
             ++ shown_linker_symbols (map short_object_of objects.now) m
-            → AreResolved starts (map short_object_of objects.now) m.globals) }
+            → AreResolved starts (map short_object_of objects.now)
+            (outer_address (map short_object_of objects.now) m.globals)) }
     {
         for file in 0..objects.len() {
             match self.undefined_in(objects, file, &objects[file]) {
@@ -138,29 +138,30 @@ impl<'o> Names<'o> {
             → result ≡ laws.is_resolved (map short_object_of objects.now) o
             (cut_symbol cuts (symbol_of symbol.now)) }
     {
-        match symbol.definition {
-            Definition::Undefined => self.is_known(objects, file, index, symbol.name),
-            definition => has_address(objects, file, definition),
+        if is_sure(symbol.binding, symbol.definition) {
+            return has_address(objects, file, symbol.definition);
         }
+        self.is_known(objects, file, index, symbol)
     }
 
-    /// Whether the symbol at an index of an object, which does not define it, means what has an address.
+    /// Whether the symbol at an index of an object, which does not surely define it, means what has an address.
     fn is_known(
         &self,
         objects: &[ShortObject<'_, '_>],
         file: usize,
         index: u32,
-        name: &[u8],
+        symbol: &Symbol<'_>,
     ) -> bool
         ensures { (o : SaidObject) (s : SaidSymbol)
             → IsNames (map short_object_of objects.now) self.now
             → slice_get (map short_object_of objects.now) file ≡ Some o
-            → slice_get o.symbols index ≡ Some s → s.definition ≡ Undefined → s.name ≡ name.now
-            → result ≡ laws.is_known s.name (export_of (map short_object_of objects.now) s.name) }
+            → slice_get o.symbols index ≡ Some s → means_own s ≡ false
+            → s.name ≡ (symbol_of symbol.now).name → s.binding ≡ (symbol_of symbol.now).binding
+            → result ≡ laws.is_known s (chosen (map short_object_of objects.now) s.name) }
     {
-        match self.meant(objects, file, index, Definition::Undefined) {
+        match self.meant_outside(objects, file, index) {
             Some(meant) => has_address(objects, meant.file, meant.definition),
-            None => is_linker_name(name),
+            None => is_given(symbol),
         }
     }
 }
@@ -190,6 +191,13 @@ fn is_loaded(objects: &[ShortObject<'_, '_>], file: usize, section: u32) -> bool
         },
         None => false,
     }
+}
+
+/// Whether a symbol that no object defines has an address: the linker gives its name, or it is weak and so 0.
+fn is_given(symbol: &Symbol<'_>) -> bool
+    ensures { result ≡ laws.is_known (symbol_of symbol.now) None }
+{
+    is_linker_name(symbol.name) || is_weak(symbol.binding)
 }
 
 /// Whether the linker gives a name.

@@ -1,4 +1,4 @@
-use Rattle.std.proofs.Common.{◌≡◌, ◌+◌, Some, length, map, Option, option_map, refl, ap, sym, ◌∙◌}
+use Rattle.std.proofs.Common.{◌≡◌, Some, length, map, Option, option_map, refl, ap, sym, ◌∙◌}
 use Rattle.std.specs.List.{slice_get}
 use Rattle.std.proofs.lemmas.Option.{slice_get-map, slice_get_read}
 use Rattle.rv_object.specs.Object.{Symbol, Object}
@@ -23,4 +23,4 @@ returns c = λ e at.
     ∙ ap (option_map symbol_of) (slice_get_read c.deref.result.now (length c.deref.result.now) i c.in_ok-symbol.symbol.now refl symbol.3.0 symbol.1) in
     let it : ◌≡◌ {A = Option Symbol} (Some s) (Some e.symbol) = sym there ∙ at.symbol in
     let one : s ≡ e.symbol = cc in
-    c.placed.ensures ∙ ap (λ n. place_in (n + 1) s.definition) at.file ∙ ap (λ (q : Symbol). place_in (e.file + 1) q.definition) one
+    c.placed.ensures ∙ ap (λ n. place_in n s.definition) at.file ∙ ap (λ (q : Symbol). place_in e.file q.definition) one

@@ -1,4 +1,4 @@
-use Rattle.std.proofs.Common.{◌≡◌, Some, None, Option, option_map, ap, ◌∙◌}
+use Rattle.std.proofs.Common.{◌≡◌, ◌-◌, Some, None, Option, option_map, ap, ◌∙◌, arith}
 use Rattle.rv_object.specs.Object.{Symbol}
 use Rattle.rv_resolve.specs.declared.names.Meant.{Meant}
 use Rattle.rv_resolve.specs.Moved.{with_definition}
@@ -10,6 +10,8 @@ returns-in_err-definition c = λ e at.
 
 pub returns : goal.returns
 returns c = λ e at.
+    let next = at.file in
+    let file : c.args.exported.file ≡ e.file - 1 = omega (next, arith) in
     let meant : Symbol → Meant = λ s. record { file = c.args.exported.file; definition = s.definition } in
     let same : Some (with_definition (c.in_ok-definition.field-0-0, c.in_ok-definition.definition)) ≡ Some e.symbol = c.in_ok-definition.ensures e.object at.object ∙ at.symbol in
-    ap (option_map meant) same ∙ ap (λ n. Some (record { file = n; definition = e.symbol.definition })) at.file
+    ap (option_map meant) same ∙ ap (λ n. Some (record { file = n; definition = e.symbol.definition })) file

@@ -1,5 +1,6 @@
 -- The table has all symbols of the file but for those that are left.
 use Rattle.std.proofs.Common.{◌++◌, List, drop}
+use Rattle.rv_object_laws.specs.Names.{is_global}
 use Rattle.rv_resolve.specs.Chosen.{Definer, definers_in}
 use Rattle.rv_resolve.specs.Names.{IsTable}
 use Rattle.rv_resolve.proofs.LoadingLemmas.{seen_symbols, HasBut}
@@ -8,4 +9,4 @@ use Rattle.rv_resolve.proofs.definitions.Definitions.put_all.Given as goal
 abbrev pub invariant-loop-index : goal.invariant-loop-index
 invariant-loop-index l =
     (ds : List Definer) → IsTable ds l.fn.self
-    → HasBut (ds ++ definers_in l.file 0 (seen_symbols l.symbols)) (definers_in l.file l.index (seen_symbols (drop l.index l.symbols))) l.self
+    → HasBut (λ done. IsTable done l.self) (ds ++ definers_in is_global l.file 0 (seen_symbols l.symbols)) (definers_in is_global l.file l.index (seen_symbols (drop l.index l.symbols)))

@@ -1,22 +1,28 @@
-use Rattle.std.proofs.Common.{◌≡◌, Some, None, map, ap, sym, ◌∙◌}
+use Rattle.std.proofs.Common.{◌≡◌, None, map, option_map, ap, sym, ◌∙◌}
+use Rattle.std.specs.Prelude.{◌||◌}
 use Rattle.rv_map.specs.Globals.{is_one_of}
-use Rattle.rv_object.specs.declared.symbol.Definition.TheVariants as definitions
+use Rattle.rv_object.specs.Parts.{symbol_of}
+use Rattle.rv_object_laws.specs.Names.{chosen, is_weak}
 use Rattle.rv_shorten.specs.View.{short_object_of}
-use Rattle.rv_resolve.specs.Undefined.{linker_names}
-use Rattle.rv_resolve.proofs.MeantLemmas.{is_meant, meant_at, resolved_none}
+use Rattle.rv_resolve.specs.declared.names.Meant.{Meant}
+use Rattle.rv_resolve.specs.Names.{meant_of}
+use Rattle.rv_resolve.specs.Undefined.{has_address, is_known, linker_names}
+use Rattle.rv_resolve.proofs.MeantLemmas.{kept_held}
+use Rattle.rv_resolve.proofs.TableLemmas.{still_none}
 use Rattle.rv_resolve.proofs.names.Names.is_known.Goals as goal
 
 pub returns-in-Some : goal.returns-in-Some
-returns-in-Some c = λ o s h at there free named.
+returns-in-Some c = λ o s h at there unsure named bound.
     let os = map short_object_of c.args.objects.now in
-    let found : meant_at os c.args.file o s.name definitions.Undefined ≡ Some c.in-Some.meant =
-    ap (meant_at os c.args.file o s.name) (sym free) ∙ sym (c.meant.ensures o s h at there free) ∙ c.in-Some.is in
-    let m = is_meant os c.args.file o s.name at definitions.Undefined c.in-Some.meant found in
-    c.has_address.ensures m.holder m.at ∙ sym m.resolved
+    let k = kept_held os s.name c.in-Some.meant (sym (c.meant_outside.ensures o s h at there unsure) ∙ c.in-Some.is) in
+    c.has_address.ensures k.export.object k.at ∙ sym (ap (is_known s) k.found ∙ ap (λ (y : Meant). has_address k.export.object y.definition) k.same)
 
 pub returns-in-None : goal.returns-in-None
-returns-in-None c = λ o s h at there free named.
+returns-in-None c = λ o s h at there unsure named bound.
     let os = map short_object_of c.args.objects.now in
-    let found : meant_at os c.args.file o s.name definitions.Undefined ≡ None =
-    ap (meant_at os c.args.file o s.name) (sym free) ∙ sym (c.meant.ensures o s h at there free) ∙ c.in-None.is in
-    c.is_linker_name.ensures ∙ ap (is_one_of linker_names) (sym named) ∙ sym (resolved_none os c.args.file o s.name definitions.Undefined found)
+    let own = symbol_of c.args.symbol.now in
+    let found : option_map meant_of (chosen os s.name) ≡ None = sym (c.meant_outside.ensures o s h at there unsure) ∙ c.in-None.is in
+    c.is_given.ensures
+    ∙ sym
+    (ap (is_known s) (still_none meant_of (chosen os s.name) found) ∙ ap (λ n. is_one_of linker_names n || is_weak s.binding) named
+    ∙ ap (λ b. is_one_of linker_names own.name || is_weak b) bound)

@@ -1,19 +1,23 @@
-use Rattle.std.proofs.Common.{◌≡◌, map, refl, ap, ◌∙◌}
-use Rattle.rv_object.specs.declared.symbol.Definition.TheVariants as definitions
+use Rattle.std.proofs.Common.{◌≡◌, true, false, map, refl, ap, sym, ◌∙◌}
+use Rattle.std.specs.Prelude.{if◌then◌else◌}
 use Rattle.rv_object.specs.Parts.{symbol_of}
-use Rattle.rv_shorten.specs.Cutting.{cut_definition, cut_symbol}
+use Rattle.rv_object_laws.specs.Names.{is_sure, chosen}
+use Rattle.rv_shorten.specs.Cutting.{cut_symbol}
 use Rattle.rv_shorten.specs.View.{short_object_of}
-use Rattle.rv_resolve.proofs.CutsLemmas.{own_resolved, known_resolved}
+use Rattle.rv_resolve.specs.Undefined.{has_address, is_known}
+use Rattle.rv_resolve.proofs.CutsLemmas.{address_cut}
+use Rattle.rv_resolve.proofs.MeantLemmas.{known_resolved}
 use Rattle.rv_resolve.proofs.names.Names.is_resolved.Goals as goal
 
-pub returns-in-Undefined : goal.returns-in-Undefined
-returns-in-Undefined c = λ o cuts h at there.
-    let os = map short_object_of c.args.objects.now in
+pub returns-then-is_sure : goal.returns-then-is_sure
+returns-then-is_sure c = λ o cuts h at there.
     let s = cut_symbol cuts (symbol_of c.args.symbol.now) in
-    let free : s.definition ≡ definitions.Undefined = ap (cut_definition cuts) c.in-Undefined.is in
-    c.is_known.ensures o s h at there free refl ∙ known_resolved os o s free
+    let sure : is_sure s ≡ true = sym (c.is_sure.ensures.cut cuts) ∙ c.if-is_sure.true in
+    c.has_address.ensures o at ∙ sym (address_cut o cuts c.args.symbol.now.definition)
+    ∙ sym (ap (λ b. if b then has_address o s.definition else is_known s (chosen (map short_object_of c.args.objects.now) s.name)) sure)
 
-pub returns-in_default : goal.returns-in_default
-returns-in_default c = λ o cuts h at there.
-    c.has_address.ensures o at
-    ∙ own_resolved (map short_object_of c.args.objects.now) o cuts c.args.symbol.now.name.now c.args.symbol.now.definition c.in_default.not-Undefined
+pub returns : goal.returns
+returns c = λ o cuts h at there.
+    let s = cut_symbol cuts (symbol_of c.args.symbol.now) in
+    let unsure : is_sure s ≡ false = sym (c.is_sure.ensures.cut cuts) ∙ c.if-is_sure.false in
+    c.is_known.ensures o s h at there unsure refl refl ∙ known_resolved (map short_object_of c.args.objects.now) o s unsure

@@ -1,13 +1,19 @@
-use Rattle.std.proofs.Common.{◌≡◌, false, map, ap, sym, ◌∙◌}
+use Rattle.std.proofs.Common.{◌≡◌, true, false, map, ap, sym, ◌∙◌}
 use Rattle.std.specs.Prelude.{Some, if◌then◌else◌, option_map}
-use Rattle.rv_object_laws.specs.Names.{is_defined}
+use Rattle.rv_object_laws.specs.Names.{is_sure, is_sure_by, chosen}
 use Rattle.rv_shorten.specs.View.{short_object_of}
-use Rattle.rv_resolve.specs.Exports.{export_of}
 use Rattle.rv_resolve.specs.Names.{meant_of}
 use Rattle.rv_resolve.proofs.names.Names.meant.Goals as goal
 
-pub returns-in-Undefined : goal.returns-in-Undefined
-returns-in-Undefined c = λ o s h here there same.
-    let free : is_defined s.definition ≡ false = ap is_defined (same ∙ c.in-Undefined.is) in
-    c.meant_outside.ensures o s h here there free
-    ∙ sym (ap (λ b. if b then Some (record { file = c.args.file; definition = s.definition }) else option_map meant_of (export_of (map short_object_of c.args.objects.now) s.name)) free)
+pub returns-then-is_sure : goal.returns-then-is_sure
+returns-then-is_sure c = λ o s h here there binding same.
+    let sure : is_sure s ≡ true = ap (λ b. is_sure_by b s.definition) binding ∙ ap (is_sure_by c.args.binding) same ∙ sym c.is_sure.ensures.whole ∙ c.if-is_sure.true in
+    sym
+    (ap (λ b. if b then Some (record { file = c.args.file; definition = s.definition }) else option_map meant_of (chosen (map short_object_of c.args.objects.now) s.name)) sure
+    ∙ ap (λ d. Some (record { file = c.args.file; definition = d })) same)
+
+pub returns : goal.returns
+returns c = λ o s h here there binding same.
+    let unsure : is_sure s ≡ false = ap (λ b. is_sure_by b s.definition) binding ∙ ap (is_sure_by c.args.binding) same ∙ sym c.is_sure.ensures.whole ∙ c.if-is_sure.false in
+    c.meant_outside.ensures o s h here there unsure
+    ∙ sym (ap (λ b. if b then Some (record { file = c.args.file; definition = s.definition }) else option_map meant_of (chosen (map short_object_of c.args.objects.now) s.name)) unsure)

@@ -8,23 +8,23 @@ use Rattle.rv_resolve.specs.Names.{place_of}
 use Rattle.rv_resolve.proofs.MeantLemmas.{kept_place, place_meant}
 use Rattle.rv_resolve.proofs.names.Names.place.Goals as goal
 
-pub returns-in_err-definition : goal.returns-in_err-definition
-returns-in_err-definition c = λ o h at.
+pub returns-in_err-symbol : goal.returns-in_err-symbol
+returns-in_err-symbol c = λ o h at.
     ap (option_map place_of) c.from_residual.ensures
-    ∙ ap (option_and_then (symbol_place (map short_object_of c.args.objects.now) (c.args.file + 1))) (c.in_err-definition.ensures o at)
+    ∙ ap (option_and_then (symbol_place (map short_object_of c.args.objects.now) (c.args.file + 1))) (c.in_err-symbol.ensures o at)
 
 pub returns-in-Some : goal.returns-in-Some
 returns-in-Some c = λ o h at.
     let os = map short_object_of c.args.objects.now in
-    let s = with_definition (c.in_ok-definition.field-0-0, c.in_ok-definition.definition) in
-    let there : Some s ≡ slice_get o.symbols c.args.index = c.in_ok-definition.ensures o at in
-    c.placed.ensures ∙ ap (option_and_then kept_place) (sym c.in-Some.is ∙ c.meant.ensures o s h at (sym there) refl) ∙ place_meant os c.args.file s
+    let s = with_definition (c.in_ok-symbol.symbol, c.in_ok-symbol.definition) in
+    let there : Some s ≡ slice_get o.symbols c.args.index = c.in_ok-symbol.ensures o at in
+    c.placed.ensures ∙ ap (option_and_then kept_place) (sym c.in-Some.is ∙ c.meant.ensures o s h at (sym there) refl refl) ∙ place_meant os c.args.file s
     ∙ ap (option_and_then (symbol_place os (c.args.file + 1))) there
 
 pub returns-in-None : goal.returns-in-None
 returns-in-None c = λ o h at.
     let os = map short_object_of c.args.objects.now in
-    let s = with_definition (c.in_ok-definition.field-0-0, c.in_ok-definition.definition) in
-    let there : Some s ≡ slice_get o.symbols c.args.index = c.in_ok-definition.ensures o at in
-    ap (option_and_then kept_place) (sym c.in-None.is ∙ c.meant.ensures o s h at (sym there) refl) ∙ place_meant os c.args.file s
+    let s = with_definition (c.in_ok-symbol.symbol, c.in_ok-symbol.definition) in
+    let there : Some s ≡ slice_get o.symbols c.args.index = c.in_ok-symbol.ensures o at in
+    ap (option_and_then kept_place) (sym c.in-None.is ∙ c.meant.ensures o s h at (sym there) refl refl) ∙ place_meant os c.args.file s
     ∙ ap (option_and_then (symbol_place os (c.args.file + 1))) there

@@ -1,9 +1,8 @@
-use Rattle.std.proofs.Common.{◌∷◌, ◌++◌, ◌∙◌, [], Bool, ap, map, ◌+◌}
+use Rattle.std.proofs.Common.{◌∷◌, ◌++◌, ◌∙◌, [], Bool, is_some, ap, map, ◌+◌}
 use Rattle.std.specs.Prelude.{not, codes, filter}
-use Rattle.rv_map.specs.Globals.{is_one_of}
 use Rattle.rv_map.specs.Map.{Global, global_of}
 use Rattle.rv_map.specs.Globals.{global}
-use Rattle.rv_object_laws.specs.Names.{global_names}
+use Rattle.rv_object_laws.specs.Names.{chosen}
 use Rattle.rv_resolve.proofs.AddingLemmas.{filtered_more}
 use Rattle.rv_resolve.proofs.names.Names.put_linker_symbols.Goals as goal
 
@@ -14,7 +13,7 @@ returns-clause-known c = λ before.
 
 pub returns-clause-added : goal.returns-clause-added
 returns-clause-added c = λ os start h stands.
-    let p : Global → Bool = λ g. not (is_one_of (global_names os) g.name) in
+    let p : Global → Bool = λ g. not (is_some (chosen os g.name)) in
     let l = c.args.placement.now in
     let old = map global_of c.args.globals.now.items in
     let a = global (codes "_etext") l.text.end in

@@ -1,6 +1,7 @@
 use Rattle.std.proofs.Common.{◌≡◌, ◌<◌, ◌≤◌, ◌∙◌, None, length, map, option_map, rules, ap, sym, subst}
 use Rattle.std.proofs.lemmas.List.{at_drop_all}
 use Rattle.rv_object.specs.Object.{Object}
+use Rattle.rv_object_laws.specs.Names.{outer_address}
 use Rattle.rv_shorten.specs.View.{short_object_of}
 use Rattle.rv_resolve.specs.Names.{bytes_of}
 use Rattle.rv_resolve.specs.Undefined.{first_some, undefined_in, first_undefined}
@@ -39,4 +40,4 @@ returns-clause-resolved c = λ h starts m e.
     let os = map short_object_of xs in
     let past : length xs ≤ n = search rules in
     let none : first_undefined os ≡ None = sym (c.loop-file.invariant h) ∙ at_drop_all (λ l. first_some (λ (o : Object). first_some (undefined_in os o) o.sections) (map short_object_of l)) xs n past in
-    subst (AreResolved starts os) (sym e) (all_resolved os starts m h.distinct none)
+    subst (λ g. AreResolved starts os (outer_address os g)) (sym e) (all_resolved os starts m none)
