@@ -100,8 +100,7 @@ impl<'t, 'a, 'o> Text<'t, 'a, 'o> {
     {
         let object = self.objects.get(file)?;
         let symbol = object.symbols.get(index as usize)?;
-        self.names
-            .place_of(self.objects, file, index, symbol.definition)
+        self.names.place_of(self.objects, file, index, symbol.binding, symbol.definition)
     }
 
     /// Where an offset of a section stands, by its file and its index there, both from 0, if it is in text.
