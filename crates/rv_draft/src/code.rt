@@ -383,14 +383,15 @@ pub(crate) fn code(
     requires count { length (layout.now).sizes.items ≡ length (unit.now).statements.items }
     requires sizes { AreSizes (tables (said unit.now))
         (located_from 1 1 (at_start (said unit.now)) (said unit.now)) (layout.now).sizes.items }
-    requires least { AreLeast (tables (said unit.now)) (located_from 1 1 (at_start (said unit.now)) (said unit.now))
-        (code_lengths (tables (said unit.now)) (located_from 1 1 (at_start (said unit.now)) (said unit.now))
-        (layout.now).sizes.items) }
+    requires least { AreLeast (tables (said unit.now))
+        (located_from 1 1 (at_start (said unit.now)) (said unit.now))
+        (code_lengths (tables (said unit.now))
+        (located_from 1 1 (at_start (said unit.now)) (said unit.now)) (layout.now).sizes.items) }
     ensures count { IfOk result
         (λ c. length c.sections.items ≡ length (unit.now).tables.extents.items) }
     ensures code { IsSourceCode (said unit.now)
-        (code_lengths (tables (said unit.now)) (located_from 1 1 (at_start (said unit.now)) (said unit.now))
-        (layout.now).sizes.items)
+        (code_lengths (tables (said unit.now))
+        (located_from 1 1 (at_start (said unit.now)) (said unit.now)) (layout.now).sizes.items)
         result }
 {
     let statements = unit.statements();

@@ -427,8 +427,8 @@ fn put_next<'a>(
     requires few { length (unit.now).statements.items < 2 ^ 32 }
     requires item { index < length items.now }
     requires laid { IsLaid (said unit.now) items.now }
-    requires made { AreMade (tables (said unit.now)) (located_from 1 1 (at_start (said unit.now)) (said unit.now))
-        items.now }
+    requires made { AreMade (tables (said unit.now))
+        (located_from 1 1 (at_start (said unit.now)) (said unit.now)) items.now }
     requires same { (scope.now).unit.now ≡ unit.now }
     requires next { IsScope scope.now index }
     requires each { length sections.old ≡ length (unit.now).tables.extents.items }
@@ -487,8 +487,8 @@ pub(crate) fn data<'a>(
     requires few { length (unit.now).statements.items < 2 ^ 32 }
     requires count { length items.now ≡ length (unit.now).statements.items }
     requires laid { IsLaid (said unit.now) items.now }
-    requires made { AreMade (tables (said unit.now)) (located_from 1 1 (at_start (said unit.now)) (said unit.now))
-        items.now }
+    requires made { AreMade (tables (said unit.now))
+        (located_from 1 1 (at_start (said unit.now)) (said unit.now)) items.now }
     requires each { length code.items ≡ length (unit.now).tables.extents.items }
     ensures count { IfOk result (λ r. length r.sections.items ≡ length code.items) }
     ensures data { IfOk result (λ r. (codes : List (List Coded))

@@ -331,12 +331,12 @@ pub(crate) fn items(
     ensures count { IfOk result (λ r. length r.0.items ≡ length (unit.now).statements.items) }
     ensures sections { IfOk result
         (λ r. length r.1.items ≡ length (unit.now).tables.extents.items) }
-    ensures items { IfOk result (λ r. AreItems 1 (laws.at_start (said unit.now)) (λ j. 0) (said unit.now) r.0.items
-        (λ j. slice_index r.1.items j)) }
+    ensures items { IfOk result (λ r. AreItems 1 (laws.at_start (said unit.now)) (λ j. 0)
+        (said unit.now) r.0.items (λ j. slice_index r.1.items j)) }
     ensures low { IfOk result (λ r. (j : ℕ) → slice_index r.1.items j ≤ laws.longest_section) }
     ensures sized { IfOk result (λ r.
-        AreSized (laws.tables (said unit.now)) 1 (laws.at_start (said unit.now)) (said unit.now) r.0.items
-        sizes.now) }
+        AreSized (laws.tables (said unit.now)) 1 (laws.at_start (said unit.now)) (said unit.now)
+        r.0.items sizes.now) }
     ensures refuses { IfErr result (λ e. first_fault (said unit.now) ≡ None
         → size_fault_from (λ j. 0) (located (said unit.now ∷ [])) (bytes_of_sizes sizes.now) ≡ None
         → e ≡ OutOfMemory) }
