@@ -150,7 +150,7 @@ module _ (t : Tables) (sites : List Site) where
   undefined_light : symbol_weight (undefined_symbols t sites) ≤ 2 * site_said sites
   undefined_light =
       let ns = flat_map (λ r. missing_name t r.ordinal r.symbol) (references t sites) in
-      let a = globals_of Undefined (distinct_from [] ns) in
+      let a = globals_of t Undefined (distinct_from [] ns) in
       let b = distinct_light [] ns in
       let c = all_missing (references t sites) in
       let d = references_light t sites in
