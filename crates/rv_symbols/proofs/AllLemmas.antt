@@ -16,13 +16,14 @@ use Rattle.rv_source_laws.specs.Located.{located_from}
 use Rattle.rv_assemble_laws.specs.Sites.{Site}
 use Rattle.rv_assemble_laws.specs.Symbols.{SymbolUse, references, is_unnamed, symbols_of, StandsFor}
 use Rattle.rv_assemble_laws.specs.IsObjectOf.{IsNumbered}
-use Rattle.rv_assemble_laws.specs.ShownNames.{is_shown_use, AreShown}
+use Rattle.rv_assemble_laws.specs.ShownNames.{is_shown_use, AreShown, HasNames}
 use Rattle.rv_symbols.specs.SymbolUse.{is_meant_use, AreMeant}
 use Rattle.rv_symbols.specs.Numbers.{number_in}
 use Rattle.rv_symbols.proofs.StandsLemmas.{got_map}
-use Rattle.rv_symbols.proofs.DefiningLemmas.{all_index, by_index, site_of, own_name}
+use Rattle.rv_symbols.proofs.DefiningLemmas.{by_index, site_of, own_name}
 use Rattle.rv_symbols.proofs.NamingLemmas.{all_got}
-use Rattle.rv_symbols.proofs.NumberedLemmas.{undefined_stands}
+use Rattle.rv_symbols.proofs.DefinedNamesLemmas.{names_some}
+use Rattle.rv_symbols.proofs.NumberedLemmas.{all_index, undefined_stands}
 use Rattle.rv_symbols.proofs.UnnamedLemmas.{unnamed_stands}
 use Rattle.rv_symbols.proofs.StandingLemmas.{StandsAt, AreNumeric, uses_stand, found_of, reversed}
 use Rattle.rv_symbols.proofs.MeantLemmas.{numeric_labels, means}
@@ -41,7 +42,7 @@ offset_low offsets sites e low i s at =
     at_or (x ∷ xs) (suc i) n e = at_or xs i n e
 
 module _ (ss : List Statement) (sites : List Site) (located : map (λ s. s.located) sites ≡ located_from 1 1 (at_start ss) ss) (meant : AreMeant (tables ss) (references (tables ss) sites))
-    (free : first_fault ss ≡ None) (shown : AreShown (references (tables ss) sites)) (low : (i : ℕ) (s : Site) → slice_get sites i ≡ Some s → s.offset < 2 ^ 64) where
+    (free : first_fault ss ≡ None) (names : HasNames ss) (shown : AreShown (references (tables ss) sites)) (low : (i : ℕ) (s : Site) → slice_get sites i ≡ Some s → s.offset < 2 ^ 64) where
   abbrev t : Tables
   t = tables ss
 
@@ -56,7 +57,7 @@ module _ (ss : List Statement) (sites : List Site) (located : map (λ s. s.locat
 
   unnamed : (j o n : ℕ) (q : Primary) → slice_get rs j ≡ Some (record { ordinal = o; symbol = q }) → is_unnamed q ≡ true → laws.definition t o q ≡ Some (definition_at n) → StandsAt sites n → Stands o q
   unnamed j o n q e u f (i, s, at, is, placed) =
-      unnamed_stands t sites j (record { ordinal = o; symbol = q }) (definition_at n) i s e u f at (site_of ss sites located n i s at is) (sym is) placed refl (low i s at)
+      unnamed_stands t sites (names_some t (at_start ss) 1 ss sites located names) j (record { ordinal = o; symbol = q }) (definition_at n) i s e u f at (site_of ss sites located n i s at is) (sym is) placed refl (low i s at)
 
   later : (j o : ℕ) (digits : List ℕ) → slice_get rs j ≡ Some (record { ordinal = o; symbol = Reference digits true }) → is_some (laws.definition t o (Reference digits true)) ≡ true → Stands o (Reference digits true)
   later j o digits e m = go (numeric_label_after t.numeric_labels o (digits_value 10 digits)) refl

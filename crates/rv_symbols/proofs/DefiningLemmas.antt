@@ -23,19 +23,12 @@ use Rattle.rv_assemble_laws.specs.Sites.{Site}
 use Rattle.rv_assemble_laws.specs.Symbols.{site_at, after_site, after_found, assigned_definition, site_definition, local_symbol, is_absolute, symbols_of, StandsFor}
 use Rattle.rv_symbols.specs.Numbers.{number_in}
 use Rattle.rv_symbols.proofs.StandsLemmas.{site_by, ordinal_by}
+use Rattle.rv_symbols.proofs.NumberedLemmas.{all_index}
 use Rattle.rv_symbols.proofs.OwnedLemmas.{own_stands, own_named, own_all}
 use Rattle.rv_symbols.proofs.SingleLemmas.{OnlySet, AreNumbers, of_label, of_set, of_numbers}
 use Rattle.rv_symbols.proofs.OneNameLemmas.{Is, IsSet, IsFound, one_name, labels_found, none_all}
 
 -- ---- lists
-
-pub all_index : {X : Type 0} (P : X → Type 0) (xs : List X) (i : ℕ) (x : X) → slice_get xs i ≡ Some x → AllByRecursion P xs → P x
-all_index P [] zero x e h = absurd (cc)
-all_index P [] (suc i) x e h = absurd (cc)
-all_index P (y ∷ ys) zero x e h =
-    let same : y ≡ x = cc in
-    subst P same h.0
-all_index P (y ∷ ys) (suc i) x e h = all_index P ys i x e h.1
 
 pub by_index : {X : Type 0} (P : X → Type 0) (xs : List X) → ((i : ℕ) (x : X) → slice_get xs i ≡ Some x → P x) → AllByRecursion P xs
 by_index P [] h = tt

@@ -4,6 +4,7 @@ pub mod NamingLemmas
 pub mod UsingLemmas
 pub mod IndexingLemmas
 pub mod OrderedLemmas
+pub mod DefinedNamesLemmas
 pub mod NumberedLemmas
 pub mod UnnamedLemmas
 pub mod StandingLemmas

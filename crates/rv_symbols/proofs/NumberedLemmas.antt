@@ -2,19 +2,22 @@
 
 use Rattle.std.proofs.Common.{◌≡◌, ℕ, zero, suc, ◌+◌, ◌<◌, Bool, true, false, cond, List, [], ◌∷◌, ◌++◌, length, map, drop, refl, sym, ap, ◌∙◌, subst, arith, append_assoc, inl, inr, Option, Some, None}
 use Rattle.std.specs.Prelude.{◌⊎◌, ◌||◌, not, flat_map, position, slice_get, unwrap_or, if◌then◌else◌}
-use Rattle.std.specs.List.{list_any, position_or_len}
+use Rattle.std.specs.List.{AllByRecursion, list_any, position_or_len}
 use Rattle.std.specs.Str.{bytes_eq}
 use Rattle.std.proofs.lemmas.Bool.{lt-ltb, or_right, or_left}
 use Rattle.std.proofs.lemmas.List.Folds.{list_any-append}
 use Rattle.rv_map.specs.Globals.{is_one_of}
 use Rattle.rv_text_laws.specs.Expression.{Symbol as Named}
+use Rattle.rv_statement.specs.declared.directive.Binding.{Binding}
+use Rattle.rv_statement.specs.declared.directive.Binding.TheVariants.{Local, Global, Weak}
+use Rattle.rv_unit_laws.specs.Bindings as source
 use Rattle.rv_unit_laws.specs.Tables as laws
 use Rattle.rv_unit_laws.specs.Tables.{Tables}
 use Rattle.rv_unit_laws.proofs.FoundLemmas.{same_bytes, bytes_swap, bytes_same}
 use Rattle.rv_object.specs.declared.symbol.Definition.TheVariants.{Undefined}
 use Rattle.rv_object.specs.Object.{Symbol}
 use Rattle.rv_assemble_laws.specs.Sites.{Site}
-use Rattle.rv_assemble_laws.specs.Symbols.{SymbolUse, references, shared_symbol, local_symbols, exports, missing_name, distinct_from, symbols_of, IsDefinedBy, StandsFor}
+use Rattle.rv_assemble_laws.specs.Symbols.{SymbolUse, references, outer_binding, shared_symbol, local_symbols, exports, missing_name, distinct_from, symbols_of, is_weak, IsDefinedBy, StandsFor}
 use Rattle.rv_symbols.specs.Numbers.{last_from, last_index, own_symbols, missing_names, number_by, number_in}
 
 -- ---- look-ups in lists
@@ -24,6 +27,14 @@ any_front p xs ys e = list_any-append p xs ys ∙ or_left (list_any p xs) (list_
 
 pub any_behind : {X : Type 0} (p : X → Bool) (xs ys : List X) → list_any p ys ≡ true → list_any p (xs ++ ys) ≡ true
 any_behind p xs ys e = list_any-append p xs ys ∙ or_right (list_any p xs) (list_any p ys) e
+
+pub all_index : {X : Type 0} (P : X → Type 0) (xs : List X) (i : ℕ) (x : X) → slice_get xs i ≡ Some x → AllByRecursion P xs → P x
+all_index P [] zero x e h = absurd (cc)
+all_index P [] (suc i) x e h = absurd (cc)
+all_index P (y ∷ ys) zero x e h =
+    let same : y ≡ x = cc in
+    subst P same h.0
+all_index P (y ∷ ys) (suc i) x e h = all_index P ys i x e h.1
 
 -- an element at an index passes
 abbrev pub Has : {X : Type 0} → List X → (X → Bool) → Option ℕ → Type 0
@@ -61,6 +72,14 @@ pub got_behind : {X : Type 0} (xs ys : List X) (k n : ℕ) → n ≡ length xs +
 got_behind [] ys k n e = ap (slice_get ys) (let f : n ≡ k = omega arith in f)
 got_behind (z ∷ zs) ys k zero e = absurd (omega arith)
 got_behind (z ∷ zs) ys k (suc n) e = got_behind zs ys k n (omega arith)
+
+-- ---- bindings
+
+-- a symbol that other files can mean is weak where its name is
+pub shared_weak : (b : Binding) → is_weak (outer_binding b) ≡ source.is_weak b
+shared_weak Local = refl
+shared_weak Global = refl
+shared_weak Weak = refl
 
 -- ---- names that are left undefined
 
@@ -141,7 +160,11 @@ module _ (t : Tables) (sites : List Site) where
       let got : slice_get (symbols_of t sites) (length own + k) ≡ Some (shared_symbol t n Undefined) =
       ap (λ l. slice_get l (length own + k)) whole ∙ got_behind own undefined k (length own + k) refl ∙ map_got (λ name. shared_symbol t name Undefined) names k n found.1 in
       subst (λ d. StandsFor t sites o (Named name) (slice_get (symbols_of t sites) (number_of d))) (sym none)
-      (subst (λ x. StandsFor t sites o (Named name) x) (sym got) (named n found.2, subst (λ d. IsDefinedBy sites (Named name) d (shared_symbol t n Undefined)) (sym none) refl))
+      (subst (λ x. StandsFor t sites o (Named name) x) (sym got) (
+        named n found.2,
+        ap (λ m. is_weak (outer_binding (t.bindings m))) (named n found.2) ∙ shared_weak (t.bindings name),
+        subst (λ d. IsDefinedBy sites (Named name) d (shared_symbol t n Undefined)) (sym none) refl,
+      ))
     where
       number_of : Option laws.Definition → ℕ
       number_of d = number_by (own_symbols t sites) (missing_names t rs) sites (Named name) d

@@ -7,6 +7,9 @@ use Rattle.std.specs.List.{AllByRecursion, list_any}
 use Rattle.std.specs.Str.{bytes_eq}
 use Rattle.rv_map.specs.Globals.{is_one_of}
 use Rattle.rv_text_laws.specs.Expression.{Symbol as Named}
+use Rattle.rv_statement.specs.declared.directive.Binding.{Binding}
+use Rattle.rv_statement.specs.declared.directive.Binding.TheVariants.{Local, Global, Weak}
+use Rattle.rv_unit_laws.specs.Bindings as source
 use Rattle.rv_unit_laws.specs.Bindings.{is_shared}
 use Rattle.rv_unit_laws.specs.Tables as laws
 use Rattle.rv_unit_laws.specs.Tables.{Tables}
@@ -16,25 +19,32 @@ use Rattle.rv_object.specs.declared.symbol.Definition.{Definition as Defined}
 use Rattle.rv_object.specs.declared.symbol.Definition.TheVariants.{InSection}
 use Rattle.rv_object.specs.Object.{Symbol}
 use Rattle.rv_assemble_laws.specs.Sites.{Site}
-use Rattle.rv_assemble_laws.specs.Symbols.{references, site_definition, local_symbol, shared_symbol, is_absolute, unnamed_symbols, named_symbols, local_symbols, exports_of, exports, symbols_of, IsOwn, IsDefinedBy, StandsFor}
+use Rattle.rv_assemble_laws.specs.Symbols.{references, site_definition, local_symbol, outer_binding, shared_symbol, is_absolute, unnamed_symbols, named_symbols, local_symbols, exports_of, exports, symbols_of, is_weak, IsOwn, IsDefinedBy, StandsFor}
 use Rattle.rv_symbols.specs.Numbers.{last_index, is_named, own_symbols, missing_names, number_by, number_in}
-use Rattle.rv_symbols.proofs.NumberedLemmas.{any_front, any_behind, got_last, got_front, whole}
+use Rattle.rv_symbols.proofs.NumberedLemmas.{any_front, any_behind, all_index, got_last, got_front, shared_weak, whole}
 
 pub join : {X : Type 0} (P : X → Type 0) (xs ys : List X) → AllByRecursion P xs → AllByRecursion P ys → AllByRecursion P (xs ++ ys)
 join P [] ys h k = k
 join P (x ∷ xs) ys (h, hs) k = (h, join P xs ys hs k)
 
-kept : {X : Type 0} (P : X → Type 0) (test : X → Bool) (xs : List X) → AllByRecursion P xs → AllByRecursion P (filter test xs)
-kept P test [] h = tt
-kept P test (x ∷ xs) (p, ps) = go (test x) (kept P test xs ps)
+-- what holds of all, and more of those that are kept
+kept : {X : Type 0} (P Q : X → Type 0) (test : X → Bool) → ((x : X) → test x ≡ true → P x → Q x) → (xs : List X) → AllByRecursion P xs → AllByRecursion Q (filter test xs)
+kept P Q test more [] h = tt
+kept P Q test more (x ∷ xs) (p, ps) = go (test x) refl (kept P Q test more xs ps)
   where
-    go : (b : Bool) → AllByRecursion P (filter test xs) → AllByRecursion P (if b then x ∷ filter test xs else filter test xs)
-    go true rest = (p, rest)
-    go false rest = rest
+    go : (b : Bool) → test x ≡ b → AllByRecursion Q (filter test xs) → AllByRecursion Q (if b then x ∷ filter test xs else filter test xs)
+    go true e rest = (more x e p, rest)
+    go false e rest = rest
 
 mapped : {X Y : Type 0} (P : Y → Type 0) (f : X → Y) (xs : List X) → AllByRecursion (λ x. P (f x)) xs → AllByRecursion P (map f xs)
 mapped P f [] h = tt
 mapped P f (x ∷ xs) (p, ps) = (p, mapped P f xs ps)
+
+-- a name that its own file alone can mean is not weak
+own_strong : (b : Binding) → not (is_shared b) ≡ true → source.is_weak b ≡ false
+own_strong Local e = refl
+own_strong Global e = absurd (cc)
+own_strong Weak e = absurd (cc)
 
 module _ (t : Tables) (sites : List Site) (name : List ℕ) where
   abbrev own : List Symbol
@@ -49,7 +59,7 @@ module _ (t : Tables) (sites : List Site) (name : List ℕ) where
   -- ---- a use, by its own symbols
 
   pub own_stands : (o : ℕ) (d : laws.Definition) → laws.definition t o (Named name) ≡ Some d → list_any (is_named name) own ≡ true
-      → AllByRecursion (λ x. is_named name x ≡ true → IsOwn sites d x) own → StandsFor t sites o (Named name) (slice_get (symbols_of t sites) (number_in t sites o (Named name)))
+      → AllByRecursion (λ x. is_named name x ≡ true → (is_weak x.binding ≡ source.is_weak (t.bindings name)) × IsOwn sites d x) own → StandsFor t sites o (Named name) (slice_get (symbols_of t sites) (number_in t sites o (Named name)))
   own_stands o d f some all =
       let found = got_last (is_named name) own some in
       let x : Symbol = found.0 in
@@ -57,18 +67,9 @@ module _ (t : Tables) (sites : List Site) (name : List ℕ) where
       let n : number_in t sites o (Named name) ≡ k = ap (number_by own (missing_names t (references t sites)) sites (Named name)) f in
       let got : slice_get (symbols_of t sites) (number_in t sites o (Named name)) ≡ Some x =
       ap (slice_get (symbols_of t sites)) n ∙ ap (λ l. slice_get l k) (whole t sites) ∙ got_front own _ k x found.1 in
-      subst (λ y. StandsFor t sites o (Named name) y) (sym got) (
-        same_bytes x.name name found.2,
-        subst (λ h. IsDefinedBy sites (Named name) h x) (sym f) (at_index own k x found.1 all found.2),
-      )
-    where
-      at_index : (xs : List Symbol) (i : ℕ) (x : Symbol) → slice_get xs i ≡ Some x → AllByRecursion (λ x. is_named name x ≡ true → IsOwn sites d x) xs → is_named name x ≡ true → IsOwn sites d x
-      at_index [] zero x e h = absurd (cc)
-      at_index [] (suc i) x e h = absurd (cc)
-      at_index (y ∷ ys) zero x e h =
-          let same : y ≡ x = cc in
-          subst (λ z. is_named name z ≡ true → IsOwn sites d z) same h.0
-      at_index (y ∷ ys) (suc i) x e h = at_index ys i x e h.1
+      let told : (is_weak x.binding ≡ source.is_weak (t.bindings name)) × IsOwn sites d x =
+      all_index (λ x. is_named name x ≡ true → (is_weak x.binding ≡ source.is_weak (t.bindings name)) × IsOwn sites d x) own k x found.1 all found.2 in
+      subst (λ y. StandsFor t sites o (Named name) y) (sym got) (same_bytes x.name name found.2, told.0, subst (λ h. IsDefinedBy sites (Named name) h x) (sym f) told.1)
 
   -- ---- a statement that defines the name has its symbol
 
@@ -142,39 +143,56 @@ module _ (t : Tables) (sites : List Site) (name : List ℕ) where
       go true g = any_behind (is_named name) (local_symbols t sites [] sites) (exports t sites) (exports_at sites i s e (shared_one s g (defines s) h))
       go false g = any_front (is_named name) (local_symbols t sites [] sites) (exports t sites) (local_at [] sites i s e (local_one s a g (defines s) h))
 
-  -- ---- symbols by their statements
+-- ---- symbols by their statements
 
-  module _ (P : Defined → Type 0) (shown : bytes_eq [] name ≡ false) where
-    abbrev Has : Symbol → Type 0
-    Has x = is_named name x ≡ true → P x.definition
+-- what holds of local symbols and of those that other files can mean, where something is known of each name and its place
+module _ (t : Tables) (sites : List Site) (Has : Symbol → Type 0) (Known : List ℕ → Defined → Type 0) (nameless : (d : Defined) → Has (local_symbol [] d))
+    (local : (n : List ℕ) (d : Defined) → not (is_shared (t.bindings n)) ≡ true → Known n d → Has (local_symbol n d))
+    (shared : (n : List ℕ) (d : Defined) → Known n d → Has (shared_symbol t n d)) where
+  abbrev names : Site → List (List ℕ)
+  names s = defined_name t s.located.ordinal s.located.kind
 
-    abbrev Defines : Site → Type 0
-    Defines s = AllByRecursion (λ n. bytes_eq n name ≡ true → P (place s)) (defines s)
+  abbrev here : Site → Defined
+  here s = site_definition t sites s s.located.kind
 
-    unnamed_all : (before : List Site) (s : Site) → AllByRecursion Has (unnamed_symbols t (references t sites) before s)
-    unnamed_all before s = go _
-      where
-        go : (b : Bool) → AllByRecursion Has (if b then local_symbol [] (InSection s.located.section s.offset) ∷ [] else [])
-        go true = (λ e. absurd (cc), tt)
-        go false = tt
+  abbrev AreKnown : Site → Type 0
+  AreKnown s = AllByRecursion (λ n. Known n (here s)) (names s)
 
-    named_all : (s : Site) → Defines s → AllByRecursion Has (named_symbols t sites s)
-    named_all s h =
-        kept Has (λ x. not (is_absolute x)) _ (mapped Has (λ n. local_symbol n (place s)) _ (kept (λ n. bytes_eq n name ≡ true → P (place s)) (λ n. not (is_shared (t.bindings n))) (defines s) h))
+  unnamed_all : (before : List Site) (s : Site) → AllByRecursion Has (unnamed_symbols t (references t sites) before s)
+  unnamed_all before s = go _
+    where
+      go : (b : Bool) → AllByRecursion Has (if b then local_symbol [] (InSection s.located.section s.offset) ∷ [] else [])
+      go true = (nameless (InSection s.located.section s.offset), tt)
+      go false = tt
 
-    exported_all : (s : Site) → Defines s → AllByRecursion Has (exports_of t sites s)
-    exported_all s h =
-        mapped Has (λ n. shared_symbol t n (place s)) _ (kept (λ n. bytes_eq n name ≡ true → P (place s)) (λ n. is_shared (t.bindings n)) (defines s) h)
+  named_all : (s : Site) → AreKnown s → AllByRecursion Has (named_symbols t sites s)
+  named_all s h =
+      kept Has Has (λ x. not (is_absolute x)) (λ x e p. p) _
+      (mapped Has (λ n. local_symbol n (here s)) _ (kept (λ n. Known n (here s)) (λ n. Has (local_symbol n (here s))) (λ n. not (is_shared (t.bindings n))) (λ n. local n (here s)) (names s) h))
 
-    local_all : (before rest : List Site) → AllByRecursion Defines rest → AllByRecursion Has (local_symbols t sites before rest)
-    local_all before [] h = tt
-    local_all before (s ∷ rest) (h, hs) =
-        join Has (unnamed_symbols t (references t sites) before s) _ (unnamed_all before s)
-        (join Has (named_symbols t sites s) _ (named_all s h) (local_all (before ++ s ∷ []) rest hs))
+  exported_all : (s : Site) → AreKnown s → AllByRecursion Has (exports_of t sites s)
+  exported_all s h =
+      mapped Has (λ n. shared_symbol t n (here s)) _
+      (kept (λ n. Known n (here s)) (λ n. Has (shared_symbol t n (here s))) (λ n. is_shared (t.bindings n)) (λ n e. shared n (here s)) (names s) h)
 
-    exports_all : (rest : List Site) → AllByRecursion Defines rest → AllByRecursion Has (flat_map (exports_of t sites) rest)
-    exports_all [] h = tt
-    exports_all (s ∷ rest) (h, hs) = join Has (exports_of t sites s) _ (exported_all s h) (exports_all rest hs)
+  local_all : (before rest : List Site) → AllByRecursion AreKnown rest → AllByRecursion Has (local_symbols t sites before rest)
+  local_all before [] h = tt
+  local_all before (s ∷ rest) (h, hs) =
+      join Has (unnamed_symbols t (references t sites) before s) _ (unnamed_all before s)
+      (join Has (named_symbols t sites s) _ (named_all s h) (local_all (before ++ s ∷ []) rest hs))
 
-    pub own_all : AllByRecursion Defines sites → AllByRecursion Has own
-    own_all h = join Has (local_symbols t sites [] sites) (exports t sites) (local_all [] sites h) (exports_all sites h)
+  exports_all : (rest : List Site) → AllByRecursion AreKnown rest → AllByRecursion Has (flat_map (exports_of t sites) rest)
+  exports_all [] h = tt
+  exports_all (s ∷ rest) (h, hs) = join Has (exports_of t sites s) _ (exported_all s h) (exports_all rest hs)
+
+  pub each_own : AllByRecursion AreKnown sites → AllByRecursion Has (own_symbols t sites)
+  each_own h = join Has (local_symbols t sites [] sites) (exports t sites) (local_all [] sites h) (exports_all sites h)
+
+-- those of a name stand where its statement does, and are weak where the name is
+pub own_all : (t : Tables) (sites : List Site) (name : List ℕ) (P : Defined → Type 0) → bytes_eq [] name ≡ false
+    → AllByRecursion (λ s. AllByRecursion (λ n. bytes_eq n name ≡ true → P (site_definition t sites s s.located.kind)) (defined_name t s.located.ordinal s.located.kind)) sites
+    → AllByRecursion (λ x. is_named name x ≡ true → (is_weak x.binding ≡ source.is_weak (t.bindings name)) × P x.definition) (own_symbols t sites)
+own_all t sites name P shown h =
+    each_own t sites (λ x. is_named name x ≡ true → (is_weak x.binding ≡ source.is_weak (t.bindings name)) × P x.definition) (λ n d. bytes_eq n name ≡ true → P d)
+    (λ d e. absurd (cc)) (λ n d e p f. (sym (own_strong (t.bindings name) (ap (λ m. not (is_shared (t.bindings m))) (sym (same_bytes n name f)) ∙ e)), p f))
+    (λ n d p f. (ap (λ m. is_weak (outer_binding (t.bindings m))) (same_bytes n name f) ∙ shared_weak (t.bindings name), p f)) h

@@ -2,22 +2,24 @@
 
 use Rattle.std.proofs.Common.{◌≡◌, ℕ, zero, suc, ◌<◌, ◌^◌, Bool, true, false, List, [], ◌∷◌, ◌++◌, refl, sym, ap, ◌∙◌, subst, arith, inl, inr, Some}
 use Rattle.std.specs.Prelude.{◌⊎◌, ◌&&◌, ◌||◌, ◌==◌, not, slice_get, unwrap_or, if◌then◌else◌}
-use Rattle.std.specs.List.{list_any}
+use Rattle.std.specs.List.{AllByRecursion, list_any}
 use Rattle.std.specs.Str.{bytes_eq}
 use Rattle.std.proofs.lemmas.Bool.{and_parts, eqb-true, eq-eqb, or_right, or_left, and_from}
 use Rattle.std.proofs.lemmas.List.Folds.{list_any-append}
 use Rattle.rv_text_laws.specs.Expression.{Primary, Literal, Symbol as Named, Here, Reference}
 use Rattle.rv_text_laws.specs.Values.{add}
 use Rattle.rv_unit_laws.specs.Tables as laws
-use Rattle.rv_unit_laws.specs.Tables.{Tables}
+use Rattle.rv_unit_laws.specs.Tables.{Tables, gives_way}
 use Rattle.rv_unit_laws.proofs.FoundLemmas.{same_bytes}
 use Rattle.rv_object.specs.declared.symbol.Definition.{Definition as Defined}
 use Rattle.rv_object.specs.declared.symbol.Definition.TheVariants.{Undefined, Absolute, InSection, Skipped}
 use Rattle.rv_object.specs.Object.{Symbol}
 use Rattle.rv_assemble_laws.specs.Sites.{Site}
-use Rattle.rv_assemble_laws.specs.Symbols.{SymbolUse, references, site_at, local_symbol, is_unnamed, is_at, is_meant, unnamed_symbols, named_symbols, local_symbols, exports, symbols_of, IsNamed, IsDefinedBy, StandsFor}
+use Rattle.rv_assemble_laws.specs.Symbols.{SymbolUse, references, site_at, local_symbol, is_unnamed, is_at, is_meant, unnamed_symbols, named_symbols, local_symbols, exports, symbols_of, is_weak, IsNamed, IsDefinedBy, StandsFor}
 use Rattle.rv_symbols.specs.Numbers.{last_index, stands_in, is_at_place, own_symbols, missing_names, own_number, place_number, number_by, number_in}
-use Rattle.rv_symbols.proofs.NumberedLemmas.{any_front, any_behind, got_last, got_front, whole}
+use Rattle.rv_symbols.proofs.DefinedNamesLemmas.{AreSome}
+use Rattle.rv_symbols.proofs.NumberedLemmas.{any_front, any_behind, all_index, got_last, got_front, whole}
+use Rattle.rv_symbols.proofs.OwnedLemmas.{each_own}
 
 place_here : (section offset : ℕ) → is_at_place section offset (local_symbol [] (InSection section offset)) ≡ true
 place_here section offset = and_from (section == section) (offset == offset) (eq-eqb section section refl) (eq-eqb offset offset refl)
@@ -126,11 +128,23 @@ module _ (t : Tables) (sites : List Site) where
   nameless Here o d x u e h = h
   nameless (Reference digits forward) o d x u e h = h
 
+  -- no other file's definition stands for a place
+  keeps : (q : Primary) → is_unnamed q ≡ true → gives_way t q ≡ false
+  keeps (Named name) u = absurd (cc)
+  keeps (Literal n) u = refl
+  keeps Here u = refl
+  keeps (Reference digits forward) u = refl
+
+  -- symbols without names are not weak: names are not empty
+  strong : AllByRecursion (λ s. AreSome t s.located) sites → AllByRecursion (λ x. bytes_eq x.name [] ≡ true → is_weak x.binding ≡ false) (own_symbols t sites)
+  strong names =
+      each_own t sites (λ x. bytes_eq x.name [] ≡ true → is_weak x.binding ≡ false) (λ n d. bytes_eq n [] ≡ false) (λ d e. refl) (λ n d e h f. refl) (λ n d h f. absurd (cc)) names
+
   -- a use without a name, whose statement stands at an index
-  pub unnamed_stands : (j : ℕ) (r : SymbolUse) (d : laws.Definition) (i : ℕ) (s : Site) → slice_get (references t sites) j ≡ Some r → is_unnamed r.symbol ≡ true → laws.definition t r.ordinal r.symbol ≡ Some d
+  pub unnamed_stands : AllByRecursion (λ s. AreSome t s.located) sites → (j : ℕ) (r : SymbolUse) (d : laws.Definition) (i : ℕ) (s : Site) → slice_get (references t sites) j ≡ Some r → is_unnamed r.symbol ≡ true → laws.definition t r.ordinal r.symbol ≡ Some d
       → slice_get sites i ≡ Some s → site_at sites d.ordinal ≡ Some s → d.ordinal ≡ s.located.ordinal → s.located.placed ≡ true → d.plus ≡ 0 → s.offset < 2 ^ 64
       → StandsFor t sites r.ordinal r.symbol (slice_get (symbols_of t sites) (number_in t sites r.ordinal r.symbol))
-  unnamed_stands j r d i s at u f here site o placed plus low =
+  unnamed_stands names j r d i s at u f here site o placed plus low =
       let own = own_symbols t sites in
       let test = is_at_place s.located.section s.offset in
       let found = got_last test own (own_has i s here (is_meant_by (references t sites) j r s d at u f o)) in
@@ -143,5 +157,7 @@ module _ (t : Tables) (sites : List Site) where
       let end : s.offset ≡ add s.offset d.plus = omega arith in
       subst (λ y. StandsFor t sites r.ordinal r.symbol y) (sym got) (
         nameless r.symbol r.ordinal d x u f parts.0,
+        all_index (λ x. bytes_eq x.name [] ≡ true → is_weak x.binding ≡ false) own (unwrap_or (last_index test own) 0) x found.1 (strong names) (ap (λ n. bytes_eq n []) parts.0)
+            ∙ sym (keeps r.symbol u),
         subst (λ h. IsDefinedBy sites r.symbol h x) (sym f) (s, site, placed, parts.1 ∙ ap (InSection s.located.section) end),
       )

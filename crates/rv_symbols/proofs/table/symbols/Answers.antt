@@ -74,5 +74,5 @@ returns c = λ sites w.
           ∙ ap (λ l. map (λ (r : SymbolUse). number_by (own_symbols t sites) l sites r.symbol (definition_in t r)) rs) (names ∙ ap (missing_names t) (sym w.named)));
       numbered =
           subst (λ l. AllByRecursion (IsNumbered t sites (number_in t sites) (symbols_of t sites)) l) w.named
-          (numbered ss sites w.located (subst (AreMeant t) (sym w.named) c.requires.meant) c.requires.good (subst AreShown (sym w.named) c.requires.shown) (offset_low c.args.offsets.now sites w.at (λ i. Fits-lt-pow (c.type_inv.offsets i))));
+          (numbered ss sites w.located (subst (AreMeant t) (sym w.named) c.requires.meant) c.requires.good c.requires.names (subst AreShown (sym w.named) c.requires.shown) (offset_low c.args.offsets.now sites w.at (λ i. Fits-lt-pow (c.type_inv.offsets i))));
     }
