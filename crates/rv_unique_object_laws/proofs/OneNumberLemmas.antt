@@ -1,63 +1,32 @@
 -- A reference has one symbol.
 
-use Rattle.std.proofs.Common.{◌≡◌, ℕ, suc, ◌+◌, Bool, true, false, List, [], ◌∷◌, ◌++◌, map, length, refl, sym, ap, ◌∙◌, Option, Some, None}
+use Rattle.std.proofs.Common.{◌≡◌, ℕ, ◌+◌, true, List, [], ◌∷◌, ◌++◌, map, length, refl, sym, ap, ◌∙◌, Option, Some, None}
 use Rattle.rv_symbols.specs.Numbers.{stands_in}
-use Rattle.std.specs.Prelude.{◌==◌, flat_map, slice_get, option_map, if◌then◌else◌}
-use Rattle.std.specs.List.{AllByRecursion, list_all}
+use Rattle.std.specs.Prelude.{◌==◌, flat_map, slice_get, option_map}
+use Rattle.std.specs.List.{AllByRecursion}
 use Rattle.std.specs.Str.{bytes_eq}
-use Rattle.std.proofs.lemmas.Bool.{eq-eqb, and_parts, and_from}
+use Rattle.std.proofs.lemmas.Bool.{eq-eqb, and_from}
 use Rattle.rv_text_laws.specs.Expression.{Primary, Symbol as Named, Literal, Here, Reference}
 use Rattle.rv_text_laws.specs.Values.{add}
-use Rattle.rv_statement.specs.Statement.{StatementKind, Label, Directs, Statement, Sets}
+use Rattle.rv_statement.specs.Statement.{Statement}
 use Rattle.rv_unit_laws.specs.Tables as laws
 use Rattle.rv_unit_laws.specs.Tables.{Tables, at_start, tables, definition}
 use Rattle.rv_unit_laws.specs.Faults.{first_fault}
 use Rattle.rv_unit_laws.proofs.FoundLemmas.{bytes_same}
-use Rattle.rv_map.specs.Name.{is_name}
-use Rattle.rv_source_laws.specs.Located.{Located, located_from}
-use Rattle.rv_source_laws.specs.Exports.{sets_first, defined_name}
+use Rattle.rv_source_laws.specs.Located.{located_from}
 use Rattle.rv_object.specs.declared.symbol.Definition.TheVariants.{Undefined, InSection}
 use Rattle.rv_object.specs.Object.{Symbol}
 use Rattle.rv_assemble_laws.specs.Templates.{Open, template_fields}
 use Rattle.rv_assemble_laws.specs.Sites.{Site, Part, part_bytes}
 use Rattle.rv_assemble_laws.specs.Symbols.{SymbolUse, use_of, after_site, after_found, symbols_of, IsNamed, IsOwn, IsOuter, IsDefinedBy, StandsFor}
-use Rattle.rv_assemble_laws.specs.ShownNames.{said_names, are_shown, HasNames}
+use Rattle.rv_assemble_laws.specs.ShownNames.{HasNames}
 use Rattle.rv_assemble_laws.specs.IsObjectOf.{Numbering, relocation_at, relocations_from, IsNumbered, ArePartsNumbered}
+use Rattle.rv_symbols.proofs.DefinedNamesLemmas.{names_some}
 use Rattle.rv_unique_object_laws.proofs.CountsLemmas.{one_index}
 use Rattle.rv_unique_object_laws.proofs.OneDefinitionLemmas.{defined_once}
-use Rattle.rv_unique_object_laws.proofs.LoneSymbolsLemmas.{names_of, is_undefined, is_place, is_outer, outer_once, named_once, unnamed_once}
+use Rattle.rv_unique_object_laws.proofs.LoneSymbolsLemmas.{is_undefined, is_place, is_outer, outer_once, named_once, unnamed_once}
 use Rattle.rv_unique_object_laws.proofs.RecodedLemmas.{Recoded}
 use Rattle.rv_unique_object_laws.proofs.OneTableLemmas.{place_same}
-
--- ---- names are not empty
-
-shown_some : (n : List ℕ) → is_name n ≡ true → bytes_eq n [] ≡ false
-shown_some [] e = absurd (cc)
-shown_some (b ∷ bs) e = refl
-
-if_some : (b : Bool) (n : List ℕ) → bytes_eq n [] ≡ false → AllByRecursion (λ n. bytes_eq n [] ≡ false) (if b then n ∷ [] else [])
-if_some true n e = (e, tt)
-if_some false n e = tt
-
-defined_some : (t : Tables) (o : ℕ) (kind : StatementKind) → are_shown (said_names kind) ≡ true → AllByRecursion (λ n. bytes_eq n [] ≡ false) (defined_name t o kind)
-defined_some t o (Label n) e = (shown_some n (and_parts (is_name n) true e).0, tt)
-defined_some t o (Directs (Sets n x)) e = if_some (sets_first t.assignments o n) n (shown_some n (and_parts (is_name n) _ e).0)
-defined_some t o kind e = tt
-
-names_some : (t u : Tables) (k : ℕ) (ss : List Statement) (sites : List Site) → map (λ s. s.located) sites ≡ located_from 1 k u ss → HasNames ss
-    → AllByRecursion (λ s. AllByRecursion (λ n. bytes_eq n [] ≡ false) (names_of t s)) sites
-names_some t u k ss [] e h = tt
-names_some t u k [] (s ∷ sites) e h = absurd (cc)
-names_some t u k (x ∷ ss) (s ∷ sites) e h =
-    let both = front _ _ _ _ e in
-    let parts = and_parts (are_shown (said_names x.kind)) (list_all (λ (s : Statement). are_shown (said_names s.kind)) ss) h in
-    let kind : s.located.kind ≡ x.kind = ap (λ (l : Located). l.kind) both.0 in (
-      defined_some t s.located.ordinal s.located.kind (ap (λ k. are_shown (said_names k)) kind ∙ parts.0),
-      names_some t (laws.after u k x.kind) (suc k) ss sites both.1 parts.1,
-    )
-  where
-    front : {A : Type 0} (x y : A) (xs ys : List A) → x ∷ xs ≡ y ∷ ys → (x ≡ y) × (xs ≡ ys)
-    front x y xs ys e = (cc, cc)
 
 -- ---- two symbols for one reference
 
@@ -128,7 +97,7 @@ module _ (ss : List Statement) (names : HasNames ss) (free : first_fault ss ≡ 
   one_number : (o : ℕ) (q : Primary) (i j : ℕ) (a b : Option Symbol) → slice_get all i ≡ a → slice_get all j ≡ b → StandsFor t xs o q a → StandsFor t ys o q b → i ≡ j
   one_number o q i j None b e f h k = absurd h
   one_number o q i j (Some x) None e f h k = absurd k
-  one_number o q i j (Some x) (Some y) e f (h, a) (k, b) = one_defined q (definition t o q) i j x y e f h k a b
+  one_number o q i j (Some x) (Some y) e f (h, weak, a) (k, other, b) = one_defined q (definition t o q) i j x y e f h k a b
 
   -- ---- relocations
 
