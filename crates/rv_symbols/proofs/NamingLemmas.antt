@@ -22,17 +22,17 @@ use Rattle.rv_symbols.specs.Found.{is_number, same_place, is_seen}
 -- ---- the names of one statement
 
 abbrev pub local_names : (List ℕ → Bool) → Defined → List (List ℕ) → List Symbol
-local_names global d names = filter (λ x. not (is_absolute x)) (map (λ name. local_symbol name d) (filter (λ name. not (global name)) names))
+local_names shared d names = filter (λ x. not (is_absolute x)) (map (λ name. local_symbol name d) (filter (λ name. not (shared name)) names))
 
-pub local_none : (global : List ℕ → Bool) (d : Defined) (names : List (List ℕ)) → [] ≡ names → [] ≡ local_names global d names
-local_none global d names e = ap (local_names global d) e
+pub local_none : (shared : List ℕ → Bool) (d : Defined) (names : List (List ℕ)) → [] ≡ names → [] ≡ local_names shared d names
+local_none shared d names e = ap (local_names shared d) e
 
 if_not : (b c : Bool) (name : List ℕ) (names : List (List ℕ)) → b ≡ c → (if not b then name ∷ names else names) ≡ (if not c then name ∷ names else names)
 if_not b c name names e = ap (λ x. if not x then name ∷ names else names) e
 
-pub local_global : (global : List ℕ → Bool) (d : Defined) (names : List (List ℕ)) (name : List ℕ) → name ∷ [] ≡ names → global name ≡ true → [] ≡ local_names global d names
-local_global global d names name e g =
-    sym (ap (λ l. filter (λ x. not (is_absolute x)) (map (λ name. local_symbol name d) l)) (if_not (global name) true name [] g)) ∙ ap (local_names global d) e
+pub local_shared : (shared : List ℕ → Bool) (d : Defined) (names : List (List ℕ)) (name : List ℕ) → name ∷ [] ≡ names → shared name ≡ true → [] ≡ local_names shared d names
+local_shared shared d names name e g =
+    sym (ap (λ l. filter (λ x. not (is_absolute x)) (map (λ name. local_symbol name d) l)) (if_not (shared name) true name [] g)) ∙ ap (local_names shared d) e
 
 one_number : (d : Defined) (name : List ℕ) → is_number d ≡ true → filter (λ x. not (is_absolute x)) (local_symbol name d ∷ []) ≡ []
 one_number (Absolute n) name e = refl
@@ -46,14 +46,14 @@ one_place Undefined name e = refl
 one_place (InSection s o) name e = refl
 one_place (Skipped n) name e = refl
 
-pub local_number : (global : List ℕ → Bool) (d : Defined) (names : List (List ℕ)) (name : List ℕ) → name ∷ [] ≡ names → global name ≡ false → is_number d ≡ true → [] ≡ local_names global d names
-local_number global d names name e g n =
-    sym (ap (λ l. filter (λ x. not (is_absolute x)) (map (λ name. local_symbol name d) l)) (if_not (global name) false name [] g) ∙ one_number d name n) ∙ ap (local_names global d) e
+pub local_number : (shared : List ℕ → Bool) (d : Defined) (names : List (List ℕ)) (name : List ℕ) → name ∷ [] ≡ names → shared name ≡ false → is_number d ≡ true → [] ≡ local_names shared d names
+local_number shared d names name e g n =
+    sym (ap (λ l. filter (λ x. not (is_absolute x)) (map (λ name. local_symbol name d) l)) (if_not (shared name) false name [] g) ∙ one_number d name n) ∙ ap (local_names shared d) e
 
-pub local_one : (global : List ℕ → Bool) (d : Defined) (names : List (List ℕ)) (name : List ℕ) → name ∷ [] ≡ names → global name ≡ false → is_number d ≡ false
-    → local_symbol name d ∷ [] ≡ local_names global d names
-local_one global d names name e g n =
-    sym (ap (λ l. filter (λ x. not (is_absolute x)) (map (λ name. local_symbol name d) l)) (if_not (global name) false name [] g) ∙ one_place d name n) ∙ ap (local_names global d) e
+pub local_one : (shared : List ℕ → Bool) (d : Defined) (names : List (List ℕ)) (name : List ℕ) → name ∷ [] ≡ names → shared name ≡ false → is_number d ≡ false
+    → local_symbol name d ∷ [] ≡ local_names shared d names
+local_one shared d names name e g n =
+    sym (ap (λ l. filter (λ x. not (is_absolute x)) (map (λ name. local_symbol name d) l)) (if_not (shared name) false name [] g) ∙ one_place d name n) ∙ ap (local_names shared d) e
 
 abbrev pub shared_names : Tables → (List ℕ → Bool) → Defined → List (List ℕ) → List Symbol
 shared_names t shared d names = map (λ name. shared_symbol t name d) (filter shared names)

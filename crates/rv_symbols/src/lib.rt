@@ -2,7 +2,7 @@
 //!
 //! It takes a source's unit (`rv_unit`), the offset of each statement in its section, and the symbols that relocations
 //! name. It gives the symbols as an object has them (`rv_object`), those of the file alone, then those that it defines for
-//! all files, then those that it leaves undefined, and a number for each use. The symbols lend the names of the source. The
+//! other files, then those that it leaves undefined, and a number for each use. The symbols lend the names of the source. The
 //! main contract is that of [`symbols`]: these are the symbols that `rv_assemble_laws` defines (`specs/Symbols`), and each
 //! number stands for its use.
 //!

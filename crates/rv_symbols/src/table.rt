@@ -22,7 +22,7 @@ use std::alloc::{AllocError, Global};
 /// The symbols of an object, and for each use of a symbol its index.
 #[derive(Drop)]
 pub struct SymbolTable<'a> {
-    /// Those of the file alone, then those that it defines for all files, then those that it leaves undefined.
+    /// Those of the file alone, then those that it defines for other files, then those that it leaves undefined.
     pub symbols: Vec<Symbol<'a>>,
     /// A number for each use, in the order of the uses: the index of its symbol.
     pub numbers: Vec<u32>,

@@ -6,7 +6,7 @@ use Rattle.rv_assemble_laws.specs.Symbols.{local_symbol, site_definition, named_
 use Rattle.rv_symbols.specs.Source.{name_in, tables_of}
 use Rattle.rv_symbols.specs.Found.{is_number}
 use Rattle.rv_symbols.proofs.StandsLemmas.{ordinal_is}
-use Rattle.rv_symbols.proofs.NamingLemmas.{local_none, local_global, local_number, local_one, named_at}
+use Rattle.rv_symbols.proofs.NamingLemmas.{local_none, local_shared, local_number, local_one, named_at}
 use Rattle.rv_symbols.proofs.locals.local.Goals as goal
 
 pub returns-in_default-clause-symbols : goal.returns-in_default-clause-symbols
@@ -20,7 +20,7 @@ pub returns-then-is_shared-clause-symbols : goal.returns-then-is_shared-clause-s
 returns-then-is_shared-clause-symbols c = λ sites s h at kind.
     let x = c.args.source.now in
     let t = tables_of x in
-    local_global (λ n. is_shared (t.bindings n)) (site_definition t sites s s.located.kind) (defined_name t s.located.ordinal s.located.kind) c.in-Some.name.now
+    local_shared (λ n. is_shared (t.bindings n)) (site_definition t sites s s.located.kind) (defined_name t s.located.ordinal s.located.kind) c.in-Some.name.now
     (ap name_in (sym c.in-Some.is) ∙ named_at t _ c.args.index s (statement_of c.args.statement.now).kind (ordinal_is x sites h c.args.index s at) kind (c.defined.ensures.name sites h))
     (sym (c.is_shared.ensures sites h) ∙ c.if-is_shared.true)
 
