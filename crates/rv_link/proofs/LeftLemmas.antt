@@ -1,6 +1,6 @@
 -- What relaxation leaves of objects: as many, with the same names.
 
-use Rattle.std.proofs.Common.{◌≡◌, ℕ, suc, Bool, true, false, ◌&&◌, List, [], ◌∷◌, length, map, refl, ap, sym, ◌∙◌, subst, arith}
+use Rattle.std.proofs.Common.{◌≡◌, ℕ, suc, Bool, true, false, List, [], ◌∷◌, length, map, refl, ap, sym, ◌∙◌, subst, arith}
 use Rattle.std.proofs.lemmas.List.{length-map}
 use Rattle.rv_layout_laws.proofs.ShorteningLemmas.{greatest_closed_exists}
 use Rattle.rv_object.specs.declared.object.Object.{Object as DeclaredObject}
@@ -8,9 +8,8 @@ use Rattle.rv_object.specs.declared.symbol.Definition.{Definition}
 use Rattle.rv_object.specs.declared.symbol.Definition.TheVariants as definitions
 use Rattle.rv_object.specs.Object.{Symbol, Object}
 use Rattle.rv_object.specs.View.{object_of}
-use Rattle.rv_object_laws.specs.Names.{is_defined, is_global}
 use Rattle.rv_object_laws.specs.CallSites.{is_short_text, sites_of}
-use Rattle.rv_object_laws.specs.Shortened.{Sizes, shortened_definition, shortened_symbol, shortened_from, shortened, IsRelaxed, Relaxes}
+use Rattle.rv_object_laws.specs.Shortened.{Sizes, shortened_symbol, shortened_from, shortened, IsRelaxed, Relaxes}
 use Rattle.rv_object_laws.proofs.TextLineLemmas.{sites_text}
 use Rattle.rv_resolve.specs.Chosen.{seen, seen_of}
 use Rattle.rv_resolve.specs.Exports.{first_again}
@@ -21,14 +20,14 @@ use Rattle.rv_link.specs.Refusals.{ArePast, AreWithin, AreDoubled, IsUnlinked, H
 
 -- ---- names
 
-same_defined : (sizes : ℕ → Sizes) (o : Object) (d : Definition) → is_defined (shortened_definition sizes o d) ≡ is_defined d
-same_defined sizes o definitions.Undefined = refl
-same_defined sizes o (definitions.Absolute n) = refl
-same_defined sizes o (definitions.InSection section offset) = refl
-same_defined sizes o (definitions.Skipped n) = refl
-
 same_seen : (sizes : ℕ → Sizes) (o : Object) (s : Symbol) → seen (shortened_symbol sizes o s) ≡ seen s
-same_seen sizes o s = ap (λ b. record { name = s.name; defined = b; exported = is_global s.binding && b }) (same_defined sizes o s.definition)
+same_seen sizes o s = by s.definition
+  where
+    by : (d : Definition) → seen (shortened_symbol sizes o (record s { definition = d })) ≡ seen (record s { definition = d })
+    by definitions.Undefined = refl
+    by (definitions.Absolute n) = refl
+    by (definitions.InSection section offset) = refl
+    by (definitions.Skipped n) = refl
 
 seen_in : (sizes : ℕ → Sizes) (o : Object) (ss : List Symbol) → map seen (map (shortened_symbol sizes o) ss) ≡ map seen ss
 seen_in sizes o [] = refl

@@ -96,7 +96,7 @@ has_its_room os start p placed roomy file o index s at there =
 -- ---- the whole
 
 pub is_link : (os : List Object) (start : ℕ) (names : Names) (p : Placement) (entry : ℕ) (r : Regions) → length os ≤ most_files → start % 4096 ≡ 0 → start < stack_start → IsNamed os names → IsPlacement os start p → are_roomy p ≡ true
-    → entry_of (starts_of p) 1 os ≡ Some entry → entry % 2 ≡ 0 → AreGrown os p (λ goes. []) r → IsMap (made os p entry r).map → IsLinkOf os start (made os p entry r)
+    → entry_of (starts_of p) os ≡ Some entry → entry % 2 ≡ 0 → AreGrown os p (λ goes. []) r → IsMap (made os p entry r).map → IsLinkOf os start (made os p entry r)
 is_link os start names p entry r few page low named placed roomy begins even grown readable =
     let resolved = named.resolved (starts_of p) (record (regions_of p) { globals = shown_globals os p }) refl in
     record {

@@ -17,7 +17,7 @@ use Rattle.rv_object_laws.specs.Values.{applied, patched_at, value, is_low, init
 use Rattle.rv_shorten.specs.Cutting.{cut_relocation}
 use Rattle.rv_placement.specs.declared.placement.Placement.{Placement}
 use Rattle.rv_placement.specs.Placement.{starts_of}
-use Rattle.rv_resolve.specs.Shown.{shown_globals}
+use Rattle.rv_resolve.specs.Shown.{outer_in}
 use Rattle.rv_link.specs.declared.fault.LinkFault.{LinkFault}
 use Rattle.rv_link.specs.declared.fault.LinkFault.TheVariants.{Overflow, OddTarget, DanglingPcrel, AlignmentShort, Undefined, Duplicate, EntryMissing, ImageTooLarge, BadTextStart, TooManyFiles, OutOfMemory}
 use Rattle.rv_link.specs.Fault.{IsOfPatch}
@@ -50,7 +50,7 @@ pub record IsPatched (os : List Object) (p : Placement) (i : InputSection) (ms :
 
 pub patched_step : (os : List Object) (p : Placement) (i : InputSection) (ms : List Move) (all : List Relocation) (old : List ℕ)
     (from : List Relocation) (r : Relocation) (left : List Relocation) (bytes new : List ℕ) (v : ℤ) → IsPatched os p i ms all old from bytes → from ≡ r ∷ left
-    → value (shown_globals os p) (starts_of p) os i r ≡ Some v → (is_low r.kind ≡ true → r.addend ≡ pos 0) → Takes r.kind v
+    → value (outer_in os p) (starts_of p) os i r ≡ Some v → (is_low r.kind ≡ true → r.addend ≡ pos 0) → Takes r.kind v
     → new ≡ patched_at (new_offset ms r.place) r.kind v bytes → length new ≡ length bytes → IsPatched os p i ms all old left new
 patched_step os p i ms all old from r left bytes new v is front found alone takes writes keeps =
     let here : worth os p i r ≡ v = ap (λ x. unwrap_or x (pos 0)) found in
@@ -72,7 +72,7 @@ pub patched_failed : (os : List Object) (p : Placement) (i : InputSection) (ms :
 patched_failed os p i ms all old from r left bytes fault is front h = is.first fault (subst (λ l. IsFirst (IsTaken os p i) (IsUntaken os p i fault) l) (sym front) (inl h))
 
 -- a field that does not take its value
-pub untaken_by : (os : List Object) (p : Placement) (i : InputSection) (r : Relocation) (v : ℤ) (fault : LinkFault) → value (shown_globals os p) (starts_of p) os i r ≡ Some v → (is_low r.kind ≡ true → r.addend ≡ pos 0)
+pub untaken_by : (os : List Object) (p : Placement) (i : InputSection) (r : Relocation) (v : ℤ) (fault : LinkFault) → value (outer_in os p) (starts_of p) os i r ≡ Some v → (is_low r.kind ≡ true → r.addend ≡ pos 0)
     → IsOfPatch r.kind v fault → IsUntaken os p i fault r
 untaken_by os p i r v Overflow found alone h = (v, (found, alone), h)
 untaken_by os p i r v OddTarget found alone h = (v, (found, alone), h)

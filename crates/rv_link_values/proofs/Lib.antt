@@ -5,3 +5,4 @@ mod PlacesLemmas
 mod CalculatedLemmas
 mod SymbolsLemmas
 mod PairsLemmas
+mod ValuedLemmas

@@ -4,11 +4,10 @@ use Rattle.std.proofs.Common.{◌≡◌, ◌⊎◌, ℕ, ℤ, ◌+◌, ◌-◌, 
 use Rattle.std.specs.Prelude.{slice_index_or}
 use Rattle.std.specs.List.{slice_get}
 use Rattle.std.proofs.lemmas.Option.{unwrap_or-slice_get}
-use Rattle.rv_map.specs.Map.{Global}
 use Rattle.rv_object.specs.Object.{Relocation, Section, Object}
 use Rattle.rv_object_laws.specs.Moves.{moves, new_offset}
 use Rattle.rv_object_laws.specs.Inputs.{InputSection}
-use Rattle.rv_object_laws.specs.Names.{object_at, no_object}
+use Rattle.rv_object_laws.specs.Names.{Outer, object_at, no_object}
 use Rattle.rv_object_laws.specs.Values.{own_value, high_at, value_at, value_in}
 use Rattle.rv_relax.specs.Plan.{moves_of}
 use Rattle.rv_placement.specs.declared.placement.PlacedSection.{PlacedSection}
@@ -52,12 +51,12 @@ section_cases os file index = by (slice_get os file) refl
 
 -- ---- the value at an old offset of a section
 
-module _ (os : List Object) (start : ℕ) (p : Placement) (is : IsPlacement os start p) (globals : List Global) (file index offset : ℕ) where
+module _ (os : List Object) (start : ℕ) (p : Placement) (is : IsPlacement os start p) (outer : Outer) (file index offset : ℕ) where
   abbrev worth : Option ℤ
-  worth = value_at globals (starts_of p) os (Some (place_of (file, index, offset)))
+  worth = value_at outer (starts_of p) os (Some (place_of (file, index, offset)))
 
   absent : section_at os file index ≡ None → worth ≡ None
-  absent none = ap (value_in globals (starts_of p) (file + 1) (object_at os (file + 1)) index offset) (sections_at os file index ∙ none)
+  absent none = ap (value_in outer (starts_of p) (file + 1) (object_at os (file + 1)) index offset) (sections_at os file index ∙ none)
 
   start_is : (q : PlacedSection) → placed_at p file index ≡ Some q → starts_of p (file + 1) index ≡ q.start
   start_is q there =
@@ -73,11 +72,11 @@ module _ (os : List Object) (start : ℕ) (p : Placement) (is : IsPlacement os s
       ∙ sym (ap (λ w. high_in w (section_at os file index) (new_offset (moves_of q.plan) offset)) there ∙ ap (λ t. high_in (Some q) t (new_offset (moves_of q.plan) offset)) section)
 
   present : (q : PlacedSection) → placed_at p file index ≡ Some q → (o : Object) (s : Section) → slice_get os file ≡ Some o → slice_get o.sections index ≡ Some s
-      → worth ≡ option_map (own_value globals (starts_of p (file + 1)) o (starts_of p (file + 1) index) s) (high_of p os file index (new_offset (moves_of q.plan) offset))
+      → worth ≡ option_map (own_value outer (starts_of p (file + 1)) o (starts_of p (file + 1) index) s) (high_of p os file index (new_offset (moves_of q.plan) offset))
   present q there o s at stands =
-      ap (λ x. value_in globals (starts_of p) (file + 1) x index offset (slice_get x.sections index)) (same_object os file o at)
-      ∙ ap (value_in globals (starts_of p) (file + 1) o index offset) stands
-      ∙ ap (option_map (own_value globals (starts_of p (file + 1)) o (starts_of p (file + 1) index) s)) (high_found q there o s at stands)
+      ap (λ x. value_in outer (starts_of p) (file + 1) x index offset (slice_get x.sections index)) (same_object os file o at)
+      ∙ ap (value_in outer (starts_of p) (file + 1) o index offset) stands
+      ∙ ap (option_map (own_value outer (starts_of p (file + 1)) o (starts_of p (file + 1) index) s)) (high_found q there o s at stands)
 
   pub without_place : placed_at p file index ≡ None → None ≡ worth
   without_place none = elim (section_cases os file index) [
@@ -88,16 +87,16 @@ module _ (os : List Object) (start : ℕ) (p : Placement) (is : IsPlacement os s
   pub without_high : (q : PlacedSection) → placed_at p file index ≡ Some q → high_of p os file index (new_offset (moves_of q.plan) offset) ≡ None → None ≡ worth
   without_high q there none = elim (section_cases os file index) [
     | inl gone ↦ sym (absent gone)
-    | inr (o, s, at, stands) ↦ sym (present q there o s at stands ∙ ap (option_map (own_value globals (starts_of p (file + 1)) o (starts_of p (file + 1) index) s)) none)
+    | inr (o, s, at, stands) ↦ sym (present q there o s at stands ∙ ap (option_map (own_value outer (starts_of p (file + 1)) o (starts_of p (file + 1) index) s)) none)
   ]
 
   pub with_high : (q : PlacedSection) → placed_at p file index ≡ Some q → (r : Relocation) → high_of p os file index (new_offset (moves_of q.plan) offset) ≡ Some r
-      → (n : ℤ) → ((i : InputSection) → IsInputAt os file index i → n ≡ own_value globals (starts_of p i.file) i.object (starts_of p i.file i.index) i.section r)
+      → (n : ℤ) → ((i : InputSection) → IsInputAt os file index i → n ≡ own_value outer (starts_of p i.file) i.object (starts_of p i.file i.index) i.section r)
       → Some n ≡ worth
   with_high q there r high n claim = elim (section_cases os file index) [
     | inl gone ↦ absurd (let none : Some r ≡ None = sym high ∙ ap (λ w. high_in w (section_at os file index) (new_offset (moves_of q.plan) offset)) there ∙ ap (λ t. high_in (Some q) t (new_offset (moves_of q.plan) offset)) gone in cc)
     | inr (o, s, at, stands) ↦
         let i : InputSection = record { file = file + 1; object = o; index = index; section = s } in
         ap Some (claim i (record { numbered = refl; at = at; indexed = refl; there = stands }))
-        ∙ sym (present q there o s at stands ∙ ap (option_map (own_value globals (starts_of p (file + 1)) o (starts_of p (file + 1) index) s)) high)
+        ∙ sym (present q there o s at stands ∙ ap (option_map (own_value outer (starts_of p (file + 1)) o (starts_of p (file + 1) index) s)) high)
   ]

@@ -1,24 +1,25 @@
 -- What names and rows have by where loaded sections start.
 
 use Rattle.std.proofs.Common.{◌≡◌, ℕ, suc, ◌+◌, ◌%◌, ◌^◌, Bool, true, false, List, [], ◌∷◌, ◌++◌, map, refl, ap, ◌∙◌, Option, Some, None}
-use Rattle.std.specs.Prelude.{option_and_then, flat_map, nat_le, if◌then◌else◌}
-use Rattle.std.specs.List.{AllByRecursion, find, slice_get}
+use Rattle.std.specs.Prelude.{option_and_then, flat_map, nat_le, codes, if◌then◌else◌}
+use Rattle.std.specs.List.{AllByRecursion, slice_get}
 use Rattle.rv_map.specs.Globals.{shown}
 use Rattle.rv_object.specs.declared.row.Row.{Row}
 use Rattle.rv_object.specs.declared.symbol.Definition.{Definition}
 use Rattle.rv_object.specs.declared.symbol.Definition.TheVariants as definitions
-use Rattle.rv_object.specs.Object.{Section, Symbol, Object}
+use Rattle.rv_object.specs.Object.{Section, Object}
 use Rattle.rv_object_laws.specs.Moves.{moves, new_offset}
 use Rattle.rv_object_laws.specs.Inputs.{Starts}
-use Rattle.rv_object_laws.specs.Names.{offset_address, defined_address, exported, globals_of, begins_run, entry_by, entry_of}
+use Rattle.rv_object_laws.specs.Names.{Export, offset_address, defined_address, chosen, chosen_exports, export_address, globals_of, begins_run, run_start, entry_of}
 use Rattle.rv_object_laws.specs.IsLinkOf.{moves_at, map_row, row_in, inserted_row, by_ordinal, rows_of}
 use Rattle.rv_resolve.specs.Undefined.{is_loaded_at}
 use Rattle.rv_unique_link_laws.specs.Asked.{HavePlacedRows}
+use Rattle.rv_unique_link_laws.proofs.ExportsLemmas.{OfExport, of_chosen, all_chosen}
 use Rattle.rv_unique_link_laws.proofs.AgreedLemmas.{IsAgreed, AreAgreed}
 
-flat_same : {X Y : Type 0} (f g : X → List Y) → ((x : X) → f x ≡ g x) → (xs : List X) → flat_map f xs ≡ flat_map g xs
-flat_same f g same [] = refl
-flat_same f g same (x ∷ xs) = ap (λ l. l ++ flat_map f xs) (same x) ∙ ap (λ l. g x ++ l) (flat_same f g same xs)
+flat_same : {X Y : Type 0} (f g : X → List Y) (P : X → Type 0) → ((x : X) → P x → f x ≡ g x) → (xs : List X) → AllByRecursion P xs → flat_map f xs ≡ flat_map g xs
+flat_same f g P same [] h = refl
+flat_same f g P same (x ∷ xs) (own, h) = ap (λ l. l ++ flat_map f xs) (same x own) ∙ ap (λ l. g x ++ l) (flat_same f g P same xs h)
 
 module _ (s t : Starts) (file : ℕ) (o : Object) (agreed : IsAgreed s t file o) where
   pub defined_same : (d : Definition) → defined_address (s file) o d ≡ defined_address (t file) o d
@@ -36,13 +37,6 @@ module _ (s t : Starts) (file : ℕ) (o : Object) (agreed : IsAgreed s t file o)
       go : (f : Option Section) → slice_get o.sections section ≡ f → offset_address (s file section) offset f ≡ offset_address (t file section) offset f
       go None at = refl
       go (Some x) at = by x at x.loaded refl
-
-  shown_same : (x : Symbol) → shown x.name (defined_address (s file) o x.definition) ≡ shown x.name (defined_address (t file) o x.definition)
-  shown_same x = ap (shown x.name) (defined_same x.definition)
-
-  begun_same : (f : Option Symbol) → option_and_then (λ (x : Symbol). defined_address (s file) o x.definition) f ≡ option_and_then (λ (x : Symbol). defined_address (t file) o x.definition) f
-  begun_same None = refl
-  begun_same (Some x) = defined_same x.definition
 
   row_same : (r : Row) → is_loaded_at (slice_get o.sections r.section) ≡ true → row_in s file o r ≡ row_in t file o r
   row_same r loaded = go (slice_get o.sections r.section) refl loaded
@@ -70,18 +64,20 @@ module _ (P : Row → Type 0) where
   all_ordered (r ∷ rs) (one, h) = all_inserted r (by_ordinal rs) one (all_ordered rs h)
 
 module _ (s t : Starts) where
-  pub all_globals : (file : ℕ) (os : List Object) → AreAgreed s t file os → globals_of s file os ≡ globals_of t file os
-  all_globals file [] h = refl
-  all_globals file (o ∷ os) (own, h) =
-      ap (λ l. l ++ globals_of s (suc file) os)
-      (flat_same (λ (x : Symbol). shown x.name (defined_address (s file) o x.definition)) (λ (x : Symbol). shown x.name (defined_address (t file) o x.definition)) (shown_same s t file o own) (exported o))
-      ∙ ap (λ l. flat_map (λ (x : Symbol). shown x.name (defined_address (t file) o x.definition)) (exported o) ++ l) (all_globals (suc file) os h)
+  export_same : (e : Export) → IsAgreed s t e.file e.object → export_address s e ≡ export_address t e
+  export_same e own = defined_same s t e.file e.object own e.symbol.definition
 
-  pub all_entries : (file : ℕ) (os : List Object) → AreAgreed s t file os → entry_of s file os ≡ entry_of t file os
-  all_entries file [] h = refl
-  all_entries file (o ∷ os) (own, h) =
-      ap (λ a. entry_by a (entry_of s (suc file) os)) (begun_same s t file o own (find (begins_run o) (exported o)))
-      ∙ ap (entry_by (option_and_then (λ (x : Symbol). defined_address (t file) o x.definition) (find (begins_run o) (exported o)))) (all_entries (suc file) os h)
+  pub all_globals : (os : List Object) → AreAgreed s t 1 os → globals_of s os ≡ globals_of t os
+  all_globals os h =
+      flat_same (λ (e : Export). shown e.symbol.name (export_address s e)) (λ (e : Export). shown e.symbol.name (export_address t e)) (OfExport (IsAgreed s t))
+      (λ e own. ap (shown e.symbol.name) (export_same e own)) (chosen_exports os) (all_chosen (IsAgreed s t) os h)
+
+  pub all_entries : (os : List Object) → AreAgreed s t 1 os → entry_of s os ≡ entry_of t os
+  all_entries os h = by (chosen os (codes "_start")) refl
+    where
+      by : (f : Option Export) → chosen os (codes "_start") ≡ f → option_and_then (run_start s) f ≡ option_and_then (run_start t) f
+      by None is = refl
+      by (Some e) is = ap (λ a. if begins_run e then a else None) (export_same e (of_chosen (IsAgreed s t) os h (codes "_start") e is))
 
   pub all_rows : (file : ℕ) (os : List Object) → AreAgreed s t file os → HavePlacedRows os → rows_of s file os ≡ rows_of t file os
   all_rows file [] h placed = refl

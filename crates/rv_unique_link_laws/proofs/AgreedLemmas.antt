@@ -1,7 +1,7 @@
 -- Sections that stand one behind another stand so in one way.
 
 use Rattle.std.proofs.Common.{◌≡◌, ℕ, suc, ◌+◌, ◌-◌, Bool, true, false, List, [], ◌∷◌, ◌++◌, refl, sym, ap, ◌∙◌, subst, Some, inl, inr}
-use Rattle.std.specs.Prelude.{⊤, ◌⊎◌, not, ◌&&◌, nat_lt, if◌then◌else◌}
+use Rattle.std.specs.Prelude.{◌⊎◌, not, ◌&&◌, nat_lt, if◌then◌else◌}
 use Rattle.std.specs.List.{AllByRecursion, slice_get}
 use Rattle.rv_layout_laws.specs.Alignment.{aligned}
 use Rattle.rv_isa_laws.specs.Bytes.{zeros}
@@ -10,6 +10,7 @@ use Rattle.rv_object.specs.Object.{Section, Object, size_of}
 use Rattle.rv_object_laws.specs.Moves.{moves, new_offset}
 use Rattle.rv_object_laws.specs.Inputs.{Starts, InputSection, is_nobits, goes_to_text, goes_to_rodata, goes_to_data, goes_to_bss, inputs_from, inputs_of, inputs, start_of, size, Stand, end_of, Holds, gaps_of, greatest, contents}
 use Rattle.rv_unique_link_laws.proofs.FoundLemmas.{all_left, all_right, found_in}
+use Rattle.rv_unique_link_laws.proofs.ExportsLemmas.{OfFiles}
 
 -- ---- sections of one region
 
@@ -64,8 +65,7 @@ abbrev pub IsAgreed : Starts → Starts → ℕ → Object → Type 0
 IsAgreed s t file o = (index : ℕ) (x : Section) → slice_get o.sections index ≡ Some x → x.loaded ≡ true → s file index ≡ t file index
 
 abbrev pub AreAgreed : Starts → Starts → ℕ → List Object → Type 0
-AreAgreed s t file [] = ⊤
-AreAgreed s t file (o ∷ os) = IsAgreed s t file o × AreAgreed s t (suc file) os
+AreAgreed s t = OfFiles (IsAgreed s t)
 
 -- a loaded section goes to one of the regions
 some_region : (l e n w : Bool) → l ≡ true

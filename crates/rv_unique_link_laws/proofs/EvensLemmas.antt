@@ -1,22 +1,22 @@
 -- A run of objects of the code begins at an even address.
 
 use Rattle.std.proofs.Common.{◌≡◌, ℕ, zero, suc, ◌+◌, ◌-◌, ◌/◌, ◌%◌, ◌^◌, Bool, true, false, not, cond, ◌&&◌, ◌||◌, nat_le, nat_lt, min, List, [], ◌∷◌, length, refl, sym, ap, ◌∙◌, arith, Option, Some, None}
-use Rattle.std.specs.Prelude.{IsTrue, ◌==◌, filter, unwrap_or, option_and_then, bytes_eq, codes, if◌then◌else◌}
-use Rattle.std.specs.List.{AllByRecursion, find, list_all, slice_get}
+use Rattle.std.specs.Prelude.{IsTrue, ◌==◌, filter, unwrap_or, option_and_then, codes, if◌then◌else◌}
+use Rattle.std.specs.List.{AllByRecursion, list_all, slice_get}
 use Rattle.std.proofs.lemmas.Bool.{and_parts, eqb-true}
 use Rattle.std.proofs.lemmas.List.{length-append}
 use Rattle.rv_layout_laws.specs.Alignment.{aligned}
 use Rattle.rv_object.specs.declared.symbol.Definition.{Definition}
 use Rattle.rv_object.specs.declared.symbol.Definition.TheVariants as definitions
-use Rattle.rv_object.specs.Object.{Contents, Relocation, Section, Symbol, Object, size_of}
+use Rattle.rv_object.specs.Object.{Contents, Relocation, Section, Object, size_of}
 use Rattle.rv_object.specs.Padding.{four_each, no_operations}
 use Rattle.rv_object.specs.Valid.{is_align, padding_of, is_padding, is_padding_of, are_all_apart, are_paddings}
 use Rattle.rv_object_laws.specs.Moves.{dropped, new_offset, full_padding, has_padding, alignment_of, inserted, by_place, alignments_of, plan, moves}
 use Rattle.rv_object_laws.specs.Inputs.{Starts, InputSection, goes_to_text, inputs_from, inputs_of, inputs, begins_at, start_of, size, Stand}
-use Rattle.rv_object_laws.specs.Names.{offset_address, defined_address, exported, is_in_text, can_begin, begins_run, entry_by, entry_of}
-use Rattle.rv_resolve.proofs.EntryLemmas.{found_passes}
+use Rattle.rv_object_laws.specs.Names.{Export, offset_address, defined_address, chosen, export_address, is_in_text, can_begin, begins_run, run_start, entry_of}
 use Rattle.rv_unique_link_laws.specs.Asked.{BeginsEven, IsSound}
 use Rattle.rv_unique_link_laws.proofs.FoundLemmas.{all_left, all_right, found_in}
+use Rattle.rv_unique_link_laws.proofs.ExportsLemmas.{OfFiles, of_chosen}
 use Rattle.rv_unique_link_laws.proofs.ValuesLemmas.{all_at}
 use Rattle.rv_unique_link_laws.proofs.MultiplesLemmas.{BeginsSo, aligned_even, all_begin}
 
@@ -134,27 +134,28 @@ module _ (starts : Starts) (file : ℕ) (o : Object) (sound : IsSound o) (even :
       go None at text whole is = absurd (cc)
       go (Some x) at text whole is = by x at text whole x.loaded is
 
-entry_even : (starts : Starts) (file : ℕ) (os : List Object) → AllByRecursion IsSound os → AllByRecursion (StartsEven starts) (inputs_of goes_to_text file os) → (a : ℕ) → entry_of starts file os ≡ Some a → a % 2 ≡ 0
-entry_even starts file [] h even a is = absurd (cc)
-entry_even starts file (o ∷ os) (sound, h) even a is =
-    go (find (begins_run o) (exported o)) refl is
-    (entry_even starts (suc file) os h (all_right (StartsEven starts) (inputs_from goes_to_text file o 0 o.sections) (inputs_of goes_to_text (suc file) os) even) a)
-  where
-    own : AllByRecursion (StartsEven starts) (inputs_from goes_to_text file o 0 o.sections)
-    own = all_left (StartsEven starts) (inputs_from goes_to_text file o 0 o.sections) (inputs_of goes_to_text (suc file) os) even
+module _ (starts : Starts) where
+  -- a file of sound objects, whose text's sections start at even addresses
+  abbrev IsEvenFile : ℕ → Object → Type 0
+  IsEvenFile file o = IsSound o × AllByRecursion (StartsEven starts) (inputs_from goes_to_text file o 0 o.sections)
 
-    by : (f : Option ℕ) → ((b : ℕ) → f ≡ Some b → b % 2 ≡ 0) → entry_by f (entry_of starts (suc file) os) ≡ Some a → (entry_of starts (suc file) os ≡ Some a → a % 2 ≡ 0) → a % 2 ≡ 0
-    by (Some b) each is rest =
-        let same : b ≡ a = cc in
-        ap (λ n. n % 2) (sym same) ∙ each b refl
-    by None each is rest = rest is
+  even_files : (file : ℕ) (os : List Object) → AllByRecursion IsSound os → AllByRecursion (StartsEven starts) (inputs_of goes_to_text file os) → OfFiles IsEvenFile file os
+  even_files file [] h even = tt
+  even_files file (o ∷ os) (sound, h) even = (
+    (sound, all_left (StartsEven starts) (inputs_from goes_to_text file o 0 o.sections) (inputs_of goes_to_text (suc file) os) even),
+    even_files (suc file) os h (all_right (StartsEven starts) (inputs_from goes_to_text file o 0 o.sections) (inputs_of goes_to_text (suc file) os) even),
+  )
 
-    go : (f : Option Symbol) → find (begins_run o) (exported o) ≡ f → entry_by (option_and_then (λ (s : Symbol). defined_address (starts file) o s.definition) f) (entry_of starts (suc file) os) ≡ Some a
-        → (entry_of starts (suc file) os ≡ Some a → a % 2 ≡ 0) → a % 2 ≡ 0
-    go None at is rest = rest is
-    go (Some s) at is rest =
-        by (defined_address (starts file) o s.definition)
-        (λ b there. definition_even starts file o sound own s.definition (and_parts (bytes_eq s.name (codes "_start")) (can_begin o s.definition) (found_passes (begins_run o) (exported o) s at)).1 b there) is rest
+  entry_even : (os : List Object) → OfFiles IsEvenFile 1 os → (a : ℕ) → entry_of starts os ≡ Some a → a % 2 ≡ 0
+  entry_even os files a is = go (chosen os (codes "_start")) refl is
+    where
+      by : (e : Export) → IsEvenFile e.file e.object → (b : Bool) → begins_run e ≡ b → (if b then export_address starts e else None) ≡ Some a → a % 2 ≡ 0
+      by e (sound, even) true begins is = definition_even starts e.file e.object sound even e.symbol.definition begins a is
+      by e own false begins is = absurd (cc)
+
+      go : (f : Option Export) → chosen os (codes "_start") ≡ f → option_and_then (run_start starts) f ≡ Some a → a % 2 ≡ 0
+      go None at is = absurd (cc)
+      go (Some e) at is = by e (of_chosen IsEvenFile os files (codes "_start") e at) (begins_run e) refl is
 
 pub begins_even : (os : List Object) (start : ℕ) → AllByRecursion IsSound os → BeginsEven os start
-begins_even os start h starts stand a is = entry_even starts 1 os h (all_even starts start (inputs goes_to_text os) (all_begin os h) stand) a is
+begins_even os start h starts stand a is = entry_even starts os (even_files starts 1 os h (all_even starts start (inputs goes_to_text os) (all_begin os h) stand)) a is

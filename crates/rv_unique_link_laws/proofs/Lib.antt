@@ -1,4 +1,5 @@
 pub mod FoundLemmas
+pub mod ExportsLemmas
 pub mod AgreedLemmas
 pub mod AddressesLemmas
 pub mod ValuesLemmas

@@ -1,23 +1,22 @@
 -- Where names have addresses, no reference is undefined.
 
 use Rattle.std.proofs.Common.{◌≡◌, ◌+◌, ℕ, suc, Bool, true, false, Option, Some, None, List, [], ◌∷◌, ◌++◌, is_some, refl, sym, ap, ◌∙◌, ◌%◌, ◌^◌}
-use Rattle.std.specs.Prelude.{IsTrue, option_and_then, if◌then◌else◌}
+use Rattle.std.specs.Prelude.{IsTrue, ◌||◌, option_and_then, if◌then◌else◌}
 use Rattle.std.specs.List.{AllByRecursion, slice_get}
 use Rattle.std.specs.Option.{option_or}
-use Rattle.rv_map.specs.Globals.{global_address, AreDistinct, linker_symbols}
-use Rattle.rv_map.specs.Map.{Map, Global}
+use Rattle.rv_map.specs.Globals.{global_address, linker_symbols}
+use Rattle.rv_map.specs.Map.{Map}
 use Rattle.rv_object.specs.declared.symbol.Definition.{Definition}
 use Rattle.rv_object.specs.declared.symbol.Definition.TheVariants as definitions
 use Rattle.rv_object.specs.Object.{Relocation, Section, Symbol, Object}
 use Rattle.rv_object_laws.specs.Moves.{moves, new_offset}
 use Rattle.rv_object_laws.specs.Inputs.{Starts, InputSection, inputs_from, inputs_of, inputs}
 use Rattle.rv_object_laws.specs.IsLinkOf.{is_loaded}
-use Rattle.rv_object_laws.specs.Names.{offset_address, defined_address, symbol_address, symbol_address_by, globals_of, global_names, is_defined, shown_linker_symbols}
+use Rattle.rv_object_laws.specs.Names.{Export, Outer, is_sure, is_weak, chosen, offset_address, defined_address, globals_of, shown_linker_symbols, outer_address, symbol_address}
 use Rattle.rv_object_laws.specs.Values.{target}
-use Rattle.rv_resolve.specs.Exports.{Export, export_of}
-use Rattle.rv_resolve.specs.Undefined.{has_address, is_loaded_at, is_known, undefined_symbol, undefined_name, undefined_in, first_some, first_undefined}
+use Rattle.rv_resolve.specs.Undefined.{has_address, is_loaded_at, is_known, is_resolved, undefined_symbol, undefined_name, undefined_in, first_some, first_undefined}
 use Rattle.rv_resolve.proofs.LinkerNamesLemmas.{some_address}
-use Rattle.rv_resolve.proofs.ShownLemmas.{meaning, means}
+use Rattle.rv_resolve.proofs.ShownLemmas.{outer_some, outer_none}
 use Rattle.rv_unique_link_laws.proofs.FoundLemmas.{input, all_left, all_right}
 
 some_by : (b : Bool) (n : ℕ) → is_some (if b then Some n else None) ≡ true → b ≡ true
@@ -34,36 +33,44 @@ addressed starts o (definitions.Absolute n) e = refl
 addressed starts o (definitions.InSection section offset) e = loaded_by (starts section) offset (slice_get o.sections section) e
 addressed starts o (definitions.Skipped n) e = absurd (cc)
 
-module _ (os : List Object) (starts : Starts) (m : Map) (distinct : AreDistinct (global_names os)) where
-  abbrev every : List Global
-  every = globals_of starts 1 os ++ shown_linker_symbols os m
+-- a name that nobody defines is the linker's, or 0
+unshown_by : (a : Option ℕ) (weak : Bool) → is_some (option_or a (if weak then Some 0 else None)) ≡ true → (is_some a || weak) ≡ true
+unshown_by (Some n) weak e = refl
+unshown_by None true e = refl
+unshown_by None false e = absurd (cc)
 
-  name_known : (name : List ℕ) → is_some (global_address every name) ≡ true → is_known name (export_of os name) ≡ true
-  name_known name e = by (export_of os name) (ap is_some (sym (means starts os m name distinct)) ∙ e)
+module _ (os : List Object) (starts : Starts) (m : Map) where
+  abbrev outer : Outer
+  outer = outer_address os (globals_of starts os ++ shown_linker_symbols os m)
+
+  outer_known : (s : Symbol) → is_some (outer s) ≡ true → is_known s (chosen os s.name) ≡ true
+  outer_known s e = by (chosen os s.name) refl
     where
-      by : (f : Option Export) → is_some (meaning starts m name f) ≡ true → is_known name f ≡ true
-      by (Some x) h = addressed (starts (x.file + 1)) x.object x.symbol.definition h
-      by None h = sym (some_address (linker_symbols m) name) ∙ h
+      by : (f : Option Export) → chosen os s.name ≡ f → is_known s f ≡ true
+      by (Some x) is = addressed (starts x.file) x.object x.symbol.definition (ap is_some (sym (outer_some starts os m s x is)) ∙ e)
+      by None is =
+          ap (λ b. b || is_weak s.binding) (sym (some_address (linker_symbols m) s.name))
+          ∙ unshown_by (global_address (linker_symbols m) s.name) (is_weak s.binding) (ap is_some (sym (outer_none starts os m s is)) ∙ e)
 
-  symbol_known : (own : ℕ → ℕ) (o : Object) (name : List ℕ) (d : Definition) → is_some (symbol_address_by every own o name d) ≡ true
-      → (if is_defined d then has_address o d else is_known name (export_of os name)) ≡ true
-  symbol_known own o name definitions.Undefined e = name_known name e
-  symbol_known own o name (definitions.Absolute n) e = refl
-  symbol_known own o name (definitions.InSection section offset) e = addressed own o (definitions.InSection section offset) e
-  symbol_known own o name (definitions.Skipped n) e = absurd (cc)
+  symbol_known : (own : ℕ → ℕ) (o : Object) (s : Symbol) → is_some (symbol_address outer own o s) ≡ true → is_resolved os o s ≡ true
+  symbol_known own o s e = by (is_sure s) e
+    where
+      by : (b : Bool) → is_some (if b then defined_address own o s.definition else outer s) ≡ true → (if b then has_address o s.definition else is_known s (chosen os s.name)) ≡ true
+      by true h = addressed own o s.definition h
+      by false h = outer_known s h
 
-  none_by : (own : ℕ → ℕ) (o : Object) (f : Option Symbol) → is_some (option_and_then (symbol_address every own o) f) ≡ true → undefined_symbol os o f ≡ None
+  none_by : (own : ℕ → ℕ) (o : Object) (f : Option Symbol) → is_some (option_and_then (symbol_address outer own o) f) ≡ true → undefined_symbol os o f ≡ None
   none_by own o None e = absurd (cc)
-  none_by own o (Some s) e = ap (λ b. if b then None else Some s.name) (symbol_known own o s.name s.definition e)
+  none_by own o (Some s) e = ap (λ b. if b then None else Some s.name) (symbol_known own o s e)
 
-  none_at : (own : ℕ → ℕ) (o : Object) (index : Option ℕ) → is_some (target every own o index) ≡ true → undefined_name os o index ≡ None
+  none_at : (own : ℕ → ℕ) (o : Object) (index : Option ℕ) → is_some (target outer own o index) ≡ true → undefined_name os o index ≡ None
   none_at own o None e = refl
   none_at own o (Some index) e = none_by own o (slice_get o.symbols index) e
 
   abbrev pub HaveTargets : InputSection → Type 0
-  HaveTargets i = AllByRecursion (λ r. IsTrue (is_some (target every (starts i.file) i.object r.symbol))) i.section.relocations
+  HaveTargets i = AllByRecursion (λ r. IsTrue (is_some (target outer (starts i.file) i.object r.symbol))) i.section.relocations
 
-  none_of : (own : ℕ → ℕ) (o : Object) (rs : List Relocation) → AllByRecursion (λ r. IsTrue (is_some (target every own o r.symbol))) rs → first_some (λ r. undefined_name os o r.symbol) rs ≡ None
+  none_of : (own : ℕ → ℕ) (o : Object) (rs : List Relocation) → AllByRecursion (λ r. IsTrue (is_some (target outer own o r.symbol))) rs → first_some (λ r. undefined_name os o r.symbol) rs ≡ None
   none_of own o [] h = refl
   none_of own o (r ∷ rs) (e, h) = ap (λ f. option_or f (first_some (λ q. undefined_name os o q.symbol) rs)) (none_at own o r.symbol e) ∙ none_of own o rs h
 

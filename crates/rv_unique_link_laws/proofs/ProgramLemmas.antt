@@ -4,14 +4,14 @@ use Rattle.std.proofs.Common.{◌≡◌, ℕ, List, [], ◌++◌, refl, sym, ap,
 use Rattle.std.specs.Prelude.{Bool, true, false, IsTrue, is_some, ◌&&◌, not}
 use Rattle.std.specs.List.{AllByRecursion}
 use Rattle.std.proofs.lemmas.Bool.{and_parts}
-use Rattle.rv_map.specs.Map.{Map, Global}
+use Rattle.rv_map.specs.Map.{Map}
 use Rattle.rv_map.specs.declared.map.Region.{Region}
 use Rattle.rv_image.specs.Linked.{Linked}
 use Rattle.rv_object.specs.Object.{Section, Object}
 use Rattle.rv_object_laws.specs.Inputs.{Starts, is_nobits, goes_to_text, goes_to_rodata, goes_to_data, inputs, contents}
-use Rattle.rv_object_laws.specs.Names.{globals_of, shown_linker_symbols}
+use Rattle.rv_object_laws.specs.Names.{Outer, outer_address, globals_of, shown_linker_symbols}
 use Rattle.rv_object_laws.specs.Values.{target, value, IsRelocated, linked_bytes}
-use Rattle.rv_object_laws.specs.IsLinkOf.{is_loaded, IsLinkOf}
+use Rattle.rv_object_laws.specs.IsLinkOf.{is_loaded, outer_of, IsLinkOf}
 use Rattle.rv_resolve.specs.Undefined.{first_undefined}
 use Rattle.rv_link.proofs.LinksLemmas.{all_both}
 use Rattle.rv_unique_link_laws.specs.Asked.{HavePlacedRows}
@@ -37,16 +37,16 @@ regions text variables bss = record {
 }
 
 pub every_same : (s t : Starts) (os : List Object) → AreAgreed s t 1 os → (a b : Map) → a.text ≡ b.text → a.data ≡ b.data → a.bss ≡ b.bss
-    → globals_of s 1 os ++ shown_linker_symbols os a ≡ globals_of t 1 os ++ shown_linker_symbols os b
+    → globals_of s os ++ shown_linker_symbols os a ≡ globals_of t os ++ shown_linker_symbols os b
 every_same s t os agreed a b text variables bss =
-    ap (λ l. l ++ shown_linker_symbols os a) (all_globals s t 1 os agreed)
-    ∙ ap (λ r. globals_of t 1 os ++ shown_linker_symbols os (regions r a.data a.bss)) text
-    ∙ ap (λ r. globals_of t 1 os ++ shown_linker_symbols os (regions b.text r a.bss)) variables
-    ∙ ap (λ r. globals_of t 1 os ++ shown_linker_symbols os (regions b.text b.data r)) bss
+    ap (λ l. l ++ shown_linker_symbols os a) (all_globals s t os agreed)
+    ∙ ap (λ r. globals_of t os ++ shown_linker_symbols os (regions r a.data a.bss)) text
+    ∙ ap (λ r. globals_of t os ++ shown_linker_symbols os (regions b.text r a.bss)) variables
+    ∙ ap (λ r. globals_of t os ++ shown_linker_symbols os (regions b.text b.data r)) bss
 
 -- ---- values
 
-pub values_between : (s t : Starts) (g h : List Global) (os : List Object) → AreAgreed s t 1 os → g ≡ h → first_undefined os ≡ None
+pub values_between : (s t : Starts) (g h : Outer) (os : List Object) → AreAgreed s t 1 os → g ≡ h → first_undefined os ≡ None
     → AllByRecursion (λ i. AllByRecursion (λ r. value g s os i r ≡ value h t os i r) i.section.relocations) (inputs is_loaded os)
 values_between s t g h os agreed same none =
     subst (λ l. AllByRecursion (λ i. AllByRecursion (λ r. value l s os i r ≡ value h t os i r) i.section.relocations) (inputs is_loaded os)) (sym same)
@@ -61,10 +61,10 @@ module _ (os : List Object) (start : ℕ) (l : Linked) (h : IsLinkOf os start l)
   -- none of its references is undefined
   pub linked_meant : first_undefined os ≡ None
   linked_meant =
-      none_undefined os h.starts l.map h.once
-      (all_map (λ i. AllByRecursion (IsRelocated l.map.globals h.starts os i) i.section.relocations) (HaveTargets os h.starts l.map h.once)
-      (λ i own. all_map (IsRelocated l.map.globals h.starts os i) (λ r. IsTrue (is_some (target (globals_of h.starts 1 os ++ shown_linker_symbols os l.map) (h.starts i.file) i.object r.symbol)))
-      (λ r is. subst (λ g. IsTrue (is_some (target g (h.starts i.file) i.object r.symbol))) h.globals is.resolved) i.section.relocations own) (inputs is_loaded os) h.relocated)
+      none_undefined os h.starts l.map
+      (all_map (λ i. AllByRecursion (IsRelocated (outer_of os l) h.starts os i) i.section.relocations) (HaveTargets os h.starts l.map)
+      (λ i own. all_map (IsRelocated (outer_of os l) h.starts os i) (λ r. IsTrue (is_some (target (outer_address os (globals_of h.starts os ++ shown_linker_symbols os l.map)) (h.starts i.file) i.object r.symbol)))
+      (λ r is. subst (λ g. IsTrue (is_some (target (outer_address os g) (h.starts i.file) i.object r.symbol))) h.globals is.resolved) i.section.relocations own) (inputs is_loaded os) h.relocated)
 
 -- ---- two of them
 
@@ -95,16 +95,19 @@ module _ (os : List Object) (start : ℕ) (l m : Linked) (placed : HavePlacedRow
   same_rows = h.rows ∙ all_rows h.starts k.starts 1 os one.agreed placed ∙ sym k.rows
 
   same_entry : l.map.entry ≡ m.map.entry
-  same_entry = let both : ◌≡◌ {A = Option ℕ} (Some l.map.entry) (Some m.map.entry) = sym h.entry ∙ all_entries h.starts k.starts 1 os one.agreed ∙ k.entry in cc
+  same_entry = let both : ◌≡◌ {A = Option ℕ} (Some l.map.entry) (Some m.map.entry) = sym h.entry ∙ all_entries h.starts k.starts os one.agreed ∙ k.entry in cc
+
+  same_outer : outer_of os l ≡ outer_of os m
+  same_outer = ap (outer_address os) same_globals
 
   same_contents : (goes : Section → Bool) → ((x : Section) → goes x ≡ true → x.loaded ≡ true) → AllByRecursion (StartsSame h.starts k.starts) (inputs goes os) → (r q : Region) → r ≡ q
-      → contents (linked_bytes l.map.globals h.starts os) h.starts r.start (inputs goes os) ≡ contents (linked_bytes m.map.globals k.starts os) k.starts q.start (inputs goes os)
+      → contents (linked_bytes (outer_of os l) h.starts os) h.starts r.start (inputs goes os) ≡ contents (linked_bytes (outer_of os m) k.starts os) k.starts q.start (inputs goes os)
   same_contents goes loads same r q is =
-      contents_same h.starts k.starts (linked_bytes l.map.globals h.starts os) (linked_bytes m.map.globals k.starts os) r.start (inputs goes os) same
-      (all_both (StartsSame h.starts k.starts) (ValuesSame h.starts k.starts m.map.globals os) (λ i. linked_bytes l.map.globals h.starts os i ≡ linked_bytes m.map.globals k.starts os i)
-      (λ i at values. ap (λ g. linked_bytes g h.starts os i) same_globals ∙ bytes_same h.starts k.starts m.map.globals os i at values) (inputs goes os) same
-      (all_values h.starts k.starts m.map.globals os goes loads one.agreed (linked_meant os start l h)))
-      ∙ ap (λ x. contents (linked_bytes m.map.globals k.starts os) k.starts x.start (inputs goes os)) is
+      contents_same h.starts k.starts (linked_bytes (outer_of os l) h.starts os) (linked_bytes (outer_of os m) k.starts os) r.start (inputs goes os) same
+      (all_both (StartsSame h.starts k.starts) (ValuesSame h.starts k.starts (outer_of os m) os) (λ i. linked_bytes (outer_of os l) h.starts os i ≡ linked_bytes (outer_of os m) k.starts os i)
+      (λ i at values. ap (λ g. linked_bytes g h.starts os i) same_outer ∙ bytes_same h.starts k.starts (outer_of os m) os i at values) (inputs goes os) same
+      (all_values h.starts k.starts (outer_of os m) os goes loads one.agreed (linked_meant os start l h)))
+      ∙ ap (λ x. contents (linked_bytes (outer_of os m) k.starts os) k.starts x.start (inputs goes os)) is
 
   same_map : l.map ≡ m.map
   same_map = λ i. record {

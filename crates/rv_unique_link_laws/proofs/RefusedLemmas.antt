@@ -23,9 +23,9 @@ none_some f name a b = let t : ◌≡◌ {A = Option (List ℕ)} None (Some name
 
 module _ (os : List Object) (start : ℕ) (l : Linked) (h : IsLinkOf os start l) where
   has_its_entry : LacksEntry os start → ⊥
-  has_its_entry (inl none) = let t : false ≡ true = sym none ∙ sym (entry_some h.starts 1 os) ∙ ap is_some h.entry in absurd (cc)
+  has_its_entry (inl none) = let t : false ≡ true = sym none ∙ sym (entry_some h.starts os) ∙ ap is_some h.entry in absurd (cc)
   has_its_entry (inr (p, placed, odd)) =
-      odd l.map.entry (sym (all_entries h.starts (starts_of p) 1 os (linked_one os start l p OutOfMemory h placed).agreed) ∙ h.entry) h.even
+      odd l.map.entry (sym (all_entries h.starts (starts_of p) os (linked_one os start l p OutOfMemory h placed).agreed) ∙ h.entry) h.even
 
   has_its_room : LacksRoom os start → ⊥
   has_its_room (starts, stand, cramped) = cramped (roomy_same h.starts starts os start h.text.1 stand h.room)

@@ -1,18 +1,19 @@
 -- Relocations that are refused, where sections stand as they do in a program.
 
-use Rattle.std.proofs.Common.{◌≡◌, ℕ, ℤ, true, List, refl, sym, ◌∙◌, subst, Option, None}
+use Rattle.std.proofs.Common.{◌≡◌, ℕ, ℤ, true, List, refl, sym, ap, ◌∙◌, subst, Option, None}
 use Rattle.std.specs.Prelude.{IsTrue}
 use Rattle.std.specs.List.{AllByRecursion, list_all}
 use Rattle.rv_image.specs.Linked.{Linked}
 use Rattle.rv_object.specs.Object.{Relocation, Object}
 use Rattle.rv_object_laws.specs.Moves.{moves, has_room}
 use Rattle.rv_object_laws.specs.Inputs.{Starts, InputSection, goes_to_text, inputs, start_of, Stand}
+use Rattle.rv_object_laws.specs.Names.{outer_address}
 use Rattle.rv_object_laws.specs.Values.{value, IsRelocated}
-use Rattle.rv_object_laws.specs.IsLinkOf.{IsLinkOf, is_loaded}
+use Rattle.rv_object_laws.specs.IsLinkOf.{IsLinkOf, outer_of, is_loaded}
 use Rattle.rv_placement.specs.declared.placement.Placement.{Placement}
 use Rattle.rv_placement.specs.Placement.{starts_of, are_roomy, IsPlacement, AreRoomy}
 use Rattle.rv_placement.proofs.RoomsLemmas.{are_rooms}
-use Rattle.rv_resolve.specs.Shown.{regions_of, shown_globals}
+use Rattle.rv_resolve.specs.Shown.{regions_of, outer_in}
 use Rattle.rv_resolve.specs.Undefined.{first_undefined}
 use Rattle.rv_link.specs.declared.fault.LinkFault.{LinkFault}
 use Rattle.rv_link.specs.declared.fault.LinkFault.TheVariants.{Overflow, OddTarget, DanglingPcrel, AlignmentShort, Undefined, Duplicate, EntryMissing, ImageTooLarge, BadTextStart, TooManyFiles, OutOfMemory}
@@ -41,7 +42,7 @@ module _ (os : List Object) (start : ℕ) (p : Placement) (placed : IsPlacement 
 
 -- ---- relocations
 
-refused_by : (os : List Object) (p : Placement) (i : InputSection) (f : LinkFault) (r : Relocation) → IsUntaken os p i f r → IsRefusedFor f (value (shown_globals os p) (starts_of p) os i r) r
+refused_by : (os : List Object) (p : Placement) (i : InputSection) (f : LinkFault) (r : Relocation) → IsUntaken os p i f r → IsRefusedFor f (value (outer_in os p) (starts_of p) os i r) r
 refused_by os p i Overflow r h = h
 refused_by os p i OddTarget r h = h
 refused_by os p i DanglingPcrel r h = h
@@ -54,45 +55,45 @@ refused_by os p i BadTextStart r h = h
 refused_by os p i TooManyFiles r h = h
 refused_by os p i OutOfMemory r h = h
 
-held_by : (os : List Object) (p : Placement) (i : InputSection) (r : Relocation) → IsTaken os p i r → IsHeld (value (shown_globals os p) (starts_of p) os i r) r
+held_by : (os : List Object) (p : Placement) (i : InputSection) (r : Relocation) → IsTaken os p i r → IsHeld (value (outer_in os p) (starts_of p) os i r) r
 held_by os p i r h = record { found = h.found; alone = h.alone; takes = h.takes }
 
 module _ (os : List Object) (start : ℕ) (l : Linked) (p : Placement) (f : LinkFault) (h : IsLinkOf os start l) (placed : IsPlacement os start p) where
   pub linked_one : AreOne os h.starts (starts_of p) l.map.text p.text l.map.rodata p.rodata l.map.data p.data l.map.bss p.bss
   linked_one = laid_same os start h.starts (starts_of p) l.map.text p.text l.map.rodata p.rodata l.map.data p.data l.map.bss p.bss (linked_laid os start l h) (placed_laid os start p placed)
 
-  same_names : l.map.globals ≡ shown_globals os p
-  same_names = h.globals ∙ every_same h.starts (starts_of p) os linked_one.agreed l.map (regions_of p) linked_one.same_text linked_one.same_data linked_one.same_bss
+  same_names : outer_of os l ≡ outer_in os p
+  same_names = ap (outer_address os) (h.globals ∙ every_same h.starts (starts_of p) os linked_one.agreed l.map (regions_of p) linked_one.same_text linked_one.same_data linked_one.same_bss)
 
   abbrev here : InputSection → Relocation → Option ℤ
-  here i r = value l.map.globals h.starts os i r
+  here i r = value (outer_of os l) h.starts os i r
 
   abbrev there : InputSection → Relocation → Option ℤ
-  there i r = value (shown_globals os p) (starts_of p) os i r
+  there i r = value (outer_in os p) (starts_of p) os i r
 
-  apart_at : (i : InputSection) (r : Relocation) → here i r ≡ there i r → IsRelocated l.map.globals h.starts os i r → IsUntaken os p i f r → ⊥
+  apart_at : (i : InputSection) (r : Relocation) → here i r ≡ there i r → IsRelocated (outer_of os l) h.starts os i r → IsUntaken os p i f r → ⊥
   apart_at i r same is un =
       held_apart f (there i r) r (subst (λ v. IsHeld v r) same (record { found = is.found; alone = is.alone; takes = is.takes })) (refused_by os p i f r un)
 
   -- what a program has taken is not refused
   pub linked_taken : IsFirstUntaken os p f (inputs is_loaded os) → ⊥
   linked_taken first =
-      all_first ⊥ (λ i. AllByRecursion (λ r. here i r ≡ there i r) i.section.relocations) (λ i. AllByRecursion (IsRelocated l.map.globals h.starts os i) i.section.relocations) (AreTaken os p) (AreUntaken os p f)
-      (λ i. all_first ⊥ (λ r. here i r ≡ there i r) (IsRelocated l.map.globals h.starts os i) (IsTaken os p i) (IsUntaken os p i f) (apart_at i) i.section.relocations)
-      (inputs is_loaded os) (values_between h.starts (starts_of p) l.map.globals (shown_globals os p) os linked_one.agreed same_names (linked_meant os start l h)) h.relocated first
+      all_first ⊥ (λ i. AllByRecursion (λ r. here i r ≡ there i r) i.section.relocations) (λ i. AllByRecursion (IsRelocated (outer_of os l) h.starts os i) i.section.relocations) (AreTaken os p) (AreUntaken os p f)
+      (λ i. all_first ⊥ (λ r. here i r ≡ there i r) (IsRelocated (outer_of os l) h.starts os i) (IsTaken os p i) (IsUntaken os p i f) (apart_at i) i.section.relocations)
+      (inputs is_loaded os) (values_between h.starts (starts_of p) (outer_of os l) (outer_in os p) os linked_one.agreed same_names (linked_meant os start l h)) h.relocated first
 
 module _ (os : List Object) (start : ℕ) (p q : Placement) (f g : LinkFault) (placed : IsPlacement os start p) (again : IsPlacement os start q) where
   two : AreOne os (starts_of p) (starts_of q) p.text q.text p.rodata q.rodata p.data q.data p.bss q.bss
   two = laid_same os start (starts_of p) (starts_of q) p.text q.text p.rodata q.rodata p.data q.data p.bss q.bss (placed_laid os start p placed) (placed_laid os start q again)
 
-  both_names : shown_globals os p ≡ shown_globals os q
-  both_names = every_same (starts_of p) (starts_of q) os two.agreed (regions_of p) (regions_of q) two.same_text two.same_data two.same_bss
+  both_names : outer_in os p ≡ outer_in os q
+  both_names = ap (outer_address os) (every_same (starts_of p) (starts_of q) os two.agreed (regions_of p) (regions_of q) two.same_text two.same_data two.same_bss)
 
   abbrev one : InputSection → Relocation → Option ℤ
-  one i r = value (shown_globals os p) (starts_of p) os i r
+  one i r = value (outer_in os p) (starts_of p) os i r
 
   abbrev other : InputSection → Relocation → Option ℤ
-  other i r = value (shown_globals os q) (starts_of q) os i r
+  other i r = value (outer_in os q) (starts_of q) os i r
 
   abbrev Alike : InputSection → Relocation → Type 0
   Alike i r = one i r ≡ other i r
@@ -123,4 +124,4 @@ module _ (os : List Object) (start : ℕ) (p q : Placement) (f g : LinkFault) (p
   pub first_once : first_undefined os ≡ None → IsFirstUntaken os p f (inputs is_loaded os) → IsFirstUntaken os q g (inputs is_loaded os) → IsSameFault f g
   first_once none =
       one_first (IsSameFault f g) AllAlike (AreTaken os p) (AreTaken os q) (AreUntaken os p f) (AreUntaken os q g) both_in left_in (λ i same h k. right_in i same k h) (inputs is_loaded os)
-      (values_between (starts_of p) (starts_of q) (shown_globals os p) (shown_globals os q) os two.agreed both_names none)
+      (values_between (starts_of p) (starts_of q) (outer_in os p) (outer_in os q) os two.agreed both_names none)
