@@ -1,7 +1,7 @@
 -- The fields of the branches and jumps of sources whose form is below its largest take their values where their text is placed.
 
 use Rattle.std.proofs.Common.{◌≡◌, ℕ, suc, ◌+◌, ◌%◌, ◌^◌, ◌≤◌, ◌<◌, ◌⊎◌, inl, inr, Bool, true, false, ◌&&◌, List, [], ◌∷◌, map, pos, ◌-ℤ◌, Option, Some, None, option_map, refl, sym, ap, ◌∙◌, subst, arith}
-use Rattle.std.specs.Prelude.{◌==◌, nat_lt, if◌then◌else◌, option_and_then}
+use Rattle.std.specs.Prelude.{◌==◌, not, nat_lt, if◌then◌else◌, option_and_then}
 use Rattle.std.specs.List.{AllByRecursion, slice_get}
 use Rattle.std.proofs.lemmas.Bool.{and_parts, eq-eqb}
 use Rattle.std.proofs.lemmas.Option.{slice_get-map}
@@ -19,14 +19,14 @@ use Rattle.rv_object.specs.Object.{Relocation, Section, Symbol, Object, size_of}
 use Rattle.rv_object.specs.View.{object_of}
 use Rattle.rv_object_laws.specs.Moves.{Move, moves, new_offset}
 use Rattle.rv_object_laws.specs.Inputs.{InputSection, goes_to_text, inputs}
-use Rattle.rv_object_laws.specs.Names.{offset_address, symbol_address}
+use Rattle.rv_object_laws.specs.Names.{offset_address, defined_address, is_weak, symbol_address}
 use Rattle.rv_object_laws.specs.Values.{target}
 use Rattle.rv_object_laws.specs.CallSites.{is_call, sites_of, is_short_text}
-use Rattle.rv_object_laws.specs.Shortened.{sizes_by, cuts, shortened_kind, shortened_symbol, shortened_relocation, shortened_object, shortened, IsRelaxed}
+use Rattle.rv_object_laws.specs.Shortened.{sizes_by, cuts, shortened_kind, shortened_definition, shortened_symbol, shortened_relocation, shortened_object, shortened, IsRelaxed}
 use Rattle.rv_object_laws.proofs.TextInputsLemmas.{IsTextInput, text_inputs}
 use Rattle.rv_placement.specs.declared.placement.Placement.{Placement}
 use Rattle.rv_placement.specs.Placement.{starts_of, IsPlacement}
-use Rattle.rv_resolve.specs.Shown.{shown_globals}
+use Rattle.rv_resolve.specs.Shown.{outer_in}
 use Rattle.rv_link.specs.Refusals.{IsTextStart}
 use Rattle.rv_link.specs.Filled.{IsTaken}
 use Rattle.rv_assemble_laws.specs.Sites.{Site, form, parts, sites_in, end_of, HasSize}
@@ -96,6 +96,7 @@ pub record IsNearIn (i : InputSection) (r : Relocation) : Type 0 where
   pub symbol_is : r.symbol ≡ Some symbol
   pub x : Symbol
   pub there : slice_get i.object.symbols symbol ≡ Some x
+  pub strong : is_weak x.binding ≡ false
   pub to : ℕ
   pub from : ℕ
   pub at : x.definition ≡ definitions.InSection i.index to
@@ -125,6 +126,7 @@ module _ (ss : List Statement) (o : Object) (is : IsObjectOf ss o) (index : ℕ)
     symbol_is = it.symbol_is;
     x = it.x;
     there = it.there;
+    strong = it.strong;
     to = it.to.offset;
     from = it.from.offset;
     at = it.at;
@@ -250,19 +252,20 @@ relaxed_one ds kept greatest start p begins placed k i there q it short =
     kind_is : shortened_kind (sizes_by (map object_of ds) kept i.file i.index) q ≡ q.kind
     kind_is = ap (λ b. if b && nat_lt (sizes_by (map object_of ds) kept i.file i.index q.place) 8 then (if sizes_by (map object_of ds) kept i.file i.index q.place == 2 then kinds.RvcJump else kinds.Jal) else q.kind) (no_call q.kind short)
 
-    target_is : target (shown_globals left p) (starts_of p i.file) (left_input os kept i).object q.symbol ≡ Some (address os kept start starts i it.to % 2 ^ 64)
+    target_is : target (outer_in left p) (starts_of p i.file) (left_input os kept i).object q.symbol ≡ Some (address os kept start starts i it.to % 2 ^ 64)
     target_is =
-        ap (target (shown_globals left p) (starts_of p i.file) (left_input os kept i).object) it.symbol_is
-        ∙ ap (option_and_then (symbol_address (shown_globals left p) (starts_of p i.file) (left_input os kept i).object))
+        ap (target (outer_in left p) (starts_of p i.file) (left_input os kept i).object) it.symbol_is
+        ∙ ap (option_and_then (symbol_address (outer_in left p) (starts_of p i.file) (left_input os kept i).object))
         (slice_get-map (shortened_symbol (sizes_by os kept i.file) i.object) i.object.symbols it.symbol ∙ ap (option_map (shortened_symbol (sizes_by os kept i.file) i.object)) it.there)
-        ∙ ap (λ d. symbol_address (shown_globals left p) (starts_of p i.file) (left_input os kept i).object (shortened_symbol (sizes_by os kept i.file) i.object (record { name = it.x.name; binding = it.x.binding; definition = d }))) it.at
+        ∙ ap (λ d. symbol_address (outer_in left p) (starts_of p i.file) (left_input os kept i).object (shortened_symbol (sizes_by os kept i.file) i.object (record { name = it.x.name; binding = it.x.binding; definition = d }))) it.at
         ∙ here
       where
-        here : symbol_address (shown_globals left p) (starts_of p i.file) (left_input os kept i).object
+        here : symbol_address (outer_in left p) (starts_of p i.file) (left_input os kept i).object
             (shortened_symbol (sizes_by os kept i.file) i.object (record { name = it.x.name; binding = it.x.binding; definition = definitions.InSection i.index it.to })) ≡ Some (address os kept start starts i it.to % 2 ^ 64)
         here =
-            subst (λ (u : Object). symbol_address (shown_globals left p) (starts_of p i.file) (shortened_object (sizes_by os kept i.file) u)
-            (shortened_symbol (sizes_by os kept i.file) u (record { name = it.x.name; binding = it.x.binding; definition = definitions.InSection i.index it.to })) ≡ Some (address os kept start starts i it.to % 2 ^ 64)) input.at
+            ap (λ b. if not b then defined_address (starts_of p i.file) (left_input os kept i).object (shortened_definition (sizes_by os kept i.file) i.object (definitions.InSection i.index it.to))
+            else outer_in left p (shortened_symbol (sizes_by os kept i.file) i.object (record { name = it.x.name; binding = it.x.binding; definition = definitions.InSection i.index it.to }))) it.strong
+            ∙ subst (λ (u : Object). defined_address (starts_of p i.file) (shortened_object (sizes_by os kept i.file) u) (shortened_definition (sizes_by os kept i.file) u (definitions.InSection i.index it.to)) ≡ Some (address os kept start starts i it.to % 2 ^ 64)) input.at
             (defined_at os kept starts i.file i.index it.to i.section (subst (λ (u : Object). slice_get u.sections i.index ≡ Some i.section) (sym input.at) input.there) input.text)
 
 abbrev Reaching : List Object → Placement → (before now : Relocation) → InputSection → Type 0
@@ -324,11 +327,12 @@ whole_one ds start p placed k i there q it short =
         let before = rises s0 it.to (size_of i.section.contents) i.section padded it.low_to in
         omega (arith, most, before)
 
-    target_is : target (shown_globals os p) (starts_of p i.file) i.object q.symbol ≡ Some (stands it.to % 2 ^ 64)
+    target_is : target (outer_in os p) (starts_of p i.file) i.object q.symbol ≡ Some (stands it.to % 2 ^ 64)
     target_is =
-        ap (target (shown_globals os p) (starts_of p i.file) i.object) it.symbol_is
-        ∙ ap (option_and_then (symbol_address (shown_globals os p) (starts_of p i.file) i.object)) it.there
-        ∙ ap (λ d. symbol_address (shown_globals os p) (starts_of p i.file) i.object (record { name = it.x.name; binding = it.x.binding; definition = d })) it.at
+        ap (target (outer_in os p) (starts_of p i.file) i.object) it.symbol_is
+        ∙ ap (option_and_then (symbol_address (outer_in os p) (starts_of p i.file) i.object)) it.there
+        ∙ ap (λ d. symbol_address (outer_in os p) (starts_of p i.file) i.object (record { name = it.x.name; binding = it.x.binding; definition = d })) it.at
+        ∙ ap (λ b. if not b then offset_address (starts_of p i.file i.index) it.to (slice_get i.object.sections i.index) else outer_in os p (record { name = it.x.name; binding = it.x.binding; definition = definitions.InSection i.index it.to })) it.strong
         ∙ ap (offset_address (starts_of p i.file i.index) it.to) input.there
         ∙ ap (λ b. if b then Some (stands it.to % 2 ^ 64) else None) (and_parts i.section.loaded i.section.executable input.text).0
 

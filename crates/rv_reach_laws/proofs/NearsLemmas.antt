@@ -8,6 +8,7 @@ use Rattle.std.proofs.lemmas.Bool.{eqb-true, eq-eqb}
 use Rattle.std.proofs.lemmas.List.Sums.{sum_by-cons}
 use Rattle.rv_isa.specs.declared.kind.Kind.{Kind}
 use Rattle.rv_isa.specs.declared.kind.Kind.TheVariants as kinds
+use Rattle.rv_text_laws.specs.Expression.{Primary}
 use Rattle.rv_text_laws.specs.Values.{add}
 use Rattle.rv_statement.specs.Statement.{StatementKind, Label, Numbered, Instruction, Directs, Statement, Operand}
 use Rattle.rv_layout_laws.specs.declared.item.Forms.{Forms}
@@ -16,13 +17,16 @@ use Rattle.rv_layout_laws.specs.declared.item.Item.{Item}
 use Rattle.rv_layout_laws.specs.Offsets.{Reaches, offset, distance}
 use Rattle.rv_layout_laws.specs.Branches.{Offers, largest, half, item_at, of_section, ReachesBy, IsGood}
 use Rattle.rv_unit_laws.specs.Sections.{Section as SourceSection}
-use Rattle.rv_unit_laws.specs.Tables.{Tables, Definition, tables, at_start, after, definition, opened_of, longest_section}
+use Rattle.rv_unit_laws.specs.Tables.{Tables, Definition, tables, at_start, after, definition, gives_way, sure_definition, opened_of, longest_section}
 use Rattle.rv_source_laws.specs.Located.{Located, located_now, located_from}
 use Rattle.rv_source_laws.specs.Sizes.{Near, near_forms, near_at, near_value, near_target, branch_item, item_by, item_by_kind, items_of}
+use Rattle.rv_object.specs.declared.symbol.Binding.{Binding}
+use Rattle.rv_object.specs.declared.symbol.Binding.TheVariants.{Local, Global, Weak}
 use Rattle.rv_object.specs.declared.symbol.Definition.TheVariants as definitions
 use Rattle.rv_object.specs.Object.{Relocation, Symbol, Object}
+use Rattle.rv_object_laws.specs.Names.{is_weak}
 use Rattle.rv_assemble_laws.specs.Sites.{Site, form, sites_in, Tile}
-use Rattle.rv_assemble_laws.specs.Symbols.{site_at, after_site, IsOwn, IsDefinedBy, StandsFor}
+use Rattle.rv_assemble_laws.specs.Symbols.{site_at, after_site, IsOwn, IsDefinedBy, StandsFor, is_weak as is_weak_symbol}
 use Rattle.rv_assemble_laws.specs.IsObjectOf.{IsObjectOf}
 use Rattle.rv_sources_link_laws.proofs.moves.MovedLemmas.{AddsInData, adds}
 use Rattle.rv_sources_link_laws.proofs.statements.SettledLemmas.{IsSettled}
@@ -171,6 +175,8 @@ pub record IsNear (ss : List Statement) (o : Object) (is : IsObjectOf ss o) (j :
   pub symbol_is : r.symbol ≡ Some symbol
   pub x : Symbol
   pub there : slice_get o.symbols symbol ≡ Some x
+  -- no other file's definition is meant
+  pub strong : is_weak x.binding ≡ false
   pub from : Site
   pub to : Site
   pub in_from : In from (sites_in j is.sites)
@@ -178,6 +184,19 @@ pub record IsNear (ss : List Statement) (o : Object) (is : IsObjectOf ss o) (j :
   pub place_is : r.place ≡ from.offset
   pub at : x.definition ≡ definitions.InSection j to.offset
   pub reaches : Reaches (half_of r.kind) r.addend (pos to.offset -ℤ pos from.offset)
+
+-- a definition that no other file's gives way to
+sure_is : (t : Tables) (ordinal : ℕ) (q : Primary) (d : Definition) → sure_definition t ordinal q ≡ Some d → (definition t ordinal q ≡ Some d) × (gives_way t q ≡ false)
+sure_is t ordinal q d e = by (gives_way t q) refl e
+  where
+    by : (b : Bool) → gives_way t q ≡ b → (if b then None else definition t ordinal q) ≡ Some d → (definition t ordinal q ≡ Some d) × (gives_way t q ≡ false)
+    by true f e = absurd (cc)
+    by false f e = (e, f)
+
+weak_same : (b : Binding) → is_weak b ≡ is_weak_symbol b
+weak_same Local = refl
+weak_same Global = refl
+weak_same Weak = refl
 
 -- a target in the same section
 record IsTarget (all : List Located) (section : ℕ) (d : Option Definition) (plus : ℕ) (n : Near) : Type 0 where
@@ -354,9 +373,12 @@ module _ (ss : List Statement) (o : Object) (is : IsObjectOf ss o) (j : ℕ) (se
           (subst (λ n. Offers (item_by t all b.z.located b.z.bytes b.os (Some b.branching.forms)).forms n) size_here
           (subst (λ (x : Item). Offers x.forms (slice_index (map (λ (z : Site). z.bytes) is.sites) place.0)) item_here (good.family.offered place.0)))
 
-      target : IsTarget all b.z.located.section (definition t b.z.located.ordinal b.name) b.plus reach.n
-      target = target_of all b.z.located.section (definition t b.z.located.ordinal b.name) b.plus reach.n
+      target : IsTarget all b.z.located.section (sure_definition t b.z.located.ordinal b.name) b.plus reach.n
+      target = target_of all b.z.located.section (sure_definition t b.z.located.ordinal b.name) b.plus reach.n
           (sym (ap (λ x. elim x [ None ↦ None | Some e ↦ near_value t all b.z.located (form t b.z.located e) ]) b.branching.target ∙ ap (near_value t all b.z.located) b.value_is) ∙ reach.near_is)
+
+      sure : (definition t b.z.located.ordinal b.name ≡ Some target.it) × (gives_way t b.name ≡ false)
+      sure = sure_is t b.z.located.ordinal b.name target.it target.is
 
       found : (z : Site) × (site_at is.sites target.it.ordinal ≡ Some z) × (z.located ≡ target.located) × ((k : ℕ) × (slice_get is.sites k ≡ Some z)) × (z.located.ordinal ≡ target.it.ordinal)
       found = found_site target.it.ordinal is.sites target.located target.found
@@ -412,7 +434,7 @@ module _ (ss : List Statement) (o : Object) (is : IsObjectOf ss o) (j : ℕ) (se
           let same : found.0.located.home ≡ section = cc in same
 
       stays : add found.0.offset target.it.plus ≡ found.0.offset
-      stays = go (adds t is.sites is.places b.z.located.ordinal b.name target.it target.is)
+      stays = go (adds t is.sites is.places b.z.located.ordinal b.name target.it sure.0)
         where
           go : AddsInData t is.sites is.places target.it → add found.0.offset target.it.plus ≡ found.0.offset
           go (inl none) =
@@ -422,7 +444,7 @@ module _ (ss : List Statement) (o : Object) (is : IsObjectOf ss o) (j : ℕ) (se
 
       by_symbol : (y : Option Symbol) → slice_get o.symbols (is.number b.z.located.ordinal b.name) ≡ y → StandsFor t is.sites b.z.located.ordinal b.name y → IsNear ss o is j r
       by_symbol None e s = absurd s
-      by_symbol (Some x) e (named, s) = go (subst (λ d. IsDefinedBy is.sites b.name d x) target.is s)
+      by_symbol (Some x) e (named, weak, s) = go (subst (λ d. IsDefinedBy is.sites b.name d x) sure.0 s)
         where
           go : IsOwn is.sites target.it x → IsNear ss o is j r
           go (y, at_y, placed, def) =
@@ -433,6 +455,7 @@ module _ (ss : List Statement) (o : Object) (is : IsObjectOf ss o) (j : ℕ) (se
                 symbol_is = ap (λ (q : Relocation). q.symbol) b.is;
                 x = x;
                 there = e;
+                strong = weak_same x.binding ∙ weak ∙ sure.1;
                 from = b.z;
                 to = found.0;
                 in_from = b.inside;

@@ -23,7 +23,7 @@ use Rattle.rv_object.specs.Valid.{are_paddings}
 use Rattle.rv_object.specs.View.{object_of}
 use Rattle.rv_object_laws.specs.Moves.{dropped, moves, new_offset, has_padding}
 use Rattle.rv_object_laws.specs.Inputs.{Starts, InputSection, goes_to_text, inputs, Stand}
-use Rattle.rv_object_laws.specs.Names.{Place, shown_linker_symbols}
+use Rattle.rv_object_laws.specs.Names.{Place}
 use Rattle.rv_object_laws.specs.Values.{target}
 use Rattle.rv_object_laws.specs.CallSites.{is_call, start_padding, base, text_offset, target_place, is_text_place, is_permitted, may_change, changes, call_site, site_of, sites_of, is_short_text}
 use Rattle.rv_object_laws.specs.Shortened.{Sizes, sizes_by, is_shortened, cuts, shortened_kind, shortened_relocation, shortened_text, shortened, IsRelaxed}
@@ -33,7 +33,7 @@ use Rattle.rv_object_laws.proofs.TextLineLemmas.{site_call, sites_text}
 use Rattle.rv_object_laws.proofs.TextPlacesLemmas.{target_named}
 use Rattle.rv_placement.specs.declared.placement.Placement.{Placement}
 use Rattle.rv_placement.specs.Placement.{starts_of, IsPlacement}
-use Rattle.rv_resolve.specs.Shown.{regions_of, shown_globals}
+use Rattle.rv_resolve.specs.Shown.{regions_of, outer_in}
 use Rattle.rv_link.specs.Refusals.{IsTextStart}
 use Rattle.rv_link.specs.Filled.{IsTaken}
 use Rattle.rv_shorten.specs.Cutting.{In}
@@ -320,7 +320,7 @@ module _ (ds : List DeclaredObject) (kept : List ℕ) (greatest : IsGreatestClos
     pub record LeadsTo : Type 0 where
       pub to : ℕ
       pub low : to < 2 ^ 64
-      pub target_is : target (shown_globals left p) (starts i.file) (left_input os kept i).object q.symbol ≡ Some (to % 2 ^ 64)
+      pub target_is : target (outer_in left p) (starts i.file) (left_input os kept i).object q.symbol ≡ Some (to % 2 ^ 64)
       pub reaches : Reaches (half (its i q.place)) q.addend (pos to -ℤ pos (address os kept start starts i q.place))
 
     leads_to : (t : Option Place) → target_place os i q ≡ t → is_text_place os t ≡ true
@@ -329,7 +329,7 @@ module _ (ds : List DeclaredObject) (kept : List ℕ) (greatest : IsGreatestClos
     leads_to (Some t) e leads far = record {
       to = address os kept start starts j t.offset;
       low = address_low spot.number j spot.there t.offset low_t;
-      target_is = target_stands os kept starts (shown_linker_symbols left (regions_of p)) i q t it input.at e ∙ ap (λ a. Some (a % 2 ^ 64)) (sym address_is);
+      target_is = target_stands os kept starts (regions_of p) i q t it input.at e ∙ ap (λ a. Some (a % 2 ^ 64)) (sym address_is);
       reaches = reaches_nearer (half (its i q.place)) q.addend
           (pos (address os kept start starts j t.offset) -ℤ pos (address os kept start starts i q.place)) (pos (N (base os j.file j.index + t.offset)) -ℤ pos (N (first + q.place)))
           (near k i there spot.number j spot.there q.place t.offset low_q low_t even_q even_t) far_j;
@@ -373,9 +373,9 @@ module _ (ds : List DeclaredObject) (kept : List ℕ) (greatest : IsGreatestClos
     abbrev away : ℤ
     away = (pos leads.to -ℤ pos (address (map object_of ds) kept start (starts_of p) i q.place)) +ℤ q.addend
 
-    worth_is : int_wrap w64 ((pos (unwrap_or (target (shown_globals left p) (starts i.file) (left_input os kept i).object q.symbol) 0) +ℤ q.addend) -ℤ pos (address os kept start starts i q.place)) ≡ away
+    worth_is : int_wrap w64 ((pos (unwrap_or (target (outer_in left p) (starts i.file) (left_input os kept i).object q.symbol) 0) +ℤ q.addend) -ℤ pos (address os kept start starts i q.place)) ≡ away
     worth_is =
-        value_is leads.to (unwrap_or (target (shown_globals left p) (starts i.file) (left_input os kept i).object q.symbol) 0) (address os kept start starts i q.place) q.addend (half (its i q.place)) (half_most (its i q.place))
+        value_is leads.to (unwrap_or (target (outer_in left p) (starts i.file) (left_input os kept i).object q.symbol) 0) (address os kept start starts i q.place) q.addend (half (its i q.place)) (half_most (its i q.place))
         leads.reaches.added leads.low (ap (λ o. unwrap_or o 0) leads.target_is)
 
     takes_four : its i q.place ≡ 4 → IsTaken left p (left_input os kept i) (now kinds.Jal)

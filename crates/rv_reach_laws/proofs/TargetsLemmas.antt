@@ -1,22 +1,25 @@
 -- The place that a call's symbol names has, once the text is placed, the address that the symbol stands for.
 
 use Rattle.std.proofs.Common.{◌≡◌, ℕ, zero, suc, ◌+◌, ◌-◌, ◌%◌, ◌^◌, ◌≤◌, Bool, true, false, ◌&&◌, nat_le, List, [], ◌∷◌, ◌++◌, map, Option, Some, None, option_map, slice_index_or, refl, sym, ap, subst, ◌∙◌, arith}
-use Rattle.std.specs.Prelude.{filter, flat_map, option_and_then, bytes_eq, if◌then◌else◌}
+use Rattle.std.specs.Prelude.{option_and_then, unwrap_or, bytes_eq, if◌then◌else◌}
 use Rattle.std.specs.List.{find, slice_get}
+use Rattle.std.specs.Option.{option_or}
 use Rattle.std.proofs.lemmas.Bool.{and_parts, leb-true}
-use Rattle.std.proofs.lemmas.List.{append_assoc}
-use Rattle.std.proofs.lemmas.Option.{slice_get-map}
-use Rattle.rv_map.specs.Globals.{shown}
-use Rattle.rv_map.specs.Map.{Global}
+use Rattle.std.proofs.lemmas.List.{map-append}
+use Rattle.std.proofs.lemmas.Option.{slice_get-map, unwrap_or-slice_get}
+use Rattle.rv_map.specs.Map.{Map}
+use Rattle.rv_object.specs.declared.symbol.Binding.{Binding}
 use Rattle.rv_object.specs.declared.symbol.Definition.{Definition}
 use Rattle.rv_object.specs.declared.symbol.Definition.TheVariants as definitions
 use Rattle.rv_object.specs.Object.{Relocation, Section, Symbol, Object, size_of}
 use Rattle.rv_object_laws.specs.Moves.{moves, new_offset}
 use Rattle.rv_object_laws.specs.Inputs.{Starts, InputSection, goes_to_text, inputs_from, inputs_of, inputs}
-use Rattle.rv_object_laws.specs.Names.{offset_address, defined_address, symbol_address, is_defined, is_global, is_exported, exported, globals_of, Place, place_in, global_place, symbol_place, no_object, object_at}
+use Rattle.rv_object_laws.specs.Names.{is_global, is_weak, offset_address, defined_address, is_defined, is_sure_by, is_sure, Export, is_export, exports_in, exports_from, exports_where, candidates, chosen, export_address, globals_of, shown_linker_symbols, unshown_address, Outer, outer_address, symbol_address, Place, place_in, shared_place, symbol_place, no_object, object_at}
 use Rattle.rv_object_laws.specs.Values.{target}
 use Rattle.rv_object_laws.specs.CallSites.{target_place, is_in_section, is_text_place}
 use Rattle.rv_object_laws.specs.Shortened.{Sizes, sizes_by, cuts, cuts_at, cuts_in, shortened_text, shortened_section, shortened_sections, shortened_definition, shortened_symbol, shortened_object, shortened_from}
+use Rattle.rv_resolve.proofs.ChosenLemmas.{chosen_held}
+use Rattle.rv_resolve.proofs.ShownLemmas.{meaning, means}
 
 -- ---- which section of the text a place is in
 
@@ -144,48 +147,6 @@ module _ (os : List Object) (kept : List ℕ) (starts : Starts) where
       defined_at file section offset it.section (subst (λ (q : Place). slice_get (object_at os q.file).sections q.section ≡ Some it.section) (sym same) it.there) it.text
       ∙ ap (λ (q : Place). Some (stands q it.section % 2 ^ 64)) same
 
-  -- ---- the globals of a list of symbols
-
-  abbrev is_named : List ℕ → Global → Bool
-  is_named name g = bytes_eq g.name name
-
-  abbrev found_address : List ℕ → List Global → Option ℕ
-  found_address name gs = option_map (λ (g : Global). g.address) (find (λ (g : Global). bytes_eq g.name name) gs)
-
-  module _ (name : List ℕ) (at : Symbol → Option ℕ) (more : List Global) where
-    abbrev all : List Symbol → List Global
-    all xs = flat_map (λ (s : Symbol). shown s.name (at s)) xs
-
-    passed : (x : Symbol) (xs : List Symbol) → bytes_eq x.name name ≡ false → found_address name ((shown x.name (at x) ++ all xs) ++ more) ≡ found_address name (all xs ++ more)
-    passed x xs e = go (at x)
-      where
-        go : (a : Option ℕ) → found_address name ((shown x.name a ++ all xs) ++ more) ≡ found_address name (all xs ++ more)
-        go None = refl
-        go (Some n) = ap (λ b. option_map (λ (g : Global). g.address) (if b then Some (record { name = x.name; address = n }) else find (λ (g : Global). bytes_eq g.name name) (all xs ++ more))) e
-
-    none_found : (xs : List Symbol) → find (λ (s : Symbol). bytes_eq s.name name) xs ≡ None → found_address name (all xs ++ more) ≡ found_address name more
-    none_found [] e = refl
-    none_found (x ∷ xs) e = go (bytes_eq x.name name) refl e (none_found xs)
-      where
-        go : (b : Bool) → bytes_eq x.name name ≡ b → (if b then Some x else find (λ (s : Symbol). bytes_eq s.name name) xs) ≡ None
-            → (find (λ (s : Symbol). bytes_eq s.name name) xs ≡ None → found_address name (all xs ++ more) ≡ found_address name more)
-            → found_address name ((shown x.name (at x) ++ all xs) ++ more) ≡ found_address name more
-        go true f e ih = absurd (cc)
-        go false f e ih = passed x xs f ∙ ih e
-
-    one_found : (xs : List Symbol) (s : Symbol) (a : ℕ) → find (λ (s : Symbol). bytes_eq s.name name) xs ≡ Some s → at s ≡ Some a → found_address name (all xs ++ more) ≡ Some a
-    one_found [] s a e h = absurd (cc)
-    one_found (x ∷ xs) s a e h = go (bytes_eq x.name name) refl e (λ k. one_found xs s a k h)
-      where
-        go : (b : Bool) → bytes_eq x.name name ≡ b → (if b then Some x else find (λ (s : Symbol). bytes_eq s.name name) xs) ≡ Some s
-            → (find (λ (s : Symbol). bytes_eq s.name name) xs ≡ Some s → found_address name (all xs ++ more) ≡ Some a)
-            → found_address name ((shown x.name (at x) ++ all xs) ++ more) ≡ Some a
-        go true f e ih =
-            let same : x ≡ s = cc in
-            ap (λ o. found_address name ((shown x.name o ++ all xs) ++ more)) (ap at same ∙ h)
-            ∙ ap (λ b. option_map (λ (g : Global). g.address) (if b then Some (record { name = x.name; address = a }) else find (λ (g : Global). bytes_eq g.name name) (all xs ++ more))) f
-        go false f e ih = passed x xs f ∙ ih e
-
   -- ---- of what is left of objects
 
   defined_left : (sizes : ℕ → Sizes) (o : Object) (d : Definition) → is_defined (shortened_definition sizes o d) ≡ is_defined d
@@ -194,86 +155,113 @@ module _ (os : List Object) (kept : List ℕ) (starts : Starts) where
   defined_left sizes o (definitions.InSection section offset) = refl
   defined_left sizes o (definitions.Skipped n) = refl
 
-  module _ (sizes : ℕ → Sizes) (o : Object) (at : Symbol → Option ℕ) where
-    shown_left : (xs : List Symbol) → flat_map (λ (s : Symbol). shown s.name (at s)) (filter is_exported (map (shortened_symbol sizes o) xs))
-        ≡ flat_map (λ (s : Symbol). shown s.name (at (shortened_symbol sizes o s))) (filter is_exported xs)
-    shown_left [] = refl
-    shown_left (x ∷ xs) =
-        ap (λ b. flat_map (λ (s : Symbol). shown s.name (at s)) (if is_global x.binding && b then shortened_symbol sizes o x ∷ rest else rest)) (defined_left sizes o x.definition)
-        ∙ go (is_exported x) (shown_left xs)
-      where
-        rest : List Symbol
-        rest = filter is_exported (map (shortened_symbol sizes o) xs)
+  sure_left : (sizes : ℕ → Sizes) (o : Object) (binding : Binding) (d : Definition) → is_sure_by binding (shortened_definition sizes o d) ≡ is_sure_by binding d
+  sure_left sizes o binding definitions.Undefined = refl
+  sure_left sizes o binding (definitions.Absolute n) = refl
+  sure_left sizes o binding (definitions.InSection section offset) = refl
+  sure_left sizes o binding (definitions.Skipped n) = refl
 
-        go : (b : Bool) → flat_map (λ (s : Symbol). shown s.name (at s)) rest ≡ flat_map (λ (s : Symbol). shown s.name (at (shortened_symbol sizes o s))) (filter is_exported xs)
-            → flat_map (λ (s : Symbol). shown s.name (at s)) (if b then shortened_symbol sizes o x ∷ rest else rest)
-            ≡ flat_map (λ (s : Symbol). shown s.name (at (shortened_symbol sizes o s))) (if b then x ∷ filter is_exported xs else filter is_exported xs)
-        go true ih = ap (λ l. shown x.name (at (shortened_symbol sizes o x)) ++ l) ih
-        go false ih = ih
+  abbrev left : Export → Export
+  left e = record { file = e.file; object = shortened_object (its e.file) e.object; index = e.index; symbol = shortened_symbol (its e.file) e.object e.symbol }
 
-  -- the global of a name
-  global_stands : (others : List Global) (file : ℕ) (us : List Object) (name : List ℕ) (p : Place) (it : IsInText os p) → ((n : ℕ) → object_at os (file + n) ≡ slice_index_or us n no_object)
-      → global_place file us name ≡ Some p → found_address name (globals_of starts file (shortened_from its file us) ++ others) ≡ Some (stands p it.section % 2 ^ 64)
-  global_stands others file [] name p it each e = absurd (cc)
-  global_stands others file (o ∷ us) name p it each e =
-      ap (λ l. found_address name ((l ++ globals_of starts (suc file) (shortened_from its (suc file) us)) ++ others)) (shown_left (its file) o at o.symbols)
-      ∙ ap (found_address name) (append_assoc own (globals_of starts (suc file) (shortened_from its (suc file) us)) others)
-      ∙ go (find (λ (s : Symbol). bytes_eq s.name name) (exported o)) refl e
-      (λ k. global_stands others (suc file) us name p it (λ n. ap (object_at os) (let e : suc file + n ≡ file + suc n = omega arith in e) ∙ each (suc n)) k)
+  in_left : (test : Binding → Bool) (file : ℕ) (o : Object) (index : ℕ) (ss : List Symbol)
+      → exports_in test file (shortened_object (its file) o) index (map (shortened_symbol (its file) o) ss) ≡ map left (exports_in test file o index ss)
+  in_left test file o index [] = refl
+  in_left test file o index (s ∷ ss) =
+      ap (λ b. if test s.binding && b then left own ∷ rest else rest) (defined_left (its file) o s.definition) ∙ go (is_export test s) (in_left test file o (suc index) ss)
     where
-      here : object_at os file ≡ o
-      here = ap (object_at os) (let e : file ≡ file + 0 = omega arith in e) ∙ each 0
+      own : Export
+      own = record { file = file; object = o; index = index; symbol = s }
 
-      at : Symbol → Option ℕ
-      at s = defined_address (starts file) (shortened_object (its file) o) s.definition
+      rest : List Export
+      rest = exports_in test file (shortened_object (its file) o) (suc index) (map (shortened_symbol (its file) o) ss)
 
-      own : List Global
-      own = flat_map (λ (s : Symbol). shown s.name (at (shortened_symbol (its file) o s))) (exported o)
+      more : List Export
+      more = exports_in test file o (suc index) ss
 
-      more : List Global
-      more = globals_of starts (suc file) (shortened_from its (suc file) us) ++ others
+      go : (b : Bool) → rest ≡ map left more → (if b then left own ∷ rest else rest) ≡ map left (if b then own ∷ more else more)
+      go true ih = ap (λ l. left own ∷ l) ih
+      go false ih = ih
 
-      go : (f : Option Symbol) → find (λ (s : Symbol). bytes_eq s.name name) (exported o) ≡ f
-          → (elim f [ Some s ↦ place_in file s.definition | None ↦ global_place (suc file) us name ]) ≡ Some p
-          → (global_place (suc file) us name ≡ Some p → found_address name more ≡ Some (stands p it.section % 2 ^ 64))
-          → found_address name (own ++ more) ≡ Some (stands p it.section % 2 ^ 64)
-      go None f e ih = none_found name (λ s. at (shortened_symbol (its file) o s)) more (exported o) f ∙ ih e
-      go (Some s) f e ih =
-          one_found name (λ s. at (shortened_symbol (its file) o s)) more (exported o) s (stands p it.section % 2 ^ 64) f
-          (subst (λ (u : Object). defined_address (starts file) (shortened_object (its file) u) (shortened_definition (its file) u s.definition) ≡ Some (stands p it.section % 2 ^ 64)) here
-          (defined file s.definition p it e))
+  from_left : (test : Binding → Bool) (file : ℕ) (us : List Object) → exports_from test file (shortened_from its file us) ≡ map left (exports_from test file us)
+  from_left test file [] = refl
+  from_left test file (o ∷ us) =
+      ap (λ l. l ++ exports_from test (suc file) (shortened_from its (suc file) us)) (in_left test file o 0 o.symbols)
+      ∙ ap (λ l. map left (exports_in test file o 0 o.symbols) ++ l) (from_left test (suc file) us)
+      ∙ sym (map-append left (exports_in test file o 0 o.symbols) (exports_from test (suc file) us))
+
+  abbrev shorter : List Object
+  shorter = shortened_from its 1 os
+
+  candidates_left : candidates shorter ≡ map left (candidates os)
+  candidates_left =
+      ap (λ l. l ++ exports_where is_weak shorter) (from_left is_global 1 os) ∙ ap (λ l. map left (exports_where is_global os) ++ l) (from_left is_weak 1 os)
+      ∙ sym (map-append left (exports_where is_global os) (exports_where is_weak os))
+
+  found_left : (name : List ℕ) (es : List Export) → find (λ (e : Export). bytes_eq e.symbol.name name) (map left es) ≡ option_map left (find (λ (e : Export). bytes_eq e.symbol.name name) es)
+  found_left name [] = refl
+  found_left name (e ∷ es) = go (bytes_eq e.symbol.name name) (found_left name es)
+    where
+      go : (b : Bool) → find (λ (e : Export). bytes_eq e.symbol.name name) (map left es) ≡ option_map left (find (λ (e : Export). bytes_eq e.symbol.name name) es)
+          → (if b then Some (left e) else find (λ (e : Export). bytes_eq e.symbol.name name) (map left es)) ≡ option_map left (if b then Some e else find (λ (e : Export). bytes_eq e.symbol.name name) es)
+      go true ih = refl
+      go false ih = ih
+
+  -- a name means the same definition
+  chosen_left : (name : List ℕ) → chosen shorter name ≡ option_map left (chosen os name)
+  chosen_left name = ap (find (λ (e : Export). bytes_eq e.symbol.name name)) candidates_left ∙ found_left name (candidates os)
+
+  object_of : (name : List ℕ) (e : Export) → chosen os name ≡ Some e → object_at os e.file ≡ e.object
+  object_of name e is = sym (unwrap_or-slice_get os (e.file - 1) no_object) ∙ ap (λ o. unwrap_or o no_object) (chosen_held os name e is).object
 
   -- ---- the symbol of a call
 
-  module _ (others : List Global) where
-    abbrev globals : List Global
-    globals = globals_of starts 1 (shortened_from its 1 os) ++ others
+  module _ (m : Map) where
+    abbrev outer : Outer
+    outer = outer_address shorter (globals_of starts shorter ++ shown_linker_symbols shorter m)
+
+    -- a name has the address of the place that it means
+    name_stands : (s : Symbol) (p : Place) (it : IsInText os p) → shared_place os s.name ≡ Some p → outer s ≡ Some (stands p it.section % 2 ^ 64)
+    name_stands s p it e = by (chosen os s.name) refl e
+      where
+        address : (x : Export) → chosen os s.name ≡ Some x → place_in x.file x.symbol.definition ≡ Some p → export_address starts (left x) ≡ Some (stands p it.section % 2 ^ 64)
+        address x is e =
+            subst (λ (u : Object). defined_address (starts x.file) (shortened_object (its x.file) u) (shortened_definition (its x.file) u x.symbol.definition) ≡ Some (stands p it.section % 2 ^ 64))
+            (object_of s.name x is) (defined x.file x.symbol.definition p it e)
+
+        by : (f : Option Export) → chosen os s.name ≡ f → option_and_then (λ (x : Export). place_in x.file x.symbol.definition) f ≡ Some p → outer s ≡ Some (stands p it.section % 2 ^ 64)
+        by None is e = absurd (cc)
+        by (Some x) is e =
+            ap (λ a. option_or a (unshown_address shorter s))
+            (means starts shorter m s.name ∙ ap (meaning starts m s.name) (chosen_left s.name ∙ ap (option_map left) is) ∙ address x is e)
 
     symbol_stands : (file : ℕ) (s : Symbol) (p : Place) (it : IsInText os p) → symbol_place os file s ≡ Some p
-        → symbol_address globals (starts file) (shortened_object (its file) (object_at os file)) (shortened_symbol (its file) (object_at os file) s) ≡ Some (stands p it.section % 2 ^ 64)
-    symbol_stands file s p it e = by s.definition e
+        → symbol_address outer (starts file) (shortened_object (its file) (object_at os file)) (shortened_symbol (its file) (object_at os file) s) ≡ Some (stands p it.section % 2 ^ 64)
+    symbol_stands file s p it e =
+        ap (λ b. if b then own else outer (shortened_symbol (its file) (object_at os file) s)) (sure_left (its file) (object_at os file) s.binding s.definition) ∙ by (is_sure s) e
       where
-        by : (d : Definition) → symbol_place os file (record s { definition = d }) ≡ Some p
-            → symbol_address globals (starts file) (shortened_object (its file) (object_at os file)) (shortened_symbol (its file) (object_at os file) (record s { definition = d })) ≡ Some (stands p it.section % 2 ^ 64)
-        by definitions.Undefined e = global_stands others 1 os s.name p it (λ n. ap (λ k. slice_index_or os k no_object) (let e : 1 + n - 1 ≡ n = omega arith in e)) e
-        by (definitions.Absolute n) e = absurd (cc)
-        by (definitions.InSection section offset) e = defined file (definitions.InSection section offset) p it e
-        by (definitions.Skipped n) e = absurd (cc)
+        own : Option ℕ
+        own = defined_address (starts file) (shortened_object (its file) (object_at os file)) (shortened_definition (its file) (object_at os file) s.definition)
+
+        by : (b : Bool) → (if b then place_in file s.definition else shared_place os s.name) ≡ Some p
+            → (if b then own else outer (shortened_symbol (its file) (object_at os file) s)) ≡ Some (stands p it.section % 2 ^ 64)
+        by true e = defined file s.definition p it e
+        by false e = name_stands (shortened_symbol (its file) (object_at os file) s) p it e
 
     pub target_stands : (i : InputSection) (q : Relocation) (p : Place) (it : IsInText os p) → object_at os i.file ≡ i.object → target_place os i q ≡ Some p
-        → target globals (starts i.file) (shortened_object (its i.file) i.object) q.symbol ≡ Some (stands p it.section % 2 ^ 64)
+        → target outer (starts i.file) (shortened_object (its i.file) i.object) q.symbol ≡ Some (stands p it.section % 2 ^ 64)
     target_stands i q p it at e = by q.symbol e
       where
         of_symbol : (n : ℕ) (x : Option Symbol) → slice_get i.object.symbols n ≡ x → option_and_then (symbol_place os i.file) x ≡ Some p
-            → option_and_then (symbol_address globals (starts i.file) (shortened_object (its i.file) i.object)) (option_map (shortened_symbol (its i.file) i.object) x) ≡ Some (stands p it.section % 2 ^ 64)
+            → option_and_then (symbol_address outer (starts i.file) (shortened_object (its i.file) i.object)) (option_map (shortened_symbol (its i.file) i.object) x) ≡ Some (stands p it.section % 2 ^ 64)
         of_symbol n None f e = absurd (cc)
         of_symbol n (Some s) f e =
-            subst (λ (u : Object). symbol_address globals (starts i.file) (shortened_object (its i.file) u) (shortened_symbol (its i.file) u s) ≡ Some (stands p it.section % 2 ^ 64)) at
+            subst (λ (u : Object). symbol_address outer (starts i.file) (shortened_object (its i.file) u) (shortened_symbol (its i.file) u s) ≡ Some (stands p it.section % 2 ^ 64)) at
             (symbol_stands i.file s p it e)
 
         by : (o : Option ℕ) → option_and_then (λ n. option_and_then (symbol_place os i.file) (slice_get i.object.symbols n)) o ≡ Some p
-            → target globals (starts i.file) (shortened_object (its i.file) i.object) o ≡ Some (stands p it.section % 2 ^ 64)
+            → target outer (starts i.file) (shortened_object (its i.file) i.object) o ≡ Some (stands p it.section % 2 ^ 64)
         by None e = absurd (cc)
         by (Some n) e =
-            ap (option_and_then (symbol_address globals (starts i.file) (shortened_object (its i.file) i.object))) (slice_get-map (shortened_symbol (its i.file) i.object) i.object.symbols n)
+            ap (option_and_then (symbol_address outer (starts i.file) (shortened_object (its i.file) i.object))) (slice_get-map (shortened_symbol (its i.file) i.object) i.object.symbols n)
             ∙ of_symbol n (slice_get i.object.symbols n) refl e
