@@ -40,13 +40,14 @@ msg: .ascii "hello"
 """
 # Sections of every kind, names of every kind, a padding in code, constants and differences.
 KINDS = """.globl _start, size, place, open
+.weak there, absent
 .set size, 0x123456789
 _start: li a7, 93
 .balign 8
 here: ecall
 call open
 .data
-place: .dword here, size, there - place, open + 4
+place: .dword here, size, there - place, open + 4, absent
 .balign 16
 there: .byte 1
 .bss

@@ -31,12 +31,21 @@
 # rv: as -o a.o a.s
 # rv: as -o b.o b.s
 # rv: as -o c.o c.s
+# rv: ld -o exe a.o
+# rv: run exe
+# exit: 1
+# rv: ld -o exe a.o b.o
+# rv: run exe
+# exit: 2
 # rv: ld -o exe --map map a.o c.o
 # same: exe built
 # same: map wanted.map
 # rv: ld -o exe c.o a.o
 # rv: run exe
 # exit: 3
+# rv: ld -o exe a.o b.o c.o
+# rv: run exe
+# exit: 2
 # rv: ld -o exe a.o c.o b.o
 # rv: run exe
 # exit: 2
