@@ -62,7 +62,7 @@ TABLES = {2: "symbol", 4: "relocation"}
 TOKEN = re.compile(rb'"[^"\n]*"|[\w.$%@]+|<<|>>|[^\s\w]')
 WORDS = b"""( ) - ~ + * / % << >> | & ^ , : ; " ' # /* */ // @ . 1b 1f 2b zero ra sp t0 a0 a1 x8 %lo %hi %pcrel_hi %pcrel_lo @plt
 li la call tail j jal beq addi lui auipc ld sd jr jalr lr.w sc.d amoadd.w fence ecall .text .data .bss .rodata .section .globl
-.local .set .equ .align .balign .zero .space .byte .half .word .dword .ascii .asciz .option push pop relax norelax rvc norvc
+.local .weak .set .equ .align .balign .zero .space .byte .half .word .dword .ascii .asciz .option push pop relax norelax rvc norvc
 .type .size .cfi_startproc .comm "ax" "aw" @nobits \\x41 \\0""".split()
 
 

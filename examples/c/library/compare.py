@@ -28,7 +28,7 @@ GNU = "riscv64-unknown-elf-"
 # Debian keeps picolibc here.
 PICOLIBC = Path("/usr/lib/picolibc/riscv64-unknown-elf")
 MACHINE = ["-march=rv64imac", "-mabi=lp64"]
-# A float ABI; weak and common symbols; thread-local and position-independent code; constructors and groups.
+# A float ABI; common symbols; thread-local and position-independent code; constructors and groups.
 LEFT_OUT = re.compile(r"F(4|7|9|10) ")
 START = ".globl _start\n_start: li a7, 93\necall\n"
 

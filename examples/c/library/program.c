@@ -3,6 +3,7 @@
 #include <stdlib.h>
 #include <string.h>
 #include <ctype.h>
+#include <math.h>
 
 typedef unsigned long u64;
 
@@ -17,6 +18,12 @@ static u64 call(u64 number, u64 a, u64 b, u64 c)
     register u64 a2 __asm__("a2") = c;
     __asm__ volatile("ecall" : "+r"(a0) : "r"(a7), "r"(a1), "r"(a2) : "memory");
     return a0;
+}
+
+void _exit(int status)
+{
+    call(93, status, 0, 0);
+    __builtin_unreachable();
 }
 
 static void text(const char *line) { call(64, 1, (u64)line, strlen(line)); }
@@ -75,6 +82,9 @@ __attribute__((used)) static void begin(void)
     volatile unsigned __int128 wide = (unsigned __int128)seed << 64 | sum;
     number(wide / 1000000007);
     number(__builtin_popcountl(seed) + __builtin_clzl(sum) + __builtin_ctzl(seed));
-    call(93, (unsigned char)sum, 0, 0);
-    __builtin_unreachable();
+
+    /* `signgam` is weak, and so is what `exit` calls before it ends, where that is there */
+    signgam = 3;
+    number(signgam);
+    exit((unsigned char)sum);
 }
