@@ -1,14 +1,13 @@
 -- The fields of code that stay open, for the linker to fill (RISC-V ELF psABI, "Relocations",
 -- "PC-Relative Addresses" and "Linker Relaxation"; GNU as, "RISC-V-Modifiers").
 
-use Rattle.std.specs.Prelude.{ℕ, ℤ, pos, Bool, if◌then◌else◌, List, [], ◌∷◌, ◌++◌, Option, Some, None}
-use Rattle.std.specs.Int.{w64, int_wrap}
+use Rattle.std.specs.Prelude.{ℕ, Bool, if◌then◌else◌, List, [], ◌∷◌, ◌++◌, Option, Some, None}
 use Rattle.rv_isa.specs.declared.kind.Kind.{Kind}
 use Rattle.rv_isa.specs.declared.kind.Kind.TheVariants as kind
-use Rattle.rv_text_laws.specs.Expression.{Primary, Here}
+use Rattle.rv_text_laws.specs.Expression.{Here}
 use Rattle.rv_text_laws.specs.Values.{Value, Symbolic}
 use Rattle.rv_statement.specs.declared.pseudo.Function.TheVariants.{PcrelLo}
-use Rattle.rv_statement.specs.Statement.{StatementKind, Operand, Value as Of_value, Applied, Target, Expression}
+use Rattle.rv_statement.specs.Statement.{Operand, Value as Of_value, Applied, Target, Expression}
 use Rattle.rv_pseudo_laws.specs.Code.{Part, Closed, Open as Open_part, Joined}
 use Rattle.rv_unit_laws.specs.Tables.{Tables, Definition, definition}
 use Rattle.rv_source_laws.specs.Located.{Located}

@@ -2,7 +2,7 @@
 -- else in those that the kinds of its open fields say (RISC-V Assembly Programmer's Manual,
 -- "pseudoinstructions"; Unprivileged ISA 20191213, chapter 16).
 
-use Rattle.std.specs.Prelude.{◌≡◌, ℕ, Bool, true, false, ◌&&◌, ⊤, List, [], ◌∷◌, ◌++◌, flat_map, length, sum_by, Option, Some, None}
+use Rattle.std.specs.Prelude.{◌≡◌, ℕ, Bool, true, false, ◌&&◌, ⊤, List, [], ◌∷◌, ◌++◌, flat_map, length, sum_by, Some}
 use Rattle.rv_isa.specs.Kinds.{width_of}
 use Rattle.rv_isa.specs.Ranges.{IsValid}
 use Rattle.rv_text_laws.specs.Values.{Value, Constant}

@@ -3,7 +3,7 @@
 -- "RISC-V-Modifiers", for parts of addresses). What has no row is refused as such, where nothing else
 -- is wrong.
 
-use Rattle.std.specs.Prelude.{ℕ, ℤ, Bool, true, false, not, ◌||◌, ◌==◌, List, [], ◌∷◌, ◌++◌, flat_map, Option, Some, None, is_some}
+use Rattle.std.specs.Prelude.{ℕ, ℤ, Bool, true, false, not, ◌||◌, ◌==◌, List, [], ◌∷◌, ◌++◌, flat_map, Option, Some, is_some}
 use Rattle.rv_isa_laws.specs.Arithmetic.{signed}
 use Rattle.rv_isa_laws.specs.Halves.{hi, lo}
 use Rattle.rv_text_laws.specs.Expression.{Primary, Symbol, Reference}

@@ -11,7 +11,7 @@ use Rattle.rv_statement.specs.declared.directive.Binding.{Binding as SourceBindi
 use Rattle.rv_statement.specs.declared.directive.Binding.TheVariants as source
 use Rattle.rv_unit_laws.specs.Bindings.{is_shared}
 use Rattle.rv_unit_laws.specs.Tables.{Tables, Definition, Assignment, definition, gives_way, assigned_ever}
-use Rattle.rv_source_laws.specs.Exports.{defined_name, names_where}
+use Rattle.rv_source_laws.specs.Exports.{names_where}
 use Rattle.rv_object.specs.declared.symbol.Binding.{Binding}
 use Rattle.rv_object.specs.declared.symbol.Binding.TheVariants.{Local, Global, Weak}
 use Rattle.rv_object.specs.declared.symbol.Definition.{Definition as Defined}

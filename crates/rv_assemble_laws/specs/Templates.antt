@@ -1,7 +1,7 @@
 -- What the statements of a source are in an object: bytes with open fields left zero, and the
 -- relocations that fill them (RISC-V ELF psABI, "Relocations"; GNU as, "Pseudo Ops").
 
-use Rattle.std.specs.Prelude.{◌≡◌, ℕ, zero, suc, ℤ, pos, Bool, true, false, ◌==◌, ⊤, ◌⊎◌, if◌then◌else◌, List, [], ◌∷◌, map, replicate, Option, Some, None}
+use Rattle.std.specs.Prelude.{◌≡◌, ℕ, zero, suc, ℤ, pos, Bool, true, false, ◌==◌, ⊤, ◌⊎◌, if◌then◌else◌, List, [], ◌∷◌, map, Option, Some, None}
 use Rattle.std.specs.Int.{w64, int_wrap}
 use Rattle.rv_isa.specs.declared.kind.Kind.{Kind}
 use Rattle.rv_isa.specs.declared.kind.Kind.TheVariants.{Align, Abs32, Abs64, Add8, Add16, Add32, Add64, Sub8, Sub16, Sub32, Sub64}

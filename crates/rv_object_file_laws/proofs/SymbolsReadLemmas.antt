@@ -1,6 +1,6 @@
 -- Symbols and rows that were written are read again.
 
-use Rattle.std.proofs.Common.{◌≡◌, ℕ, zero, suc, ◌+◌, ◌*◌, ◌/◌, ◌<◌, ◌^◌, ◌==◌, nat_lt, nat_le, true, not, List, [], ◌∷◌, ◌++◌, length, drop, map, replicate, filter, flat_map, Some, refl, ap, sym, subst, ◌∙◌, arith, unwrap_or, append_assoc, append-nil, if◌then◌else◌, bytes_eq}
+use Rattle.std.proofs.Common.{◌≡◌, ℕ, zero, suc, ◌+◌, ◌*◌, ◌/◌, ◌<◌, ◌^◌, ◌==◌, nat_lt, nat_le, true, not, List, [], ◌∷◌, ◌++◌, length, drop, map, replicate, filter, flat_map, Some, refl, ap, sym, subst, ◌∙◌, arith, unwrap_or, append_assoc, append-nil, bytes_eq}
 use Rattle.std.specs.List.{AllByRecursion, find, list_all, slice_get}
 use Rattle.std.proofs.lemmas.Bool.{cond-true, cond-false, and_parts, and_from, or_left, or_right, ltb-true, leb-true, ne_eqb, eq-eqb, not_from_false}
 use Rattle.std.proofs.lemmas.List.{length-append, length-replicate, drop_at, length-map}

@@ -14,7 +14,7 @@ use Rattle.rv_unit_laws.specs.Sections.{goes_to_text}
 use Rattle.rv_unit_laws.specs.Tables.{Tables, Assignment, Definition, assigned_ever, is_location, sure_definition, alignment_of}
 use Rattle.rv_layout_laws.specs.declared.site.Site.{Site}
 use Rattle.rv_layout_laws.specs.declared.site.SiteKind.TheVariants as sites
-use Rattle.rv_layout_laws.specs.Calls.{IsGreatestClosed, is_call as is_call_site}
+use Rattle.rv_layout_laws.specs.Calls.{IsGreatestClosed}
 use Rattle.rv_map.specs.Map.{Map}
 use Rattle.rv_source_laws.specs.Located.{Located}
 use Rattle.rv_source_laws.specs.Compressed.{is_compressed_code}

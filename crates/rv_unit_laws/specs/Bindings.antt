@@ -6,7 +6,7 @@
 use Rattle.std.specs.Prelude.{ℕ, Bool, true, false, List, [], ◌∷◌, if◌then◌else◌}
 use Rattle.std.specs.List.{list_any}
 use Rattle.std.specs.Str.{bytes_eq}
-use Rattle.rv_statement.specs.Statement.{StatementKind, Directs, Statement, Directive, Binds}
+use Rattle.rv_statement.specs.Statement.{StatementKind, Directs, Statement, Binds}
 use Rattle.rv_statement.specs.declared.directive.Binding.{Binding}
 use Rattle.rv_statement.specs.declared.directive.Binding.TheVariants.{Local, Global, Weak}
 

@@ -1,6 +1,6 @@
 -- The sections of a source (gABI, "Sections"; GNU as, "Sections" and ".section").
 
-use Rattle.std.specs.Prelude.{ℕ, suc, Bool, true, false, not, ◌&&◌, ◌||◌, ◌==◌, List, [], ◌∷◌, length, take, Option, Some, None, slice_index_or, codes, option_map, if◌then◌else◌}
+use Rattle.std.specs.Prelude.{ℕ, suc, Bool, true, false, ◌||◌, ◌==◌, List, [], ◌∷◌, length, take, Option, Some, None, slice_index_or, codes, option_map, if◌then◌else◌}
 use Rattle.std.specs.List.{list_any}
 use Rattle.std.specs.Str.{bytes_eq}
 use Rattle.rv_statement.specs.Statement.{Directive, Enters, Opens}

@@ -1,4 +1,4 @@
-use Rattle.std.proofs.Common.{◌≡◌, ◌+◌, ◌-◌, ◌++◌, ◌∷◌, [], not, length, sym, ap, ◌∙◌, append_assoc, append-nil, arith}
+use Rattle.std.proofs.Common.{◌+◌, ◌-◌, ◌++◌, ◌∷◌, [], not, length, sym, ap, ◌∙◌, append_assoc, append-nil, arith}
 use Rattle.memchr.specs.Find.{is_byte, places_from}
 use Rattle.rv_object_checks.proofs.PositionsLemmas.{next_passes, next_fails, all_found}
 use Rattle.rv_object_reader.proofs.strings.ends.Goals as goal

@@ -13,6 +13,6 @@ loop-statement-preserved c =
     let inside : i < length xs = search rules in
     let next : drop i (map statement_of xs) ≡ statement_of x ∷ drop (i + 1) (map statement_of xs) = drop_next statement_of x xs i inside ∙ ap (λ y. statement_of y ∷ drop (i + 1) (map statement_of xs)) (sym c.statement-item.is) in (
       ap (bound_tables (drop (i + 1) (map statement_of xs))) c.in_ok-bind_by.ensures.tables
-      ∙ sym (ap (λ l. bound_tables l (tables_of c.loop-statement.self)) next) ∙ c.loop-statement.invariant.0,
+          ∙ sym (ap (λ l. bound_tables l (tables_of c.loop-statement.self)) next) ∙ c.loop-statement.invariant.0,
       (λ indexed. c.in_ok-bind_by.ensures.indexed (c.loop-statement.invariant.1 indexed)),
     )
