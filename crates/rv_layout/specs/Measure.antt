@@ -123,4 +123,5 @@ pub record IsMeasured (ss : List Statement) (items : List Item) : Type 0 where
   pub told : HaveSizes (tables ss) (located_from 1 1 (at_start ss) ss) lengths
   pub count : length lengths ≡ length ss
   pub seen : items
-      ≡ items_of (tables ss) (located_from 1 1 (at_start ss) ss) (located_from 1 1 (at_start ss) ss) lengths
+      ≡ items_of (tables ss) (located_from 1 1 (at_start ss) ss)
+      (located_from 1 1 (at_start ss) ss) lengths
