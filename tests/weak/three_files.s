@@ -1,5 +1,5 @@
 # A weak definition without an address is chosen as any other: what refers to it is refused, and the map has no line for
-# it, nor for a symbol of the linker's of its name. One that is not chosen does no harm. GNU ld 2.40 gives it 0.
+# it, nor for a symbol of the linker's of its name. One that is not chosen does no harm. GNU ld 2.40 takes its offset.
 # rv: build -o exe use.s other.s first.s
 # rv: run exe
 # exit: 3
