@@ -1,28 +1,29 @@
 #!/usr/bin/env python3
 """Links random lists of sources with weak, global and local names by rv and by GNU ld, and compares what names mean.
 
-usage: weak.py COUNT [--seed N] [--from N] [--only N] [--jobs N] [--rv RV]
+usage: weak.py [COUNT] [--seed N] [--from N] [--only N] [--jobs N] [--rv RV]
 
-It needs riscv64-unknown-elf-as and -ld 2.40. List N of a seed is the same in each run. Its sources define some of a few
-names as labels of text, of data or of a section without `a`, or as numbers, make them local, global or weak, and refer to
-them from data and from code. The objects of rv as and those of GNU as are linked by `rv ld --no-relax` and by GNU ld, with
-a script that lays sections out as rv does. Asked is that
+It needs riscv64-unknown-elf-as and -ld 2.40, and takes 300 lists unless told otherwise. List N of a seed is the same in
+each run; `--only N` takes it alone and shows it. Its sources define some of a few names as labels of text, of data or of
+a section without `a`, or as numbers, make them local, global or weak, and refer to them from data and from code. The
+objects of rv as, and those of GNU as, are linked by rv ld and by GNU ld, with a script that lays sections out as rv does.
+Asked is that
 
-  refusals  rv refuses a list for the first name that the rules of the manual say, and GNU ld refuses it for that name too
-  values    the bytes of the text, the constants and the variables, the entry, and the address of each name are the same
-  build     rv build makes of the sources the executable and the map that rv ld makes of their objects, with short calls
-            and without; with short calls each global name has the address that GNU ld gives it
+  refusals  rv refuses a list for a name of which the manual says so, and GNU ld for that name too
+  values    without short calls all bytes of the program, its entry and the address of each name are the same
+  short     with short calls the address of each name is the same, in objects of rv as
+  build     rv build makes of the sources what rv ld makes of their objects
 
 Where the manual names a difference from GNU's tools, what it says is asked of rv, and no more:
 
-  own number   a source does not refer to a number that it makes weak: GNU ld takes another file's
-  unloaded     a name that means a place in a section without `a`: rv says L5
-  entry        a `_start` that is no label of text: rv says L7
-  last         `.weak` after `.globl` alone, since a name that is weak once stays so in GNU as
-  way to 0     an instruction that goes or refers to 0 may be written otherwise: that it means 0 is asked of both
-  mention      a name that a source neither defines nor refers to stands in no `.globl`: GNU ld refuses a weak one for it
-  short        GNU ld shortens calls to what is no label of text, too, and GNU as lets it shorten more than calls: short calls
-               are compared in objects of rv where all are to such labels
+  own number  a source does not refer to a number that it makes weak: GNU ld takes another file's
+  last        `.weak` comes after `.globl` alone: a name that is weak once stays so in GNU as
+  left open   a name that a source neither defines nor refers to stands in no `.globl`: GNU ld refuses weak ones for it
+  unloaded    a name that means a place in a section without `a`: rv says L5
+  entry       a `_start` that means no label of text: rv says L7
+  0           what a pair of instructions comes to that refers to 0 is compared, and not its bytes
+  calls       where a call leads to no label of text, short calls are not compared, nor in objects of GNU as, in which GNU ld
+              shortens more than calls
 
 Each difference is a line; the last one counts the lists. Exit status 1 if there is a difference.
 """
@@ -59,7 +60,10 @@ SECTIONS {
 """
 LINKERS = ["_etext", "__bss_start", "_edata", "_end", "__global_pointer$"]
 NAMES = ["f", "g", "h", "v", "w"]
-OPENINGS = {"text": ".text", "data": ".data", "rodata": ".section .rodata", "bss": ".bss", "unloaded": '.section .note.x,""'}
+OPENINGS = {"text": ".text", "data": ".data", "rodata": ".section .rodata", "bss": ".bss",
+    "unloaded": '.section .note.x,""'}
+KINDS = ["text"] * 9 + ["data"] * 6 + ["rodata", "bss", "number"] * 3 + ["unloaded"]
+CONTENTS = {"text": "li t3, 1\nret", "data": ".word 1, 2", "rodata": ".half 3", "bss": ".zero 24", "unloaded": ".word 1"}
 # What refers to a name X from data and from code; L is the label of the reference itself.
 IN_DATA = [".dword X", ".dword X + 6", ".word X", ".dword X - L", ".dword L - X", ".dword X - X + 1"]
 IN_CODE = ["la t0, X", "la t0, X + 4", "ld t0, X", "sd t0, X, t1", "lui t0, %hi(X)\naddi t0, t0, %lo(X)",
@@ -80,13 +84,12 @@ class Source:
         for name in pick.sample(NAMES, pick.randrange(1, len(NAMES) + 1)):
             self.bindings[name] = pick.choice(["weak"] * 5 + ["global", "local"])
             if pick.random() < 0.55:
-                self.definitions[name] = pick.choice(["text"] * 9 + ["data"] * 6 + ["rodata", "bss", "number"] * 3 + ["unloaded"])
+                self.definitions[name] = pick.choice(KINDS)
         if pick.random() < 0.2:
             name = pick.choice(LINKERS)
             self.bindings[name] = pick.choice(["weak", "weak", "global"])
             if pick.random() < 0.4:
                 self.definitions[name] = pick.choice(["data", "text", "number"])
-        # a local name that is not defined is another file's all the same; so are some that nothing is said of
         self.numbers = {name: next(numbers) for name, how in self.definitions.items() if how == "number"}
         if file == 1 or pick.random() < 0.3:
             self.bindings["_start"] = "global" if pick.random() < (0.8 if file == 1 else 0.1) else "weak"
@@ -111,7 +114,8 @@ class Source:
     def text(self, pick):
         """The source as it is written; each reference has a label before it."""
         named = {*self.definitions, *(name for name, _ in self.references)}
-        said = [(how, name) for name, how in self.bindings.items() if name in named and (how != "local" or pick.random() < 0.3)]
+        said = [(how, name) for name, how in self.bindings.items() if name in named]
+        said = [(how, name) for how, name in said if how != "local" or pick.random() < 0.3]
         words = {"global": ".globl", "weak": ".weak", "local": ".local"}
         lines = [f"{words[how]} {name}" for how, name in said]
         before = [f".globl {name}" for how, name in said if how == "weak" and pick.random() < 0.1]
@@ -120,8 +124,7 @@ class Source:
             if how == "number":
                 before.append(f".set {name}, {self.numbers[name]:#x}")
             else:
-                space = f".zero {8 * pick.randrange(1, 4)}" if how == "bss" else ".word 1, 2" if how != "text" else "li t3, 1\nret"
-                body.append([OPENINGS[how], f"{name}: {space}"])
+                body.append([OPENINGS[how], f"{name}: {CONTENTS[how]}"])
         for at, (name, way) in enumerate(self.references):
             label = f"r{self.file}_{at}"
             section = OPENINGS[pick.choice(["data", "data", "rodata"]) if way in IN_DATA else "text"]
@@ -136,7 +139,7 @@ class Source:
 
 
 def definitions(sources, binding):
-    """Those of a binding, by file and, for want of more, by name: a file has one of a name."""
+    """Those of a binding, by file: a file has one of a name."""
     return [(it, name) for it in sources for name in it.definitions if it.bindings.get(name, "local") == binding]
 
 
@@ -155,12 +158,11 @@ def meaning(sources, source, name):
 
 
 def refusal(sources):
-    """The codes and names of which rv may refuse a list with any, or none where it links."""
+    """The code for which rv refuses a list, and the names of which it says one; none where it links."""
     counts = Counter(name for _, name in definitions(sources, "global"))
     twice = {name for name, count in counts.items() if count > 1}
     if twice:
         return "L6", twice
-    # (a name that is taken off itself has no meaning either, where it has none)
     bad = {name for it in sources for name, _ in it.references if meaning(sources, it, name) in (None, "unloaded")}
     if bad:
         return "L5", bad
@@ -224,7 +226,7 @@ def far_end(program, at):
 
 
 def without_ways_to_0(sources, program, symbols):
-    """The bytes of a program but those of pairs of instructions that mean 0 and its neighbours, and what these come to."""
+    """The bytes of a program but those of pairs of instructions that refer to 0, and what these come to."""
     held, ways = dict(program.bytes), []
     for it in sources:
         for at, (name, way) in enumerate(it.references):
@@ -237,83 +239,97 @@ def without_ways_to_0(sources, program, symbols):
     return {hex(at): it for at, it in held.items() if it}, ways
 
 
-def globals_of(text):
-    """The `global` lines of a map."""
-    return {name: int(address, 16) for name, address in re.findall(r"^global (\S+) (\S+)$", text, re.M)}
-
-
-def same(what, wanted, came):
-    if wanted != came:
-        if isinstance(wanted, dict):
-            wanted, came = ({key: it.get(key) for key in {*wanted, *came} if wanted.get(key) != came.get(key)} for it in (wanted, came))
-        shown = [str(it)[:600] for it in (wanted, came)]
-        raise Differs(f"{what}: GNU or wanted {shown[0]}, rv {shown[1]}")
-
-
-def fault_of(ended):
-    """The code and the name of a refusal of rv."""
-    found = re.search(r"(L\d+) \w+ ?(\S*)$", ended.stderr.strip())
-    return (found[1], found[2] or None) if found else (ended.stderr.strip(), None)
-
-
 class Linked:
-    """What rv makes of files with some options: an executable and a map, or a fault."""
+    """What rv makes of files with some options: an executable and a map, or a fault with its code and name."""
 
     def __init__(self, rv, folder, command, options, files):
-        paths = [folder / f"{command}{''.join(options)}.{kind}" for kind in ("exe", "map")]
+        paths = [folder / "made.exe", folder / "made.map"]
         ended = said(rv, command, *options, "-o", paths[0], "--map", paths[1], *files)
-        self.fault = fault_of(ended) if ended.returncode else None
         self.files = [path.read_bytes() for path in paths if path.exists()]
-        self.program = None if self.fault else Program(paths[0])
-        self.map = "" if self.fault else paths[1].read_text()
+        self.fault, self.program, self.globals = None, None, {}
+        if ended.returncode:
+            found = re.search(r"rv: (?:(L\d+) \w+ ?(\S*)|.*)$", ended.stderr.strip())
+            self.fault = (found[1] or found[0], found[2])
+        else:
+            self.program = Program(paths[0])
+            lines = re.findall(r"^global (\S+) (\S+)$", paths[1].read_text(), re.M)
+            self.globals = {name: int(address, 16) for name, address in lines}
         for path in paths:
             path.unlink(missing_ok=True)
 
 
-def compare(rv, folder, sources, files, objects, maker):
-    """Compares the links of objects; how they end."""
-    wanted = refusal(sources)
-    ours = Linked(rv, folder, "ld", ["--no-relax"], objects)
-    gnu = folder / "gnu"
-    theirs = said(f"{GNU}ld", "--no-relax", "-T", folder / "script", "-o", gnu, *objects)
-    if maker == "rv":
-        for options in ([], ["--no-relax"]):
-            built, linked = (Linked(rv, folder, *it) for it in (("build", options, files), ("ld", options, objects)))
-            same(f"rv build and rv ld {options}", (built.fault, built.files), (linked.fault, linked.files))
+def same(what, wanted, came):
+    if wanted == came:
+        return
+    if isinstance(wanted, dict):
+        keys = sorted(key for key in {*wanted, *came} if wanted.get(key) != came.get(key))
+        wanted, came = ({key: it.get(key) for key in keys} for it in (wanted, came))
+    raise Differs(f"{what}: wanted {str(wanted)[:600]}, rv {str(came)[:600]}")
+
+
+def compare_names(what, theirs, ours):
+    """Compares the addresses of the names that all files can mean. GNU ld gives the linker's where one is referred to."""
+    wanted = {name: value for name, (binding, value) in theirs.symbols.items() if binding and value is not None}
+    same(what, wanted, {name: at for name, at in ours.globals.items() if name in wanted or name not in LINKERS})
+
+
+def compare_refusals(sources, wanted, ours, theirs):
+    """Compares why rv and GNU ld refuse a list; how it ends."""
+    code, names = wanted
+    same("code", code, ours.fault and ours.fault[0])
+    if code == "L7":
+        return "entry"
+    same(f"one of {names}", True, ours.fault[1] in names)
+    if code == "L5" and any(meaning(sources, it, name) == "unloaded" for it in sources for name, _ in it.references):
+        return "unloaded"
+    about = {"L6": "multiple definition of", "L5": "undefined reference to"}[code]
+    found = re.findall(rf"{about} `(\S+)'", theirs.stderr)
+    same("GNU ld's refusal", True, ours.fault[1] in found[: 1 if code == "L6" else None])
+    return code
+
+
+def compare_values(sources, ours, theirs):
+    """Compares the programs of rv and of GNU ld; how they end."""
+    held, ways = without_ways_to_0(sources, theirs, theirs.symbols)
+    held_here, ways_here = without_ways_to_0(sources, ours.program, theirs.symbols)
+    same("ways to 0", ways, ways_here)
+    same("bytes", held, held_here)
+    same("entry", theirs.entry, ours.program.entry)
+    compare_names("names", theirs, ours)
+    return "linked, with a way to 0" if ways else "linked"
+
+
+def compare(rv, folder, sources, objects, maker):
+    """Compares the links of the objects of a list; how they end."""
+    wanted, ours = refusal(sources), Linked(rv, folder, "ld", ["--no-relax"], objects)
+    gnu = [f"{GNU}ld", "-T", folder / "script", "-o", folder / "gnu", *objects]
+    theirs = said(*gnu, "--no-relax")
     if wanted:
-        code, names = wanted
-        same(f"{maker}: refusal", (code, True), (ours.fault and ours.fault[0], names is None or ours.fault and ours.fault[1] in names))
-        unloaded = any(meaning(sources, it, name) == "unloaded" for it in sources for name, _ in it.references)
-        if code == "L7" or code == "L5" and unloaded:
-            return "entry" if code == "L7" else "unloaded"
-        about = {"L6": "multiple definition of", "L5": "undefined reference to"}[code]
-        found = re.findall(rf"{about} `(\S+)'", theirs.stderr)
-        same(f"{maker}: GNU ld's refusal", True, ours.fault[1] in found)
-        if code == "L6":
-            same(f"{maker}: the name defined again", found[0], ours.fault[1])
-        return code
-    same(f"{maker}: links", None, ours.fault)
+        return compare_refusals(sources, wanted, ours, theirs)
+    same("fault", None, ours.fault)
     if theirs.returncode:
-        raise Differs(f"{maker}: GNU ld: {theirs.stderr.strip()[-300:]}")
-    program = Program(gnu)
-    symbols = program.symbols
-    held, ways = without_ways_to_0(sources, program, symbols)
-    held_here, ways_here = without_ways_to_0(sources, ours.program, symbols)
-    same(f"{maker}: ways to 0", ways, ways_here)
-    same(f"{maker}: bytes", held, held_here)
-    same(f"{maker}: entry", program.entry, ours.program.entry)
-    shown = globals_of(ours.map)
-    exported = {name: value for name, (binding, value) in symbols.items() if binding and value is not None}
-    # (GNU ld gives the linker's names where one is referred to)
-    same(f"{maker}: names", exported, {name: at for name, at in shown.items() if name in exported or name not in LINKERS})
+        raise Differs(f"GNU ld: {theirs.stderr.strip()[-300:]}")
+    end = compare_values(sources, ours, Program(folder / "gnu"))
     called = [meaning(sources, it, name) for it in sources for name, way in it.references if way in CALLS]
     if maker == "rv" and all(it == "text" for it in called):
-        relaxed = Linked(rv, folder, "ld", [], objects)
-        done(f"{GNU}ld", "-T", folder / "script", "-o", gnu, *objects)
-        exported = {name: value for name, (binding, value) in Program(gnu).symbols.items() if binding and value is not None}
-        shown = {name: at for name, at in globals_of(relaxed.map).items() if name in exported or name not in LINKERS}
-        same(f"{maker}: names with short calls", exported, shown)
-    return "linked, with a way to 0" if ways else "linked"
+        done(*gnu)
+        compare_names("names with short calls", Program(folder / "gnu"), Linked(rv, folder, "ld", [], objects))
+    return end
+
+
+def compare_builds(rv, folder, files, objects):
+    """Asks that rv build does what rv ld does."""
+    for options in ([], ["--no-relax"]):
+        built, linked = (Linked(rv, folder, *it) for it in (("build", options, files), ("ld", options, objects)))
+        same(f"rv build, and rv ld {options}", (built.fault, built.files), (linked.fault, linked.files))
+
+
+def objects_of(words, files):
+    """The objects that an assembler makes of sources."""
+    objects = [path.with_suffix(".o") for path in files]
+    for path, written in zip(files, objects):
+        done(*words, "-o", written, path)
+    return objects
 
 
 def taken(options, number):
@@ -334,13 +350,12 @@ def taken(options, number):
         makers = {"rv": [options.rv, "as"], "GNU as": [f"{GNU}as", "-march=rv64imac", "-mno-arch-attr"]}
         for maker, words in makers.items():
             try:
-                objects = []
-                for path in files:
-                    objects.append(path.with_suffix(".o"))
-                    done(*words, "-o", objects[-1], path)
-                ends.append((maker, compare(options.rv, folder, sources, files, objects, maker), None))
-            except (Differs, KeyError, OSError, subprocess.TimeoutExpired) as shown:
-                ends.append((maker, "differs", f"list {number}: {shown!r}"))
+                objects = objects_of(words, files)
+                if maker == "rv":
+                    compare_builds(options.rv, folder, files, objects)
+                ends.append((maker, compare(options.rv, folder, sources, objects, maker), None))
+            except (Differs, KeyError, OSError, struct.error, subprocess.TimeoutExpired) as shown:
+                ends.append((maker, "differs", f"list {number}, objects of {maker}: {shown}"))
         if options.only is not None:
             for path in files:
                 print(f"--- {path.name}\n{path.read_text()}", flush=True)
