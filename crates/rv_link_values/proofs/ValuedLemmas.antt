@@ -1,12 +1,12 @@
 -- What the value of a relocation is, by whether it is the low part of a distance.
 
-use Rattle.std.proofs.Common.{◌≡◌, ℕ, ℤ, pos, true, false, List, Option, Some, None, sym, ap, ◌∙◌, inl}
+use Rattle.std.proofs.Common.{◌≡◌, ℤ, pos, true, false, List, Option, Some, None, sym, ap, ◌∙◌, inl}
 use Rattle.std.specs.Prelude.{IfOk, IfErr, if◌then◌else◌}
 use Rattle.std.specs.Option.{ok_or}
 use Rattle.rv_object.specs.Object.{Relocation, Object}
 use Rattle.rv_object_laws.specs.Inputs.{Starts, InputSection, start_of}
 use Rattle.rv_object_laws.specs.Names.{Outer}
-use Rattle.rv_object_laws.specs.Values.{is_low, own_value, paired, value}
+use Rattle.rv_object_laws.specs.Values.{is_low, own_value, paired}
 use Rattle.rv_link_values.specs.declared.fault.ValueFault.{ValueFault}
 use Rattle.rv_link_values.specs.Values.{IsValueOf, IsDangling}
 
