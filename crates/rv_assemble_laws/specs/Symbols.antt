@@ -12,6 +12,7 @@ use Rattle.rv_statement.specs.declared.directive.Binding.TheVariants as source
 use Rattle.rv_unit_laws.specs.Bindings.{is_shared}
 use Rattle.rv_unit_laws.specs.Tables.{Tables, Definition, Assignment, definition, gives_way, assigned_ever}
 use Rattle.rv_source_laws.specs.Exports.{names_where}
+use Rattle.rv_object.specs.Bindings.{is_weak}
 use Rattle.rv_object.specs.declared.symbol.Binding.{Binding}
 use Rattle.rv_object.specs.declared.symbol.Binding.TheVariants.{Local, Global, Weak}
 use Rattle.rv_object.specs.declared.symbol.Definition.{Definition as Defined}
@@ -196,11 +197,6 @@ IsOuter _ x = ⊥
 abbrev pub IsDefinedBy : List Site → Primary → Option Definition → Symbol → Type 0
 IsDefinedBy sites q (Some d) x = IsOwn sites d x
 IsDefinedBy sites q None x = IsOuter q x
-
-abbrev pub is_weak : Binding → Bool
-is_weak Local = false
-is_weak Global = false
-is_weak Weak = true
 
 -- the symbol that a statement of this ordinal means by a name, `.` or a numeric reference: it is weak
 -- where another file's definition may be meant

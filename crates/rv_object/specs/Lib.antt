@@ -1,3 +1,4 @@
+pub mod Bindings
 pub mod Object
 pub mod Padding
 pub mod Parts

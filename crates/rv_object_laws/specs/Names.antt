@@ -6,30 +6,12 @@ use Rattle.std.specs.Option.{option_or}
 use Rattle.rv_map.specs.Globals.{global_address, shown, linker_symbols}
 use Rattle.rv_map.specs.Map.{Map, Global}
 use Rattle.rv_object.specs.declared.symbol.Binding.{Binding}
-use Rattle.rv_object.specs.declared.symbol.Binding.TheVariants as bindings
 use Rattle.rv_object.specs.declared.symbol.Definition.{Definition}
 use Rattle.rv_object.specs.declared.symbol.Definition.TheVariants as definitions
+use Rattle.rv_object.specs.Bindings.{is_shared, is_global, is_weak}
 use Rattle.rv_object.specs.Object.{Section, Symbol, Object}
 use Rattle.rv_object_laws.specs.Moves.{moves, new_offset}
 use Rattle.rv_object_laws.specs.Inputs.{Starts, goes_to_text}
-
--- ---- bindings
-
--- all files can mean the name
-abbrev pub is_shared : Binding → Bool
-is_shared bindings.Local = false
-is_shared bindings.Global = true
-is_shared bindings.Weak = true
-
-abbrev pub is_global : Binding → Bool
-is_global bindings.Local = false
-is_global bindings.Global = true
-is_global bindings.Weak = false
-
-abbrev pub is_weak : Binding → Bool
-is_weak bindings.Local = false
-is_weak bindings.Global = false
-is_weak bindings.Weak = true
 
 -- ---- addresses
 

@@ -19,7 +19,8 @@ use Rattle.rv_object.specs.Object.{Relocation, Section, Symbol, Object, size_of}
 use Rattle.rv_object.specs.View.{object_of}
 use Rattle.rv_object_laws.specs.Moves.{Move, moves, new_offset}
 use Rattle.rv_object_laws.specs.Inputs.{InputSection, goes_to_text, inputs}
-use Rattle.rv_object_laws.specs.Names.{offset_address, defined_address, is_weak, symbol_address}
+use Rattle.rv_object.specs.Bindings.{is_weak}
+use Rattle.rv_object_laws.specs.Names.{offset_address, defined_address, symbol_address}
 use Rattle.rv_object_laws.specs.Values.{target}
 use Rattle.rv_object_laws.specs.CallSites.{is_call, sites_of, is_short_text}
 use Rattle.rv_object_laws.specs.Shortened.{sizes_by, cuts, shortened_kind, shortened_definition, shortened_symbol, shortened_relocation, shortened_object, shortened, IsRelaxed}

@@ -20,13 +20,11 @@ use Rattle.rv_unit_laws.specs.Sections.{Section as SourceSection}
 use Rattle.rv_unit_laws.specs.Tables.{Tables, Definition, tables, at_start, after, definition, gives_way, sure_definition, opened_of, longest_section}
 use Rattle.rv_source_laws.specs.Located.{Located, located_now, located_from}
 use Rattle.rv_source_laws.specs.Sizes.{Near, near_forms, near_at, near_value, near_target, branch_item, item_by, item_by_kind, items_of}
-use Rattle.rv_object.specs.declared.symbol.Binding.{Binding}
-use Rattle.rv_object.specs.declared.symbol.Binding.TheVariants.{Local, Global, Weak}
 use Rattle.rv_object.specs.declared.symbol.Definition.TheVariants as definitions
 use Rattle.rv_object.specs.Object.{Relocation, Symbol, Object}
-use Rattle.rv_object_laws.specs.Names.{is_weak}
+use Rattle.rv_object.specs.Bindings.{is_weak}
 use Rattle.rv_assemble_laws.specs.Sites.{Site, form, sites_in, Tile}
-use Rattle.rv_assemble_laws.specs.Symbols.{site_at, after_site, IsOwn, IsDefinedBy, StandsFor, is_weak as is_weak_symbol}
+use Rattle.rv_assemble_laws.specs.Symbols.{site_at, after_site, IsOwn, IsDefinedBy, StandsFor}
 use Rattle.rv_assemble_laws.specs.IsObjectOf.{IsObjectOf}
 use Rattle.rv_sources_link_laws.proofs.moves.MovedLemmas.{AddsInData, adds}
 use Rattle.rv_sources_link_laws.proofs.statements.SettledLemmas.{IsSettled}
@@ -192,11 +190,6 @@ sure_is t ordinal q d e = by (gives_way t q) refl e
     by : (b : Bool) → gives_way t q ≡ b → (if b then None else definition t ordinal q) ≡ Some d → (definition t ordinal q ≡ Some d) × (gives_way t q ≡ false)
     by true f e = absurd (cc)
     by false f e = (e, f)
-
-weak_same : (b : Binding) → is_weak b ≡ is_weak_symbol b
-weak_same Local = refl
-weak_same Global = refl
-weak_same Weak = refl
 
 -- a target in the same section
 record IsTarget (all : List Located) (section : ℕ) (d : Option Definition) (plus : ℕ) (n : Near) : Type 0 where
@@ -455,7 +448,7 @@ module _ (ss : List Statement) (o : Object) (is : IsObjectOf ss o) (j : ℕ) (se
                 symbol_is = ap (λ (q : Relocation). q.symbol) b.is;
                 x = x;
                 there = e;
-                strong = weak_same x.binding ∙ weak ∙ sure.1;
+                strong = weak ∙ sure.1;
                 from = b.z;
                 to = found.0;
                 in_from = b.inside;

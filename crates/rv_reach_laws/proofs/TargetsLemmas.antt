@@ -14,7 +14,8 @@ use Rattle.rv_object.specs.declared.symbol.Definition.TheVariants as definitions
 use Rattle.rv_object.specs.Object.{Relocation, Section, Symbol, Object, size_of}
 use Rattle.rv_object_laws.specs.Moves.{moves, new_offset}
 use Rattle.rv_object_laws.specs.Inputs.{Starts, InputSection, goes_to_text, inputs_from, inputs_of, inputs}
-use Rattle.rv_object_laws.specs.Names.{is_global, is_weak, offset_address, defined_address, is_defined, is_sure_by, is_sure, Export, is_export, exports_in, exports_from, exports_where, candidates, chosen, export_address, globals_of, shown_linker_symbols, unshown_address, Outer, outer_address, symbol_address, Place, place_in, shared_place, symbol_place, no_object, object_at}
+use Rattle.rv_object.specs.Bindings.{is_global, is_weak}
+use Rattle.rv_object_laws.specs.Names.{offset_address, defined_address, is_defined, is_sure_by, is_sure, Export, is_export, exports_in, exports_from, exports_where, candidates, chosen, export_address, globals_of, shown_linker_symbols, unshown_address, Outer, outer_address, symbol_address, Place, place_in, shared_place, symbol_place, no_object, object_at}
 use Rattle.rv_object_laws.specs.Values.{target}
 use Rattle.rv_object_laws.specs.CallSites.{target_place, is_in_section, is_text_place}
 use Rattle.rv_object_laws.specs.Shortened.{Sizes, sizes_by, cuts, cuts_at, cuts_in, shortened_text, shortened_section, shortened_sections, shortened_definition, shortened_symbol, shortened_object, shortened_from}

@@ -3,7 +3,8 @@
 use Rattle.std.proofs.Common.{◌≡◌, List, map, subst, sym, ap, ◌∙◌}
 use Rattle.rv_map.specs.Globals.{AreDistinct}
 use Rattle.rv_object.specs.Object.{Object}
-use Rattle.rv_object_laws.specs.Names.{is_global, global_names}
+use Rattle.rv_object.specs.Bindings.{is_global}
+use Rattle.rv_object_laws.specs.Names.{global_names}
 use Rattle.rv_resolve.specs.declared.names.Names.{Names}
 use Rattle.rv_resolve.specs.Chosen.{seen_of, definers_from, definers_of, names_in}
 use Rattle.rv_resolve.specs.Names.{Answers, outside, IsNames}

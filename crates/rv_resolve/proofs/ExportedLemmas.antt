@@ -7,7 +7,8 @@ use Rattle.rv_map.specs.Globals.{AreDistinct}
 use Rattle.rv_object.specs.declared.symbol.Binding.{Binding}
 use Rattle.rv_object.specs.declared.symbol.Binding.TheVariants as bindings
 use Rattle.rv_object.specs.Object.{Symbol, Object}
-use Rattle.rv_object_laws.specs.Names.{Export, is_defined, is_export, is_global, is_shared, chosen, is_this, is_chosen, global_names}
+use Rattle.rv_object.specs.Bindings.{is_global, is_shared}
+use Rattle.rv_object_laws.specs.Names.{Export, is_defined, is_export, chosen, is_this, is_chosen, global_names}
 use Rattle.rv_resolve.specs.Chosen.{definer}
 use Rattle.rv_resolve.specs.Names.{kept_of, is_kept}
 use Rattle.rv_resolve.specs.Shown.{export_at, is_chosen_at}

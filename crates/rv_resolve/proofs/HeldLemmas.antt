@@ -9,7 +9,8 @@ use Rattle.rv_map.specs.Globals.{is_one_of}
 use Rattle.rv_object.specs.declared.symbol.Binding.{Binding}
 use Rattle.rv_object.specs.declared.symbol.Binding.TheVariants as bindings
 use Rattle.rv_object.specs.Object.{Symbol, Object}
-use Rattle.rv_object_laws.specs.Names.{Export, is_defined, is_export, is_global, is_weak, is_shared, exports_in, exports_from, exports_where, names_of, candidates}
+use Rattle.rv_object.specs.Bindings.{is_global, is_weak, is_shared}
+use Rattle.rv_object_laws.specs.Names.{Export, is_defined, is_export, exports_in, exports_from, exports_where, names_of, candidates}
 use Rattle.rv_object_laws.proofs.TextInputsLemmas.{all_append}
 use Rattle.rv_shorten.specs.Cutting.{In}
 

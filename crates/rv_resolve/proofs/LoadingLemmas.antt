@@ -8,7 +8,8 @@ use Rattle.rv_object.specs.declared.symbol.Symbol.{Symbol as DeclaredSymbol}
 use Rattle.rv_object.specs.Object.{Object}
 use Rattle.rv_object.specs.Parts.{symbol_of}
 use Rattle.rv_object.specs.View.{object_of}
-use Rattle.rv_object_laws.specs.Names.{is_global, global_names}
+use Rattle.rv_object.specs.Bindings.{is_global}
+use Rattle.rv_object_laws.specs.Names.{global_names}
 use Rattle.rv_resolve.specs.declared.definitions.Definitions.{Definitions}
 use Rattle.rv_resolve.specs.declared.fault.ResolveFault.{ResolveFault}
 use Rattle.rv_resolve.specs.Chosen.{Seen, seen, seen_of, Definer, definers_at, definers_in, definers_from, names_in}

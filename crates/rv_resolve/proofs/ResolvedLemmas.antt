@@ -11,7 +11,8 @@ use Rattle.rv_object.specs.declared.symbol.Definition.TheVariants as definitions
 use Rattle.rv_object.specs.Object.{Relocation, Section, Symbol, Object}
 use Rattle.rv_object_laws.specs.Inputs.{Starts, InputSection, inputs_from, inputs_of}
 use Rattle.rv_object_laws.specs.IsLinkOf.{is_loaded}
-use Rattle.rv_object_laws.specs.Names.{Export, Outer, is_sure, is_weak, chosen, defined_address, offset_address, outer_address, symbol_address}
+use Rattle.rv_object.specs.Bindings.{is_weak}
+use Rattle.rv_object_laws.specs.Names.{Export, Outer, is_sure, chosen, defined_address, offset_address, outer_address, symbol_address}
 use Rattle.rv_object_laws.specs.Values.{target}
 use Rattle.rv_object_laws.proofs.TextInputsLemmas.{all_append}
 use Rattle.rv_resolve.specs.Undefined.{has_address, is_loaded_at, is_known, is_resolved, linker_names, undefined_symbol, undefined_name, undefined_in, first_some, first_undefined}

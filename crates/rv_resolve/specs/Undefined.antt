@@ -7,7 +7,8 @@ use Rattle.rv_map.specs.Globals.{is_one_of}
 use Rattle.rv_object.specs.declared.symbol.Definition.{Definition}
 use Rattle.rv_object.specs.declared.symbol.Definition.TheVariants as definitions
 use Rattle.rv_object.specs.Object.{Section, Symbol, Object}
-use Rattle.rv_object_laws.specs.Names.{Export, is_sure, is_weak, chosen}
+use Rattle.rv_object.specs.Bindings.{is_weak}
+use Rattle.rv_object_laws.specs.Names.{Export, is_sure, chosen}
 
 abbrev pub is_loaded_at : Option Section → Bool
 is_loaded_at None = false

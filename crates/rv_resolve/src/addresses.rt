@@ -9,6 +9,7 @@ ghost use Rattle.std.specs.Option.{option_or};
 ghost use Rattle.rv_map.specs.Globals.{global_address, linker_symbols};
 ghost use Rattle.rv_object.specs.Object.{Object as SaidObject, Symbol as SaidSymbol};
 ghost use Rattle.rv_object.specs.View.{object_of};
+ghost use Rattle.rv_object.specs.Bindings as bindings;
 ghost use Rattle.rv_object_laws.specs.Names as laws;
 ghost use Rattle.rv_placement.specs.Placement.{starts_of, IsPlacement};
 ghost use Rattle.rv_resolve.specs.Entry.{has_entry};
@@ -198,7 +199,7 @@ fn goes_to_text(objects: &[ShortObject<'_, '_>], file: usize, section: u32) -> b
 fn undefined_address(placement: &Placement, binding: Binding, name: &[u8]) -> Option<u64>
     ensures { (os : List SaidObject) (start : ℕ) → IsPlacement os start placement.now
         → result ≡ option_or (global_address (linker_symbols (regions_of placement.now)) name.now)
-        (if laws.is_weak binding then Some 0 else None) }
+        (if bindings.is_weak binding then Some 0 else None) }
 {
     match linker_address(placement, name) {
         Some(address) => Some(address),

@@ -4,7 +4,8 @@ ghost use Rattle.std.specs.Prelude.{◌≡◌, List, ◌++◌, map, IfOk, IfErr,
 ghost use Rattle.rv_map.specs.Globals.{AreDistinct};
 ghost use Rattle.rv_object.specs.Parts.{symbol_of};
 ghost use Rattle.rv_object.specs.View.{object_of};
-ghost use Rattle.rv_object_laws.specs.Names.{is_global, is_weak, global_names};
+ghost use Rattle.rv_object.specs.Bindings.{is_global, is_weak};
+ghost use Rattle.rv_object_laws.specs.Names.{global_names};
 ghost use Rattle.rv_resolve.specs.Chosen.{Definer, seen, seen_of, definers_at, definers_in, definers_from, definitions};
 ghost use Rattle.rv_resolve.specs.Exports.{first_duplicate};
 ghost use Rattle.rv_resolve.specs.Names.{Answers, IsTable, IsRefused, IsDuplicate};

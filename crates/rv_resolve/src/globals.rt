@@ -9,6 +9,7 @@ ghost use Rattle.rv_map.specs.Name.{is_name};
 ghost use Rattle.rv_object.specs.Object.{Object as SaidObject, Symbol as SaidSymbol};
 ghost use Rattle.rv_object.specs.Parts.{symbol_of};
 ghost use Rattle.rv_object_laws.specs.Moves.{Move};
+ghost use Rattle.rv_object.specs.Bindings as bindings;
 ghost use Rattle.rv_object_laws.specs.Names as laws;
 ghost use Rattle.rv_placement.specs.Placement.{IsPlacement};
 ghost use Rattle.rv_resolve.specs.Chosen.{definer};
@@ -192,7 +193,7 @@ impl<'o> Names<'o> {
     /// Whether the symbol at an index of a file, both from 0, is a definition that its name means. A global one is, as no name
     /// has two.
     fn is_chosen(&self, file: usize, index: usize, symbol: &Symbol<'_>) -> bool
-        ensures shared { IsTrue result → IsTrue (laws.is_shared (symbol.now).binding) }
+        ensures shared { IsTrue result → IsTrue (bindings.is_shared (symbol.now).binding) }
         ensures chosen { (os : List SaidObject) (o : SaidObject) (cuts : List (List Move))
             → IsNames os self.now → slice_get os file ≡ Some o
             → slice_get o.symbols index ≡ Some (cut_symbol cuts (symbol_of symbol.now)) → result

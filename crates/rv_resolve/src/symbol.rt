@@ -3,6 +3,7 @@
 ghost use Rattle.std.specs.Prelude.{◌≡◌, List};
 ghost use Rattle.rv_object.specs.Parts.{symbol_of};
 ghost use Rattle.rv_object_laws.specs.Moves.{Move};
+ghost use Rattle.rv_object.specs.Bindings as bindings;
 ghost use Rattle.rv_object_laws.specs.Names as laws;
 ghost use Rattle.rv_shorten.specs.Cutting.{cut_definition};
 
@@ -10,7 +11,7 @@ use rv_object::{Binding, Definition, Symbol};
 
 /// Whether a symbol is a global definition.
 pub(crate) fn is_global_definition(symbol: &Symbol<'_>) -> bool
-    ensures { result ≡ laws.is_export laws.is_global (symbol_of symbol.now) }
+    ensures { result ≡ laws.is_export bindings.is_global (symbol_of symbol.now) }
 {
     match symbol.binding {
         Binding::Local => false,
@@ -21,7 +22,7 @@ pub(crate) fn is_global_definition(symbol: &Symbol<'_>) -> bool
 
 /// Whether a symbol is a weak definition.
 pub(crate) fn is_weak_definition(symbol: &Symbol<'_>) -> bool
-    ensures { result ≡ laws.is_export laws.is_weak (symbol_of symbol.now) }
+    ensures { result ≡ laws.is_export bindings.is_weak (symbol_of symbol.now) }
 {
     match symbol.binding {
         Binding::Local => false,
@@ -59,7 +60,7 @@ pub(crate) fn is_sure(binding: Binding, definition: Definition) -> bool
 
 /// Whether a binding is weak.
 pub(crate) fn is_weak(binding: Binding) -> bool
-    ensures { result ≡ laws.is_weak binding }
+    ensures { result ≡ bindings.is_weak binding }
 {
     match binding {
         Binding::Local => false,

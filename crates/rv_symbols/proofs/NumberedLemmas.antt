@@ -17,7 +17,8 @@ use Rattle.rv_unit_laws.proofs.FoundLemmas.{same_bytes, bytes_swap, bytes_same}
 use Rattle.rv_object.specs.declared.symbol.Definition.TheVariants.{Undefined}
 use Rattle.rv_object.specs.Object.{Symbol}
 use Rattle.rv_assemble_laws.specs.Sites.{Site}
-use Rattle.rv_assemble_laws.specs.Symbols.{SymbolUse, references, outer_binding, shared_symbol, local_symbols, exports, missing_name, distinct_from, symbols_of, is_weak, IsDefinedBy, StandsFor}
+use Rattle.rv_object.specs.Bindings.{is_weak}
+use Rattle.rv_assemble_laws.specs.Symbols.{SymbolUse, references, outer_binding, shared_symbol, local_symbols, exports, missing_name, distinct_from, symbols_of, IsDefinedBy, StandsFor}
 use Rattle.rv_symbols.specs.Numbers.{last_from, last_index, own_symbols, missing_names, number_by, number_in}
 
 -- ---- look-ups in lists

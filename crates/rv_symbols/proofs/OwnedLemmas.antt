@@ -19,7 +19,8 @@ use Rattle.rv_object.specs.declared.symbol.Definition.{Definition as Defined}
 use Rattle.rv_object.specs.declared.symbol.Definition.TheVariants.{InSection}
 use Rattle.rv_object.specs.Object.{Symbol}
 use Rattle.rv_assemble_laws.specs.Sites.{Site}
-use Rattle.rv_assemble_laws.specs.Symbols.{references, site_definition, local_symbol, outer_binding, shared_symbol, is_absolute, unnamed_symbols, named_symbols, local_symbols, exports_of, exports, symbols_of, is_weak, IsOwn, IsDefinedBy, StandsFor}
+use Rattle.rv_object.specs.Bindings.{is_weak}
+use Rattle.rv_assemble_laws.specs.Symbols.{references, site_definition, local_symbol, outer_binding, shared_symbol, is_absolute, unnamed_symbols, named_symbols, local_symbols, exports_of, exports, symbols_of, IsOwn, IsDefinedBy, StandsFor}
 use Rattle.rv_symbols.specs.Numbers.{last_index, is_named, own_symbols, missing_names, number_by, number_in}
 use Rattle.rv_symbols.proofs.NumberedLemmas.{any_front, any_behind, all_index, got_last, got_front, shared_weak, whole}
 

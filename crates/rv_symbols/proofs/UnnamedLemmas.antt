@@ -15,7 +15,8 @@ use Rattle.rv_object.specs.declared.symbol.Definition.{Definition as Defined}
 use Rattle.rv_object.specs.declared.symbol.Definition.TheVariants.{Undefined, Absolute, InSection, Skipped}
 use Rattle.rv_object.specs.Object.{Symbol}
 use Rattle.rv_assemble_laws.specs.Sites.{Site}
-use Rattle.rv_assemble_laws.specs.Symbols.{SymbolUse, references, site_at, local_symbol, is_unnamed, is_at, is_meant, unnamed_symbols, named_symbols, local_symbols, exports, symbols_of, is_weak, IsNamed, IsDefinedBy, StandsFor}
+use Rattle.rv_object.specs.Bindings.{is_weak}
+use Rattle.rv_assemble_laws.specs.Symbols.{SymbolUse, references, site_at, local_symbol, is_unnamed, is_at, is_meant, unnamed_symbols, named_symbols, local_symbols, exports, symbols_of, IsNamed, IsDefinedBy, StandsFor}
 use Rattle.rv_symbols.specs.Numbers.{last_index, stands_in, is_at_place, own_symbols, missing_names, own_number, place_number, number_by, number_in}
 use Rattle.rv_symbols.proofs.DefinedNamesLemmas.{AreSome}
 use Rattle.rv_symbols.proofs.NumberedLemmas.{any_front, any_behind, all_index, got_last, got_front, whole}

@@ -26,7 +26,7 @@ use Rattle.rv_assemble_laws.specs.Symbols.{site_at, after_site, StandsFor}
 use Rattle.rv_assemble_laws.specs.IsObjectOf.{Numbering, relocation_at, relocations_from}
 use Rattle.rv_sources_link_laws.proofs.statements.StatementsLemmas.{mapped_at, mapped_from, row_address, site_section}
 use Rattle.rv_sources_link_laws.proofs.statements.SettledLemmas.{IsSettled}
-use Rattle.rv_sources_link_laws.proofs.names.KnownLemmas.{still, all_found, same_weak, outer_in}
+use Rattle.rv_sources_link_laws.proofs.names.KnownLemmas.{still, all_found, outer_in}
 use Rattle.rv_sources_link_laws.proofs.statements.OrderedLemmas.{its_section}
 use Rattle.rv_sources_link_laws.proofs.names.GlobalsLemmas.{IsLow}
 use Rattle.rv_sources_link_laws.proofs.fields.WholesLemmas.{IsWhole}
@@ -94,7 +94,7 @@ module _ (p : Program) (os : List Object) (starts : Starts) (file : ℕ) (sites 
         has_place = placed;
         worth = by_pair ∙ ap (λ l. value_at (outer_in p os) starts os (option_and_then (symbol_place os file) l)) e
             ∙ ap (λ (def : Defined). value_at (outer_in p os) starts os (if is_sure_by y.binding def then place_in file def else shared_place os y.name)) is
-            ∙ ap (λ b. value_at (outer_in p os) starts os (if not b then place_in file (after_site site 0) else shared_place os y.name)) (same_weak y.binding ∙ weak)
+            ∙ ap (λ b. value_at (outer_in p os) starts os (if not b then place_in file (after_site site 0) else shared_place os y.name)) weak
             ∙ ap (λ (w : Object). value_in (outer_in p os) starts file w site.located.section (add site.offset 0) (slice_get w.sections site.located.section)) whole.object;
       }
 

@@ -20,7 +20,8 @@ use Rattle.rv_object.specs.Object.{Section, Symbol, Object, size_of}
 use Rattle.rv_object_laws.specs.CallSites.{base, is_text_place, is_in_section, text_offset}
 use Rattle.rv_object_laws.specs.Inputs.{Starts, InputSection, goes_to_text, inputs_from, inputs_of, inputs}
 use Rattle.rv_object_laws.specs.Names as objects
-use Rattle.rv_object_laws.specs.Names.{Place, is_weak, is_sure, is_sure_by, place_in, shared_place, symbol_place, no_object, object_at}
+use Rattle.rv_object.specs.Bindings.{is_weak}
+use Rattle.rv_object_laws.specs.Names.{Place, is_sure, is_sure_by, place_in, shared_place, symbol_place, no_object, object_at}
 use Rattle.rv_object_laws.specs.Shortened.{Sizes}
 use Rattle.rv_assemble_laws.specs.Sites.{Site, sites_in, end_of}
 use Rattle.rv_assemble_laws.specs.Symbols.{site_at, after_found, assigned_definition, site_definition, IsNamed, IsOwn, IsOuter, IsDefinedBy, StandsFor}
@@ -37,7 +38,7 @@ use Rattle.rv_sources_link_laws.proofs.names.MadeLemmas.{rises}
 use Rattle.rv_sources_link_laws.proofs.sections.FiledLemmas as filed
 use Rattle.rv_sources_link_laws.proofs.sections.FiledLemmas.{offsets_low}
 use Rattle.rv_sources_link_laws.proofs.calls.FinalsLemmas.{IsFinalFile, AreFinal}
-use Rattle.rv_sources_link_laws.proofs.names.KnownLemmas.{all_found, same_weak}
+use Rattle.rv_sources_link_laws.proofs.names.KnownLemmas.{all_found}
 use Rattle.rv_sources_link_laws.proofs.moves.MovedLemmas.{all_map, IsBound, AddsInData, adds}
 use Rattle.rv_sources_link_laws.proofs.statements.OrderedLemmas.{its_section}
 use Rattle.rv_sources_link_laws.proofs.moves.PiecesLemmas.{ArePieces, lines}
@@ -384,12 +385,9 @@ module _ (p : Program) (starts : Starts) (at : ℕ → List Site) (sizes : ℕ �
       pub meant : (l : Located) (name : Primary) (y : Option Symbol) → StandsFor (tables ss) is.sites l.ordinal name y
           → text_to (option_and_then (symbol_place os f) y) ≡ option_and_then (aim_offset line) (aim_of p (renumbered f l) name)
       meant l name None s = absurd s
-      meant l name (Some x) (named, bound, s) =
+      meant l name (Some x) (named, weak, s) =
           go (definition (tables ss) l.ordinal name) refl s ∙ ap (aimed_at name) (ap (λ t. sure_definition t l.ordinal name) (sym here.tables))
         where
-          weak : is_weak x.binding ≡ gives_way (tables ss) name
-          weak = same_weak x.binding ∙ bound
-
           sure : (d : Option Definition) → definition (tables ss) l.ordinal name ≡ d → aimed_at name (if gives_way (tables ss) name then None else d) ≡ aimed_at name (sure_definition (tables ss) l.ordinal name)
           sure d e = ap (λ d. aimed_at name (if gives_way (tables ss) name then None else d)) (sym e)
 

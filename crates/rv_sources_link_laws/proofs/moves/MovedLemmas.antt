@@ -15,7 +15,8 @@ use Rattle.rv_object.specs.declared.symbol.Definition.{Definition as Defined}
 use Rattle.rv_object.specs.declared.symbol.Definition.TheVariants.{Undefined, Absolute, InSection, Skipped}
 use Rattle.rv_object.specs.Object.{Symbol}
 use Rattle.rv_object_laws.specs.Moves.{Move, dropped, new_offset}
-use Rattle.rv_object_laws.specs.Names.{is_defined, is_shared}
+use Rattle.rv_object.specs.Bindings.{is_shared}
+use Rattle.rv_object_laws.specs.Names.{is_defined}
 use Rattle.rv_assemble_laws.specs.Sites.{Site, Part}
 use Rattle.rv_assemble_laws.specs.Symbols.{SymbolUse, references_in, site_at, after_found, assigned_definition, site_definition, shared_symbol, exports_of, IsNamed, IsOwn, IsOuter, IsDefinedBy, StandsFor}
 use Rattle.rv_assemble_laws.specs.IsObjectOf.{Numbering, IsNumbered, IsInData, StandsInData}

@@ -17,7 +17,8 @@ use Rattle.rv_object.specs.Object.{Contents, Progbits, Note, Nobits, Relocation,
 use Rattle.rv_object.specs.Valid.{is_align}
 use Rattle.rv_object_laws.specs.Moves.{Move, alignments_of, by_place, has_padding, plan, moves, new_offset, kept, lost}
 use Rattle.rv_object_laws.specs.Inputs.{Starts, InputSection, start_of}
-use Rattle.rv_object_laws.specs.Names.{Export, Outer, Place, is_shared, is_global, is_weak, is_export, is_sure_by, is_sure, exports_in, exports_from, exports_where, candidates, chosen, defined_address, offset_address, symbol_address, is_defined, place_in, shared_place, symbol_place, no_object, object_at}
+use Rattle.rv_object.specs.Bindings.{is_shared, is_global, is_weak}
+use Rattle.rv_object_laws.specs.Names.{Export, Outer, Place, is_export, is_sure_by, is_sure, exports_in, exports_from, exports_where, candidates, chosen, defined_address, offset_address, symbol_address, is_defined, place_in, shared_place, symbol_place, no_object, object_at}
 use Rattle.rv_object_laws.specs.Values.{target, own_value, is_high, is_low, high_at, value_in, value_at, paired, value, IsRelocated, patched_at, applied, initial_bytes, linked_bytes}
 use Rattle.rv_object_laws.specs.IsLinkOf.{moves_at}
 use Rattle.rv_sources_link_laws.proofs.fields.PatchesLemmas.{take_drop}

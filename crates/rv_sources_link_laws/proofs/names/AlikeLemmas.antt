@@ -12,6 +12,7 @@ use Rattle.rv_source_laws.specs.Program.{MaybeMapped, Program, export, tables_in
 use Rattle.rv_object.specs.declared.symbol.Binding.{Binding}
 use Rattle.rv_object.specs.declared.symbol.Binding.TheVariants.{Local, Global, Weak}
 use Rattle.rv_object.specs.Object.{Symbol, Object}
+use Rattle.rv_object.specs.Bindings as symbols
 use Rattle.rv_object_laws.specs.Names as objects
 use Rattle.rv_object_laws.specs.Names.{is_defined, exports_in, exports_from, names_of}
 use Rattle.rv_sources_link_laws.proofs.names.PairLemmas.{ArePaired, IsAlike, AreMade, AreChosenAlike, AreGiven}
@@ -25,7 +26,7 @@ abbrev Narrows : (SourceBinding → Bool) → Type 0
 Narrows test = (b : SourceBinding) → test b ≡ true → is_shared b ≡ true
 
 abbrev NarrowsSymbols : (Binding → Bool) → Type 0
-NarrowsSymbols test = (b : Binding) → test b ≡ true → objects.is_shared b ≡ true
+NarrowsSymbols test = (b : Binding) → test b ≡ true → symbols.is_shared b ≡ true
 
 -- a test is kept behind another that it implies
 narrowed : {A : Type 0} (b c : Bool) (x : A) (some all : List A) (test : A → Bool) → (b ≡ true → c ≡ true) → test x ≡ b → some ≡ filter test all
@@ -72,9 +73,9 @@ module _ (test : Binding → Bool) (narrows : NarrowsSymbols test) where
   abbrev is_one : objects.Export → Bool
   is_one e = test e.symbol.binding
 
-  symbols_kept : (file : ℕ) (o : Object) (k : ℕ) (ss : List Symbol) → exports_in test file o k ss ≡ filter is_one (exports_in objects.is_shared file o k ss)
+  symbols_kept : (file : ℕ) (o : Object) (k : ℕ) (ss : List Symbol) → exports_in test file o k ss ≡ filter is_one (exports_in symbols.is_shared file o k ss)
   symbols_kept file o k [] = refl
-  symbols_kept file o k (s ∷ ss) = go (test s.binding) (objects.is_shared s.binding) (is_defined s.definition) refl (narrows s.binding) (symbols_kept file o (suc k) ss)
+  symbols_kept file o k (s ∷ ss) = go (test s.binding) (symbols.is_shared s.binding) (is_defined s.definition) refl (narrows s.binding) (symbols_kept file o (suc k) ss)
     where
       own : objects.Export
       own = record { file = file; object = o; index = k; symbol = s }
@@ -83,7 +84,7 @@ module _ (test : Binding → Bool) (narrows : NarrowsSymbols test) where
       some = exports_in test file o (suc k) ss
 
       all : List objects.Export
-      all = exports_in objects.is_shared file o (suc k) ss
+      all = exports_in symbols.is_shared file o (suc k) ss
 
       go : (c d q : Bool) → test s.binding ≡ c → (test s.binding ≡ true → d ≡ true) → some ≡ filter is_one all
           → (if c && q then own ∷ some else some) ≡ filter is_one (if d && q then own ∷ all else all)
@@ -94,12 +95,12 @@ module _ (test : Binding → Bool) (narrows : NarrowsSymbols test) where
       go false false q f h ih = ih
       go true false q f h ih = let g : false ≡ true = h f in absurd (cc)
 
-  objects_kept : (file : ℕ) (os : List Object) → exports_from test file os ≡ filter is_one (exports_from objects.is_shared file os)
+  objects_kept : (file : ℕ) (os : List Object) → exports_from test file os ≡ filter is_one (exports_from symbols.is_shared file os)
   objects_kept file [] = refl
   objects_kept file (o ∷ os) =
       ap (λ l. l ++ exports_from test (suc file) os) (symbols_kept file o 0 o.symbols)
-      ∙ ap (λ l. filter is_one (exports_in objects.is_shared file o 0 o.symbols) ++ l) (objects_kept (suc file) os)
-      ∙ sym (filter-append is_one (exports_in objects.is_shared file o 0 o.symbols) (exports_from objects.is_shared (suc file) os))
+      ∙ ap (λ l. filter is_one (exports_in symbols.is_shared file o 0 o.symbols) ++ l) (objects_kept (suc file) os)
+      ∙ sym (filter-append is_one (exports_in symbols.is_shared file o 0 o.symbols) (exports_from symbols.is_shared (suc file) os))
 
 global_narrows : Narrows is_global
 global_narrows bindings.Local e = absurd (cc)
@@ -111,12 +112,12 @@ weak_narrows bindings.Local e = absurd (cc)
 weak_narrows bindings.Global e = refl
 weak_narrows bindings.Weak e = refl
 
-global_symbols : NarrowsSymbols objects.is_global
+global_symbols : NarrowsSymbols symbols.is_global
 global_symbols Local e = absurd (cc)
 global_symbols Global e = refl
 global_symbols Weak e = refl
 
-weak_symbols : NarrowsSymbols objects.is_weak
+weak_symbols : NarrowsSymbols symbols.is_weak
 weak_symbols Local e = absurd (cc)
 weak_symbols Global e = refl
 weak_symbols Weak e = refl
@@ -128,7 +129,7 @@ module _ (R : source.Export → objects.Export → Type 0) (p : Program) (os : L
   xs = source.exports_where is_shared p
 
   abbrev es : List objects.Export
-  es = objects.exports_where objects.is_shared os
+  es = objects.exports_where symbols.is_shared os
 
   abbrev M : source.Export → objects.Export → Type 0
   M x e = IsMatched R p x e
@@ -140,24 +141,24 @@ module _ (R : source.Export → objects.Export → Type 0) (p : Program) (os : L
   shared_pairs = matched_pairs R p 1 0 0 xs es matched
 
   module _ (Q : source.Export → objects.Export → Type 0) (of : (x : source.Export) (e : objects.Export) → Q x e → M x e) (all : ArePaired Q xs es) where
-    global_pairs : ArePaired Q (source.exports_where is_global p) (objects.exports_where objects.is_global os)
+    global_pairs : ArePaired Q (source.exports_where is_global p) (objects.exports_where symbols.is_global os)
     global_pairs =
-        subst (λ l. ArePaired Q l (objects.exports_where objects.is_global os)) (sym (all_kept p is_global global_narrows p.statements))
-        (subst (λ l. ArePaired Q (filter (λ x. is_global (binding_of p x)) xs) l) (sym (objects_kept objects.is_global global_symbols 1 os))
-        (keep_pairs Q (λ x. is_global (binding_of p x)) (λ e. objects.is_global e.symbol.binding) (λ x e q. (of x e q).global) xs es all))
+        subst (λ l. ArePaired Q l (objects.exports_where symbols.is_global os)) (sym (all_kept p is_global global_narrows p.statements))
+        (subst (λ l. ArePaired Q (filter (λ x. is_global (binding_of p x)) xs) l) (sym (objects_kept symbols.is_global global_symbols 1 os))
+        (keep_pairs Q (λ x. is_global (binding_of p x)) (λ e. symbols.is_global e.symbol.binding) (λ x e q. (of x e q).global) xs es all))
 
-    weak_pairs : ArePaired Q (source.exports_where is_weak p) (objects.exports_where objects.is_weak os)
+    weak_pairs : ArePaired Q (source.exports_where is_weak p) (objects.exports_where symbols.is_weak os)
     weak_pairs =
-        subst (λ l. ArePaired Q l (objects.exports_where objects.is_weak os)) (sym (all_kept p is_weak weak_narrows p.statements))
-        (subst (λ l. ArePaired Q (filter (λ x. is_weak (binding_of p x)) xs) l) (sym (objects_kept objects.is_weak weak_symbols 1 os))
-        (keep_pairs Q (λ x. is_weak (binding_of p x)) (λ e. objects.is_weak e.symbol.binding) (λ x e q. (of x e q).weak) xs es all))
+        subst (λ l. ArePaired Q l (objects.exports_where symbols.is_weak os)) (sym (all_kept p is_weak weak_narrows p.statements))
+        (subst (λ l. ArePaired Q (filter (λ x. is_weak (binding_of p x)) xs) l) (sym (objects_kept symbols.is_weak weak_symbols 1 os))
+        (keep_pairs Q (λ x. is_weak (binding_of p x)) (λ e. symbols.is_weak e.symbol.binding) (λ x e q. (of x e q).weak) xs es all))
 
     chosen_pair : (name : List ℕ) → IsAlike Q (source.chosen p name) (objects.chosen os name)
     chosen_pair name =
         find_pair Q (λ x. bytes_eq x.name name) (λ e. bytes_eq e.symbol.name name) (λ x e q. ap (λ n. bytes_eq n name) (of x e q).name)
         (source.candidates p) (objects.candidates os)
-        (join_pairs Q (source.exports_where is_global p) (objects.exports_where objects.is_global os)
-        (source.exports_where is_weak p) (objects.exports_where objects.is_weak os) global_pairs weak_pairs)
+        (join_pairs Q (source.exports_where is_global p) (objects.exports_where symbols.is_global os)
+        (source.exports_where is_weak p) (objects.exports_where symbols.is_weak os) global_pairs weak_pairs)
 
   -- whether a definition is the one that a name means
   abbrev Agrees : source.Export → objects.Export → source.Export → objects.Export → Type 0
@@ -189,7 +190,7 @@ module _ (R : source.Export → objects.Export → Type 0) (p : Program) (os : L
 
   pub chosen_alike : AreChosenAlike R p os
   chosen_alike = record {
-    globals = same_maps M (λ x. x.name) (λ e. e.symbol.name) (λ x e m. m.name) (source.exports_where is_global p) (objects.exports_where objects.is_global os)
+    globals = same_maps M (λ x. x.name) (λ e. e.symbol.name) (λ x e m. m.name) (source.exports_where is_global p) (objects.exports_where symbols.is_global os)
         (global_pairs M (λ x e m. m) shared_pairs);
     chosen = λ name. alike_by M R (λ x e m. m.pair) (source.chosen p name) (objects.chosen os name) (chosen_pair M (λ x e m. m) shared_pairs name);
     shown = map_pairs IsKnown R (λ x e k. k.0.pair) (source.chosen_exports p) (objects.chosen_exports os)

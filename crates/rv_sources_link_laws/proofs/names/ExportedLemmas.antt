@@ -15,14 +15,14 @@ use Rattle.rv_source_laws.specs.Exports.{names_where}
 use Rattle.rv_object.specs.declared.symbol.Definition.{Definition as Defined}
 use Rattle.rv_object.specs.declared.symbol.Definition.TheVariants.{Undefined, InSection}
 use Rattle.rv_object.specs.Object.{Symbol, Object}
-use Rattle.rv_object_laws.specs.Names as objects
+use Rattle.rv_object.specs.Bindings as symbols
 use Rattle.rv_object_laws.specs.Names.{is_defined, is_export}
 use Rattle.rv_assemble_laws.specs.Sites.{Site}
 use Rattle.rv_assemble_laws.specs.Symbols.{site_at, after_found, assigned_definition, site_definition, local_symbol, outer_binding, shared_symbol, references, unnamed_symbols, named_symbols, local_symbols, exports_of, exports, undefined_symbols, distinct_from, missing_name, is_absolute, is_meant, are_together}
 use Rattle.rv_assemble_laws.specs.IsObjectOf.{IsObjectOf}
 
 abbrev pub is_exported : Symbol → Bool
-is_exported s = is_export objects.is_shared s
+is_exported s = is_export symbols.is_shared s
 
 -- the symbols that an object defines for other files
 abbrev pub exported : Object → List Symbol
@@ -64,9 +64,9 @@ undefined_none : (t : Tables) (names : List (List ℕ)) → filter is_exported (
 undefined_none t [] = refl
 undefined_none t (name ∷ names) =
     let others = filter is_exported (map (λ name. shared_symbol t name Undefined) names) in
-    ap (λ b. if b then shared_symbol t name Undefined ∷ others else others) (never (objects.is_shared (outer_binding (t.bindings name)))) ∙ undefined_none t names
+    ap (λ b. if b then shared_symbol t name Undefined ∷ others else others) (never (symbols.is_shared (outer_binding (t.bindings name)))) ∙ undefined_none t names
 
-outer_shared : (b : SourceBinding) → objects.is_shared (outer_binding b) ≡ true
+outer_shared : (b : SourceBinding) → symbols.is_shared (outer_binding b) ≡ true
 outer_shared Local = refl
 outer_shared Global = refl
 outer_shared Weak = refl

@@ -13,8 +13,6 @@ use Rattle.rv_unit_laws.specs.Tables.{Tables, Definition, definition, gives_way,
 use Rattle.rv_map.specs.Map.{Global as MapGlobal}
 use Rattle.rv_map.specs.Limits.{IsGlobal}
 use Rattle.rv_source_laws.specs.Program.{MaybeMapped, Program, tables_in, chosen, address_at, address_by, home_address, unshown_address, outer_address as outer_address_in}
-use Rattle.rv_object.specs.declared.symbol.Binding.{Binding}
-use Rattle.rv_object.specs.declared.symbol.Binding.TheVariants.{Local, Global, Weak}
 use Rattle.rv_object.specs.Object.{Section, Symbol, Object}
 use Rattle.rv_object_laws.specs.Moves.{alignments_of, moves, plan, new_offset}
 use Rattle.rv_object_laws.specs.Inputs.{Starts}
@@ -22,7 +20,8 @@ use Rattle.rv_object_laws.specs.Names as objects
 use Rattle.rv_object_laws.specs.Names.{Outer, outer_address, is_sure, is_sure_by, symbol_address, defined_address, offset_address}
 use Rattle.rv_object_laws.specs.Values.{target}
 use Rattle.rv_assemble_laws.specs.Sites.{Site}
-use Rattle.rv_assemble_laws.specs.Symbols.{is_weak, site_at, after_site, IsOwn, IsOuter, IsDefinedBy, IsNamed, StandsFor}
+use Rattle.rv_object.specs.Bindings.{is_weak}
+use Rattle.rv_assemble_laws.specs.Symbols.{site_at, after_site, IsOwn, IsOuter, IsDefinedBy, IsNamed, StandsFor}
 use Rattle.rv_assemble_laws.specs.IsObjectOf.{Numbering}
 use Rattle.rv_sources_link_laws.proofs.names.PairLemmas.{AreGiven}
 use Rattle.rv_sources_link_laws.proofs.statements.OrderedLemmas.{its_section}
@@ -45,12 +44,6 @@ still x none base offset =
 -- what symbols of objects mean that these don't surely define
 abbrev pub outer_in : Program → List Object → Outer
 outer_in p os = outer_address os p.map.globals
-
--- both sides say which bindings are weak
-pub same_weak : (b : Binding) → objects.is_weak b ≡ is_weak b
-same_weak Local = refl
-same_weak Global = refl
-same_weak Weak = refl
 
 -- a file of the sources, with what its statements' addresses are
 module _ (statements : List MaybeMapped) (starts : Starts) (file : ℕ) (t : Tables) (sites : List Site)
@@ -98,10 +91,10 @@ module _ (p : Program) (os : List Object) (given : AreGiven p os) (low : AllByRe
   stands_at x = symbol_address (outer_in p os) (starts file) o x
 
   -- a name of which the map, or nobody, knows the address
-  outer_agrees : (name : List ℕ) (x : Symbol) → x.name ≡ name → objects.is_weak x.binding ≡ gives_way t (Named name)
+  outer_agrees : (name : List ℕ) (x : Symbol) → x.name ≡ name → is_weak x.binding ≡ gives_way t (Named name)
       → outer_in p os x ≡ outer_address_in p t (Named name)
   outer_agrees name x named weak =
-      ap (λ n. option_or (global_address p.map.globals n) (if objects.is_weak x.binding && not (is_some (objects.chosen os n)) then Some 0 else None)) named
+      ap (λ n. option_or (global_address p.map.globals n) (if is_weak x.binding && not (is_some (objects.chosen os n)) then Some 0 else None)) named
       ∙ ap (λ b. option_or (global_address p.map.globals name) (if b && not (is_some (objects.chosen os name)) then Some 0 else None)) weak
       ∙ ap (λ b. option_or (global_address p.map.globals name) (if gives_way t (Named name) && not b then Some 0 else None)) (sym (given name))
 
@@ -109,7 +102,7 @@ module _ (p : Program) (os : List Object) (given : AreGiven p os) (low : AllByRe
   unsure x e = ap (λ b. if b then defined_address (starts file) o x.definition else outer_in p os x) e
 
   -- a place of the file's own: the name's, or if that is weak what all files say
-  own_by : (q : Primary) (x : Symbol) (d : Definition) → IsNamed q x → objects.is_weak x.binding ≡ gives_way t q → IsOwn sites d x → (b : Bool) → gives_way t q ≡ b
+  own_by : (q : Primary) (x : Symbol) (d : Definition) → IsNamed q x → is_weak x.binding ≡ gives_way t q → IsOwn sites d x → (b : Bool) → gives_way t q ≡ b
       → stands_at x ≡ address_by p file q (if b then None else Some d)
   own_by q x d named weak (s, found, placed, is) false e =
       ap (λ b. if b then defined_address (starts file) o x.definition else outer_in p os x) (ap (is_sure_by x.binding) is ∙ ap not (weak ∙ e))
@@ -125,13 +118,13 @@ module _ (p : Program) (os : List Object) (given : AreGiven p os) (low : AllByRe
   none_either true = refl
   none_either false = refl
 
-  outer_by : (q : Primary) (x : Symbol) → IsNamed q x → objects.is_weak x.binding ≡ gives_way t q → IsOuter q x → stands_at x ≡ address_by p file q None
+  outer_by : (q : Primary) (x : Symbol) → IsNamed q x → is_weak x.binding ≡ gives_way t q → IsOuter q x → stands_at x ≡ address_by p file q None
   outer_by (Named name) x named weak is = unsure x (ap (is_sure_by x.binding) is) ∙ outer_agrees name x named weak
   outer_by (Literal n) x named weak is = absurd is
   outer_by Here x named weak is = absurd is
   outer_by (Reference digits forward) x named weak is = absurd is
 
-  agrees_by : (q : Primary) (d : Option Definition) (x : Symbol) → IsNamed q x → objects.is_weak x.binding ≡ gives_way t q → IsDefinedBy sites q d x
+  agrees_by : (q : Primary) (d : Option Definition) (x : Symbol) → IsNamed q x → is_weak x.binding ≡ gives_way t q → IsDefinedBy sites q d x
       → stands_at x ≡ address_by p file q (if gives_way t q then None else d)
   agrees_by q (Some d) x named weak is =
       own_by q x d named weak is (gives_way t q) refl
@@ -185,5 +178,5 @@ module _ (p : Program) (os : List Object) (given : AreGiven p os) (low : AllByRe
       go : (x : Option Symbol) → slice_get o.symbols (number ordinal q) ≡ x → StandsFor t sites ordinal q x → is_some (option_and_then stands_at x) ≡ true → IsMeant ordinal q
       go None there h some = absurd h
       go (Some x) there (named, weak, is) some =
-          let agrees = agrees_by q (definition t ordinal q) x named (same_weak x.binding ∙ weak) is in
+          let agrees = agrees_by q (definition t ordinal q) x named weak is in
           with_address (meant ordinal q) refl (ap (option_and_then stands_at) there ∙ agrees) (ap is_some (sym agrees) ∙ some)

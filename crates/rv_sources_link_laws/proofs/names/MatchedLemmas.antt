@@ -15,6 +15,7 @@ use Rattle.rv_source_laws.specs.Located.{Located}
 use Rattle.rv_source_laws.specs.Program as source
 use Rattle.rv_source_laws.specs.Program.{MaybeMapped, Program, export, tables_in, exports_at}
 use Rattle.rv_object.specs.Object.{Symbol, Object}
+use Rattle.rv_object.specs.Bindings as symbols
 use Rattle.rv_object_laws.specs.Names as objects
 use Rattle.rv_object_laws.specs.Names.{is_export, exports_in, exports_from}
 use Rattle.rv_assemble_laws.specs.Sites.{Site}
@@ -26,12 +27,12 @@ use Rattle.rv_sources_link_laws.proofs.statements.StatementsLemmas.{renumbered}
 
 -- ---- tests of bindings
 
-global_same : (b : SourceBinding) → is_shared b ≡ true → is_global b ≡ objects.is_global (outer_binding b)
+global_same : (b : SourceBinding) → is_shared b ≡ true → is_global b ≡ symbols.is_global (outer_binding b)
 global_same Local e = absurd (cc)
 global_same Global e = refl
 global_same Weak e = refl
 
-weak_same : (b : SourceBinding) → is_weak b ≡ objects.is_weak (outer_binding b)
+weak_same : (b : SourceBinding) → is_weak b ≡ symbols.is_weak (outer_binding b)
 weak_same Local = refl
 weak_same Global = refl
 weak_same Weak = refl
@@ -73,8 +74,8 @@ module _ (R : source.Export → objects.Export → Type 0) (p : Program) where
     pub pair : R x e
     pub file : x.statement.located.file ≡ e.file
     pub name : x.name ≡ e.symbol.name
-    pub global : is_global (binding_of p x) ≡ objects.is_global e.symbol.binding
-    pub weak : is_weak (binding_of p x) ≡ objects.is_weak e.symbol.binding
+    pub global : is_global (binding_of p x) ≡ symbols.is_global e.symbol.binding
+    pub weak : is_weak (binding_of p x) ≡ symbols.is_weak e.symbol.binding
 
   -- it stands in a later file, or in the same at least so far
   abbrev IsBeyond : ℕ → ℕ → ℕ → source.Export → objects.Export → Type 0
@@ -190,8 +191,8 @@ module _ (R : source.Export → objects.Export → Type 0) (p : Program) where
       pub pair : (index : ℕ) → R x (record { file = file; object = o; index = index; symbol = s })
       pub file_is : x.statement.located.file ≡ file
       pub name : x.name ≡ s.name
-      pub global : is_global (binding_of p x) ≡ objects.is_global s.binding
-      pub weak : is_weak (binding_of p x) ≡ objects.is_weak s.binding
+      pub global : is_global (binding_of p x) ≡ symbols.is_global s.binding
+      pub weak : is_weak (binding_of p x) ≡ symbols.is_weak s.binding
 
     abbrev ByOrdinal : ℕ → List source.Export → List Symbol → Type 0
     ByOrdinal n [] [] = ⊤
@@ -208,7 +209,7 @@ module _ (R : source.Export → objects.Export → Type 0) (p : Program) where
     -- the symbols, among all of the object
     by_index : (xs' : List source.Export) (es' : List objects.Export) → AreMatched (suc file) 0 0 xs' es'
         → (n i k : ℕ) → i ≤ k → (xs : List source.Export) (ss : List Symbol) → ByOrdinal n xs (filter is_exported ss)
-        → AreMatched file n i (xs ++ xs') (exports_in objects.is_shared file o k ss ++ es')
+        → AreMatched file n i (xs ++ xs') (exports_in symbols.is_shared file o k ss ++ es')
     by_index xs' es' later n i k l [] [] h = later_file file n i xs' es' later
     by_index xs' es' later n i k l (x ∷ xs) [] h = absurd h
     by_index xs' es' later n i k l xs (s ∷ ss) h = go (λ n i l xs h. by_index xs' es' later n i (suc k) l xs ss h) (is_exported s) h
@@ -217,7 +218,7 @@ module _ (R : source.Export → objects.Export → Type 0) (p : Program) where
         rest = filter is_exported ss
 
         others : List objects.Export
-        others = exports_in objects.is_shared file o (suc k) ss
+        others = exports_in symbols.is_shared file o (suc k) ss
 
         own : objects.Export
         own = record { file = file; object = o; index = k; symbol = s }
@@ -304,11 +305,11 @@ module _ (R : source.Export → objects.Export → Type 0) (p : Program) where
   -- ---- all files
 
   pub all_matched : (file : ℕ) (os : List Object) (all : List MaybeMapped) → AreMade R p file os all
-      → AreMatched file 0 0 (flat_map (exports_at is_shared p) all) (exports_from objects.is_shared file os)
+      → AreMatched file 0 0 (flat_map (exports_at is_shared p) all) (exports_from symbols.is_shared file os)
   all_matched file [] all h = subst (λ l. AreMatched file 0 0 (flat_map (exports_at is_shared p) l) []) (sym h) tt
   all_matched file (o ∷ os) all (own, rest, e, m, h) =
-      subst (λ l. AreMatched file 0 0 l (exports_in objects.is_shared file o 0 o.symbols ++ exports_from objects.is_shared (suc file) os)) (sym joined)
-      (by_index file o (flat_map (exports_at is_shared p) rest) (exports_from objects.is_shared (suc file) os) (all_matched (suc file) os rest h)
+      subst (λ l. AreMatched file 0 0 l (exports_in symbols.is_shared file o 0 o.symbols ++ exports_from symbols.is_shared (suc file) os)) (sym joined)
+      (by_index file o (flat_map (exports_at is_shared p) rest) (exports_from symbols.is_shared (suc file) os) (all_matched (suc file) os rest h)
       0 0 0 (omega arith) (flat_map (exports_at is_shared p) (map m.seen m.sites)) o.symbols
       (subst (λ ss. ByOrdinal file o 0 (flat_map (exports_at is_shared p) (map m.seen m.sites)) ss) (sym m.exported_are)
       (sooner file o 0 1 (omega arith) (flat_map (exports_at is_shared p) (map m.seen m.sites)) (exports m.t m.sites)
