@@ -14,7 +14,7 @@ use Rattle.rv_object.specs.declared.symbol.Binding.TheVariants.{Local, Global, W
 use Rattle.rv_object.specs.Object.{Symbol, Object}
 use Rattle.rv_object.specs.Bindings as symbols
 use Rattle.rv_object_laws.specs.Names as objects
-use Rattle.rv_object_laws.specs.Names.{is_defined, exports_in, exports_from, names_of}
+use Rattle.rv_object_laws.specs.Names.{is_defined, exports_in, exports_from}
 use Rattle.rv_sources_link_laws.proofs.names.PairLemmas.{ArePaired, IsAlike, AreMade, AreChosenAlike, AreGiven}
 use Rattle.rv_sources_link_laws.proofs.names.PairedLemmas.{map_pairs, both_pairs, join_pairs, keep_pairs, find_pair, same_maps, alike_by, some_alike, all_agree}
 use Rattle.rv_sources_link_laws.proofs.names.MatchedLemmas.{binding_of, IsMatched, AreMatched, matched_pairs, are_same, are_one, all_apart, self_same, all_matched}

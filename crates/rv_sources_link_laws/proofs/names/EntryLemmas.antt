@@ -10,7 +10,7 @@ use Rattle.rv_unit_laws.specs.Sections.{Section as SourceSection, goes_to_text}
 use Rattle.rv_unit_laws.specs.Tables.{Tables, Assignment, tables, assigned_ever, is_location, opened_of}
 use Rattle.rv_source_laws.specs.Exports.{defined_name}
 use Rattle.rv_source_laws.specs.Program as source
-use Rattle.rv_source_laws.specs.Program.{MaybeMapped, Program, address_of}
+use Rattle.rv_source_laws.specs.Program.{Program, address_of}
 use Rattle.rv_source_laws.specs.Resolves.{is_label, run_start}
 use Rattle.rv_object.specs.declared.symbol.Definition.TheVariants.{InSection}
 use Rattle.rv_object.specs.Object.{Object}

@@ -17,7 +17,7 @@ use Rattle.rv_source_laws.specs.Program.{MaybeMapped, Program, export, tables_in
 use Rattle.rv_object.specs.Object.{Symbol, Object}
 use Rattle.rv_object.specs.Bindings as symbols
 use Rattle.rv_object_laws.specs.Names as objects
-use Rattle.rv_object_laws.specs.Names.{is_export, exports_in, exports_from}
+use Rattle.rv_object_laws.specs.Names.{exports_in, exports_from}
 use Rattle.rv_assemble_laws.specs.Sites.{Site}
 use Rattle.rv_assemble_laws.specs.Symbols.{outer_binding, shared_symbol, site_definition, exports_of, exports}
 use Rattle.rv_sources_link_laws.proofs.names.ExportedLemmas.{is_exported}

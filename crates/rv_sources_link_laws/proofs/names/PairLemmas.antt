@@ -9,6 +9,7 @@ use Rattle.rv_source_laws.specs.Exports.{defined_name}
 use Rattle.rv_source_laws.specs.Program as source
 use Rattle.rv_source_laws.specs.Program.{MaybeMapped, Program, export, tables_in}
 use Rattle.rv_object.specs.Object.{Object}
+use Rattle.rv_object.specs.Bindings as symbols
 use Rattle.rv_object_laws.specs.Names as objects
 use Rattle.rv_object_laws.specs.Names.{names_of}
 use Rattle.rv_assemble_laws.specs.Sites.{Site}
@@ -35,7 +36,7 @@ IsAlike R (Some x) (Some y) = R x y
 
 pub record AreChosenAlike (R : source.Export → objects.Export → Type 0) (p : Program) (os : List Object) : Type 0 where
   -- the names of all global definitions
-  pub globals : map (λ x. x.name) (source.exports_where is_global p) ≡ names_of (objects.exports_where objects.is_global os)
+  pub globals : map (λ x. x.name) (source.exports_where is_global p) ≡ names_of (objects.exports_where symbols.is_global os)
   -- a name means a pair, or nothing on both sides
   pub chosen : (name : List ℕ) → IsAlike R (source.chosen p name) (objects.chosen os name)
   -- those that names mean are the same, in order
