@@ -101,11 +101,15 @@ class Source:
             own = self.is_number(name)
             ways = IN_DATA[:3] if own else IN_DATA if pick.random() < 0.4 else IN_CODE + CALLS + JUMPS
             way = pick.choice(ways)
-            if not own or "lui" not in way:
+            if not (own and "lui" in way or "X - X" in way and self.is_kept_out(name)):
                 self.references.append((name, way))
 
     def is_number(self, name):
         return self.definitions.get(name) == "number"
+
+    def is_kept_out(self, name):
+        """Whether a name is the source's own place in a section that isn't loaded: its distance from itself is a number."""
+        return self.is_sure(name) and self.definitions[name] == "unloaded"
 
     def is_sure(self, name):
         """Whether the source's own definition is meant, whatever others say."""
