@@ -692,7 +692,7 @@ def some_list(pick):
     wrong = [STACK, 4097, 2, 1 << 63, WHOLE - 4096] if pick.random() < 0.015 else None
     start = pick.choice(wrong or [0x10000] * 16 + [0, 0x1000, STACK - 4 * MIB, STACK - 12288])
     holes = [section for it in objects for section in it.sections if region_of(section) == "bss"]
-    if holes and pick.random() < 0.06:
+    if holes and not any(it.rows for it in objects) and pick.random() < 0.1:
         holes[-1].size = 0
         link = Link(objects, start, pick.random() < 0.5)
         link.answer()
