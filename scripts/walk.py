@@ -474,7 +474,7 @@ class Link:
         lines += [f"gap {first:x} {last:x}" for first, last in self.gaps]
         for f, object in enumerate(self.objects):
             for n, it in enumerate(object.symbols, 1):
-                is_chosen = it.binding != LOCAL and it.home != UNDEFINED and self.chosen[it.name][1] is it
+                is_chosen = it.binding != LOCAL and it.home != UNDEFINED and self.chosen[it.name][0] == f and self.chosen[it.name][1] is it
                 if is_chosen and self.meaning(f, n) is not None:
                     lines.append(f"global {it.name} {self.number(f, n) % WHOLE:x}")
         lines += [f"global {it} {self.linker(it):x}" for it in LINKER if it not in self.chosen]
@@ -505,7 +505,7 @@ REACH = {"BRANCH": 4094, "JAL": MIB - 2, "RVC_BRANCH": 254, "RVC_JUMP": 2046}
 WORDS = {"BRANCH": 0x63, "JAL": 0x6F, "RVC_BRANCH": 0xC001, "RVC_JUMP": 0xA001, "PCREL_HI20": 0x17, "HI20": 0x37, "LO12_I": 0x13,
     "LO12_S": 0x23}
 PAIRS = ["ADD8", "ADD16", "ADD32", "ADD64", "SUB8", "SUB16", "SUB32", "SUB64", "SUB6", "SET6", "SET8", "SET16", "SET32"]
-STEPS = {"call": 30, "padding": 14, "filler": 14, "near": 14, "half": 8, "pair": 6, "word": 8, "field": 6, "odd": 2, "nothing": 4}
+STEPS = {"call": 30, "padding": 14, "filler": 14, "near": 14, "half": 8, "pair": 6, "word": 8, "field": 6, "odd": 3, "limit": 4, "nothing": 4}
 SIZES_HUGE = [1 << 61, 1 << 61, (1 << 61) + 2, (1 << 61) - 2, 1 << 62, (1 << 62) - 2, 1 << 63, (1 << 63) + 6, WHOLE - 2, 300 * MIB]
 WANT = -1
 
@@ -516,7 +516,7 @@ def filled_section(pick, it, steps, huge):
     for step in steps:
         it.edges.append(len(body))
         at = len(body)
-        if at % 2 and code and step != "odd" and pick.random() < 0.9:
+        if at % 2 and code and step != "odd" and pick.random() < 0.75:
             body.append(0)
             at += 1
         if step == "call":
@@ -526,7 +526,7 @@ def filled_section(pick, it, steps, huge):
             it.relocs.append((at, pick.choice(CALLS), WANT, 0))
             if pick.random() < 0.88:
                 it.relocs.insert(len(it.relocs) - pick.choice([0, 0, 0, 1]), (at, "RELAX", pick.choice([0] * 9 + [WANT]), 0))
-            if pick.random() < 0.04:
+            if pick.random() < 0.1:
                 it.edges.append(at + pick.randrange(1, 8))
             if pick.random() < 0.03:
                 it.relocs.append((at + pick.choice([0, 0, 4, 6]), pick.choice(["SET8", "ADD16", "NONE", "RELAX"]), WANT, 0))
@@ -534,6 +534,13 @@ def filled_section(pick, it, steps, huge):
             addend = pick.choice(PADDINGS) if pick.random() < (0.5 if huge else 0.96) else 2 * pick.randrange(40)
             body += pick.choice([bytes(addend), pick.randbytes(addend)])
             it.relocs.append((at, "ALIGN", pick.choice([0] * 9 + [WANT]), addend))
+        elif step == "limit" and code:
+            link, count = pick.choice([0, 0, 0, 1]), pick.choice([2046, 2046, 2046, MIB - 2]) + 2 * pick.randrange(-6, 8)
+            call = (0x317 | (0x30067 | link << 7) << 32).to_bytes(8, "little")
+            behind = pick.random() < 0.5
+            body += bytes(count) + call if behind else call + bytes(count)
+            place, aim = (at + count, at) if behind else (at, len(body))
+            it.relocs += [(place, "CALL", (aim,), 0), (place, "RELAX", 0, 0)]
         elif step == "filler":
             gone = at - pick.choice(it.edges) + 2 * pick.randrange(-3, 9)
             limits = [254, 2046, 2046, 2046, 4094] + [MIB - 2] * (pick.random() < 0.3)
@@ -548,7 +555,9 @@ def filled_section(pick, it, steps, huge):
             it.relocs += [(at, kind, WANT, pick.choice(ADDENDS[:40])) for _ in range(pick.choice([1] * 30 + [2]))]
             if kind == "PCREL_HI20" and pick.random() < 0.9:
                 body += pick.getrandbits(32).to_bytes(4, "little")
-                label = pick.choice([(at,)] * 30 + [(it.edges[max(-2, -len(it.edges))],), WANT])
+                before = it.edges[max(-2, -len(it.edges))]
+                is_padding = any(place == before and other == "ALIGN" for place, other, _, _ in it.relocs)
+                label = pick.choice([(before,)] if is_padding and pick.random() < 0.5 else [(at,)] * 30 + [(before,), WANT])
                 low = (at + 4, pick.choice(["PCREL_LO12_I", "PCREL_LO12_S"]), label, pick.choice([0] * 40 + [4]))
                 it.relocs.insert(len(it.relocs) - pick.choice([0, 0, 1]), low)
         elif step == "pair":
@@ -604,7 +613,7 @@ def some_object(pick, number, huge):
         value = pick.choice([edge for edge in sections[s - 1].edges if edge % 2 == 0 or pick.random() < 0.1] or [0])
         if pick.random() < 0.06:
             value = min(sections[s - 1].size + pick.choice(FAR), WHOLE - 1)
-        home = pick.choice([s] * 30 + [ABSOLUTE, ABSOLUTE, UNLOADED])
+        home = pick.choice([s] * 24 + [ABSOLUTE] * 4 + [UNLOADED])
         binding = pick.choice([LOCAL, GLOBAL, GLOBAL, WEAK])
         name = pick.choice({LOCAL: ["", f".L{n}", "u1"], GLOBAL: [f"g{number}_{n}"], WEAK: ["u0", "u1", "u2", "v0", "v1"]}[binding])
         if binding == GLOBAL and pick.random() < 0.03 or binding == WEAK and pick.random() < 0.1:
@@ -642,8 +651,10 @@ def target(pick, objects, it, s, place, kind):
             edges = section.edges + [min(section.size + pick.choice(FAR[:8]), WHOLE - 1)] * (draw < 0.03)
             edges = [edge for edge in edges if (edge - place) % 2 == 0 or kind not in CALLS or draw < 0.02] or edges
             limits = [edge for edge in edges if there == s and any(abs(abs(edge - place) - far) < 48 for far in (2046, MIB))]
-            addend = pick.choice(ADDENDS) if kind in CALLS and draw < 0.06 else None
-            return named(pick, it, Symbol("", LOCAL, there, pick.choice(limits or edges))), addend
+            edge = pick.choice(limits or edges)
+            back = place - edge + 2 * pick.randrange(-20, 20)
+            addend = pick.choice([back, pick.choice(ADDENDS)]) if kind in CALLS and draw < 0.08 and abs(back) < 1 << 31 else None
+            return named(pick, it, Symbol("", LOCAL, there, edge)), addend
     if draw < 0.55:
         shared = [other for object in objects for other in object.symbols if other.binding != LOCAL]
         names = [other.name for other in shared if other.home not in (UNDEFINED, UNLOADED)] + LINKER * (draw > 0.52)
@@ -692,8 +703,10 @@ def some_list(pick):
     wrong = [STACK, 4097, 2, 1 << 63, WHOLE - 4096] if pick.random() < 0.015 else None
     start = pick.choice(wrong or [0x10000] * 16 + [0, 0x1000, STACK - 4 * MIB, STACK - 12288])
     holes = [section for it in objects for section in it.sections if region_of(section) == "bss"]
-    if holes and not any(it.rows for it in objects) and pick.random() < 0.1:
+    if holes and pick.random() < 0.2:
         holes[-1].size = 0
+        for it in objects:
+            it.rows = [row for row in it.rows if it.sections[row[2] - 1] is not holes[-1]]
         link = Link(objects, start, pick.random() < 0.5)
         link.answer()
         if "bss" in getattr(link, "bounds", {}):
