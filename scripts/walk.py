@@ -474,8 +474,8 @@ class Link:
         lines += [f"gap {first:x} {last:x}" for first, last in self.gaps]
         for f, object in enumerate(self.objects):
             for n, it in enumerate(object.symbols, 1):
-                is_chosen = it.binding != LOCAL and it.home != UNDEFINED and self.chosen[it.name][0] == f and self.chosen[it.name][1] is it
-                if is_chosen and self.meaning(f, n) is not None:
+                where, chosen = self.chosen.get(it.name, (0, None)) if it.binding != LOCAL else (0, None)
+                if where == f and chosen is it and self.meaning(f, n) is not None:
                     lines.append(f"global {it.name} {self.number(f, n) % WHOLE:x}")
         lines += [f"global {it} {self.linker(it):x}" for it in LINKER if it not in self.chosen]
         for f, object in enumerate(self.objects):
@@ -499,13 +499,14 @@ ADDENDS = [0] * 30 + [2, -2, 4, 8, -8, 1, -1, 2046, -2048, 4094, MIB - 2, -MIB, 
     -WHOLE // 2]
 PADDINGS = [0, 2, 2, 6, 6, 14, 14, 30, 62, 1022, 4094]
 FAR = [0, 1, 2, 4, 8, 2046, 4096, MIB, 1 << 31, 1 << 32, 1 << 61, 1 << 63]
-NUMBERS = [0, 1, 7, 2047, 2048, 0x10000, 0x11002, (1 << 31) - 2049, (1 << 31) - 2048, (1 << 31) - 1, 1 << 31, (1 << 32) - 1, 1 << 32,
-    1 << 63, WHOLE - 1, WHOLE - 2048, WHOLE - (1 << 31) - 2049, WHOLE - (1 << 31) - 2048, WHOLE - (1 << 31) - 1, WHOLE - (1 << 31)]
+NUMBERS = [0, 1, 7, 2047, 2048, 0x10000, 0x11002, (1 << 31) - 2049, (1 << 31) - 2048, (1 << 31) - 1, 1 << 31, (1 << 32) - 1,
+    1 << 32, 1 << 63, WHOLE - 1, WHOLE - 2048, WHOLE - (1 << 31) - 2049, WHOLE - (1 << 31) - 2048, WHOLE - (1 << 31) - 1, WHOLE - (1 << 31)]
 REACH = {"BRANCH": 4094, "JAL": MIB - 2, "RVC_BRANCH": 254, "RVC_JUMP": 2046}
 WORDS = {"BRANCH": 0x63, "JAL": 0x6F, "RVC_BRANCH": 0xC001, "RVC_JUMP": 0xA001, "PCREL_HI20": 0x17, "HI20": 0x37, "LO12_I": 0x13,
     "LO12_S": 0x23}
 PAIRS = ["ADD8", "ADD16", "ADD32", "ADD64", "SUB8", "SUB16", "SUB32", "SUB64", "SUB6", "SET6", "SET8", "SET16", "SET32"]
-STEPS = {"call": 30, "padding": 14, "filler": 14, "near": 14, "half": 8, "pair": 6, "word": 8, "field": 6, "odd": 3, "limit": 4, "nothing": 4}
+STEPS = {"call": 30, "padding": 14, "filler": 14, "near": 14, "half": 8, "pair": 6, "word": 8, "field": 6, "odd": 3, "limit": 4,
+    "nothing": 4}
 SIZES_HUGE = [1 << 61, 1 << 61, (1 << 61) + 2, (1 << 61) - 2, 1 << 62, (1 << 62) - 2, 1 << 63, (1 << 63) + 6, WHOLE - 2, 300 * MIB]
 WANT = -1
 
