@@ -4,6 +4,7 @@ pub mod Exports
 pub mod Program
 pub mod Sizes
 pub mod Lines
+pub mod Holes
 pub mod Meaning
 pub mod Fits
 pub mod Sized

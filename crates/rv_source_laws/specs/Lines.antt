@@ -4,16 +4,18 @@
 
 use Rattle.std.specs.Prelude.{◌≡◌, ℕ, ℤ, pos, ◌-ℤ◌, ◌+◌, ◌/◌, ◌%◌, Bool, true, false, ◌&&◌, ◌==◌, if◌then◌else◌, List, [], ◌∷◌, map, replicate, Option, Some, None, option_map, option_and_then}
 use Rattle.std.specs.Int.{w64, int_wrap}
-use Rattle.std.specs.List.{find, list_any}
+use Rattle.std.specs.List.{find}
 use Rattle.rv_isa.specs.declared.instruction.Inst.{Inst}
 use Rattle.rv_isa.specs.declared.kind.Kind.{Kind}
 use Rattle.rv_isa.specs.declared.kind.Kind.TheVariants as kind
 use Rattle.rv_isa_laws.specs.Arithmetic.{signed}
+use Rattle.rv_isa_laws.specs.Halves.{hi, lo}
 use Rattle.rv_text_laws.specs.Values.{Value, Constant, Symbolic}
-use Rattle.rv_statement.specs.declared.pseudo.Function.TheVariants.{Hi, Lo, PcrelLo}
+use Rattle.rv_statement.specs.declared.mnemonic.Mnemonic.TheVariants.{Upper, Load, Store, La}
+use Rattle.rv_statement.specs.declared.pseudo.Function.TheVariants.{Hi, Lo, PcrelHi, PcrelLo}
 use Rattle.rv_statement.specs.Statement.{StatementKind, Label, Numbered, Instruction, Directs, Operand, Register, Value as Of_value, Applied, Target, Expression, Directive, Sets, Aligns_to_power, Aligns_to_bytes}
 use Rattle.rv_pseudo_laws.specs.Li.{addi}
-use Rattle.rv_pseudo_laws.specs.Code.{Part, Closed, Open, Constants, code}
+use Rattle.rv_pseudo_laws.specs.Code.{Part, Closed, Constants, code}
 use Rattle.rv_pseudo_laws.specs.Filled.{FieldValue, filled}
 use Rattle.rv_unit_laws.specs.Tables.{definition}
 use Rattle.rv_source_laws.specs.Located.{Located}
@@ -55,7 +57,7 @@ abbrev pub parts : Program → Mapped → Option (List Part)
 parts p s =
     parts_of (constants p s.located) s.located.options.rvc s.row.bytes s.located.kind
 
--- ---- what its open fields take
+-- ---- the operand that has a number
 
 -- the operand that is no register: a statement has one at most that can be open
 abbrev pub other_operand : List Operand → Option Operand
@@ -83,13 +85,14 @@ distance address target = int_wrap w64 (pos target -ℤ pos address)
 
 -- ---- the upper part that a low part belongs to
 
-abbrev pub takes_upper : Part → Bool
-takes_upper (Open kind.PcrelHi20 i) = true
+-- whether a statement begins with the upper part of a distance: it says so, or it is one that takes
+-- an address by two instructions
+abbrev pub takes_upper : StatementKind → Bool
+takes_upper (Instruction (Upper operation) (Register rd ∷ Applied PcrelHi e ∷ [])) = true
+takes_upper (Instruction La (Register rd ∷ Target e ∷ [])) = true
+takes_upper (Instruction (Load operation) (Register rd ∷ Target e ∷ [])) = true
+takes_upper (Instruction (Store operation) (Register rs2 ∷ Target e ∷ Register rt ∷ [])) = true
 takes_upper _ = false
-
-abbrev pub have_upper : Option (List Part) → Bool
-have_upper None = false
-have_upper (Some ps) = list_any takes_upper ps
 
 -- the section of a file's statement of this ordinal
 abbrev pub section_of : Program → ℕ → ℕ → Option ℕ
@@ -107,7 +110,7 @@ label_section p s _ = None
 abbrev pub is_upper_at : Program → ℕ → ℕ → ℕ → Mapped → Bool
 is_upper_at p file section address m =
     (m.located.file == file) && (m.located.section == section) && (m.row.address == address)
-    && have_upper (parts p m)
+    && takes_upper m.located.kind
 
 -- the first statement of a section at an address that takes the upper part of a distance
 abbrev pub upper_at : Program → ℕ → ℕ → Option ℕ → Option Mapped
@@ -124,12 +127,32 @@ abbrev pub pair_distance : Program → Option Mapped → ℤ
 pair_distance p None = pos 0
 pair_distance p (Some m) = distance m.row.address (target p m)
 
--- ---- all of them
+-- ---- the number that an operand gives its instruction
+
+-- by the numbers and addresses of expressions, the distances of the upper parts that labels name, and
+-- the statement's own address: a number, a half of one, a half of a distance, or a distance
+abbrev pub operand_gives : (Expression → ℕ) → (Expression → ℤ) → ℕ → Option Operand → ℤ
+operand_gives v pair a (Some (Of_value e)) = signed 64 (v e)
+operand_gives v pair a (Some (Applied Hi e)) = hi (signed 64 (v e))
+operand_gives v pair a (Some (Applied Lo e)) = lo (signed 64 (v e))
+operand_gives v pair a (Some (Applied PcrelHi e)) = hi (distance a (v e))
+operand_gives v pair a (Some (Applied PcrelLo e)) = lo (pair e)
+operand_gives v pair a (Some (Target e)) = distance a (v e)
+operand_gives v pair a _ = pos 0
+
+-- the distance of the upper part at the label that a statement names
+abbrev pub paired : Program → Mapped → Expression → ℤ
+paired p s e = pair_distance p (pair_of p s e)
+
+abbrev pub gives : Program → Mapped → Option Operand → ℤ
+gives p s = operand_gives (number p s) (paired p s) s.row.address
+
+-- ---- what the open fields of its code take
 
 -- what an operand stands for at an address: a part of an address takes it whole, all else counts
 -- from there
 abbrev pub operand_value : Program → Mapped → Option Operand → ℕ → ℤ
-operand_value p s (Some (Applied PcrelLo e)) a = pair_distance p (pair_of p s e)
+operand_value p s (Some (Applied PcrelLo e)) a = paired p s e
 operand_value p s (Some (Applied Hi e)) a = signed 64 (number p s e)
 operand_value p s (Some (Applied Lo e)) a = signed 64 (number p s e)
 operand_value p s operand a = distance a (operand_number (number p s) operand)

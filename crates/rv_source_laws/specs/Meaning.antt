@@ -1,7 +1,7 @@
 -- What a statement does in one step, and how many instructions that counts
 -- (RISC-V Assembly Programmer's Manual, pseudo-instructions; RISC-V Unprivileged ISA 20191213).
 
-use Rattle.std.specs.Prelude.{ℕ, pos, ◌+◌, ◌-◌, ◌%◌, ◌^◌, ◌+ℤ◌, ◌*ℤ◌, Bool, false, not, ◌&&◌, ◌==◌, nat_lt, if◌then◌else◌, List, [], ◌∷◌, Option, Some, None}
+use Rattle.std.specs.Prelude.{ℕ, pos, ◌+◌, ◌-◌, ◌%◌, ◌^◌, ◌+ℤ◌, ◌*ℤ◌, Bool, false, not, ◌&&◌, ◌==◌, nat_lt, if◌then◌else◌, List, [], ◌∷◌, Option, Some, None, option_map, ℤ}
 use Rattle.rv_isa.specs.declared.instruction.Inst.{Inst}
 use Rattle.rv_isa.specs.declared.operation.LoadOperation.{LoadOperation}
 use Rattle.rv_isa.specs.declared.operation.StoreOperation.{StoreOperation}
@@ -23,7 +23,8 @@ use Rattle.rv_statement.specs.declared.pseudo.SwappedBranchOperation.{SwappedBra
 use Rattle.rv_statement.specs.declared.pseudo.SwappedBranchOperation.TheVariants.{Bgt, Ble, Bgtu, Bleu}
 use Rattle.rv_statement.specs.Statement.{StatementKind, Label, Numbered, Instruction, Directs, Operand, Register, Value, Applied, Target, Expression, Directive, Aligns_to_power, Aligns_to_bytes}
 use Rattle.rv_source_laws.specs.Program.{Mapped, Program, number, has_values}
-use Rattle.rv_source_laws.specs.Lines.{other_operand, operand_number, distance, expansion}
+use Rattle.rv_source_laws.specs.Lines.{other_operand, operand_number, distance, gives}
+use Rattle.rv_source_laws.specs.Holes.{hole}
 
 -- ---- the one assignment that a name says, of a register's number
 
@@ -132,18 +133,23 @@ pseudo_effect v Tail (Target e ∷ []) bytes h = Some (goes_by bytes h 6 (v e))
 pseudo_effect v Jump (Target e ∷ Register rt ∷ []) bytes h = Some (goes_by bytes h rt (v e))
 pseudo_effect v mnemonic operands bytes h = None
 
--- what one instruction does
-abbrev pub alone_effect : Option (List Inst) → ℕ → Hart → Effect
-alone_effect (Some (i ∷ [])) bytes h = effect i bytes h
-alone_effect _ bytes h = Breaks
+-- the one instruction that another statement spells, by the number that an operand gives
+abbrev pub one_instruction : (Option Operand → ℤ) → Mnemonic → List Operand → Option Inst
+one_instruction given mnemonic operands =
+    option_map (λ make. make (given (other_operand operands))) (hole mnemonic operands)
+
+-- what it does
+abbrev pub alone_effect : Option Inst → ℕ → Hart → Effect
+alone_effect (Some i) bytes h = effect i bytes h
+alone_effect None bytes h = Breaks
 
 abbrev pub else_goes_if : Option Bool → ℕ → ℕ → Hart → Effect → Effect
 else_goes_if (Some is_taken) target bytes h other = goes_if is_taken target bytes h
 else_goes_if None target bytes h other = other
 
-abbrev pub else_alone : Option Effect → Option (List Inst) → ℕ → Hart → Effect
-else_alone (Some e) instructions bytes h = e
-else_alone None instructions bytes h = alone_effect instructions bytes h
+abbrev pub else_alone : Option Effect → Option Inst → ℕ → Hart → Effect
+else_alone (Some e) instruction bytes h = e
+else_alone None instruction bytes h = alone_effect instruction bytes h
 
 -- an alignment goes on after its padding
 abbrev pub directive_effect : Directive → ℕ → Hart → Effect
@@ -152,20 +158,21 @@ directive_effect (Aligns_to_bytes alignment) bytes h = Goes (advanced h bytes)
 directive_effect _ bytes h = Breaks
 
 -- a statement that isn't executed has no bytes in the text, and so is never run
-abbrev pub statement_effect : (Expression → ℕ) → Option (List Inst) → StatementKind → ℕ → Hart →
+abbrev pub statement_effect : (Expression → ℕ) → (Option Operand → ℤ) → StatementKind → ℕ → Hart →
     Effect
-statement_effect v instructions (Label name) bytes h = Breaks
-statement_effect v instructions (Numbered number) bytes h = Breaks
-statement_effect v instructions (Instruction mnemonic operands) bytes h =
+statement_effect v given (Label name) bytes h = Breaks
+statement_effect v given (Numbered number) bytes h = Breaks
+statement_effect v given (Instruction mnemonic operands) bytes h =
     else_goes_if (taken mnemonic operands h) (operand_number v (other_operand operands)) bytes h
-    (else_alone (pseudo_effect v mnemonic operands bytes h) instructions bytes h)
-statement_effect v instructions (Directs directive) bytes h = directive_effect directive bytes h
+    (else_alone (pseudo_effect v mnemonic operands bytes h)
+    (one_instruction given mnemonic operands) bytes h)
+statement_effect v given (Directs directive) bytes h = directive_effect directive bytes h
 
 -- what a statement does in one step; one with a name that has no meaning fits no row
 abbrev pub meaning : Program → Mapped → Hart → Effect
 meaning p s h =
     if has_values p s
-    then statement_effect (number p s) (expansion p s) s.located.kind s.row.bytes h
+    then statement_effect (number p s) (gives p s) s.located.kind s.row.bytes h
     else Breaks
 
 -- ---- cost
