@@ -6,6 +6,7 @@ pub mod NumbersLemmas
 pub mod WalkLemmas
 pub mod ShapesLemmas
 pub mod RowsLemmas
+pub mod SpelledLemmas
 pub mod PairsLemmas
 pub mod LoadImmediateLemmas
 pub mod TableLemmas

@@ -49,7 +49,7 @@ even_target a z e odd = let f = even_wrapped z (omega (arith, odd)) in omega ari
 
 -- ---- the halves of a distance
 
-modulo_20 : (q : ℤ) → modulo 20 q ≡ wrapped q % 2 ^ 20
+pub modulo_20 : (q : ℤ) → modulo 20 q ≡ wrapped q % 2 ^ 20
 modulo_20 (pos n) = omega arith
 modulo_20 (negsuc n) = omega arith
 

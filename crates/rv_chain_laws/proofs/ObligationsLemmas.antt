@@ -12,16 +12,18 @@ use Rattle.rv_isa_laws.specs.Meaning.{effect}
 use Rattle.rv_text_laws.specs.Expression.{Primary}
 use Rattle.rv_text_laws.specs.Values.{Value, Constant, Symbolic, Difference, Faulty}
 use Rattle.rv_statement.specs.declared.mnemonic.Mnemonic.{Mnemonic}
-use Rattle.rv_statement.specs.Statement.{StatementKind, Label, Numbered, Instruction, Directs, Directive, Sets, Aligns_to_power, Aligns_to_bytes, Expression, Operand, Target}
+use Rattle.rv_statement.specs.Statement.{StatementKind, Label, Numbered, Instruction, Directs, Directive, Sets, Aligns_to_power, Aligns_to_bytes, Expression, Operand, Applied, Target}
+use Rattle.rv_statement.specs.declared.pseudo.Function.TheVariants.{Hi, Lo, PcrelLo}
 use Rattle.rv_pseudo_laws.specs.Code.{Part, Closed}
 use Rattle.rv_pseudo_laws.specs.Filled.{FieldValue, filled}
 use Rattle.rv_source_laws.specs.Program.{Mapped, Program, form, resolved, address, number, has_values}
-use Rattle.rv_source_laws.specs.Lines.{Line, Lie, AreLines, constant_of, constants, no_operation, parts_of, parts, other_operand, operand_of, is_low_part, operand_value, field_value, expansion}
+use Rattle.rv_source_laws.specs.Lines.{Line, Lie, AreLines, constant_of, constants, no_operation, parts_of, parts, other_operand, operand_of, is_low_part, operand_value, field_value, paired, gives, expansion}
 use Rattle.rv_source_laws.specs.Meaning.{statement_effect, meaning, is_untaken, cost}
 use Rattle.rv_source_laws.specs.Fits.{IsRowOf, IsCodeRow, CodeFits, StatementFits}
 use Rattle.rv_chain_laws.specs.Walks.{then_walk, walk, Does, LinesDoAsMeant}
 use Rattle.rv_chain_laws.proofs.ShapesLemmas.{insts, walked, does_as, go_on, ends_above}
 use Rattle.rv_chain_laws.proofs.RowsLemmas.{Leads}
+use Rattle.rv_chain_laws.proofs.SpelledLemmas.{stands_for, TakesOperand}
 use Rattle.rv_chain_laws.proofs.TableLemmas.{unpassed, comes}
 
 -- a statement without instructions has no bytes
@@ -92,6 +94,19 @@ field_leads p s mnemonic operands e is target = λ kind a.
     let operand : operand_of s.located.kind ≡ Some (Target e) = ap operand_of is ∙ target in
     ap (λ o. operand_value p s o (if is_low_part kind then s.row.address else a)) operand
 
+stands_same : (p : Program) (s : Mapped) (o : Option Operand) (a : ℕ) → operand_value p s o a ≡ stands_for (number p s) (paired p s) o a
+stands_same p s (Some (Applied PcrelLo e)) a = refl
+stands_same p s (Some (Applied Hi e)) a = refl
+stands_same p s (Some (Applied Lo e)) a = refl
+stands_same p s o a = refl
+
+-- and those of any statement what its operand stands for
+field_takes : (p : Program) (s : Mapped) (mnemonic : Mnemonic) (operands : List Operand) → s.located.kind ≡ Instruction mnemonic operands
+    → TakesOperand (number p s) (paired p s) (field_value p s) s.row.address (other_operand operands)
+field_takes p s mnemonic operands is = λ kind a.
+    ap (λ o. operand_value p s o (if is_low_part kind then s.row.address else a)) (ap operand_of is)
+    ∙ stands_same p s (other_operand operands) (if is_low_part kind then s.row.address else a)
+
 -- ---- where each name has a meaning, the lines are the parts with their fields filled
 
 record Shown (b : Bool) (front back : List Inst) : Type 0 where
@@ -126,15 +141,14 @@ module _ (p : Program) (s : Mapped) (lines : List Line) (are : AreLines p s line
 
   -- what the statement does in place of its meaning, by its kind
   as_kind : (k : StatementKind) (meant : Hart → Effect) → s.located.kind ≡ k → has_values p s ≡ true
-      → ((h : Hart) → meant h ≡ statement_effect (number p s) (Some (insts lines)) k s.row.bytes h)
+      → ((h : Hart) → meant h ≡ statement_effect (number p s) (gives p s) k s.row.bytes h)
       → Does meant (λ h. if (s.row.bytes == 8) && is_untaken k h then 1 else length (insts lines)) s.row.address lines
       → Does (meaning p s) (cost p s) s.row.address lines
   as_kind k meant is valued same d =
       does_as meant (meaning p s) (λ h. if (s.row.bytes == 8) && is_untaken k h then 1 else length (insts lines)) (cost p s) s.row.address lines d
       (λ h r. same h
-      ∙ ap (λ q. statement_effect (number p s) (Some (insts lines)) q s.row.bytes h) (sym is)
-      ∙ ap (λ o. statement_effect (number p s) o s.located.kind s.row.bytes h) (sym are.0)
-      ∙ ap (λ b. if b then statement_effect (number p s) (expansion p s) s.located.kind s.row.bytes h else Breaks) (sym valued))
+      ∙ ap (λ q. statement_effect (number p s) (gives p s) q s.row.bytes h) (sym is)
+      ∙ ap (λ b. if b then statement_effect (number p s) (gives p s) s.located.kind s.row.bytes h else Breaks) (sym valued))
       (λ h. ap (λ n. if (s.row.bytes == 8) && is_untaken k h then 1 else n) (sym counts.1)
       ∙ ap (λ q. if (s.row.bytes == 8) && is_untaken q h then 1 else s.row.instructions) (sym is))
 
@@ -148,14 +162,15 @@ module _ (p : Program) (s : Mapped) (lines : List Line) (are : AreLines p s line
   does_instruction mnemonic operands is h small =
       let fills = shown (has_values p s) (field_value p s) s.row.address (parts p s) h.ps (insts lines) h.are are.0 in
       as_kind (Instruction mnemonic operands) _ is fills.valued (λ h. refl)
-      (comes (number p s) (constants p s.located) (field_value p s) s.located.options.rvc mnemonic operands s.row.address s.row.bytes h.ps lines
+      (comes (number p s) (paired p s) (constants p s.located) (field_value p s) s.located.options.rvc mnemonic operands s.row.address s.row.bytes h.ps lines
       (ap (parts_of (constants p s.located) s.located.options.rvc s.row.bytes) (sym is) ∙ h.are)
       (record { is = fills.same; lie = are.1; small = small; valid = counts.0; taken = h.code.taken; some = some; below = below })
       (λ e target. field_leads p s mnemonic operands e is target)
-      (λ e k known. constant_is (λ q. address p s.located q) (form p s.located e) k known))
+      (λ e k known. constant_is (λ q. address p s.located q) (form p s.located e) k known)
+      (field_takes p s mnemonic operands is))
 
   does_alignment : (d : Directive) (n : ℕ) → s.located.kind ≡ Directs d → parts p s ≡ Some (replicate n (Closed no_operation))
-      → ((h : Hart) → Goes (advanced h s.row.bytes) ≡ statement_effect (number p s) (Some (insts lines)) (Directs d) s.row.bytes h)
+      → ((h : Hart) → Goes (advanced h s.row.bytes) ≡ statement_effect (number p s) (gives p s) (Directs d) s.row.bytes h)
       → Does (meaning p s) (cost p s) s.row.address lines
   does_alignment d n is e same =
       let fills = shown (has_values p s) (field_value p s) s.row.address (parts p s) (replicate n (Closed no_operation)) (insts lines) e are.0 in

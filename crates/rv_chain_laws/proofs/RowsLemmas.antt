@@ -1,7 +1,7 @@
 -- The shapes of the table's rows: what the code of a statement comes to where its fields are filled.
 
-use Rattle.std.proofs.Common.{◌≡◌, ℕ, ◌+◌, ◌-◌, ◌*◌, ◌%◌, ◌^◌, ◌<◌, ◌≤◌, Bool, true, false, not, ◌&&◌, List, [], ◌∷◌, Some, length, refl, sym, ap, ◌∙◌, subst, arith, ℤ, pos, negsuc}
-use Rattle.std.specs.Prelude.{map, ◌==◌, nat_lt, if◌then◌else◌, bit_and, bit_xor, slice_index}
+use Rattle.std.proofs.Common.{◌≡◌, ℕ, ◌+◌, ◌-◌, ◌*◌, ◌%◌, ◌^◌, ◌<◌, ◌≤◌, Bool, true, false, not, ◌&&◌, List, [], ◌∷◌, Option, Some, None, length, refl, sym, ap, ◌∙◌, subst, arith, ℤ, pos, negsuc}
+use Rattle.std.specs.Prelude.{map, option_map, ◌==◌, nat_lt, if◌then◌else◌, bit_and, bit_xor, slice_index}
 use Rattle.std.specs.List.{AllByRecursion}
 use Rattle.std.proofs.lemmas.Bool.{eqb-true}
 use Rattle.rv_isa.specs.declared.instruction.Inst.{Inst}
@@ -28,7 +28,7 @@ use Rattle.rv_statement.specs.declared.pseudo.ZeroBranchOperation.TheVariants.{B
 use Rattle.rv_statement.specs.declared.pseudo.SwappedBranchOperation.{SwappedBranchOperation}
 use Rattle.rv_statement.specs.declared.pseudo.SwappedBranchOperation.TheVariants.{Bgt, Ble, Bgtu, Bleu}
 use Rattle.rv_pseudo_laws.specs.Li.{addi, addiw, slli}
-use Rattle.rv_pseudo_laws.specs.Code.{Part, Closed, Open, Joined, r_type, i_type, b_type, shift_by, jal, unary, compare, inverted, branch, jump, zero_branch, swapped_branch}
+use Rattle.rv_pseudo_laws.specs.Code.{Part, Closed, Open, r_type, i_type, b_type, shift_by, jal, unary, compare, inverted, branch, jump, zero_branch, swapped_branch}
 use Rattle.rv_pseudo_laws.specs.Filled.{FieldValue, filled, AreTaken}
 use Rattle.rv_pseudo_laws.proofs.SequencesLemmas.{again, with_same, register_set}
 use Rattle.rv_source_laws.specs.Lines.{distance, is_low_part, Line, Lie}
@@ -63,23 +63,12 @@ SetsTo rd number address size lines = Does (λ h. sets size h rd (number h)) (λ
 
 -- ---- one instruction
 
-abbrev pub IsOne : List Part → Type 0
-IsOne (Closed i ∷ []) = Unit {0}
-IsOne (Open k i ∷ []) = Unit {0}
-IsOne _ = ⊥
-
-alone_line : (i : Inst) (address size : ℕ) (lines : List Line) → i ∷ [] ≡ insts lines → Lie address lines (address + size)
-    → Does (λ h. alone_effect (Some (insts lines)) size h) (λ h. length (insts lines)) address lines
-alone_line i address size lines e lie = one_line i (λ h. alone_effect (Some (insts lines)) size h) address size lines e lie (λ h r. ap (λ is. alone_effect (Some is) size h) e)
-
-pub row_alone : (f : FieldValue) (address size : ℕ) (ps : List Part) (lines : List Line) → IsOne ps → Row f address size ps lines
-    → Does (λ h. alone_effect (Some (insts lines)) size h) (λ h. length (insts lines)) address lines
-row_alone f address size (Closed i ∷ []) lines one r = alone_line i address size lines r.is r.lie
-row_alone f address size (Open k i ∷ []) lines one r = alone_line (with_value (f k address) i) address size lines r.is r.lie
-row_alone f address size [] lines one r = absurd one
-row_alone f address size (Joined k i j ∷ ps) lines one r = absurd one
-row_alone f address size (Closed i ∷ p ∷ ps) lines one r = absurd one
-row_alone f address size (Open k i ∷ p ∷ ps) lines one r = absurd one
+pub row_alone : (f : FieldValue) (address size : ℕ) (ps : List Part) (lines : List Line) (said : Option Inst) → option_map (λ i. i ∷ []) said ≡ Some (filled f address ps)
+    → Row f address size ps lines → Does (λ h. alone_effect said size h) (λ h. length (insts lines)) address lines
+row_alone f address size ps lines None e r = absurd (cc)
+row_alone f address size ps lines (Some i) e r =
+    let same : i ∷ [] ≡ filled f address ps = cc in
+    one_line i (λ h. effect i size h) address size lines (same ∙ r.is) r.lie (λ h k. refl)
 
 -- ---- assignments
 

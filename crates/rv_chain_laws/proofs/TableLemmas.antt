@@ -2,121 +2,25 @@
 
 use Rattle.std.proofs.Common.{◌≡◌, ℕ, Bool, true, false, ◌&&◌, List, [], ◌∷◌, Option, Some, None, length, refl, sym, ap, ◌∙◌, subst, ℤ}
 use Rattle.std.specs.Prelude.{map, ◌==◌, if◌then◌else◌, option_map}
-use Rattle.rv_isa.specs.declared.instruction.Inst.{Inst}
-use Rattle.rv_isa.specs.declared.kind.Kind.{Kind}
-use Rattle.rv_isa.specs.Operations.{of_immediate, of_upper, of_load, of_store}
 use Rattle.rv_isa_laws.specs.Arithmetic.{wrapped, signed}
 use Rattle.rv_isa_laws.specs.Halves.{lo}
 use Rattle.rv_isa_laws.specs.Hart.{Hart, register}
 use Rattle.rv_isa_laws.specs.Effect.{Effect}
 use Rattle.rv_statement.specs.declared.mnemonic.Mnemonic.{Mnemonic}
-use Rattle.rv_statement.specs.declared.mnemonic.Mnemonic.TheVariants.{Registers, Immediate, Shift, Upper, Load, Store, Branch, Jal, Jalr, LoadReserved, Atomic, Fence, FenceTso, Ecall, Ebreak, Nop, Unary, Compare, ZeroBranch, SwappedBranch, J, Jr, Ret, La, Li, Call, Tail, Jump}
-use Rattle.rv_statement.specs.declared.pseudo.Function.TheVariants.{Hi, Lo, PcrelHi, PcrelLo}
-use Rattle.rv_statement.specs.Statement.{Operand, Register, Value, Applied, Target, Accesses, Expression}
-use Rattle.rv_parse_laws.specs.Syntax.{with_constant}
+use Rattle.rv_statement.specs.declared.mnemonic.Mnemonic.TheVariants.{Load, Store, Branch, Unary, Compare, ZeroBranch, SwappedBranch, La, Li, Call, Tail, Jump}
+use Rattle.rv_statement.specs.declared.pseudo.Function.TheVariants.{Lo}
+use Rattle.rv_statement.specs.Statement.{Operand, Register, Value, Applied, Target, Expression}
 use Rattle.rv_pseudo_laws.specs.Li.{is_signed, li}
-use Rattle.rv_pseudo_laws.specs.Code.{Part, Closed, Constants, by_number, by_part, signed_12, upper_20, number_of, by_constant, i_type, s_type, u_type, jalr, through, code}
+use Rattle.rv_pseudo_laws.specs.Code.{Part, Closed, Constants, number_of, through, code}
 use Rattle.rv_pseudo_laws.specs.Filled.{FieldValue}
-use Rattle.rv_source_laws.specs.Lines.{Line, other_operand, operand_number}
-use Rattle.rv_source_laws.specs.Meaning.{taken, pseudo_effect, else_alone, else_goes_if, is_passed, number_in}
+use Rattle.rv_source_laws.specs.Lines.{Line, other_operand, operand_number, operand_gives}
+use Rattle.rv_source_laws.specs.Meaning.{taken, pseudo_effect, one_instruction, else_alone, else_goes_if, is_passed, number_in}
 use Rattle.rv_chain_laws.specs.Walks.{Does}
 use Rattle.rv_chain_laws.proofs.ShapesLemmas.{insts, does_as}
-use Rattle.rv_chain_laws.proofs.RowsLemmas.{Row, row_as, Leads, SetsTo, IsOne, row_alone, row_unary, row_compare, row_branch, row_zero_branch, row_swapped_branch}
+use Rattle.rv_chain_laws.proofs.RowsLemmas.{Row, row_as, valid_parts, Leads, SetsTo, row_alone, row_unary, row_compare, row_branch, row_zero_branch, row_swapped_branch}
+use Rattle.rv_chain_laws.proofs.SpelledLemmas.{TakesOperand, said_of, said_code}
 use Rattle.rv_chain_laws.proofs.PairsLemmas.{row_near, row_load, row_store, row_call, row_far}
 use Rattle.rv_chain_laws.proofs.LoadImmediateLemmas.{row_li, signed_fits, low_fits}
-
--- ---- the statements whose code is one instruction that does what the statement means
-
-abbrev IsPlain : Mnemonic → List Operand → Type 0
-IsPlain (Load operation) (Register rd ∷ Target e ∷ []) = ⊥
-IsPlain (Store operation) (Register rs2 ∷ Target e ∷ Register rt ∷ []) = ⊥
-IsPlain (Branch operation) operands = ⊥
-IsPlain (ZeroBranch operation) operands = ⊥
-IsPlain (SwappedBranch operation) operands = ⊥
-IsPlain (Unary operation) operands = ⊥
-IsPlain (Compare operation) operands = ⊥
-IsPlain La operands = ⊥
-IsPlain Li operands = ⊥
-IsPlain Call operands = ⊥
-IsPlain Tail operands = ⊥
-IsPlain Jump operands = ⊥
-IsPlain mnemonic operands = Unit {0}
-
-abbrev IsOneOf : Option (List Part) → Type 0
-IsOneOf None = Unit {0}
-IsOneOf (Some ps) = IsOne ps
-
-one_number : (make : ℤ → Inst) (o : Option ℤ) → IsOneOf (by_number make o)
-one_number make None = tt
-one_number make (Some k) = tt
-
-one_part : (k : Kind) (make : ℤ → Inst) (o : Option ℤ) → IsOneOf (by_part k make o)
-one_part k make None = tt
-one_part k make (Some n) = tt
-
-one_signed : (v : Constants) (store : Bool) (make : ℤ → Inst) (o : Operand) → IsOneOf (signed_12 v store make o)
-one_signed v store make (Value e) = one_number make (v e)
-one_signed v store make (Applied Lo e) = one_part _ make (option_map lo (v e))
-one_signed v store make (Applied PcrelLo e) = tt
-one_signed v store make o = tt
-
-one_upper : (v : Constants) (make : ℕ → Inst) (o : Operand) → IsOneOf (upper_20 v make o)
-one_upper v make (Value e) = one_number (λ k. make (wrapped k)) (v e)
-one_upper v make (Applied Hi e) = one_part _ (λ k. make (wrapped k)) _
-one_upper v make (Applied PcrelHi e) = tt
-one_upper v make o = tt
-
-one_constant : (v : Constants) (m : Option Mnemonic) (rd rs1 : ℕ) (o : Operand) → IsOneOf (by_constant v m rd rs1 o)
-one_constant v (Some (Immediate operation)) rd rs1 o = one_signed v false _ o
-one_constant v (Some (Shift operation)) rd rs1 o = one_number _ (number_of v o)
-one_constant v m rd rs1 o = tt
-
-one_code : (v : Constants) (rvc : Bool) (bytes : ℕ) (mnemonic : Mnemonic) (operands : List Operand) → IsPlain mnemonic operands → IsOneOf (code v rvc bytes mnemonic operands)
-one_code v rvc bytes (Registers operation) (Register rd ∷ Register rs1 ∷ Register rs2 ∷ []) p = tt
-one_code v rvc bytes (Registers operation) (Register rd ∷ Register rs1 ∷ o ∷ []) p = one_constant v (with_constant operation) rd rs1 o
-one_code v rvc bytes (Immediate operation) (Register rd ∷ Register rs1 ∷ o ∷ []) p = one_signed v false (λ k. of_immediate operation (i_type rd rs1 k)) o
-one_code v rvc bytes (Shift operation) (Register rd ∷ Register rs1 ∷ o ∷ []) p = one_number _ (number_of v o)
-one_code v rvc bytes (Upper operation) (Register rd ∷ o ∷ []) p = one_upper v (λ n. of_upper operation (u_type rd n)) o
-one_code v rvc bytes (Load operation) (Register rd ∷ Register rs1 ∷ []) p = tt
-one_code v rvc bytes (Load operation) (Register rd ∷ Target e ∷ []) p = absurd p
-one_code v rvc bytes (Load operation) (Register rd ∷ o ∷ Register rs1 ∷ []) p = one_signed v false (λ k. of_load operation (i_type rd rs1 k)) o
-one_code v rvc bytes (Store operation) (Register rs2 ∷ Register rs1 ∷ []) p = tt
-one_code v rvc bytes (Store operation) (Register rs2 ∷ Target e ∷ Register rt ∷ []) p = absurd p
-one_code v rvc bytes (Store operation) (Register rs2 ∷ o ∷ Register rs1 ∷ []) p = one_signed v true (λ k. of_store operation (s_type rs2 rs1 k)) o
-one_code v rvc bytes (Branch operation) operands p = absurd p
-one_code v rvc bytes (ZeroBranch operation) operands p = absurd p
-one_code v rvc bytes (SwappedBranch operation) operands p = absurd p
-one_code v rvc bytes (Unary operation) operands p = absurd p
-one_code v rvc bytes (Compare operation) operands p = absurd p
-one_code v rvc bytes La operands p = absurd p
-one_code v rvc bytes Li operands p = absurd p
-one_code v rvc bytes Call operands p = absurd p
-one_code v rvc bytes Tail operands p = absurd p
-one_code v rvc bytes Jump operands p = absurd p
-one_code v rvc bytes Jal (Register rd ∷ Target e ∷ []) p = tt
-one_code v rvc bytes Jal (Target e ∷ []) p = tt
-one_code v rvc bytes J (Target e ∷ []) p = tt
-one_code v rvc bytes Jalr (Register rs1 ∷ []) p = tt
-one_code v rvc bytes Jalr (Register rd ∷ Register rs1 ∷ []) p = tt
-one_code v rvc bytes Jalr (o ∷ Register rs1 ∷ []) p = one_signed v false (jalr 1 rs1) o
-one_code v rvc bytes Jalr (Register rd ∷ Register rs1 ∷ o ∷ []) p = one_signed v false (jalr rd rs1) o
-one_code v rvc bytes Jalr (Register rd ∷ o ∷ Register rs1 ∷ []) p = one_signed v false (jalr rd rs1) o
-one_code v rvc bytes Jr (Register rs ∷ []) p = tt
-one_code v rvc bytes Jr (o ∷ Register rs ∷ []) p = one_signed v false (jalr 0 rs) o
-one_code v rvc bytes Ret [] p = tt
-one_code v rvc bytes (LoadReserved form) (Register rd ∷ Register rs1 ∷ []) p = tt
-one_code v rvc bytes (Atomic operation form) (Register rd ∷ Register rs2 ∷ Register rs1 ∷ []) p = tt
-one_code v rvc bytes Fence [] p = tt
-one_code v rvc bytes Fence (Accesses before ∷ Accesses after ∷ []) p = tt
-one_code v rvc bytes FenceTso [] p = tt
-one_code v rvc bytes Ecall [] p = tt
-one_code v rvc bytes Ebreak [] p = tt
-one_code v rvc bytes Nop [] p = tt
-one_code v rvc bytes mnemonic operands p = tt
-
-one_of : (o : Option (List Part)) (ps : List Part) → o ≡ Some ps → IsOneOf o → IsOne ps
-one_of None ps e one = absurd (cc)
-one_of (Some qs) ps e one = let same : qs ≡ ps = cc in subst (λ x. IsOne x) same one
 
 -- ---- by operands
 
@@ -186,56 +90,59 @@ load_immediate v c operand (Some k) rd f address size ps lines known e same r =
 -- ---- all rows
 
 -- what the lines of a statement come to, by the numbers and addresses of its expressions
-abbrev pub Comes : (Expression → ℕ) → Mnemonic → List Operand → ℕ → ℕ → List Line → Type 0
-Comes v mnemonic operands address size lines =
-    Does (λ h. else_goes_if (taken mnemonic operands h) (operand_number v (other_operand operands)) size h (else_alone (pseudo_effect v mnemonic operands size h) (Some (insts lines)) size h))
+abbrev pub Comes : (Expression → ℕ) → (Option Operand → ℤ) → Mnemonic → List Operand → ℕ → ℕ → List Line → Type 0
+Comes v given mnemonic operands address size lines =
+    Does (λ h. else_goes_if (taken mnemonic operands h) (operand_number v (other_operand operands)) size h (else_alone (pseudo_effect v mnemonic operands size h) (one_instruction given mnemonic operands) size h))
     (λ h. if (size == 8) && is_passed (taken mnemonic operands h) then 1 else length (insts lines)) address lines
 
-pub comes : (v : Expression → ℕ) (c : Constants) (f : FieldValue) (rvc : Bool) (mnemonic : Mnemonic) (operands : List Operand) (address size : ℕ) (ps : List Part) (lines : List Line)
+pub comes : (v : Expression → ℕ) (pair : Expression → ℤ) (c : Constants) (f : FieldValue) (rvc : Bool) (mnemonic : Mnemonic) (operands : List Operand) (address size : ℕ) (ps : List Part) (lines : List Line)
     → code c rvc size mnemonic operands ≡ Some ps → Row f address size ps lines
     → ((e : Expression) → other_operand operands ≡ Some (Target e) → Leads f address (v e))
     → ((e : Expression) (k : ℤ) → c e ≡ Some k → k ≡ signed 64 (v e))
-    → Comes v mnemonic operands address size lines
-comes v c f rvc (Load operation) (Register rd ∷ Target e ∷ []) address size ps lines is r to known =
+    → TakesOperand v pair f address (other_operand operands)
+    → Comes v (operand_gives v pair address) mnemonic operands address size lines
+comes v pair c f rvc (Load operation) (Register rd ∷ Target e ∷ []) address size ps lines is r to known takes =
     let b = by_register rd _ ps is in
     unbranched _ address size lines (row_load operation rd (v e) f address size lines b.some (row_as f address size ps _ lines b.same r) (to e refl))
-comes v c f rvc (Store operation) (Register rs2 ∷ Target e ∷ Register rt ∷ []) address size ps lines is r to known =
+comes v pair c f rvc (Store operation) (Register rs2 ∷ Target e ∷ Register rt ∷ []) address size ps lines is r to known takes =
     let o = by_other rt rs2 _ ps is in
     let b = by_register rt _ ps o.same in
     unbranched _ address size lines (row_store operation rs2 rt (v e) f address size lines o.other b.some (row_as f address size ps _ lines b.same r) (to e refl))
-comes v c f rvc (Branch operation) (Register a ∷ Register b ∷ Target e ∷ []) address size ps lines is r to known =
+comes v pair c f rvc (Branch operation) (Register a ∷ Register b ∷ Target e ∷ []) address size ps lines is r to known takes =
     row_branch operation a b (v e) f address size lines (row_as f address size ps _ lines is r) (to e refl)
-comes v c f rvc (ZeroBranch operation) (Register a ∷ Target e ∷ []) address size ps lines is r to known =
+comes v pair c f rvc (ZeroBranch operation) (Register a ∷ Target e ∷ []) address size ps lines is r to known takes =
     row_zero_branch operation a (v e) f address size lines (row_as f address size ps _ lines is r) (to e refl)
-comes v c f rvc (SwappedBranch operation) (Register a ∷ Register b ∷ Target e ∷ []) address size ps lines is r to known =
+comes v pair c f rvc (SwappedBranch operation) (Register a ∷ Register b ∷ Target e ∷ []) address size ps lines is r to known takes =
     row_swapped_branch operation a b (v e) f address size lines (row_as f address size ps _ lines is r) (to e refl)
-comes v c f rvc (Unary operation) (Register rd ∷ Register rs ∷ []) address size ps lines is r to known =
+comes v pair c f rvc (Unary operation) (Register rd ∷ Register rs ∷ []) address size ps lines is r to known takes =
     unbranched _ address size lines (row_unary rvc operation rd rs f address size lines (row_as f address size ps _ lines is r))
-comes v c f rvc (Compare operation) (Register rd ∷ Register a ∷ Register b ∷ []) address size ps lines is r to known =
+comes v pair c f rvc (Compare operation) (Register rd ∷ Register a ∷ Register b ∷ []) address size ps lines is r to known takes =
     unbranched _ address size lines (row_compare operation rd a b f address size lines (row_as f address size ps _ lines is r))
-comes v c f rvc La (Register rd ∷ Target e ∷ []) address size ps lines is r to known =
+comes v pair c f rvc La (Register rd ∷ Target e ∷ []) address size ps lines is r to known takes =
     unbranched _ address size lines (row_near rd (v e) f address size lines (row_as f address size ps _ lines is r) (to e refl))
-comes v c f rvc Li (Register rd ∷ o ∷ []) address size ps lines is r to known =
+comes v pair c f rvc Li (Register rd ∷ o ∷ []) address size ps lines is r to known takes =
     unbranched _ address size lines (load_immediate v c o (number_of c o) rd f address size ps lines known refl is r)
-comes v c f rvc Call (Register rd ∷ Target e ∷ []) address size ps lines is r to known =
+comes v pair c f rvc Call (Register rd ∷ Target e ∷ []) address size ps lines is r to known takes =
     let b = by_register rd _ ps is in
     unbranched _ address size lines (row_call rd (v e) f address size lines b.some (row_as f address size ps _ lines b.same r) (to e refl))
-comes v c f rvc Call (Target e ∷ []) address size ps lines is r to known =
+comes v pair c f rvc Call (Target e ∷ []) address size ps lines is r to known takes =
     unbranched _ address size lines (row_call 1 (v e) f address size lines refl (row_as f address size ps _ lines is r) (to e refl))
-comes v c f rvc Tail (Target e ∷ []) address size ps lines is r to known =
+comes v pair c f rvc Tail (Target e ∷ []) address size ps lines is r to known takes =
     unbranched _ address size lines (row_far 6 (v e) f address size lines refl (row_as f address size ps _ lines is r) (to e refl))
-comes v c f rvc Jump (Target e ∷ Register rt ∷ []) address size ps lines is r to known =
+comes v pair c f rvc Jump (Target e ∷ Register rt ∷ []) address size ps lines is r to known takes =
     let b = by_register rt _ ps is in
     unbranched _ address size lines (row_far rt (v e) f address size lines b.some (row_as f address size ps _ lines b.same r) (to e refl))
-comes v c f rvc (Branch operation) operands address size ps lines is r to known = absurd (cc)
-comes v c f rvc (ZeroBranch operation) operands address size ps lines is r to known = absurd (cc)
-comes v c f rvc (SwappedBranch operation) operands address size ps lines is r to known = absurd (cc)
-comes v c f rvc (Unary operation) operands address size ps lines is r to known = absurd (cc)
-comes v c f rvc (Compare operation) operands address size ps lines is r to known = absurd (cc)
-comes v c f rvc La operands address size ps lines is r to known = absurd (cc)
-comes v c f rvc Li operands address size ps lines is r to known = absurd (cc)
-comes v c f rvc Call operands address size ps lines is r to known = absurd (cc)
-comes v c f rvc Tail operands address size ps lines is r to known = absurd (cc)
-comes v c f rvc Jump operands address size ps lines is r to known = absurd (cc)
-comes v c f rvc mnemonic operands address size ps lines is r to known =
-    unbranched _ address size lines (row_alone f address size ps lines (one_of (code c rvc size mnemonic operands) ps is (one_code c rvc size mnemonic operands tt)) r)
+comes v pair c f rvc (Branch operation) operands address size ps lines is r to known takes = absurd (cc)
+comes v pair c f rvc (ZeroBranch operation) operands address size ps lines is r to known takes = absurd (cc)
+comes v pair c f rvc (SwappedBranch operation) operands address size ps lines is r to known takes = absurd (cc)
+comes v pair c f rvc (Unary operation) operands address size ps lines is r to known takes = absurd (cc)
+comes v pair c f rvc (Compare operation) operands address size ps lines is r to known takes = absurd (cc)
+comes v pair c f rvc La operands address size ps lines is r to known takes = absurd (cc)
+comes v pair c f rvc Li operands address size ps lines is r to known takes = absurd (cc)
+comes v pair c f rvc Call operands address size ps lines is r to known takes = absurd (cc)
+comes v pair c f rvc Tail operands address size ps lines is r to known takes = absurd (cc)
+comes v pair c f rvc Jump operands address size ps lines is r to known takes = absurd (cc)
+comes v pair c f rvc mnemonic operands address size ps lines is r to known takes =
+    unbranched _ address size lines (row_alone f address size ps lines (one_instruction (operand_gives v pair address) mnemonic operands)
+    (said_of f address (one_instruction (operand_gives v pair address) mnemonic operands) (code c rvc size mnemonic operands) ps is
+    (said_code v pair c f address known rvc size mnemonic operands tt takes) (valid_parts f address size ps lines r)) r)
