@@ -10,6 +10,7 @@ pub mod SuitsLemmas
 pub mod FieldedLemmas
 pub mod CodingLemmas
 pub mod RowsLemmas
+pub mod BeginningsLemmas
 pub mod CodeOfLemmas
 pub mod FittingLemmas
 pub mod OperandsLemmas

@@ -24,12 +24,13 @@ use Rattle.rv_map.specs.Limits.{IsGlobal}
 use Rattle.rv_source_laws.specs.Located.{has_row}
 use Rattle.rv_source_laws.specs.Program.{Mapped, Program, tables_in, address_at, home_address, own_address, own_value as own_value_in_map, in_operand, have_values, has_value, has_values, address as address_in, number as number_of, value as value_in_map}
 use Rattle.rv_source_laws.specs.Fits.{IsPaired}
-use Rattle.rv_source_laws.specs.Lines.{other_operand, operand_of, operand_number, operand_value, field_value, is_low_part, distance, takes_upper, pair_of, pair_distance, label_section, upper_at, section_of}
+use Rattle.rv_source_laws.specs.Lines.{other_operand, operand_of, operand_number, operand_value, field_value, is_low_part, distance, pair_of, pair_distance, label_section, upper_at, section_of}
 use Rattle.rv_object.specs.Object.{Section, Object}
 use Rattle.rv_object_laws.specs.Moves.{alignments_of}
 use Rattle.rv_object_laws.specs.Inputs.{Starts}
 use Rattle.rv_object_laws.specs.Values.{value, is_low, IsRelocated}
 use Rattle.rv_assemble_laws.specs.CodeFields.{symbol_field, low_field, low_field_at, label_field, field_of, relax_fields}
+use Rattle.rv_sources_link_laws.proofs.statements.BeginningsLemmas.{is_upper_part}
 use Rattle.rv_sources_link_laws.proofs.statements.MarkedLemmas.{marks, is_marked, part_fields, relaxes, marks_relax, marked_one, low_marked}
 use Rattle.rv_assemble_laws.specs.Coded.{constants, AreCodedParts, IsCode}
 use Rattle.rv_assemble_laws.specs.InstructionFaults.{is_label}
@@ -417,7 +418,7 @@ module _ (p : Program) (os : List Object) (starts : Starts) (file : ℕ) (sites 
             by : NoUpper p os starts file sites number o sections low are settled all_worths whole plain address index section x is at none loaded relocated z ⊎ HasUpper p os starts file sites number o sections low are settled all_worths whole plain address index section x is at none loaded relocated z → HasUpper p os starts file sites number o sections low are settled all_worths whole plain address index section x is at none loaded relocated z
             by (inr k) = k
             by (inl k) =
-                let e : false ≡ true = sym k.lacks ∙ have_is p os starts file sites number o sections low are settled all_worths whole plain address index section x is at none loaded relocated z h mnemonic os' e c ∙ ap (list_any takes_upper) ps_are in absurd (cc)
+                let e : false ≡ true = sym k.lacks ∙ have_is p os starts file sites number o sections low are settled all_worths whole plain address index section x is at none loaded relocated z h mnemonic os' e c ∙ ap (list_any is_upper_part) ps_are in absurd (cc)
 
       -- ---- a label
 

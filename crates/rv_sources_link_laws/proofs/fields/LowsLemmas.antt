@@ -13,7 +13,7 @@ use Rattle.rv_map.specs.Limits.{IsGlobal}
 use Rattle.rv_source_laws.specs.Located.{has_row}
 use Rattle.rv_source_laws.specs.Program.{Mapped, Program, tables_in, address_at, home_address}
 use Rattle.rv_source_laws.specs.Fits.{mapped_in}
-use Rattle.rv_source_laws.specs.Lines.{target as target_in, distance, is_upper_at, upper_at, have_upper, parts as parts_in, section_of}
+use Rattle.rv_source_laws.specs.Lines.{target as target_in, distance, takes_upper, is_upper_at, upper_at, section_of}
 use Rattle.rv_object.specs.declared.symbol.Definition.{Definition as Defined}
 use Rattle.rv_object.specs.Object.{Relocation, Section, Symbol, Object}
 use Rattle.rv_object_laws.specs.Moves.{alignments_of, moves}
@@ -56,7 +56,7 @@ find_in p file section a (m ∷ ms) = go ((m.located.file == file) && (m.located
         → find (is_upper_at p file section a) (m ∷ ms) ≡ find (is_upper_at p file section a) (if b then m ∷ mapped_in ms file section else mapped_in ms file section)
     go true e ih = ap (λ l. if is_upper_at p file section a m then Some m else l) ih
     go false e ih =
-        ap (λ b. if b && (m.row.address == a) && have_upper (parts_in p m) then Some m else find (is_upper_at p file section a) ms) e ∙ ih
+        ap (λ b. if b && (m.row.address == a) && takes_upper m.located.kind then Some m else find (is_upper_at p file section a) ms) e ∙ ih
 
 module _ (p : Program) (os : List Object) (starts : Starts) (file : ℕ) (sites : List Site) (number : Numbering) (o : Object) (sections : List SourceSection)
     (low : AllByRecursion IsGlobal p.map.globals) (are : AreSectionsOf (tables_in p file) sites number o.symbols 0 sections o.sections)

@@ -1,9 +1,9 @@
 -- The upper parts of distances: which statements of a section have one, and its value.
 
-use Rattle.std.proofs.Common.{◌≡◌, ℕ, suc, ◌+◌, ◌/◌, ◌%◌, ◌<◌, ◌≤◌, Bool, true, false, List, [], ◌∷◌, ◌++◌, length, length-append, refl, sym, ap, ◌∙◌, subst, arith, map, replicate, Option, Some, None, ◌⊎◌, inl, inr}
+use Rattle.std.proofs.Common.{◌≡◌, ℕ, ◌+◌, ◌<◌, ◌≤◌, Bool, true, false, List, [], ◌∷◌, ◌++◌, length, length-append, refl, sym, ap, ◌∙◌, subst, arith, map, Option, Some, None, ◌⊎◌, inl, inr}
 use Rattle.std.proofs.lemmas.Bool.{eq-eqb, ne_eqb}
 use Rattle.std.proofs.lemmas.List.Sums.{sum_by-cons}
-use Rattle.std.specs.Prelude.{⊤, ℤ, ◌&&◌, ◌||◌, ◌==◌, zero, if◌then◌else◌, flat_map, unwrap_or, option_and_then}
+use Rattle.std.specs.Prelude.{⊤, ℤ, ◌&&◌, ◌||◌, ◌==◌, if◌then◌else◌, flat_map, unwrap_or, option_and_then}
 use Rattle.std.specs.List.{AllByRecursion, slice_get, find, list_any}
 use Rattle.rv_isa.specs.declared.instruction.Inst.{Inst}
 use Rattle.rv_isa.specs.declared.kind.Kind.{Kind}
@@ -12,7 +12,7 @@ use Rattle.rv_text_laws.specs.Expression.{Primary}
 use Rattle.rv_text_laws.specs.Values.{Meaning, Value, Constant, Symbolic, Difference, Faulty, add}
 use Rattle.rv_statement.specs.declared.mnemonic.Mnemonic.{Mnemonic}
 use Rattle.rv_statement.specs.declared.pseudo.Function.TheVariants.{Hi, Lo, PcrelHi, PcrelLo}
-use Rattle.rv_statement.specs.Statement.{StatementKind, Label, Numbered, Instruction, Directs, Operand, Register, Value as Of_value, Applied, Target, Accesses, Word, Quoted, Expression, Directive, Sets, Aligns_to_power, Aligns_to_bytes}
+use Rattle.rv_statement.specs.Statement.{StatementKind, Label, Numbered, Instruction, Directs, Operand, Register, Value as Of_value, Applied, Target, Accesses, Word, Quoted, Expression}
 use Rattle.rv_pseudo_laws.specs.Code.{Part as CodePart, Closed, Open as Open_part, Joined}
 use Rattle.rv_pseudo_laws.specs.Filled.{are_closed}
 use Rattle.rv_unit_laws.specs.Contributions.{contribution}
@@ -21,7 +21,7 @@ use Rattle.rv_unit_laws.specs.Tables.{Tables}
 use Rattle.rv_map.specs.Limits.{IsGlobal}
 use Rattle.rv_source_laws.specs.Located.{has_row}
 use Rattle.rv_source_laws.specs.Program.{Mapped, Program, tables_in, address_at, address as address_in, number as number_of}
-use Rattle.rv_source_laws.specs.Lines.{no_operation, directive_parts, parts_of as code_of, parts as parts_in, constants as constants_in, other_operand, operand_of, operand_number, target as target_in, distance, takes_upper, have_upper, is_upper_at}
+use Rattle.rv_source_laws.specs.Lines.{other_operand, operand_of, operand_number, target as target_in, distance, takes_upper, is_upper_at}
 use Rattle.rv_source_laws.proofs.HeldLemmas.{none_left}
 use Rattle.rv_source_laws.proofs.HomesLemmas.{all_map}
 use Rattle.rv_object.specs.Object.{Relocation, Section, Object}
@@ -42,6 +42,7 @@ use Rattle.rv_sources_link_laws.proofs.statements.SettledLemmas.{IsSettled}
 use Rattle.rv_sources_link_laws.proofs.fields.WholesLemmas.{IsWhole}
 use Rattle.rv_sources_link_laws.proofs.statements.CodingLemmas.{all_few}
 use Rattle.rv_sources_link_laws.proofs.statements.FieldedLemmas.{part_kinds, directed}
+use Rattle.rv_sources_link_laws.proofs.statements.BeginningsLemmas.{is_upper_part, begins_upper}
 use Rattle.rv_sources_link_laws.proofs.statements.RowsLemmas.{IsFar, Shape, IsRow, row_of}
 use Rattle.rv_sources_link_laws.proofs.statements.OperandsLemmas.{relative_is, low_same, distance_not_high, own_is, target_symbolic, other_fault, symbolic_some}
 use Rattle.rv_sources_link_laws.proofs.fields.FieldsLemmas.{Known, Facts}
@@ -150,15 +151,15 @@ IsLowPart (Closed i) = ⊤
 IsLowPart (Open_part k i) = is_high k ≡ false
 IsLowPart (Joined k i j) = is_high k ≡ false
 
-takes_same : (k : Kind) (i : Inst) → takes_upper (Open_part k i) ≡ is_high k
+takes_same : (k : Kind) (i : Inst) → is_upper_part (Open_part k i) ≡ is_high k
 takes_same kind.PcrelHi20 i = refl
 takes_same k i = refl
 
-none_taken : (ps : List CodePart) → AllByRecursion IsLowPart ps → list_any takes_upper ps ≡ false
+none_taken : (ps : List CodePart) → AllByRecursion IsLowPart ps → list_any is_upper_part ps ≡ false
 none_taken [] h = refl
 none_taken (Closed i ∷ ps) (h, hs) = none_taken ps hs
 none_taken (Open_part k i ∷ ps) (h, hs) =
-    ap (λ b. b || list_any takes_upper ps) (takes_same k i ∙ h) ∙ none_taken ps hs
+    ap (λ b. b || list_any is_upper_part ps) (takes_same k i ∙ h) ∙ none_taken ps hs
 none_taken (Joined k i j ∷ ps) (h, hs) = none_taken ps hs
 
 closed_low : (ps : List CodePart) → are_closed ps ≡ true → AllByRecursion IsLowPart ps
@@ -172,16 +173,6 @@ far_low [] h = tt
 far_low (Closed i ∷ ps) (h, hs) = (tt, far_low ps hs)
 far_low (Open_part k i ∷ ps) (h, hs) = (distance_not_high k h, far_low ps hs)
 far_low (Joined k i j ∷ ps) (h, hs) = (distance_not_high k h.0, far_low ps hs)
-
-padding_none : (n : ℕ) → list_any takes_upper (replicate n (Closed no_operation)) ≡ false
-padding_none zero = refl
-padding_none (suc n) = padding_none n
-
-directive_none : (d : Directive) (bytes : ℕ) → have_upper (directive_parts d bytes) ≡ false
-directive_none (Sets name e) bytes = refl
-directive_none (Aligns_to_power e) bytes = padding_none (bytes / 4 + bytes % 4 / 2)
-directive_none (Aligns_to_bytes e) bytes = padding_none (bytes / 4 + bytes % 4 / 2)
-directive_none d bytes = refl
 
 module _ (p : Program) (os : List Object) (starts : Starts) (file : ℕ) (sites : List Site) (number : Numbering) (o : Object) (sections : List SourceSection)
     (low : AllByRecursion IsGlobal p.map.globals) (are : AreSectionsOf (tables_in p file) sites number o.symbols 0 sections o.sections)
@@ -211,14 +202,14 @@ module _ (p : Program) (os : List Object) (starts : Starts) (file : ℕ) (sites 
 
     pub record NoUpper (z : Site) : Type 0 where
       pub none_at : (offset : ℕ) → find (IsUpperAt offset) (relocations_from number z.offset (parts_of (tables_in p file) z)) ≡ None
-      pub lacks : have_upper (parts_in p (mapped_at starts file z)) ≡ false
+      pub lacks : takes_upper z.located.kind ≡ false
 
     -- a statement with an upper part, which stands first in it
     pub record HasUpper (z : Site) : Type 0 where
       pub field : Open
       pub found_at : (offset : ℕ) → find (IsUpperAt offset) (relocations_from number z.offset (parts_of (tables_in p file) z))
           ≡ (if z.offset == offset then Some (relocation_at number z.offset field) else None)
-      pub has : have_upper (parts_in p (mapped_at starts file z)) ≡ true
+      pub has : takes_upper z.located.kind ≡ true
       pub worth : own_value (outer_in p os) (starts file) o (starts file index) x (relocation_at number z.offset field)
           ≡ distance (starts file z.located.section + z.offset) (target_in p (mapped_at starts file z))
       pub some : 0 < z.bytes
@@ -237,7 +228,7 @@ module _ (p : Program) (os : List Object) (starts : Starts) (file : ℕ) (sites 
           own (Joined k i j) e =
               part_kinds (λ k. is_high k ≡ false) T (v z) z.located (Joined k i j) (λ k' i' f. absurd (cc)) (λ k' i' j' f. subst IsLowPart f e) refl
 
-      no_parts : templates T z z.located.kind ≡ [] → have_upper (parts_in p (m z)) ≡ false → NoUpper z
+      no_parts : templates T z z.located.kind ≡ [] → takes_upper z.located.kind ≡ false → NoUpper z
       no_parts e f = record { none_at = λ offset. ap (λ l. find (IsUpperAt offset) (relocations_from number z.offset (map (part_of z.located.ordinal) l))) e; lacks = f }
 
       module _ (mnemonic : Mnemonic) (os' : List Operand) (e : z.located.kind ≡ Instruction mnemonic os')
@@ -247,8 +238,8 @@ module _ (p : Program) (os : List Object) (starts : Starts) (file : ℕ) (sites 
             ap (λ k. map (part_of z.located.ordinal) (templates T z k)) e
             ∙ ap (λ l. map (part_of z.located.ordinal) (coded_templates (fields z) (unwrap_or l []) z.coded)) c.parts
 
-        pub have_is : have_upper (parts_in p (m z)) ≡ list_any takes_upper c.ps
-        have_is = ap (λ k. have_upper (code_of (constants_in p (m z).located) z.located.options.rvc z.bytes k)) e ∙ ap have_upper c.parts
+        pub have_is : takes_upper z.located.kind ≡ list_any is_upper_part c.ps
+        have_is = ap takes_upper e ∙ sym (begins_upper (constants (v z)) z.located.options.rvc z.bytes mnemonic os' c.ps c.parts)
 
         no_upper_code : AllByRecursion IsLowPart c.ps → NoUpper z
         no_upper_code k = record {
@@ -294,7 +285,7 @@ module _ (p : Program) (os : List Object) (starts : Starts) (file : ℕ) (sites 
                     found_at = λ offset.
                         ap (λ l. find (IsUpperAt offset) (relocations_from number z.offset l)) whole_parts
                         ∙ one_found number offset z.located.ordinal z.offset bytes own_field ts refl (low_templates rest coded k);
-                    has = have_is ∙ ap (list_any takes_upper) ps_are;
+                    has = have_is ∙ ap (list_any is_upper_part) ps_are;
                     worth = own_is (outer_in p os) starts os file o index x none number kind.PcrelHi20 z.located.ordinal q plus z.offset known.at known.meant
                         ∙ relative_is known.at plus (starts file index + z.offset)
                         ∙ ap (λ a. distance a (add known.at plus)) start_as ∙ ap (distance (starts file z.located.section + z.offset)) (sym number_is);
@@ -350,14 +341,14 @@ module _ (p : Program) (os : List Object) (starts : Starts) (file : ℕ) (sites 
         by_operand (Some (Quoted s)) f shape = inl (no_upper_code (closed_low c.ps shape))
 
       by_kind : (k : StatementKind) → z.located.kind ≡ k → NoUpper z ⊎ HasUpper z
-      by_kind (Label name) e = inl (no_parts (ap (templates T z) e) (ap (λ k. have_upper (code_of (constants_in p (m z).located) z.located.options.rvc z.bytes k)) e))
-      by_kind (Numbered digits) e = inl (no_parts (ap (templates T z) e) (ap (λ k. have_upper (code_of (constants_in p (m z).located) z.located.options.rvc z.bytes k)) e))
+      by_kind (Label name) e = inl (no_parts (ap (templates T z) e) (ap takes_upper e))
+      by_kind (Numbered digits) e = inl (no_parts (ap (templates T z) e) (ap takes_upper e))
       by_kind (Directs d) e = inl (record {
         none_at = λ offset.
             ap (λ k. find (IsUpperAt offset) (relocations_from number z.offset (map (part_of z.located.ordinal) (templates T z k)))) e
             ∙ none_found number offset z.located.ordinal z.offset (contribution_templates z.located.home.executable (v z) (contribution d) z.bytes)
             (directed IsLowTemplate (λ bytes. tt) (λ width value. tt) z.located.home.executable (v z) (contribution d) z.bytes);
-        lacks = ap (λ k. have_upper (code_of (constants_in p (m z).located) z.located.options.rvc z.bytes k)) e ∙ directive_none d z.bytes;
+        lacks = ap takes_upper e;
       })
       by_kind (Instruction mnemonic os') e =
           let c = subst (HasSize (v z) z x.alignment) e (h.sized (h.inside.instructed mnemonic os' e)) in
