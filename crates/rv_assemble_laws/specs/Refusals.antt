@@ -2,11 +2,11 @@
 -- its code and of the sizes of code.
 
 use Rattle.std.specs.Prelude.{◌≡◌, ◌⊎◌, ⊤, ℕ, ◌+◌, Bool, true, ◌==◌, nat_lt, List, [], ◌∷◌, Option, Some, None, if◌then◌else◌}
-use Rattle.rv_text_laws.specs.Codes.{limit}
+use Rattle.rv_text_laws.specs.Codes.{limit, lowest}
 use Rattle.rv_text_laws.specs.Values.{Value}
 use Rattle.rv_statement.specs.Statement.{StatementKind, Instruction, Directs, Statement, Expression}
 use Rattle.rv_unit_laws.specs.Tables.{Tables, tables, value, longest_section, alignment_of}
-use Rattle.rv_unit_laws.specs.Faults.{Fault, lowest, at_line, first_fault}
+use Rattle.rv_unit_laws.specs.Faults.{Fault, at_line, first_fault}
 use Rattle.rv_source_laws.specs.Located.{Located, located}
 use Rattle.rv_source_laws.specs.Program.{place_of}
 use Rattle.rv_assemble_laws.specs.Coded.{IsCode}

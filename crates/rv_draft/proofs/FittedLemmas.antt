@@ -12,7 +12,8 @@ use Rattle.rv_statement.specs.Statement.{StatementKind, Label, Numbered, Instruc
 use Rattle.rv_unit_laws.specs.Contributions.{contribution}
 use Rattle.rv_unit_laws.specs.Sections.{Section, is_nobits, section_at, current_section}
 use Rattle.rv_unit_laws.specs.Tables.{Tables, SectionOffset, at_start, here, value, power_alignment, byte_alignment, alignment_of, padding, string_bytes, after, tables, stood, opened_of, alignments_of}
-use Rattle.rv_unit_laws.specs.Faults.{faulty_if, value_faults, power_faults, bytes_faults, code_alignment_faults, alignment_faults, past_section, directive_faults, faults, first_fault}
+use Rattle.rv_text_laws.specs.Codes.{faulty_if}
+use Rattle.rv_unit_laws.specs.Faults.{value_faults, power_faults, bytes_faults, code_alignment_faults, alignment_faults, past_section, directive_faults, faults, first_fault}
 use Rattle.rv_unit_laws.proofs.OpenedLemmas.{after_opened}
 use Rattle.rv_unit.proofs.ConstantsLemmas.{constant_whole}
 use Rattle.rv_object.specs.Padding.{no_operations, operations_in}

@@ -10,7 +10,8 @@ use Rattle.rv_text_laws.specs.Values.{Value, Constant, Symbolic, Difference, Fau
 use Rattle.rv_statement.specs.Statement.{StatementKind, Label, Numbered, Instruction, Directs, Expression, Directive, Sets, Aligns_to_power, Aligns_to_bytes, Values, Strings, Zeros}
 use Rattle.rv_unit_laws.specs.Sections.{Section, is_nobits, current_section}
 use Rattle.rv_unit_laws.specs.Tables.{Tables, here, value, alignment_of, power_alignment, byte_alignment, counted, or_none, within, padding, data_bytes, string_bytes, longest_section, after, opened_of, ends_of}
-use Rattle.rv_unit_laws.specs.Faults.{faulty_if, size_faults, power_faults, bytes_faults, value_faults, code_alignment_faults, past_section, alignment_faults, directive_faults, faults}
+use Rattle.rv_text_laws.specs.Codes.{faulty_if}
+use Rattle.rv_unit_laws.specs.Faults.{size_faults, power_faults, bytes_faults, value_faults, code_alignment_faults, past_section, alignment_faults, directive_faults, faults}
 use Rattle.rv_unit_laws.proofs.GrownLemmas.{BeginsAt, puts, end_behind}
 use Rattle.rv_assemble_laws.specs.Coded.{is_constant}
 use Rattle.rv_source_laws.specs.Located.{is_placed, is_placed_directive}

@@ -4,7 +4,8 @@ use Rattle.std.proofs.Common.{◌≡◌, ℕ, zero, suc, ◌+◌, List, [], ◌�
 use Rattle.std.specs.Prelude.{⊤}
 use Rattle.rv_statement.specs.Statement.{Statement}
 use Rattle.rv_unit_laws.specs.Tables.{Tables, at_start, after, after_all, tables}
-use Rattle.rv_unit_laws.specs.Faults.{faults, lowest, first_fault_from, first_fault}
+use Rattle.rv_text_laws.specs.Codes.{lowest}
+use Rattle.rv_unit_laws.specs.Faults.{faults, first_fault_from, first_fault}
 use Rattle.rv_unit_laws.proofs.FewLemmas.{no_fault_from}
 use Rattle.rv_unit.specs.Unit.{passed}
 use Rattle.rv_source_laws.proofs.HeldLemmas.{no_lowest, no_fault}

@@ -11,7 +11,8 @@ use Rattle.rv_lexer.specs.Fault.{number_of}
 use Rattle.rv_statement.specs.Statement.{Expression, Statement as SpecStatement}
 use Rattle.rv_statement.specs.View.{statement_of}
 use Rattle.rv_statement.specs.declared.statement.Statement.{Statement}
-use Rattle.rv_unit_laws.specs.Faults.{Fault, lowest}
+use Rattle.rv_text_laws.specs.Codes.{lowest}
+use Rattle.rv_unit_laws.specs.Faults.{Fault}
 use Rattle.rv_unit_laws.specs.Tables.{Tables, SectionOffset as Standing, at_start, tables, value, stood}
 use Rattle.rv_unit_tables.specs.declared.section_offset.SectionOffset.{SectionOffset}
 use Rattle.rv_unit.specs.declared.unit.Unit.{Unit as SourceUnit}

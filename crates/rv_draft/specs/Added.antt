@@ -7,7 +7,8 @@ use Rattle.rv_lexer.specs.declared.fault.SourceFault.{SourceFault}
 use Rattle.rv_lexer.specs.declared.fault.SourceFault.TheVariants.{At, OutOfMemory}
 use Rattle.rv_lexer.specs.Fault.{number_of}
 use Rattle.rv_statement.specs.Statement.{Expression, Statement}
-use Rattle.rv_unit_laws.specs.Faults.{Fault, lowest}
+use Rattle.rv_text_laws.specs.Codes.{lowest}
+use Rattle.rv_unit_laws.specs.Faults.{Fault}
 use Rattle.rv_unit_laws.specs.Tables.{Tables, tables}
 use Rattle.rv_source_laws.specs.Located.{Located, located}
 use Rattle.rv_assemble_laws.specs.Refusals.{code_fault_from, size_fault_from, code_fault, else_fault, AreCodeSizes, IsTooLong}

@@ -1,7 +1,7 @@
 -- The rows of operations with an operand that is known: closed parts, the same whatever the form.
 
 use Rattle.std.proofs.Common.{◌≡◌, ℕ, Bool, true, false, refl, sym, ap, ◌∙◌, ℤ, List, [], ◌∷◌, map, Option, Some, None, option_map}
-use Rattle.std.specs.Prelude.{not, ◌||◌, is_some}
+use Rattle.std.specs.Prelude.{not, ◌&&◌, is_some}
 use Rattle.rv_isa.specs.declared.instruction.Inst.{Inst}
 use Rattle.rv_isa.specs.Operations.{of_immediate, of_shift, of_upper, of_load, of_store}
 use Rattle.rv_isa_laws.specs.Arithmetic.{wrapped}
@@ -13,7 +13,7 @@ use Rattle.rv_statement.specs.declared.statement.Operation.{Operation}
 use Rattle.rv_statement.specs.declared.statement.Operation.TheVariants as operations
 use Rattle.rv_statement.specs.declared.statement.Plain.{Plain}
 use Rattle.rv_statement.specs.declared.statement.Plain.TheVariants as plains
-use Rattle.rv_statement.specs.Statement.{Expression, Operand, Applied}
+use Rattle.rv_statement.specs.Statement.{Expression}
 use Rattle.rv_statement.specs.View.{plain_of, with_operand}
 use Rattle.rv_parse_laws.specs.Syntax.{with_constant}
 use Rattle.rv_pseudo_laws.specs.Code.{Part, Closed, Open, Joined, Constants, i_type, s_type, u_type, shift_by, jalr, by_number, signed_12, upper_20, number_of, by_constant, unary}
@@ -21,10 +21,11 @@ use Rattle.rv_pseudo_laws.specs.Filled.{are_closed}
 use Rattle.rv_pseudo_laws.specs.Li.{li}
 use Rattle.rv_pseudo_laws.specs.Valid.{form_takes}
 use Rattle.rv_pseudo.specs.declared.template.Template.{Template}
-use Rattle.rv_pseudo.specs.Faults.{is_upper, takes_target, number, operand_fault}
-use Rattle.rv_pseudo.specs.Templates.{all_templates, templates_of, number_operand}
+use Rattle.rv_pseudo.specs.Faults.{is_upper, takes_target, number}
+use Rattle.rv_pseudo.specs.Templates.{all_templates, templates_of, number_operand, statement_with}
 use Rattle.rv_pseudo.specs.Templates as pseudo
-use Rattle.rv_pseudo.proofs.InRangeLemmas.{unless_good, and_left, number_takes}
+use Rattle.rv_pseudo.proofs.InRangeLemmas.{is_taken, and_left, number_takes}
+use Rattle.rv_pseudo.proofs.TableLemmas.{has_rows}
 use Rattle.rv_source_laws.specs.Lines as lines
 use Rattle.rv_instruction.specs.Code.{part_of, parts_in}
 
@@ -83,6 +84,17 @@ row_same (operations.Jr rs) (Some g) c rvc bytes other others e away = signed_sa
 row_same (operations.Li rd) function c rvc bytes other others e away = ap (option_map (λ k. map Closed (li rd k))) (number_same c function e)
 row_same _ function c rvc bytes other others e away = absurd (cc)
 
+-- whether there is a row, by the constant of the operand alone
+pub rows_by : (operation : Operation) (function : Option Function) (c : Constants) (e : Expression)
+    → has_rows c (statement_with operation function e) ≡ has_rows (λ t. c e) (statement_with operation function e)
+rows_by (operations.Registers operation rd rs1) None c e = ap is_some (constant_same c (with_constant operation) rd rs1 None e)
+rows_by _ None c e = refl
+rows_by (operations.Registers operation rd rs1) (Some f) c e = ap is_some (constant_same c (with_constant operation) rd rs1 (Some f) e)
+rows_by _ (Some Hi) c e = refl
+rows_by _ (Some Lo) c e = refl
+rows_by _ (Some PcrelHi) c e = refl
+rows_by _ (Some PcrelLo) c e = refl
+
 -- ---- all parts are closed
 
 abbrev pub closed_in : Option (List Part) → Bool
@@ -136,27 +148,27 @@ plain_same _ c rvc bytes = refl
 
 -- of operations with an operand that is taken
 signed_closed : (operation : Operation) (function : Option Function) (k : ℤ) (store : Bool) (make : ℤ → Inst) (e : Expression)
-    → is_upper operation ≡ false → operand_fault operation function (Some k) ≡ None
+    → is_upper operation ≡ false → is_taken operation function (Some k) ≡ true
     → closed_in (signed_12 (λ t. Some k) store make (number_operand function e)) ≡ true
 signed_closed operation None k store make e upper f = refl
-signed_closed operation (Some Hi) k store make e upper f = absurd (let high = and_left (is_upper operation) _ (unless_good _ _ f) in cc)
+signed_closed operation (Some Hi) k store make e upper f = absurd (let high = and_left (is_upper operation) _ f in cc)
 signed_closed operation (Some Lo) k store make e upper f = refl
 signed_closed operation (Some PcrelHi) k store make e upper f = absurd (cc)
 signed_closed operation (Some PcrelLo) k store make e upper f = absurd (cc)
 
 upper_closed : (operation : Operation) (function : Option Function) (k : ℤ) (make : ℕ → Inst) (e : Expression)
-    → is_upper operation ≡ true → operand_fault operation function (Some k) ≡ None
+    → is_upper operation ≡ true → is_taken operation function (Some k) ≡ true
     → closed_in (upper_20 (λ t. Some k) make (number_operand function e)) ≡ true
 upper_closed operation None k make e upper f = refl
 upper_closed operation (Some Hi) k make e upper f = refl
-upper_closed operation (Some Lo) k make e upper f = absurd (let low = and_left (not (is_upper operation)) _ (unless_good _ _ f) in let high = ap not upper in cc)
+upper_closed operation (Some Lo) k make e upper f = absurd (let low = and_left (not (is_upper operation)) _ (and_left (not (is_upper operation) && not (takes_target operation)) _ f) in let high = ap not upper in cc)
 upper_closed operation (Some PcrelHi) k make e upper f = absurd (cc)
 upper_closed operation (Some PcrelLo) k make e upper f = absurd (cc)
 
-number_closed : (operation : Operation) (function : Option Function) (k : ℤ) (e : Expression) → is_upper operation ≡ false → operand_fault operation function (Some k) ≡ None
+number_closed : (operation : Operation) (function : Option Function) (k : ℤ) (e : Expression) → is_upper operation ≡ false → is_taken operation function (Some k) ≡ true
     → is_some (number_of (λ t. Some k) (number_operand function e)) ≡ true
 number_closed operation None k e upper f = refl
-number_closed operation (Some Hi) k e upper f = absurd (let high = and_left (is_upper operation) _ (unless_good _ _ f) in cc)
+number_closed operation (Some Hi) k e upper f = absurd (let high = and_left (is_upper operation) _ f in cc)
 number_closed operation (Some Lo) k e upper f = refl
 number_closed operation (Some PcrelHi) k e upper f = absurd (cc)
 number_closed operation (Some PcrelLo) k e upper f = absurd (cc)
@@ -170,7 +182,7 @@ li_closed rd None e = absurd (cc)
 li_closed rd (Some k) e = closed_map (li rd k)
 
 constant_closed : (operation : Operation) (form : Option Mnemonic) (rd rs1 : ℕ) (function : Option Function) (k : ℤ) (e : Expression)
-    → is_upper operation ≡ false → operand_fault operation function (Some k) ≡ None → form_takes form (number function (Some k)) ≡ true
+    → is_upper operation ≡ false → is_taken operation function (Some k) ≡ true → form_takes form (number function (Some k)) ≡ true
     → closed_in (by_constant (λ t. Some k) form rd rs1 (number_operand function e)) ≡ true
 constant_closed operation (Some (mnemonics.Immediate i)) rd rs1 function k e upper f fits =
     signed_closed operation function k false (λ k. of_immediate i (i_type rd rs1 k)) e upper f
@@ -179,7 +191,7 @@ constant_closed operation (Some (mnemonics.Shift i)) rd rs1 function k e upper f
 constant_closed operation _ rd rs1 function k e upper f fits = absurd (cc)
 
 pub row_closed : (operation : Operation) (function : Option Function) (k : ℤ) (rvc : Bool) (bytes : ℕ) (e : Expression)
-    → operand_fault operation function (Some k) ≡ None → takes_target operation ≡ false
+    → is_taken operation function (Some k) ≡ true → takes_target operation ≡ false
     → closed_in (pseudo.parts_of (λ t. Some k) rvc bytes (with_operand operation (number_operand function e))) ≡ true
 row_closed (operations.Registers operation rd rs1) None k rvc bytes e f away =
     constant_closed (operations.Registers operation rd rs1) (with_constant operation) rd rs1 None k e refl f (number_takes (operations.Registers operation rd rs1) None (Some k) f refl)
@@ -208,77 +220,3 @@ row_closed (operations.Jr rs) None k rvc bytes e f away = signed_closed (operati
 row_closed (operations.Jr rs) (Some g) k rvc bytes e f away = signed_closed (operations.Jr rs) (Some g) k false (jalr 0 rs) e refl f
 row_closed (operations.Li rd) function k rvc bytes e f away = li_closed rd _ (number_closed (operations.Li rd) function k e refl f)
 row_closed _ function k rvc bytes e f away = absurd (cc)
-
--- ---- fields that do not take a part
-
-abbrev pub takes_no_upper : Operation → Bool
-takes_no_upper (operations.Upper operation rd) = false
-takes_no_upper _ = true
-
-abbrev pub is_bare : Option Mnemonic → Bool
-is_bare None = true
-is_bare (Some form) = false
-
-abbrev pub takes_no_low : Operation → Bool
-takes_no_low (operations.StoreSymbol operation rs2 rt) = false
-takes_no_low (operations.Registers operation rd rs1) = is_bare (with_constant operation)
-takes_no_low operation = is_upper operation || takes_target operation
-
-abbrev pub takes_none : Operation → Function → Bool
-takes_none operation Hi = takes_no_upper operation
-takes_none operation Lo = takes_no_low operation
-takes_none operation PcrelHi = takes_no_upper operation
-takes_none operation PcrelLo = takes_no_low operation
-
-no_constant : (c : Constants) (form : Option Mnemonic) (rd rs1 : ℕ) (e : Expression) → by_constant c form rd rs1 (Applied Hi e) ≡ None
-no_constant c (Some (mnemonics.Immediate i)) rd rs1 e = refl
-no_constant c (Some (mnemonics.Shift i)) rd rs1 e = refl
-no_constant c _ rd rs1 e = refl
-
-no_distance : (c : Constants) (form : Option Mnemonic) (rd rs1 : ℕ) (e : Expression) → by_constant c form rd rs1 (Applied PcrelHi e) ≡ None
-no_distance c (Some (mnemonics.Immediate i)) rd rs1 e = refl
-no_distance c (Some (mnemonics.Shift i)) rd rs1 e = refl
-no_distance c _ rd rs1 e = refl
-
-bare_row : (c : Constants) (form : Option Mnemonic) (rd rs1 : ℕ) (o : Operand) → is_bare form ≡ true → by_constant c form rd rs1 o ≡ None
-bare_row c None rd rs1 o bare = refl
-bare_row c (Some form) rd rs1 o bare = absurd (cc)
-
-pub row_none : (operation : Operation) (function : Function) (c : Constants) (rvc : Bool) (bytes : ℕ) (e : Expression) → takes_none operation function ≡ true
-    → lines.parts_of c rvc bytes (with_operand operation (Applied function e)) ≡ None
-row_none (operations.Registers operation rd rs1) Hi c rvc bytes e none = no_constant c (with_constant operation) rd rs1 e
-row_none (operations.Upper operation rd) Hi c rvc bytes e none = absurd (cc)
-row_none _ Hi c rvc bytes e none = refl
-row_none (operations.Registers operation rd rs1) PcrelHi c rvc bytes e none = no_distance c (with_constant operation) rd rs1 e
-row_none (operations.Upper operation rd) PcrelHi c rvc bytes e none = absurd (cc)
-row_none _ PcrelHi c rvc bytes e none = refl
-row_none (operations.Registers operation rd rs1) Lo c rvc bytes e none = bare_row c (with_constant operation) rd rs1 (Applied Lo e) none
-row_none (operations.Upper operation rd) Lo c rvc bytes e none = refl
-row_none (operations.LoadSymbol operation rd) Lo c rvc bytes e none = refl
-row_none (operations.Branch operation rs1 rs2) Lo c rvc bytes e none = refl
-row_none (operations.ZeroBranch operation rs) Lo c rvc bytes e none = refl
-row_none (operations.SwappedBranch operation a b) Lo c rvc bytes e none = refl
-row_none (operations.Jal rd) Lo c rvc bytes e none = refl
-row_none operations.JalLinked Lo c rvc bytes e none = refl
-row_none operations.J Lo c rvc bytes e none = refl
-row_none (operations.La rd) Lo c rvc bytes e none = refl
-row_none (operations.Call rd) Lo c rvc bytes e none = refl
-row_none operations.CallLinked Lo c rvc bytes e none = refl
-row_none operations.Tail Lo c rvc bytes e none = refl
-row_none (operations.Jump rt) Lo c rvc bytes e none = refl
-row_none _ Lo c rvc bytes e none = absurd (cc)
-row_none (operations.Registers operation rd rs1) PcrelLo c rvc bytes e none = bare_row c (with_constant operation) rd rs1 (Applied PcrelLo e) none
-row_none (operations.Upper operation rd) PcrelLo c rvc bytes e none = refl
-row_none (operations.LoadSymbol operation rd) PcrelLo c rvc bytes e none = refl
-row_none (operations.Branch operation rs1 rs2) PcrelLo c rvc bytes e none = refl
-row_none (operations.ZeroBranch operation rs) PcrelLo c rvc bytes e none = refl
-row_none (operations.SwappedBranch operation a b) PcrelLo c rvc bytes e none = refl
-row_none (operations.Jal rd) PcrelLo c rvc bytes e none = refl
-row_none operations.JalLinked PcrelLo c rvc bytes e none = refl
-row_none operations.J PcrelLo c rvc bytes e none = refl
-row_none (operations.La rd) PcrelLo c rvc bytes e none = refl
-row_none (operations.Call rd) PcrelLo c rvc bytes e none = refl
-row_none operations.CallLinked PcrelLo c rvc bytes e none = refl
-row_none operations.Tail PcrelLo c rvc bytes e none = refl
-row_none (operations.Jump rt) PcrelLo c rvc bytes e none = refl
-row_none _ PcrelLo c rvc bytes e none = absurd (cc)

@@ -3,8 +3,7 @@ pub mod OpenRowsLemmas
 pub mod FreeRowsLemmas
 pub mod OneInstructionLemmas
 pub mod OpenFieldsLemmas
-pub mod TakenLemmas
 pub mod EncodingLemmas
 pub mod StatementKindsLemmas
 pub mod RangesLemmas
-pub mod UnplacedLemmas
+pub mod WorthsLemmas

@@ -34,9 +34,9 @@ use Rattle.rv_pseudo_laws.specs.Li.{addi}
 use Rattle.rv_pseudo_laws.specs.Filled.{are_closed, code_bytes}
 use Rattle.rv_isa_laws.specs.Halves.{hi, lo}
 use Rattle.rv_isa_laws.specs.Arithmetic.{wrapped}
-use Rattle.rv_pseudo.specs.Faults.{is_upper, is_low, is_immediate, takes_part, is_bad_scratch, operand_fault, takes_target}
+use Rattle.rv_pseudo.specs.Faults.{is_upper, is_bad_scratch, takes_target}
 use Rattle.rv_pseudo.specs.Templates.{all_templates, asked_bytes, statement_with}
-use Rattle.rv_pseudo.proofs.InRangeLemmas.{unless_good}
+use Rattle.rv_pseudo.proofs.InRangeLemmas.{is_immediate, is_low, takes_part, is_taken}
 use Rattle.rv_source_laws.specs.Lines as lines
 use Rattle.rv_source_laws.specs.Sizes.{is_short_register, is_short_branch, branch_forms, jump_forms}
 use Rattle.rv_instruction.specs.Code.{parts_in, is_short, OffersAny, near_forms_of}
@@ -423,6 +423,6 @@ target_row operations.Tail rvc b e good t = made_of _ e _ _ (λ n. far n 0 6) (�
 target_row (operations.Jump rt) rvc b e good t = made_of _ e _ _ (λ n. far n 0 rt) (λ c rvc size. through_is rt _ good) (far_open 0 rt)
 target_row _ rvc b e good t = absurd (cc)
 
-pub open_row : (o : Operation) (f : Option Function) (rvc : Bool) (b : ℕ) (e : Expression) → is_bad_scratch o ≡ false → operand_fault o f None ≡ None → IsRowOf o f rvc b e
-open_row o None rvc b e good taken = target_row o rvc b e good (unless_good _ _ taken)
-open_row o (Some f) rvc b e good taken = part_row o f rvc b e (unless_good _ _ taken)
+pub open_row : (o : Operation) (f : Option Function) (rvc : Bool) (b : ℕ) (e : Expression) → (takes_target o ≡ true → is_bad_scratch o ≡ false) → is_taken o f None ≡ true → IsRowOf o f rvc b e
+open_row o None rvc b e good taken = target_row o rvc b e (good taken) taken
+open_row o (Some f) rvc b e good taken = part_row o f rvc b e taken

@@ -1,6 +1,6 @@
 -- The code of a statement, and the faults of one.
 
-use Rattle.std.specs.Prelude.{◌≡◌, ◌⊎◌, ⊤, ℕ, ℤ, Bool, true, false, ◌||◌, ◌==◌, List, [], ◌∷◌, ◌++◌, length, map, sum_by, Option, Some, None, is_some, not, Result, Ok, Err, if◌then◌else◌}
+use Rattle.std.specs.Prelude.{◌≡◌, ◌⊎◌, ⊤, ℕ, Bool, true, false, ◌&&◌, List, [], ◌∷◌, ◌++◌, length, map, sum_by, Option, Some, None, is_some, not, Result, Ok, Err, if◌then◌else◌}
 use Rattle.std.specs.List.{AllByRecursion, list_all}
 use Rattle.arrayvec.specs.ArrayVec.{ArrayVec}
 use Rattle.rv_isa.specs.declared.instruction.Inst.{Inst}
@@ -10,33 +10,29 @@ use Rattle.rv_isa.specs.Kinds.{width_of}
 use Rattle.rv_isa.specs.Ranges.{IsValid}
 use Rattle.rv_isa_laws.specs.Arithmetic.{signed}
 use Rattle.rv_isa_laws.specs.Bytes.{little_endian}
-use Rattle.rv_text_laws.specs.Codes.{scratch_register, unsupported_here}
+use Rattle.rv_text_laws.specs.Codes.{lowest}
 use Rattle.rv_text_laws.specs.Expression.{Primary}
 use Rattle.rv_text_laws.specs.Values as values
-use Rattle.rv_lexer.specs.declared.fault.SourceCode.{SourceCode}
 use Rattle.rv_lexer.specs.declared.fault.SourceFault.{SourceFault}
 use Rattle.rv_lexer.specs.declared.fault.SourceFault.TheVariants.{At, OutOfMemory}
 use Rattle.rv_lexer.specs.Fault.{number_of}
 use Rattle.rv_statement.specs.declared.mnemonic.Mnemonic.{Mnemonic}
-use Rattle.rv_statement.specs.declared.mnemonic.Mnemonic.TheVariants as mnemonics
 use Rattle.rv_statement.specs.declared.pseudo.Function.{Function}
-use Rattle.rv_statement.specs.declared.pseudo.Function.TheVariants.{Hi, Lo, PcrelHi, PcrelLo}
+use Rattle.rv_statement.specs.declared.pseudo.Function.TheVariants.{PcrelLo}
 use Rattle.rv_statement.specs.declared.statement.Operation.{Operation}
-use Rattle.rv_statement.specs.declared.statement.Operation.TheVariants as operations
 use Rattle.rv_statement.specs.Statement.{StatementKind, Instruction, Operand, Expression, Statement}
-use Rattle.rv_unit_laws.specs.Faults.{faulty_if, lowest, constant_faults}
+use Rattle.rv_unit_laws.specs.Faults.{constant_faults}
 use Rattle.rv_layout_laws.specs.declared.item.Forms.{Forms}
 use Rattle.rv_layout_laws.specs.Branches.{Offers}
 use Rattle.rv_compress.specs.Encoded.{HasShort}
 use Rattle.rv_pseudo_laws.specs.Code.{Part, Closed, Open, Joined, Constants, code}
 use Rattle.rv_pseudo_laws.specs.Filled.{are_closed, code_bytes}
+use Rattle.rv_pseudo_laws.specs.InstructionFaults.{Worth}
 use Rattle.rv_pseudo_laws.specs.Valid.{AreOperandsOf, IsOpen}
-use Rattle.rv_pseudo.specs.declared.template.Form.{Form}
 use Rattle.rv_pseudo.specs.declared.template.Template.{Template}
-use Rattle.rv_pseudo.specs.Faults.{takes_target, fault}
-use Rattle.rv_pseudo.specs.Templates.{plain, templates, statement_with, asked_bytes}
+use Rattle.rv_pseudo.specs.Templates.{plain, asked_bytes, IsOne}
 use Rattle.rv_assemble_laws.specs.Coded.{IsCode, constants, joined}
-use Rattle.rv_assemble_laws.specs.InstructionFaults.{instruction_faults, number_faults, target_faults, upper_faults, low_faults, distance_faults}
+use Rattle.rv_assemble_laws.specs.InstructionFaults.{instruction_faults, worth}
 use Rattle.rv_source_laws.specs.Sizes.{near_forms}
 use Rattle.rv_instruction.specs.declared.encoded.Encoded.{Encoded}
 use Rattle.rv_instruction.specs.declared.encoded.Encoded.TheVariants.{Parcel, Word, Pair}
@@ -215,140 +211,22 @@ IsExpanded rvc bytes v l s (Err (At code at)) =
     (lowest (instruction_faults v l s.kind) ≡ Some (number_of code)) × (at ≡ s.line)
 IsExpanded rvc bytes v l s (Err OutOfMemory) = ⊥
 
--- ---- operations
-
-abbrev pub mnemonic_of : Operation → Mnemonic
-mnemonic_of (operations.Registers operation rd rs1) = mnemonics.Registers operation
-mnemonic_of (operations.Immediate operation rd rs1) = mnemonics.Immediate operation
-mnemonic_of (operations.Shift operation rd rs1) = mnemonics.Shift operation
-mnemonic_of (operations.Upper operation rd) = mnemonics.Upper operation
-mnemonic_of (operations.Load operation rd rs1) = mnemonics.Load operation
-mnemonic_of (operations.Store operation rs2 rs1) = mnemonics.Store operation
-mnemonic_of (operations.Jalr rd rs1) = mnemonics.Jalr
-mnemonic_of (operations.JalrThen rd rs1) = mnemonics.Jalr
-mnemonic_of (operations.JalrLinked rs1) = mnemonics.Jalr
-mnemonic_of (operations.Branch operation rs1 rs2) = mnemonics.Branch operation
-mnemonic_of (operations.Jal rd) = mnemonics.Jal
-mnemonic_of operations.JalLinked = mnemonics.Jal
-mnemonic_of (operations.LoadSymbol operation rd) = mnemonics.Load operation
-mnemonic_of (operations.StoreSymbol operation rs2 rt) = mnemonics.Store operation
-mnemonic_of (operations.ZeroBranch operation rs) = mnemonics.ZeroBranch operation
-mnemonic_of (operations.SwappedBranch operation rs1 rs2) = mnemonics.SwappedBranch operation
-mnemonic_of operations.J = mnemonics.J
-mnemonic_of (operations.Jr rs) = mnemonics.Jr
-mnemonic_of (operations.La rd) = mnemonics.La
-mnemonic_of (operations.Li rd) = mnemonics.Li
-mnemonic_of (operations.Call rd) = mnemonics.Call
-mnemonic_of operations.CallLinked = mnemonics.Call
-mnemonic_of operations.Tail = mnemonics.Tail
-mnemonic_of (operations.Jump rt) = mnemonics.Jump
-
--- with a part of a value a store to a symbol is one at a number from a register
-abbrev pub with_part : Operation → Operation
-with_part (operations.StoreSymbol operation rs2 rt) = operations.Store operation rs2 rt
-with_part operation = operation
-
--- the operation by which an operand is known
-abbrev pub known_as : Operation → Option Function → Operation
-known_as operation None = operation
-known_as operation (Some function) = with_part operation
-
--- what an operand of this value puts into a field: a constant its number, an address 0, under a
--- relocation; nothing else may stand there
-abbrev pub number_by : values.Value → Option (Option ℤ)
-number_by (values.Constant n) = Some (Some (signed 64 n))
-number_by (values.Symbolic symbol at plus) = Some None
-number_by _ = None
-
--- whether an operand is of a sort that its field takes, and in its range
-abbrev pub is_number_taken : Operation → Option Function → Option (Option ℤ) → Bool
-is_number_taken operation function None = false
-is_number_taken operation function (Some number) =
-    not (is_some (fault (known_as operation function) function number))
-
-abbrev pub is_taken : Operation → Option Function → values.Value → Bool
-is_taken operation function v = is_number_taken operation function (number_by v)
-
-abbrev pub form_by : Option ℤ → Bool → ℕ → Form
-form_by number rvc bytes = record { value = number; bytes = bytes; rvc = rvc }
-
--- the templates of an operation with a number or an address, exactly where that has no fault
-abbrev pub IsOfNumber :
-    Operation → Option Function → Option ℤ → Bool → ℕ → Option (ArrayVec Template) → Type 0
-IsOfNumber operation function number rvc bytes None =
-    is_some (fault operation function number) ≡ true
-IsOfNumber operation function number rvc bytes (Some found) =
-    (fault operation function number ≡ None)
-    × ((e : Expression) →
-    templates (form_by number rvc bytes) (statement_with operation function e)
-    ≡ Some found.items)
-
--- the same of an operand with this value, exactly where it is taken
-abbrev pub IsTaken :
-    Operation → Option Function → values.Value → Bool → ℕ → Option (ArrayVec Template) → Type 0
-IsTaken operation function v rvc bytes None = is_taken operation function v ≡ false
-IsTaken operation function v rvc bytes (Some found) =
-    (number : Option ℤ)
-    × (number_by v ≡ Some number)
-    × IsOfNumber (known_as operation function) function number rvc bytes (Some found)
-
 -- the operands of a statement of code are in their ranges
 abbrev pub AreInRange : Constants → StatementKind → Type 0
 AreInRange v (Instruction mnemonic operands) = AreOperandsOf v mnemonic operands
 AreInRange v _ = ⊤
 
--- ---- the faults of one instruction
+-- ---- what values are worth
 
--- those of a register on the way to a symbol
-abbrev pub scratch_of : Operation → List ℕ
-scratch_of (operations.LoadSymbol operation rd) = faulty_if (rd == 0) scratch_register
-scratch_of (operations.StoreSymbol operation rs2 rt) =
-    faulty_if ((rt == 0) || (rt == rs2)) scratch_register
-scratch_of (operations.Call rd) = faulty_if (rd == 0) scratch_register
-scratch_of (operations.Jump rt) = faulty_if (rt == 0) scratch_register
-scratch_of _ = []
+-- only the low part of a distance asks whether a symbol is a label
+abbrev pub asks_label : Option Function → Bool
+asks_label (Some PcrelLo) = true
+asks_label _ = false
 
--- those of an operation with an expression of this value
-abbrev pub value_faults : Operation → values.Value → List ℕ
-value_faults operation v =
-    if takes_target operation
-    then scratch_of operation ++ target_faults v
-    else number_faults (mnemonic_of operation) v
+abbrev pub worth_for : Option Function → (Primary → Bool) → values.Value → Worth
+worth_for function l v = worth (λ q. asks_label function && l q) v
 
--- those of an operation with a function of a value, where l says which symbols are labels of the
--- file
-abbrev pub function_faults : (Primary → Bool) → Operation → Function → values.Value → List ℕ
-function_faults l operation Hi v = upper_faults v
-function_faults l operation Lo v = low_faults (mnemonic_of operation) v
-function_faults l operation PcrelHi v = target_faults v
-function_faults l operation PcrelLo v = distance_faults l (mnemonic_of operation) v
-
--- those of an operand
-abbrev pub faults_of : (Primary → Bool) → Operation → Option Function → values.Value → List ℕ
-faults_of l operation None v = value_faults operation v
-faults_of l operation (Some function) v = function_faults l operation function v
-
--- the templates of an operation with an operand of this value, or the lowest code of its faults; what
--- has no fault and is not taken has no row
-abbrev pub IsBuilt :
-    (Primary → Bool) → Operation → Option Function → values.Value → Bool → ℕ → ℕ
-    → Result (ArrayVec Template) SourceFault → Type 0
-IsBuilt l operation function v rvc bytes line (Ok found) =
-    (faults_of l operation function v ≡ [])
-    × IsTaken operation function v rvc bytes (Some found)
-IsBuilt l operation function v rvc bytes line (Err (At code at)) =
-    ((lowest (faults_of l operation function v) ≡ Some (number_of code))
-    ⊎ ((faults_of l operation function v ≡ []) × (is_taken operation function v ≡ false)
-    × (number_of code ≡ unsupported_here)))
-    × (at ≡ line)
-IsBuilt l operation function v rvc bytes line (Err OutOfMemory) = ⊥
-
--- templates, or that there are none at a line
-abbrev pub IsElseUnplaced :
-    Option (ArrayVec Template) → ℕ → Result (ArrayVec Template) SourceFault → Type 0
-IsElseUnplaced (Some found) line result = result ≡ Ok found
-IsElseUnplaced None line result =
-    (code : SourceCode) × (number_of code ≡ unsupported_here) × (result ≡ Err (At code line))
+-- ---- constants
 
 -- the constant that a value is, or its fault at a line
 abbrev pub IsNumber : values.Value → ℕ → Result ℕ SourceFault → Type 0
@@ -357,6 +235,11 @@ IsNumber v line (Err (At code at)) = (constant_faults v ≡ number_of code ∷ [
 IsNumber v line (Err OutOfMemory) = ⊥
 
 -- ---- one instruction
+
+-- an operation with this value, a constant, is this one instruction
+abbrev pub IsOneOf : Operation → values.Value → Inst → Type 0
+IsOneOf operation v i =
+    (n : ℕ) × ((v ≡ values.Constant n) × IsOne operation (signed 64 n) i)
 
 abbrev pub alone : Inst → ArrayVec Template
 alone i = record { items = plain i ∷ [] }

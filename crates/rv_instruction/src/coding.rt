@@ -3,26 +3,25 @@
 //! There are two ways to ask: `code` gives a list of parts, and `one_code` the one instruction that most statements
 //! are. The second makes no list, so that a large source is assembled faster.
 
-ghost use Rattle.std.specs.Prelude.{◌≡◌, ◌≤◌, ℕ, Bool, None, Ok, length, IfOk, IfSome};
+ghost use Rattle.std.specs.Prelude.{◌≡◌, ◌≤◌, ℕ, Bool, Ok, length, IfOk, IfSome};
 ghost use Rattle.rv_isa.specs.Ranges.{IsValid};
-ghost use Rattle.rv_text_laws.specs.Expression.{Primary};
 ghost use Rattle.rv_text_laws.specs.Values as values;
 ghost use Rattle.rv_text.specs.Eval.{IsOutcome};
 ghost use Rattle.rv_text.specs.Expr.{tree_of_expr};
-ghost use Rattle.rv_statement.specs.Statement.{Expression};
+ghost use Rattle.rv_statement.specs.Statement.{Expression, Statement as Said};
 ghost use Rattle.rv_statement.specs.View.{statement_of};
 ghost use Rattle.rv_unit.specs.Unit.{IsFilled, IsScope};
 ghost use Rattle.rv_pseudo.specs.Templates.{statement_with};
 ghost use Rattle.rv_instruction.specs.Code as laws;
-ghost use Rattle.rv_instruction.specs.Code.{encoded_instructions, Codes, AreCodable, IsBuilt, IsExpanded, IsNumber, MayHave};
+ghost use Rattle.rv_instruction.specs.Code.{encoded_instructions, Codes, AreCodable, IsExpanded, IsNumber, IsOneOf, MayHave};
 ghost use Rattle.rv_instruction.specs.Scoped.{values_at, labels_at};
 
 use crate::encoded::{Code, Encoded, encode_all, in_least_form};
-use crate::known::{plain, plain_one, taken, taken_one};
-use crate::operand::{Outcome, operand_fault, value_fault};
+use crate::known::{operation_in_range, plain, plain_one, with_one};
+use crate::worth::{Outcome, worth};
 use arrayvec::ArrayVec;
 use rv_isa::Inst;
-use rv_pseudo::{Templates, takes_target};
+use rv_pseudo::{Form, Templates, takes_target, with_operand};
 use rv_statement::{Function, Operation, Statement, StatementKind};
 use rv_text::{Expr, SourceCode, SourceFault, Value};
 use rv_unit::{Scope, SectionOffset};
@@ -40,20 +39,8 @@ pub fn constant(value: Result<Value<'_>, SourceFault>, line: u32) -> Result<u64,
     }
 }
 
-/// What no instruction can be made of.
-fn else_unplaced(found: Option<Templates>, line: u32) -> Result<Templates, SourceFault>
-    ensures { laws.IsElseUnplaced found line result }
-{
-    match found {
-        Some(templates) => Ok(templates),
-        None => Err(SourceFault::At {
-            code: SourceCode::UnsupportedHere,
-            line,
-        }),
-    }
-}
-
-/// The instructions of an operation with an operand of this value at a line, or its fault.
+/// The instructions of an operation with an operand of this value at a line, or the lowest code of
+/// its faults: of whatever statement says so.
 fn with_value<'a>(
     scope: &Scope<'_, 'a>,
     operation: Operation,
@@ -66,16 +53,21 @@ fn with_value<'a>(
     ensures codable { (e : Expression)
         → MayHave compressed (statement_with operation function e) bytes
         → IfOk result (λ t. AreCodable t.items) }
-    ensures built { (index : ℕ) (v : values.Value) → IsFilled (scope.now).unit.now
-        → IsScope scope.now index → IsOutcome value.now line v
-        → IsBuilt (labels_at scope.now index) operation function v compressed bytes line result }
+    ensures built { (index : ℕ) (s : Said) (v : Expression → values.Value) (x : Expression)
+        → IsFilled (scope.now).unit.now → IsScope scope.now index
+        → IsOutcome value.now line (v x) → s.kind ≡ statement_with operation function x
+        → s.line ≡ line → IsExpanded compressed bytes v (labels_at scope.now index) s result }
 {
-    match operand_fault(scope, operation, function, value) {
-        Some(code) => Err(SourceFault::At { code, line }),
-        None => {
-            let found = taken(&operation, function, value, compressed, bytes);
-            else_unplaced(found, line)
-        }
+    operation_in_range(&operation);
+    let told = worth(scope, function, value);
+    let form = Form {
+        worth: told,
+        bytes,
+        rvc: compressed,
+    };
+    match with_operand(operation, function, form) {
+        Ok(templates) => Ok(templates),
+        Err(code) => Err(SourceFault::At { code, line }),
     }
 }
 
@@ -138,20 +130,6 @@ pub fn code<'a>(
 
 // ---- one instruction
 
-/// The one instruction of an operation with an expression of this value; none where it is faulty, or
-/// may have several.
-fn with_one(operation: &Operation, value: &Outcome<'_>) -> Option<Inst>
-    ensures valid { IfSome result (λ i. IsValid i) }
-    ensures built { IfSome result (λ i. (l : Primary → Bool) (v : values.Value) (line : ℕ)
-        (rvc : Bool) (bytes : ℕ) → IsOutcome value.now line v
-        → IsBuilt l operation.now None v rvc bytes line (Ok (laws.alone i))) }
-{
-    match value_fault(*operation, value) {
-        Some(_) => None,
-        None => taken_one(operation, value),
-    }
-}
-
 /// The one instruction of an operation with an expression in the statement that is next, at a line;
 /// none where it is faulty, has a target, or may have several.
 fn operand_one<'a>(
@@ -162,11 +140,9 @@ fn operand_one<'a>(
     line: u32,
 ) -> Option<Inst>
     ensures valid { IfSome result (λ i. IsValid i) }
-    ensures built { IfSome result (λ i. (index : ℕ) → IsFilled (scope.now).unit.now
-        → IsScope scope.now index → (l : Primary → Bool) (rvc : Bool) (bytes : ℕ)
-        → IsBuilt l operation.now None
-        (values_at scope.now index place (tree_of_expr expression.now)) rvc bytes line
-        (Ok (laws.alone i))) }
+    ensures one { IfSome result (λ i. (index : ℕ) → IsFilled (scope.now).unit.now
+        → IsScope scope.now index
+        → IsOneOf operation.now (values_at scope.now index place (tree_of_expr expression.now)) i) }
 {
     if takes_target(operation) {
         return None;

@@ -27,7 +27,7 @@ mod encoded;
 mod known;
 mod near;
 mod opened;
-mod operand;
+mod worth;
 
 pub use coding::{code, constant, one_code};
 pub use encoded::{Code, Coded, Encoded};

@@ -19,7 +19,7 @@ ghost use Rattle.rv_instruction.specs.Code.{near_forms_of};
 ghost use Rattle.rv_instruction.specs.Near as laws;
 ghost use Rattle.rv_instruction.specs.Scoped.{values_at, AtNext};
 
-use crate::operand::Outcome;
+use crate::worth::Outcome;
 use rv_isa::{BranchOperation, Reg};
 use rv_layout_laws::{Forms, Item};
 use rv_statement::{Function, Operation, Statement, StatementKind, ZeroBranchOperation};

@@ -18,7 +18,7 @@ ghost use Rattle.rv_instruction.specs.Opened as laws;
 ghost use Rattle.rv_instruction.specs.Scoped.{values_at, AtNext};
 
 use crate::near::addend;
-use crate::operand::Outcome;
+use crate::worth::Outcome;
 use rv_isa::Kind;
 use rv_pseudo::takes_target;
 use rv_statement::{Function, Operation, Statement, StatementKind};

@@ -16,7 +16,7 @@ use Rattle.rv_statement.specs.declared.mnemonic.Mnemonic.{Mnemonic}
 use Rattle.rv_statement.specs.Statement.{StatementKind, Label, Numbered, Instruction, Directs, Statement, Expression, Operand}
 use Rattle.rv_pseudo_laws.specs.Code.{Part, Closed, Open, Joined, code}
 use Rattle.rv_pseudo_laws.specs.Filled.{are_closed}
-use Rattle.rv_unit_laws.specs.Faults.{lowest}
+use Rattle.rv_text_laws.specs.Codes.{lowest}
 use Rattle.rv_source_laws.specs.Sizes.{near_forms}
 use Rattle.rv_assemble_laws.specs.Coded.{IsCodedPart, AreCodedParts, constants, joined}
 use Rattle.rv_assemble_laws.specs.InstructionFaults.{instruction_faults}

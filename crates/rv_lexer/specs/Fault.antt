@@ -1,7 +1,8 @@
 -- The numbers and the names of the faults.
 
-use Rattle.std.specs.Prelude.{ℕ, List, codes}
+use Rattle.std.specs.Prelude.{◌≡◌, ℕ, List, Option, codes, option_map}
 use Rattle.rv_text_laws.specs.Codes as codes_of
+use Rattle.rv_text_laws.specs.Codes.{lowest}
 use Rattle.rv_lexer.specs.declared.fault.SourceCode.{SourceCode}
 use Rattle.rv_lexer.specs.declared.fault.SourceCode.TheVariants.{BadByte, BadToken, NestingTooDeep, DivisionByZero, ShiftTooLarge, UnknownMnemonic, BadOperands, UnknownDirective, UnsupportedHere, ScratchRegister, DuplicateLabel, UndefinedLocal, NotConstant, ImmediateRange, WrongSection, OptionStack, Limit}
 
@@ -24,6 +25,10 @@ number_of ImmediateRange = codes_of.immediate_range
 number_of WrongSection = codes_of.wrong_section
 number_of OptionStack = codes_of.option_stack
 number_of Limit = codes_of.limit
+
+-- the lowest of codes that was found
+abbrev pub IsLowest : Option SourceCode → List ℕ → Type 0
+IsLowest found cs = option_map number_of found ≡ lowest cs
 
 -- the name that messages show after the number
 abbrev pub name_of : SourceCode → List ℕ

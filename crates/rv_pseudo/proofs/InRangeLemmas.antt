@@ -1,9 +1,9 @@
--- What has no fault has a number in the range of its field, and is one of the operands that the field takes.
+-- What has no fault and a row has a number in the range of its field, and is one of the operands that the field takes.
 
-use Rattle.std.proofs.Common.{◌≡◌, Bool, true, false, Option, Some, None, refl, ℤ, pos}
+use Rattle.std.proofs.Common.{◌≡◌, ℕ, Bool, true, false, List, [], ◌∷◌, ◌++◌, Option, Some, None, refl, sym, ap, ◌∙◌, ℤ, pos}
 use Rattle.std.specs.Prelude.{if◌then◌else◌, not, ◌&&◌}
-use Rattle.rv_lexer.specs.declared.fault.SourceCode.{SourceCode}
-use Rattle.rv_lexer.specs.declared.fault.SourceCode.TheVariants.{ScratchRegister}
+use Rattle.rv_isa_laws.specs.Halves.{hi, lo}
+use Rattle.rv_text_laws.specs.Codes.{scratch_register, not_constant, immediate_range, faulty_if}
 use Rattle.rv_statement.specs.declared.mnemonic.Mnemonic.{Mnemonic}
 use Rattle.rv_statement.specs.declared.mnemonic.Mnemonic.TheVariants as mnemonics
 use Rattle.rv_statement.specs.declared.pseudo.Function.{Function}
@@ -11,12 +11,45 @@ use Rattle.rv_statement.specs.declared.pseudo.Function.TheVariants.{Hi, Lo, Pcre
 use Rattle.rv_statement.specs.declared.statement.Operation.{Operation}
 use Rattle.rv_statement.specs.declared.statement.Operation.TheVariants as operations
 use Rattle.rv_parse_laws.specs.Syntax.{with_constant}
-use Rattle.rv_pseudo_laws.specs.Valid.{form_takes}
-use Rattle.rv_pseudo.specs.Faults.{takes, is_upper, is_immediate, is_low, takes_part, takes_target, unless, number, operand_fault, is_bad_scratch, fault}
+use Rattle.rv_pseudo_laws.specs.Valid.{form_takes, is_upper_20, takes}
+use Rattle.rv_pseudo_laws.specs.InstructionFaults.{Worth, Number, Address, Wrong, is_signed_12, takes_address, number_faults, target_faults}
+use Rattle.rv_pseudo.specs.Faults.{constant_in, number, mnemonic_of, with_part, known_as, takes_target, is_upper, is_constant_form, is_lower, is_placed, is_bad_scratch, scratch_of, faults_of}
 
-pub unless_good : (b : Bool) (code : SourceCode) → unless b code ≡ None → b ≡ true
-unless_good true code e = refl
-unless_good false code e = absurd (cc)
+-- ---- what a field takes
+
+abbrev pub is_immediate : Option Mnemonic → Bool
+is_immediate (Some (mnemonics.Immediate operation)) = true
+is_immediate _ = false
+
+-- whether it takes the low part of an address
+abbrev pub is_low : Operation → Bool
+is_low (operations.Registers operation rd rs1) = is_immediate (with_constant operation)
+is_low (operations.Immediate operation rd rs1) = true
+is_low (operations.Load operation rd rs1) = true
+is_low (operations.Store operation rs2 rs1) = true
+is_low (operations.Jalr rd rs1) = true
+is_low (operations.JalrThen rd rs1) = true
+is_low (operations.JalrLinked rs1) = true
+is_low (operations.Jr rs) = true
+is_low _ = false
+
+abbrev pub takes_part : Function → Operation → Bool
+takes_part Hi operation = is_upper operation
+takes_part PcrelHi operation = is_upper operation
+takes_part Lo operation = is_low operation
+takes_part PcrelLo operation = is_low operation
+
+-- whether it takes an operand with such a constant, or with an address
+abbrev pub is_taken : Operation → Option Function → Option ℤ → Bool
+is_taken operation None (Some k) = not (takes_target operation) && takes (mnemonic_of operation) k
+is_taken operation None None = takes_target operation
+is_taken operation (Some Hi) (Some k) = is_upper operation && takes (mnemonic_of operation) (hi k)
+is_taken operation (Some Lo) (Some k) = (not (is_upper operation) && not (takes_target operation)) && takes (mnemonic_of operation) (lo k)
+is_taken operation (Some PcrelHi) (Some k) = false
+is_taken operation (Some PcrelLo) (Some k) = false
+is_taken operation (Some function) None = takes_part function operation
+
+-- ---- tests
 
 pub and_left : (a b : Bool) → (a && b) ≡ true → a ≡ true
 and_left true b e = refl
@@ -26,19 +59,30 @@ pub and_right : (a b : Bool) → (a && b) ≡ true → b ≡ true
 and_right true b e = e
 and_right false b e = absurd (cc)
 
-operand_only : (b : Bool) (found : Option SourceCode) → (if b then Some ScratchRegister else found) ≡ None → found ≡ None
-operand_only true found e = absurd (cc)
-operand_only false found e = e
+no_not : (b : Bool) → not b ≡ true → b ≡ false
+no_not true e = absurd (cc)
+no_not false e = refl
+
+away_and : (t b : Bool) → t ≡ false → b ≡ true → (not t && b) ≡ true
+away_and true b e f = absurd (cc)
+away_and false b e f = f
+
+low_and : (u t b : Bool) → u ≡ false → t ≡ false → b ≡ true → ((not u && not t) && b) ≡ true
+low_and true t b e f g = absurd (cc)
+low_and false true b e f g = absurd (cc)
+low_and false false b e f g = g
+
+-- ---- numbers in range
 
 form_low : (m : Option Mnemonic) → is_immediate m ≡ true → form_takes m (pos 0) ≡ true
 form_low (Some (mnemonics.Immediate operation)) e = refl
 form_low _ e = absurd (cc)
 
-upper_takes : (operation : Operation) → is_upper operation ≡ true → takes operation (pos 0) ≡ true
+upper_takes : (operation : Operation) → is_upper operation ≡ true → takes (mnemonic_of operation) (pos 0) ≡ true
 upper_takes (operations.Upper operation rd) e = refl
 upper_takes _ e = absurd (cc)
 
-low_takes : (operation : Operation) → is_low operation ≡ true → takes operation (pos 0) ≡ true
+low_takes : (operation : Operation) → is_low operation ≡ true → takes (mnemonic_of operation) (pos 0) ≡ true
 low_takes (operations.Registers operation rd rs1) e = form_low (with_constant operation) e
 low_takes (operations.Immediate operation rd rs1) e = refl
 low_takes (operations.Load operation rd rs1) e = refl
@@ -49,41 +93,24 @@ low_takes (operations.JalrLinked rs1) e = refl
 low_takes (operations.Jr rs) e = refl
 low_takes _ e = absurd (cc)
 
-part_takes : (function : Function) (operation : Operation) → takes_part function operation ≡ true → takes operation (pos 0) ≡ true
+part_takes : (function : Function) (operation : Operation) → takes_part function operation ≡ true → takes (mnemonic_of operation) (pos 0) ≡ true
 part_takes Hi operation e = upper_takes operation e
 part_takes PcrelHi operation e = upper_takes operation e
 part_takes Lo operation e = low_takes operation e
 part_takes PcrelLo operation e = low_takes operation e
 
-pub number_takes : (operation : Operation) (function : Option Function) (value : Option ℤ) → operand_fault operation function value ≡ None
-    → takes_target operation ≡ false → takes operation (number function value) ≡ true
-number_takes operation None (Some v) e away = unless_good _ _ e
-number_takes operation None None e away = absurd (let target = unless_good (takes_target operation) _ e in cc)
-number_takes operation (Some Hi) (Some v) e away = and_right (is_upper operation) _ (unless_good _ _ e)
-number_takes operation (Some Lo) (Some v) e away = and_right (not (is_upper operation)) _ (unless_good _ _ e)
+pub number_takes : (operation : Operation) (function : Option Function) (value : Option ℤ) → is_taken operation function value ≡ true
+    → takes_target operation ≡ false → takes (mnemonic_of operation) (number function value) ≡ true
+number_takes operation None (Some v) e away = and_right (not (takes_target operation)) _ e
+number_takes operation None None e away = absurd (let target = sym away ∙ e in cc)
+number_takes operation (Some Hi) (Some v) e away = and_right (is_upper operation) _ e
+number_takes operation (Some Lo) (Some v) e away = and_right (not (is_upper operation) && not (takes_target operation)) _ e
 number_takes operation (Some PcrelHi) (Some v) e away = absurd (cc)
 number_takes operation (Some PcrelLo) (Some v) e away = absurd (cc)
-number_takes operation (Some Hi) None e away = part_takes Hi operation (unless_good _ _ e)
-number_takes operation (Some PcrelHi) None e away = part_takes PcrelHi operation (unless_good _ _ e)
-number_takes operation (Some Lo) None e away = part_takes Lo operation (unless_good _ _ e)
-number_takes operation (Some PcrelLo) None e away = part_takes PcrelLo operation (unless_good _ _ e)
-
-pub takes_number : (operation : Operation) (function : Option Function) (value : Option ℤ) → fault operation function value ≡ None
-    → takes_target operation ≡ false → takes operation (number function value) ≡ true
-takes_number operation function value e away =
-    number_takes operation function value (operand_only (is_bad_scratch operation) (operand_fault operation function value) e) away
-
-pub no_operand_fault : (operation : Operation) (function : Option Function) (value : Option ℤ) → fault operation function value ≡ None
-    → operand_fault operation function value ≡ None
-no_operand_fault operation function value e = operand_only (is_bad_scratch operation) (operand_fault operation function value) e
-
-scratch_only : (b : Bool) (found : Option SourceCode) → (if b then Some ScratchRegister else found) ≡ None → b ≡ false
-scratch_only true found e = absurd (cc)
-scratch_only false found e = refl
-
-pub good_scratch : (operation : Operation) (function : Option Function) (value : Option ℤ) → fault operation function value ≡ None
-    → is_bad_scratch operation ≡ false
-good_scratch operation function value e = scratch_only (is_bad_scratch operation) (operand_fault operation function value) e
+number_takes operation (Some Hi) None e away = part_takes Hi operation e
+number_takes operation (Some PcrelHi) None e away = part_takes PcrelHi operation e
+number_takes operation (Some Lo) None e away = part_takes Lo operation e
+number_takes operation (Some PcrelLo) None e away = part_takes PcrelLo operation e
 
 -- ---- a target stands by itself
 
@@ -102,36 +129,129 @@ low_away (operations.JalrLinked rs1) e = refl
 low_away (operations.Jr rs) e = refl
 low_away _ e = absurd (cc)
 
-pub takes_away : (operation : Operation) (k : ℤ) → takes operation k ≡ true → takes_target operation ≡ false
-takes_away (operations.Registers operation rd rs1) k e = refl
-takes_away (operations.Immediate operation rd rs1) k e = refl
-takes_away (operations.Shift operation rd rs1) k e = refl
-takes_away (operations.Upper operation rd) k e = refl
-takes_away (operations.Load operation rd rs1) k e = refl
-takes_away (operations.Store operation rs2 rs1) k e = refl
-takes_away (operations.Jalr rd rs1) k e = refl
-takes_away (operations.JalrThen rd rs1) k e = refl
-takes_away (operations.JalrLinked rs1) k e = refl
-takes_away (operations.Jr rs) k e = refl
-takes_away (operations.Li rd) k e = refl
-takes_away _ k e = absurd (cc)
-
 part_away : (function : Function) (operation : Operation) → takes_part function operation ≡ true → takes_target operation ≡ false
 part_away Hi operation e = upper_away operation e
 part_away PcrelHi operation e = upper_away operation e
 part_away Lo operation e = low_away operation e
 part_away PcrelLo operation e = low_away operation e
 
--- a target without a fault has no function
-pub target_alone : (operation : Operation) (function : Option Function) (value : Option ℤ) → operand_fault operation function value ≡ None
+low_number_away : (operation : Operation) (k : ℤ) → is_taken operation (Some Lo) (Some k) ≡ true → takes_target operation ≡ false
+low_number_away operation k e = no_not _ (and_right (not (is_upper operation)) _ (and_left (not (is_upper operation) && not (takes_target operation)) _ e))
+
+-- what takes a constant has no target
+pub good_away : (operation : Operation) (function : Option Function) (k : ℤ) → is_taken operation function (Some k) ≡ true → takes_target operation ≡ false
+good_away operation None k e = no_not _ (and_left (not (takes_target operation)) _ e)
+good_away operation (Some Hi) k e = upper_away operation (and_left (is_upper operation) _ e)
+good_away operation (Some Lo) k e = low_number_away operation k e
+good_away operation (Some PcrelHi) k e = absurd (cc)
+good_away operation (Some PcrelLo) k e = absurd (cc)
+
+-- a target that is taken has no function
+pub target_alone : (operation : Operation) (function : Option Function) (value : Option ℤ) → is_taken operation function value ≡ true
     → takes_target operation ≡ true → function ≡ None
 target_alone operation None value e target = refl
-target_alone operation (Some Hi) (Some v) e target = absurd (let away = upper_away operation (and_left (is_upper operation) _ (unless_good _ _ e)) in cc)
-target_alone operation (Some Lo) (Some v) e target =
-    absurd (let away = takes_away operation _ (and_right (not (is_upper operation)) _ (unless_good _ _ e)) in cc)
-target_alone operation (Some PcrelHi) (Some v) e target = absurd (cc)
-target_alone operation (Some PcrelLo) (Some v) e target = absurd (cc)
-target_alone operation (Some Hi) None e target = absurd (let away = part_away Hi operation (unless_good _ _ e) in cc)
-target_alone operation (Some PcrelHi) None e target = absurd (let away = part_away PcrelHi operation (unless_good _ _ e) in cc)
-target_alone operation (Some Lo) None e target = absurd (let away = part_away Lo operation (unless_good _ _ e) in cc)
-target_alone operation (Some PcrelLo) None e target = absurd (let away = part_away PcrelLo operation (unless_good _ _ e) in cc)
+target_alone operation (Some f) (Some k) e target = absurd (let both = sym (good_away operation (Some f) k e) ∙ target in cc)
+target_alone operation (Some f) None e target = absurd (let both = sym (part_away f operation e) ∙ target in cc)
+
+-- ---- what has no fault and a row is taken
+
+no_fault : (b : Bool) (c : ℕ) → faulty_if (not b) c ≡ [] → b ≡ true
+no_fault true c e = refl
+no_fault false c e = absurd (cc)
+
+never_last : (cs : List ℕ) (c : ℕ) → cs ++ c ∷ [] ≡ [] → ⊥
+never_last [] c e = absurd (cc)
+never_last (d ∷ cs) c e = absurd (cc)
+
+append_right : (cs ds : List ℕ) → cs ++ ds ≡ [] → ds ≡ []
+append_right [] ds e = e
+append_right (c ∷ cs) ds e = absurd (cc)
+
+value_taken : (b : Bool) (operation : Operation) (w : Worth) → takes_target operation ≡ b
+    → (if b then scratch_of operation ++ target_faults w else number_faults (mnemonic_of operation) w) ≡ [] → is_taken operation None (constant_in w) ≡ true
+value_taken true operation (Number k) target own = absurd (never_last (scratch_of operation) immediate_range own)
+value_taken true operation (Address labelled) target own = target
+value_taken true operation (Wrong code) target own = absurd (never_last (scratch_of operation) code own)
+value_taken false operation (Number k) away own = away_and (takes_target operation) _ away (no_fault _ immediate_range own)
+value_taken false operation (Address labelled) away own = absurd (cc)
+value_taken false operation (Wrong code) away own = absurd (cc)
+
+upper_known : (operation : Operation) → is_upper operation ≡ true → with_part operation ≡ operation
+upper_known (operations.Upper operation rd) e = refl
+upper_known _ e = absurd (cc)
+
+upper_taken : (operation : Operation) (k : ℤ) → is_upper operation ≡ true → is_upper_20 (hi k) ≡ true → is_taken (with_part operation) (Some Hi) (Some k) ≡ true
+upper_taken (operations.Upper operation rd) k e fits = fits
+upper_taken _ k e fits = absurd (cc)
+
+pub part_mnemonic : (operation : Operation) → mnemonic_of (with_part operation) ≡ mnemonic_of operation
+part_mnemonic (operations.StoreSymbol operation rs2 rt) = refl
+part_mnemonic _ = refl
+
+lower_known : (operation : Operation) → is_lower operation ≡ true → (is_upper (with_part operation) ≡ false) × (takes_target (with_part operation) ≡ false)
+lower_known (operations.Registers operation rd rs1) e = (refl, refl)
+lower_known (operations.Immediate operation rd rs1) e = (refl, refl)
+lower_known (operations.Shift operation rd rs1) e = (refl, refl)
+lower_known (operations.Load operation rd rs1) e = (refl, refl)
+lower_known (operations.Store operation rs2 rs1) e = (refl, refl)
+lower_known (operations.StoreSymbol operation rs2 rt) e = (refl, refl)
+lower_known (operations.Jalr rd rs1) e = (refl, refl)
+lower_known (operations.JalrThen rd rs1) e = (refl, refl)
+lower_known (operations.JalrLinked rs1) e = (refl, refl)
+lower_known (operations.Jr rs) e = (refl, refl)
+lower_known (operations.Li rd) e = (refl, refl)
+lower_known _ e = absurd (cc)
+
+form_part : (m : Option Mnemonic) → is_constant_form m ≡ true → is_signed_12 m ≡ true → is_immediate m ≡ true
+form_part (Some (mnemonics.Immediate operation)) e f = refl
+form_part (Some (mnemonics.Shift operation)) e f = absurd (cc)
+form_part _ e f = absurd (cc)
+
+low_part : (operation : Operation) → is_lower operation ≡ true → takes_address (mnemonic_of operation) ≡ true → is_low (with_part operation) ≡ true
+low_part (operations.Registers operation rd rs1) e f = form_part (with_constant operation) e f
+low_part (operations.Immediate operation rd rs1) e f = refl
+low_part (operations.Shift operation rd rs1) e f = absurd (cc)
+low_part (operations.Load operation rd rs1) e f = refl
+low_part (operations.Store operation rs2 rs1) e f = refl
+low_part (operations.StoreSymbol operation rs2 rt) e f = refl
+low_part (operations.Jalr rd rs1) e f = refl
+low_part (operations.JalrThen rd rs1) e f = refl
+low_part (operations.JalrLinked rs1) e f = refl
+low_part (operations.Jr rs) e f = refl
+low_part (operations.Li rd) e f = absurd (cc)
+low_part _ e f = absurd (cc)
+
+pub sound_taken : (operation : Operation) (function : Option Function) (w : Worth) → faults_of operation function w ≡ [] → is_placed operation function ≡ true
+    → is_taken (known_as operation function) function (constant_in w) ≡ true
+sound_taken operation None w own placed = value_taken (takes_target operation) operation w refl own
+sound_taken operation (Some Hi) (Number k) own placed = upper_taken operation k placed (no_fault _ immediate_range own)
+sound_taken operation (Some Hi) (Address labelled) own placed = ap is_upper (upper_known operation placed) ∙ placed
+sound_taken operation (Some Hi) (Wrong code) own placed = absurd (cc)
+sound_taken operation (Some PcrelHi) (Number k) own placed = absurd (cc)
+sound_taken operation (Some PcrelHi) (Address labelled) own placed = ap is_upper (upper_known operation placed) ∙ placed
+sound_taken operation (Some PcrelHi) (Wrong code) own placed = absurd (cc)
+sound_taken operation (Some Lo) (Number k) own placed =
+    low_and (is_upper (with_part operation)) (takes_target (with_part operation)) _ (lower_known operation placed).0 (lower_known operation placed).1
+    (ap (λ m. takes m (lo k)) (part_mnemonic operation) ∙ no_fault _ immediate_range own)
+sound_taken operation (Some Lo) (Address labelled) own placed = low_part operation placed (no_fault _ not_constant own)
+sound_taken operation (Some Lo) (Wrong code) own placed = absurd (cc)
+sound_taken operation (Some PcrelLo) (Number k) own placed = absurd (cc)
+sound_taken operation (Some PcrelLo) (Address labelled) own placed = low_part operation placed (no_fault _ not_constant (append_right _ _ own))
+sound_taken operation (Some PcrelLo) (Wrong code) own placed = absurd (cc)
+
+-- ---- scratch registers
+
+no_scratch : (b : Bool) (cs : List ℕ) → faulty_if b scratch_register ++ cs ≡ [] → b ≡ false
+no_scratch true cs e = absurd (cc)
+no_scratch false cs e = refl
+
+target_scratch : (b : Bool) (operation : Operation) (w : Worth) → b ≡ true
+    → (if b then scratch_of operation ++ target_faults w else number_faults (mnemonic_of operation) w) ≡ [] → is_bad_scratch operation ≡ false
+target_scratch true operation w target own = no_scratch (is_bad_scratch operation) (target_faults w) own
+target_scratch false operation w target own = absurd (cc)
+
+-- a target without a fault has a good one
+pub good_scratch : (operation : Operation) (function : Option Function) (w : Worth) → faults_of operation function w ≡ [] → function ≡ None
+    → takes_target (known_as operation function) ≡ true → is_bad_scratch (known_as operation function) ≡ false
+good_scratch operation None w own alone target = target_scratch (takes_target operation) operation w target own
+good_scratch operation (Some f) w own alone target = absurd (cc)

@@ -1,3 +1,5 @@
 pub mod InRangeLemmas
+pub mod LowestLemmas
 pub mod OneRowLemmas
 pub mod RowsLemmas
+pub mod TableLemmas

@@ -1,7 +1,7 @@
 -- The rows of statements with a number: where there is no fault there is one, and what it puts into its field.
 
 use Rattle.std.proofs.Common.{◌≡◌, ℕ, Bool, true, false, refl, sym, ap, subst, ◌∙◌, ℤ, pos, List, [], ◌∷◌, map, Option, Some, None, option_map}
-use Rattle.std.specs.Prelude.{not, is_some}
+use Rattle.std.specs.Prelude.{not, ◌&&◌, is_some}
 use Rattle.rv_isa.specs.declared.instruction.Inst.{Inst}
 use Rattle.rv_isa.specs.declared.kind.Kind.{Kind}
 use Rattle.rv_isa.specs.declared.operation.ImmediateOperation.{ImmediateOperation}
@@ -23,9 +23,9 @@ use Rattle.rv_pseudo_laws.specs.Code.{Part, Closed, i_type, s_type, u_type, shif
 use Rattle.rv_pseudo_laws.specs.Li.{li}
 use Rattle.rv_pseudo_laws.specs.Valid.{form_takes}
 use Rattle.rv_pseudo.specs.declared.template.Template.{Template}
-use Rattle.rv_pseudo.specs.Faults.{is_upper, is_immediate, is_low, takes_target, number, operand_fault}
+use Rattle.rv_pseudo.specs.Faults.{is_upper, takes_target, number}
 use Rattle.rv_pseudo.specs.Templates.{plain, all_templates, parts_of, operand, number_operand, with_reloc, Puts, IsKindOf, IsConstantRow, AreNumbered}
-use Rattle.rv_pseudo.proofs.InRangeLemmas.{unless_good, and_left, number_takes}
+use Rattle.rv_pseudo.proofs.InRangeLemmas.{is_immediate, is_low, is_taken, and_left, number_takes}
 
 -- ---- operands
 
@@ -71,46 +71,46 @@ target_operand operation function e same target = ap (λ f. operand operation f 
 -- ---- that there is a row
 
 signed_some : (operation : Operation) (function : Option Function) (value : Option ℤ) (store : Bool) (make : ℤ → Inst) (e : Expression)
-    → is_upper operation ≡ false → takes_target operation ≡ false → operand_fault operation function value ≡ None
+    → is_upper operation ≡ false → takes_target operation ≡ false → is_taken operation function value ≡ true
     → is_some (signed_12 (λ t. value) store make (number_operand function e)) ≡ true
 signed_some operation None (Some v) store make e upper away f = refl
-signed_some operation None None store make e upper away f = absurd (let target = unless_good (takes_target operation) _ f in cc)
-signed_some operation (Some Hi) (Some v) store make e upper away f = absurd (let high = and_left (is_upper operation) _ (unless_good _ _ f) in cc)
-signed_some operation (Some Hi) None store make e upper away f = absurd (let high = unless_good (is_upper operation) _ f in cc)
+signed_some operation None None store make e upper away f = absurd (let target = sym away ∙ f in cc)
+signed_some operation (Some Hi) (Some v) store make e upper away f = absurd (let high = and_left (is_upper operation) _ f in cc)
+signed_some operation (Some Hi) None store make e upper away f = absurd (let high = sym upper ∙ f in cc)
 signed_some operation (Some Lo) (Some v) store make e upper away f = refl
 signed_some operation (Some Lo) None store make e upper away f = refl
 signed_some operation (Some PcrelHi) (Some v) store make e upper away f = absurd (cc)
-signed_some operation (Some PcrelHi) None store make e upper away f = absurd (let high = unless_good (is_upper operation) _ f in cc)
+signed_some operation (Some PcrelHi) None store make e upper away f = absurd (let high = sym upper ∙ f in cc)
 signed_some operation (Some PcrelLo) (Some v) store make e upper away f = refl
 signed_some operation (Some PcrelLo) None store make e upper away f = refl
 
 upper_some : (operation : Operation) (function : Option Function) (value : Option ℤ) (make : ℕ → Inst) (e : Expression)
-    → not (is_upper operation) ≡ false → is_low operation ≡ false → takes_target operation ≡ false → operand_fault operation function value ≡ None
+    → not (is_upper operation) ≡ false → is_low operation ≡ false → takes_target operation ≡ false → is_taken operation function value ≡ true
     → is_some (upper_20 (λ t. value) make (number_operand function e)) ≡ true
 upper_some operation None (Some v) make e upper low away f = refl
-upper_some operation None None make e upper low away f = absurd (let target = unless_good (takes_target operation) _ f in cc)
+upper_some operation None None make e upper low away f = absurd (let target = sym away ∙ f in cc)
 upper_some operation (Some Hi) (Some v) make e upper low away f = refl
 upper_some operation (Some Hi) None make e upper low away f = refl
-upper_some operation (Some Lo) (Some v) make e upper low away f = absurd (let high = and_left (not (is_upper operation)) _ (unless_good _ _ f) in cc)
-upper_some operation (Some Lo) None make e upper low away f = absurd (let part = unless_good (is_low operation) _ f in cc)
+upper_some operation (Some Lo) (Some v) make e upper low away f = absurd (let high = and_left (not (is_upper operation)) _ (and_left (not (is_upper operation) && not (takes_target operation)) _ f) in cc)
+upper_some operation (Some Lo) None make e upper low away f = absurd (let part = sym low ∙ f in cc)
 upper_some operation (Some PcrelHi) (Some v) make e upper low away f = refl
 upper_some operation (Some PcrelHi) None make e upper low away f = refl
 upper_some operation (Some PcrelLo) (Some v) make e upper low away f = absurd (cc)
-upper_some operation (Some PcrelLo) None make e upper low away f = absurd (let part = unless_good (is_low operation) _ f in cc)
+upper_some operation (Some PcrelLo) None make e upper low away f = absurd (let part = sym low ∙ f in cc)
 
 number_some : (operation : Operation) (function : Option Function) (value : Option ℤ) (e : Expression)
-    → is_upper operation ≡ false → is_low operation ≡ false → takes_target operation ≡ false → operand_fault operation function value ≡ None
+    → is_upper operation ≡ false → is_low operation ≡ false → takes_target operation ≡ false → is_taken operation function value ≡ true
     → is_some (number_of (λ t. value) (number_operand function e)) ≡ true
 number_some operation None (Some v) e upper low away f = refl
-number_some operation None None e upper low away f = absurd (let target = unless_good (takes_target operation) _ f in cc)
-number_some operation (Some Hi) (Some v) e upper low away f = absurd (let high = and_left (is_upper operation) _ (unless_good _ _ f) in cc)
-number_some operation (Some Hi) None e upper low away f = absurd (let high = unless_good (is_upper operation) _ f in cc)
+number_some operation None None e upper low away f = absurd (let target = sym away ∙ f in cc)
+number_some operation (Some Hi) (Some v) e upper low away f = absurd (let high = and_left (is_upper operation) _ f in cc)
+number_some operation (Some Hi) None e upper low away f = absurd (let high = sym upper ∙ f in cc)
 number_some operation (Some Lo) (Some v) e upper low away f = refl
-number_some operation (Some Lo) None e upper low away f = absurd (let part = unless_good (is_low operation) _ f in cc)
+number_some operation (Some Lo) None e upper low away f = absurd (let part = sym low ∙ f in cc)
 number_some operation (Some PcrelHi) (Some v) e upper low away f = absurd (cc)
-number_some operation (Some PcrelHi) None e upper low away f = absurd (let high = unless_good (is_upper operation) _ f in cc)
+number_some operation (Some PcrelHi) None e upper low away f = absurd (let high = sym upper ∙ f in cc)
 number_some operation (Some PcrelLo) (Some v) e upper low away f = absurd (cc)
-number_some operation (Some PcrelLo) None e upper low away f = absurd (let part = unless_good (is_low operation) _ f in cc)
+number_some operation (Some PcrelLo) None e upper low away f = absurd (let part = sym low ∙ f in cc)
 
 by_number_some : (make : ℤ → Inst) (o : Option ℤ) → is_some o ≡ true → is_some (by_number make o) ≡ true
 by_number_some make None e = absurd (cc)
@@ -121,7 +121,7 @@ mapped_some make None e = absurd (cc)
 mapped_some make (Some k) e = refl
 
 constant_some : (operation : RegisterOperation) (form : Option Mnemonic) (rd rs1 : ℕ) (function : Option Function) (value : Option ℤ) (e : Expression)
-    → with_constant operation ≡ form → operand_fault (operations.Registers operation rd rs1) function value ≡ None
+    → with_constant operation ≡ form → is_taken (operations.Registers operation rd rs1) function value ≡ true
     → is_some (by_constant (λ t. value) form rd rs1 (number_operand function e)) ≡ true
 constant_some operation (Some (mnemonics.Immediate i)) rd rs1 function value e same f =
     signed_some (operations.Registers operation rd rs1) function value false (λ k. of_immediate i (i_type rd rs1 k)) e refl refl f
@@ -134,7 +134,7 @@ constant_some operation form rd rs1 function value e same f =
     cc)
 
 pub row_some : (operation : Operation) (function : Option Function) (value : Option ℤ) (rvc : Bool) (bytes : ℕ) (e : Expression)
-    → operand_fault operation function value ≡ None → takes_target operation ≡ false
+    → is_taken operation function value ≡ true → takes_target operation ≡ false
     → is_some (parts_of (λ t. value) rvc bytes (with_operand operation (number_operand function e))) ≡ true
 row_some (operations.Registers operation rd rs1) None value rvc bytes e f away = constant_some operation (with_constant operation) rd rs1 None value e refl f
 row_some (operations.Registers operation rd rs1) (Some g) value rvc bytes e f away =

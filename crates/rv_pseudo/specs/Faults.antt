@@ -1,25 +1,33 @@
--- The faults of the operands of a statement of code, by the values of their expressions (ISA,
--- chapter 24, for ranges; RISC-V Assembly Programmer's Manual; GNU as, "RISC-V-Modifiers", for
--- parts of addresses).
+-- The faults of the operand of a statement of code, as the code decides them (`InstructionFaults` has
+-- them for any statement).
 
-use Rattle.std.specs.Prelude.{ℤ, pos, Bool, true, false, not, ◌&&◌, ◌||◌, ◌==◌, if◌then◌else◌, Option, Some, None}
+use Rattle.std.specs.Prelude.{ℕ, ℤ, pos, Bool, true, false, ◌||◌, ◌==◌, if◌then◌else◌, List, ◌++◌, Option, Some, None}
 use Rattle.rv_isa_laws.specs.Halves.{hi, lo}
-use Rattle.rv_lexer.specs.declared.fault.SourceCode.{SourceCode}
-use Rattle.rv_lexer.specs.declared.fault.SourceCode.TheVariants.{ScratchRegister, UndefinedLocal, NotConstant, ImmediateRange}
+use Rattle.rv_text_laws.specs.Codes.{scratch_register, faulty_if}
+use Rattle.rv_lexer.specs.Fault.{number_of}
 use Rattle.rv_statement.specs.declared.mnemonic.Mnemonic.{Mnemonic}
 use Rattle.rv_statement.specs.declared.mnemonic.Mnemonic.TheVariants as mnemonics
 use Rattle.rv_statement.specs.declared.pseudo.Function.{Function}
 use Rattle.rv_statement.specs.declared.pseudo.Function.TheVariants.{Hi, Lo, PcrelHi, PcrelLo}
 use Rattle.rv_statement.specs.declared.statement.Operation.{Operation}
 use Rattle.rv_statement.specs.declared.statement.Operation.TheVariants as operations
-use Rattle.rv_statement.specs.declared.statement.StatementKind.{StatementKind}
-use Rattle.rv_statement.specs.declared.statement.StatementKind.TheVariants as kinds
 use Rattle.rv_parse_laws.specs.Syntax.{with_constant}
-use Rattle.rv_pseudo_laws.specs.Li.{is_signed}
-use Rattle.rv_pseudo_laws.specs.Valid.{form_takes, is_amount, is_upper_20}
-use Rattle.rv_pseudo.specs.declared.template.Form.{Form}
+use Rattle.rv_pseudo_laws.specs.InstructionFaults.{Worth, Number, Address, Wrong, number_faults, target_faults, upper_faults, low_faults, distance_faults}
+use Rattle.rv_pseudo.specs.declared.template.Worth.{Worth as Told}
+use Rattle.rv_pseudo.specs.declared.template.Worth.TheVariants as told
 
--- ---- operands
+-- ---- what an expression is worth
+
+abbrev pub worth_of : Told → Worth
+worth_of (told.Number k) = Number k
+worth_of (told.Address labelled) = Address labelled
+worth_of (told.Wrong code) = Wrong (number_of code)
+
+-- its constant, if it is one
+abbrev pub constant_in : Worth → Option ℤ
+constant_in (Number k) = Some k
+constant_in (Address labelled) = None
+constant_in (Wrong code) = None
 
 -- the number of an operand, by its function and its value: 0 where it is open
 abbrev pub number : Option Function → Option ℤ → ℤ
@@ -29,6 +37,44 @@ number (Some Hi) (Some v) = hi v
 number (Some Lo) (Some v) = lo v
 number (Some PcrelHi) (Some v) = pos 0
 number (Some PcrelLo) (Some v) = pos 0
+
+-- ---- operations
+
+abbrev pub mnemonic_of : Operation → Mnemonic
+mnemonic_of (operations.Registers operation rd rs1) = mnemonics.Registers operation
+mnemonic_of (operations.Immediate operation rd rs1) = mnemonics.Immediate operation
+mnemonic_of (operations.Shift operation rd rs1) = mnemonics.Shift operation
+mnemonic_of (operations.Upper operation rd) = mnemonics.Upper operation
+mnemonic_of (operations.Load operation rd rs1) = mnemonics.Load operation
+mnemonic_of (operations.Store operation rs2 rs1) = mnemonics.Store operation
+mnemonic_of (operations.Jalr rd rs1) = mnemonics.Jalr
+mnemonic_of (operations.JalrThen rd rs1) = mnemonics.Jalr
+mnemonic_of (operations.JalrLinked rs1) = mnemonics.Jalr
+mnemonic_of (operations.Branch operation rs1 rs2) = mnemonics.Branch operation
+mnemonic_of (operations.Jal rd) = mnemonics.Jal
+mnemonic_of operations.JalLinked = mnemonics.Jal
+mnemonic_of (operations.LoadSymbol operation rd) = mnemonics.Load operation
+mnemonic_of (operations.StoreSymbol operation rs2 rt) = mnemonics.Store operation
+mnemonic_of (operations.ZeroBranch operation rs) = mnemonics.ZeroBranch operation
+mnemonic_of (operations.SwappedBranch operation rs1 rs2) = mnemonics.SwappedBranch operation
+mnemonic_of operations.J = mnemonics.J
+mnemonic_of (operations.Jr rs) = mnemonics.Jr
+mnemonic_of (operations.La rd) = mnemonics.La
+mnemonic_of (operations.Li rd) = mnemonics.Li
+mnemonic_of (operations.Call rd) = mnemonics.Call
+mnemonic_of operations.CallLinked = mnemonics.Call
+mnemonic_of operations.Tail = mnemonics.Tail
+mnemonic_of (operations.Jump rt) = mnemonics.Jump
+
+-- with a part of a value a store to a symbol is one at a number from a register
+abbrev pub with_part : Operation → Operation
+with_part (operations.StoreSymbol operation rs2 rt) = operations.Store operation rs2 rt
+with_part operation = operation
+
+-- the operation by which an operand is known
+abbrev pub known_as : Operation → Option Function → Operation
+known_as operation None = operation
+known_as operation (Some function) = with_part operation
 
 -- whether the expression of an operation is a target, and not a number
 abbrev pub takes_target : Operation → Bool
@@ -47,66 +93,43 @@ takes_target operations.Tail = true
 takes_target (operations.Jump rt) = true
 takes_target _ = false
 
--- ---- ranges
+-- ---- fields
 
--- whether a number is in the range of the statement's field
-abbrev pub takes : Operation → ℤ → Bool
-takes (operations.Registers operation rd rs1) k = form_takes (with_constant operation) k
-takes (operations.Immediate operation rd rs1) k = is_signed 12 k
-takes (operations.Shift operation rd rs1) k = is_amount operation k
-takes (operations.Upper operation rd) k = is_upper_20 k
-takes (operations.Load operation rd rs1) k = is_signed 12 k
-takes (operations.Store operation rs2 rs1) k = is_signed 12 k
-takes (operations.Jalr rd rs1) k = is_signed 12 k
-takes (operations.JalrThen rd rs1) k = is_signed 12 k
-takes (operations.JalrLinked rs1) k = is_signed 12 k
-takes (operations.Jr rs) k = is_signed 12 k
-takes (operations.Li rd) k = true
-takes _ k = false
-
--- whether the field can take a part of an address: an upper part the 20 bits of `lui` and `auipc`,
--- a low part twelve signed bits
+-- the 20 bits of `lui` and `auipc` take upper parts
 abbrev pub is_upper : Operation → Bool
 is_upper (operations.Upper operation rd) = true
 is_upper _ = false
 
-abbrev pub is_immediate : Option Mnemonic → Bool
-is_immediate (Some (mnemonics.Immediate operation)) = true
-is_immediate _ = false
+-- whether an operation on registers has a form with a constant
+abbrev pub is_constant_form : Option Mnemonic → Bool
+is_constant_form (Some (mnemonics.Immediate operation)) = true
+is_constant_form (Some (mnemonics.Shift operation)) = true
+is_constant_form _ = false
 
-abbrev pub is_low : Operation → Bool
-is_low (operations.Registers operation rd rs1) = is_immediate (with_constant operation)
-is_low (operations.Immediate operation rd rs1) = true
-is_low (operations.Load operation rd rs1) = true
-is_low (operations.Store operation rs2 rs1) = true
-is_low (operations.Jalr rd rs1) = true
-is_low (operations.JalrThen rd rs1) = true
-is_low (operations.JalrLinked rs1) = true
-is_low (operations.Jr rs) = true
-is_low _ = false
+-- all other numbers take low parts
+abbrev pub is_lower : Operation → Bool
+is_lower (operations.Registers operation rd rs1) = is_constant_form (with_constant operation)
+is_lower (operations.Immediate operation rd rs1) = true
+is_lower (operations.Shift operation rd rs1) = true
+is_lower (operations.Load operation rd rs1) = true
+is_lower (operations.Store operation rs2 rs1) = true
+is_lower (operations.StoreSymbol operation rs2 rt) = true
+is_lower (operations.Jalr rd rs1) = true
+is_lower (operations.JalrThen rd rs1) = true
+is_lower (operations.JalrLinked rs1) = true
+is_lower (operations.Jr rs) = true
+is_lower (operations.Li rd) = true
+is_lower _ = false
 
-abbrev pub takes_part : Function → Operation → Bool
-takes_part Hi operation = is_upper operation
-takes_part PcrelHi operation = is_upper operation
-takes_part Lo operation = is_low operation
-takes_part PcrelLo operation = is_low operation
+-- whether there is a row for a function of a value without faults
+abbrev pub is_placed : Operation → Option Function → Bool
+is_placed operation None = true
+is_placed operation (Some Hi) = is_upper operation
+is_placed operation (Some Lo) = is_lower operation
+is_placed operation (Some PcrelHi) = is_upper operation
+is_placed operation (Some PcrelLo) = is_lower operation
 
-abbrev pub unless : Bool → SourceCode → Option SourceCode
-unless good code = if good then None else Some code
-
--- the fault of an operand: a number is a constant in its range, a target and a distance are no
--- constants, and the 20 bits of `lui` and `auipc` take upper parts of numbers, all other fields low
--- parts
-abbrev pub operand_fault : Operation → Option Function → Option ℤ → Option SourceCode
-operand_fault operation None (Some v) = unless (takes operation v) ImmediateRange
-operand_fault operation None None = unless (takes_target operation) NotConstant
-operand_fault operation (Some Hi) (Some v) =
-    unless (is_upper operation && takes operation (hi v)) ImmediateRange
-operand_fault operation (Some Lo) (Some v) =
-    unless (not (is_upper operation) && takes operation (lo v)) ImmediateRange
-operand_fault operation (Some PcrelHi) (Some v) = Some ImmediateRange
-operand_fault operation (Some PcrelLo) (Some v) = Some UndefinedLocal
-operand_fault operation (Some function) None = unless (takes_part function operation) NotConstant
+-- ---- faults
 
 -- a register that holds an address on the way to a symbol is not x0, and not the one that is stored
 abbrev pub is_bad_scratch : Operation → Bool
@@ -116,15 +139,20 @@ is_bad_scratch (operations.Call rd) = rd == 0
 is_bad_scratch (operations.Jump rt) = rt == 0
 is_bad_scratch _ = false
 
--- the fault with the lowest number
-abbrev pub fault : Operation → Option Function → Option ℤ → Option SourceCode
-fault operation function value =
-    if is_bad_scratch operation
-    then Some ScratchRegister else operand_fault operation function value
+abbrev pub scratch_of : Operation → List ℕ
+scratch_of operation = faulty_if (is_bad_scratch operation) scratch_register
 
--- the fault of what a statement says; a label or a directive has none here
-abbrev pub fault_of : Form → StatementKind → Option SourceCode
-fault_of form (kinds.With operation e) = fault operation None form.value
-fault_of form (kinds.WithFunction operation function e) =
-    fault operation (Some function) form.value
-fault_of form kind = None
+-- those of an operation with an expression
+abbrev pub value_faults : Operation → Worth → List ℕ
+value_faults operation w =
+    if takes_target operation
+    then scratch_of operation ++ target_faults w
+    else number_faults (mnemonic_of operation) w
+
+-- those of an operation with an operand
+abbrev pub faults_of : Operation → Option Function → Worth → List ℕ
+faults_of operation None w = value_faults operation w
+faults_of operation (Some Hi) w = upper_faults w
+faults_of operation (Some Lo) w = low_faults (mnemonic_of operation) w
+faults_of operation (Some PcrelHi) w = target_faults w
+faults_of operation (Some PcrelLo) w = distance_faults (mnemonic_of operation) w

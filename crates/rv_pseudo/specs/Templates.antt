@@ -5,9 +5,11 @@ use Rattle.std.specs.Prelude.{◌≡◌, ℕ, ℤ, pos, Bool, true, false, List,
 use Rattle.arrayvec.specs.ArrayVec.{ArrayVec}
 use Rattle.rv_isa.specs.declared.instruction.Inst.{Inst}
 use Rattle.rv_isa.specs.declared.kind.Kind.{Kind}
+use Rattle.rv_text_laws.specs.Codes.{lowest}
 use Rattle.rv_lexer.specs.declared.fault.SourceCode.{SourceCode}
 use Rattle.rv_lexer.specs.declared.fault.SourceFault.{SourceFault}
-use Rattle.rv_lexer.specs.declared.fault.SourceFault.TheVariants.{At}
+use Rattle.rv_lexer.specs.declared.fault.SourceFault.TheVariants.{At, OutOfMemory}
+use Rattle.rv_lexer.specs.Fault.{number_of as code_number}
 use Rattle.rv_statement.specs.declared.mnemonic.Mnemonic.{Mnemonic}
 use Rattle.rv_statement.specs.declared.mnemonic.Mnemonic.TheVariants.{Call, Tail, Jump}
 use Rattle.rv_statement.specs.declared.pseudo.Function.{Function}
@@ -19,9 +21,11 @@ use Rattle.rv_statement.specs.Statement.{StatementKind, Instruction, Operand, Va
 use Rattle.rv_statement.specs.View.{with_operand, operand_in}
 use Rattle.rv_isa_laws.specs.Arithmetic.{wrapped}
 use Rattle.rv_pseudo_laws.specs.Code.{Part, Closed, Open, Joined, Constants, code, alone, signed_12, upper_20, number_of, by_constant}
+use Rattle.rv_pseudo_laws.specs.InstructionFaults.{Worth, faults}
 use Rattle.rv_pseudo.specs.declared.template.Form.{Form}
 use Rattle.rv_pseudo.specs.declared.template.Template.{Template}
-use Rattle.rv_pseudo.specs.Faults.{fault}
+use Rattle.rv_pseudo.specs.declared.template.Worth.TheVariants as told
+use Rattle.rv_pseudo.specs.Faults.{worth_of, constant_in}
 
 -- ---- templates
 
@@ -42,9 +46,12 @@ all_templates parts = flat_map templates_of parts
 
 -- ---- the row of a statement
 
--- a statement has one expression: its constant, if it is one
+-- a statement has one expression: what it is worth, and its constant, if it is one
+abbrev pub worths_of : Form → Expression → Worth
+worths_of form = λ e. worth_of form.worth
+
 abbrev pub constants_of : Form → Constants
-constants_of form = λ e. form.value
+constants_of form = λ e. constant_in (worth_of form.worth)
 
 -- the bytes for which the table is asked: eight for a call, which only the linker shortens
 abbrev pub asked_bytes : Mnemonic → ℕ → ℕ
@@ -64,6 +71,10 @@ abbrev pub templates : Form → StatementKind → Option (List Template)
 templates form kind =
     option_map all_templates (parts_of (constants_of form) form.rvc form.bytes kind)
 
+-- the codes of its faults
+abbrev pub faults_by : Form → StatementKind → List ℕ
+faults_by form kind = faults (constants_of form) (worths_of form) kind
+
 -- an expression as an operand of an operation, or a function of one
 abbrev pub operand : Operation → Option Function → Expression → Operand
 operand operation None e = operand_in operation e
@@ -74,19 +85,19 @@ statement_with operation function e = with_operand operation (operand operation 
 
 -- ---- the code's answers
 
--- of a statement without a fault its templates, else its fault
-abbrev pub Answers : Option SourceCode → Option (List Template) →
-    Result (ArrayVec Template) SourceCode → Type 0
-Answers None row (Ok found) = row ≡ Some found.items
-Answers (Some code) row (Err found) = found ≡ code
-Answers _ _ _ = ⊥
+-- of a statement without faults its templates, else the lowest code of its faults
+abbrev pub Answers : List ℕ → Option (List Template) → Result (ArrayVec Template) SourceCode →
+    Type 0
+Answers codes row (Ok found) = (codes ≡ []) × (row ≡ Some found.items)
+Answers codes row (Err code) = lowest codes ≡ Some (code_number code)
 
 -- the same at a line; never want of memory
-abbrev pub IsExpansion : Option SourceCode → Option (List Template) → ℕ →
+abbrev pub IsExpansion : List ℕ → Option (List Template) → ℕ →
     Result (ArrayVec Template) SourceFault → Type 0
-IsExpansion None row line (Ok found) = row ≡ Some found.items
-IsExpansion (Some code) row line (Err found) = found ≡ At code line
-IsExpansion _ row line _ = ⊥
+IsExpansion codes row line (Ok found) = (codes ≡ []) × (row ≡ Some found.items)
+IsExpansion codes row line (Err (At code at)) =
+    (lowest codes ≡ Some (code_number code)) × (at ≡ line)
+IsExpansion codes row line (Err OutOfMemory) = ⊥
 
 -- ---- what an operand puts into a field, for the code's own contracts
 
@@ -156,12 +167,15 @@ IsNumberedOne operation number None = is_li operation ≡ true
 IsNumberedOne operation number (Some i) =
     (reloc : Option Kind) → AreNumbered operation number reloc (with_reloc reloc i)
 
+abbrev pub form_by : ℤ → Bool → ℕ → Form
+form_by number rvc bytes = record { worth = told.Number number; bytes = bytes; rvc = rvc }
+
 -- an operation with this constant has no fault, and this one instruction
 pub record IsOne (operation : Operation) (number : ℤ) (i : Inst) : Type 0 where
-  pub sound : fault operation None (Some number) ≡ None
+  pub sound : (rvc : Bool) (bytes : ℕ) (e : Expression) →
+      faults_by (form_by number rvc bytes) (statement_with operation None e) ≡ []
   pub is : (rvc : Bool) (bytes : ℕ) (e : Expression) →
-      templates (record { value = Some number; bytes = bytes; rvc = rvc })
-      (statement_with operation None e)
+      templates (form_by number rvc bytes) (statement_with operation None e)
       ≡ Some (plain i ∷ [])
 
 abbrev pub is_unary : Plain → Bool

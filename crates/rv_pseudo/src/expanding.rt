@@ -1,10 +1,9 @@
 //! The templates of any statement of code.
 //!
-//! `Form.value` is the value of the expression before `%hi` or `%lo`, so whoever sizes or writes a statement evaluates
-//! its expression and does nothing else. A difference of symbols, and whether the L of `%pcrel_lo` is a label, are the
-//! caller's to refuse.
+//! `Form.worth` is of the expression before `%hi` or `%lo`, so whoever sizes or writes a statement evaluates its
+//! expression and does nothing else.
 
-ghost use Rattle.std.specs.Prelude.{◌≡◌, Some, None, IfSome};
+ghost use Rattle.std.specs.Prelude.{◌≡◌, Some, [], IfSome, true};
 ghost use Rattle.rv_statement.specs.Statement.{Expression};
 ghost use Rattle.rv_statement.specs.View.{statement_kind};
 ghost use Rattle.rv_pseudo.specs.Faults as faults;
@@ -12,10 +11,10 @@ ghost use Rattle.rv_pseudo.specs.Templates as is;
 ghost use Rattle.rv_pseudo.specs.Templates.{Answers, IsExpansion};
 
 use crate::bare::without_operand;
-use crate::fault::fault;
+use crate::fault::{is_placed, operand_fault};
 use crate::number::{number, numbered, numbered_one, relocation};
 use crate::target::{takes_target, targeted};
-use crate::template::{Form, Templates};
+use crate::template::{Form, Templates, Worth, constant};
 use arrayvec::ArrayVec;
 use rv_isa::Inst;
 use rv_lexer::{SourceCode, SourceFault};
@@ -28,33 +27,74 @@ fn is_store(operation: &Operation) -> bool
     matches!(operation, Operation::Store(..))
 }
 
-/// The templates of a statement with an operand that has no fault.
+/// With a part of a value a store to a symbol is one at a number from a register.
+fn with_part(operation: Operation) -> Operation
+    ensures { result ≡ faults.with_part operation }
+{
+    match operation {
+        Operation::StoreSymbol(operation, rs2, rt) => Operation::Store(operation, rs2, rt),
+        _ => operation,
+    }
+}
+
+/// The operation by which an operand is known.
+fn known_as(operation: Operation, function: Option<Function>) -> Operation
+    ensures { result ≡ faults.known_as operation function }
+{
+    match function {
+        None => operation,
+        Some(_) => with_part(operation),
+    }
+}
+
+/// The templates of a statement with an operand that has no fault, and a row.
 fn templates(operation: Operation, function: Option<Function>, form: Form) -> Templates
-    requires { faults.fault operation function form.value ≡ None }
+    requires sound { faults.faults_of operation function (faults.worth_of form.worth) ≡ [] }
+    requires placed { faults.is_placed operation function ≡ true }
     ensures { (e : Expression) →
         is.templates form (is.statement_with operation function e) ≡ Some result.items }
 {
-    if takes_target(&operation) {
-        return targeted(form.bytes, operation);
+    let known = known_as(operation, function);
+    if takes_target(&known) {
+        return targeted(form.bytes, known);
     }
-    let number = number(function, form.value);
-    let reloc = relocation(function, form.value, is_store(&operation));
-    numbered(operation, number, reloc)
+    let value = constant(form.worth);
+    let number = number(function, value);
+    let reloc = relocation(function, value, is_store(&known));
+    numbered(known, number, reloc)
 }
 
-/// The templates of a statement with an operand, or its fault.
+/// The templates of a statement with an operand that has no fault, or that it has no row.
+fn else_unplaced(
+    operation: Operation,
+    function: Option<Function>,
+    form: Form,
+) -> Result<Templates, SourceCode>
+    requires { faults.faults_of operation function (faults.worth_of form.worth) ≡ [] }
+    ensures { (e : Expression) →
+        Answers (is.faults_by form (is.statement_with operation function e))
+        (is.templates form (is.statement_with operation function e)) result }
+{
+    if is_placed(&operation, function) {
+        Ok(templates(operation, function, form))
+    } else {
+        Err(SourceCode::UnsupportedHere)
+    }
+}
+
+/// The templates of a statement with an operand, or the lowest code of its faults.
 pub fn with_operand(
     operation: Operation,
     function: Option<Function>,
     form: Form,
 ) -> Result<Templates, SourceCode>
     ensures { (e : Expression) →
-        Answers (faults.fault operation function form.value)
+        Answers (is.faults_by form (is.statement_with operation function e))
         (is.templates form (is.statement_with operation function e)) result }
 {
-    match fault(&operation, function, form.value) {
+    match operand_fault(&operation, function, form.worth) {
         Some(code) => Err(code),
-        None => Ok(templates(operation, function, form)),
+        None => else_unplaced(operation, function, form),
     }
 }
 
@@ -65,15 +105,15 @@ pub fn single(operation: &Operation, number: i64) -> Option<Inst>
     if takes_target(operation) {
         return None;
     }
-    match fault(operation, None, Some(number)) {
+    match operand_fault(operation, None, Worth::Number(number)) {
         Some(_) => None,
         None => numbered_one(operation, number),
     }
 }
 
-/// The templates of what a statement says, or its fault.
+/// The templates of what a statement says, or the lowest code of its faults.
 fn expanded(kind: &StatementKind<'_>, form: Form) -> Result<Templates, SourceCode>
-    ensures { Answers (faults.fault_of form kind.now)
+    ensures { Answers (is.faults_by form (statement_kind kind.now))
         (is.templates form (statement_kind kind.now)) result }
 {
     match kind {
@@ -91,11 +131,12 @@ fn expanded(kind: &StatementKind<'_>, form: Form) -> Result<Templates, SourceCod
 ///
 /// # Errors
 ///
-/// At the statement's line the fault with the lowest number: E10 for a scratch register that is x0 or the one that is
-/// stored, E12 for a low part of a distance to a constant, E13 for an open operand where a constant has to stand, E14 for
-/// a constant out of its range, in place of a target, or a part of one that the field does not take. Never want of memory.
+/// At the statement's line the fault with the lowest number: that of its expression; E10 for a scratch register that is
+/// x0 or the one that is stored; E12 for a low part of a distance to no label; E13 for an address where a constant has to
+/// stand; E14 for a constant out of its range, or in place of a target. Where nothing else is wrong, E9 for a part of a value
+/// in a field that takes none. Never want of memory.
 pub fn expansion(statement: &Statement<'_>, form: Form) -> Result<Templates, SourceFault>
-    ensures { IsExpansion (faults.fault_of form (statement.now).kind)
+    ensures { IsExpansion (is.faults_by form (statement_kind (statement.now).kind))
         (is.templates form (statement_kind (statement.now).kind)) (statement.now).line result }
 {
     match expanded(&statement.kind, form) {

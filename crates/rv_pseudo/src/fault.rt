@@ -1,28 +1,45 @@
-//! The faults of a statement of code, by the values of its operands.
+//! The faults of a statement of code, by what its expression is worth.
+//!
+//! A statement with several faults has the lowest of their codes. So each function answers at most one code, and where
+//! two faults can meet (`beside_scratch`) it takes the lower.
 
-ghost use Rattle.std.specs.Prelude.{◌≡◌, ◌==◌, Some, None};
+ghost use Rattle.std.specs.Prelude.{◌≡◌, ◌==◌, ℕ, not, List, ◌++◌};
+ghost use Rattle.rv_text_laws.specs.Codes as codes;
+ghost use Rattle.rv_text_laws.specs.Codes.{scratch_register};
+ghost use Rattle.rv_lexer.specs.Fault.{number_of, IsLowest};
 ghost use Rattle.rv_parse_laws.specs.Syntax as syntax;
-ghost use Rattle.rv_pseudo_laws.specs.Valid.{form_takes, is_amount};
+ghost use Rattle.rv_pseudo_laws.specs.InstructionFaults as table;
+ghost use Rattle.rv_pseudo_laws.specs.Valid as range;
 ghost use Rattle.rv_pseudo.specs.Faults as is;
 
 use crate::bare::is_x0;
 use crate::li::is_short;
 use crate::number::{lower_part, upper_part};
 use crate::target::takes_target;
+use crate::template::Worth;
 use rv_isa::{Reg, RegisterOperation, ShiftOperation};
 use rv_lexer::SourceCode;
 use rv_statement::{Function, Operation};
 
+// ---- ranges
+
 /// Whether a shift can have this amount.
 fn is_amount(operation: ShiftOperation, number: i64) -> bool
-    ensures { result ≡ is_amount operation number }
+    ensures { result ≡ range.is_amount operation number }
 {
     0 <= number && number < i64::from(operation.limit())
 }
 
+/// Whether a number has 20 bits.
+fn is_upper_20(number: i64) -> bool
+    ensures { result ≡ range.is_upper_20 number }
+{
+    0 <= number && number < 1 << 20
+}
+
 /// Whether a number is in the range of the form with a constant of an operation on registers.
 fn form_takes(operation: RegisterOperation, number: i64) -> bool
-    ensures { result ≡ form_takes (syntax.with_constant operation) number }
+    ensures { result ≡ range.form_takes (syntax.with_constant operation) number }
 {
     match operation {
         RegisterOperation::Add
@@ -42,117 +59,104 @@ fn form_takes(operation: RegisterOperation, number: i64) -> bool
     }
 }
 
-/// Whether a number is in the range of the statement's field.
-pub fn takes(operation: Operation, number: i64) -> bool
-    ensures { result ≡ is.takes operation number }
+/// Whether a number is in the range of an operation's.
+fn takes(operation: Operation, number: i64) -> bool
+    ensures { result ≡ range.takes (is.mnemonic_of operation) number }
 {
     match operation {
         Operation::Registers(operation, _, _) => form_takes(operation, number),
         Operation::Shift(operation, _, _) => is_amount(operation, number),
-        Operation::Upper(_, _) => 0 <= number && number < 1 << 20,
+        Operation::Upper(_, _) => is_upper_20(number),
         Operation::Li(_) => true,
-        Operation::Immediate(..)
-        | Operation::Load(..)
-        | Operation::Store(..)
-        | Operation::Jalr(..)
-        | Operation::JalrThen(..)
-        | Operation::JalrLinked(_)
-        | Operation::Jr(_) => is_short(number),
-        _ => false,
+        _ => is_short(number),
     }
 }
 
-/// Whether the form with a constant of an operation on registers has 12 signed bits.
-fn has_immediate(operation: RegisterOperation) -> bool
-    ensures { result ≡ is.is_immediate (syntax.with_constant operation) }
+// ---- fields
+
+/// Whether an operation on registers has a form with an amount in place of the last.
+fn has_amount(operation: RegisterOperation) -> bool
+    ensures { result ≡ not (table.is_signed_12 (syntax.with_constant operation)) }
 {
     matches!(
         operation,
-        RegisterOperation::Add
-            | RegisterOperation::Slt
-            | RegisterOperation::Sltu
-            | RegisterOperation::Xor
-            | RegisterOperation::Or
-            | RegisterOperation::And
-            | RegisterOperation::Addw
+        RegisterOperation::Sll
+            | RegisterOperation::Srl
+            | RegisterOperation::Sra
+            | RegisterOperation::Sllw
+            | RegisterOperation::Srlw
+            | RegisterOperation::Sraw
     )
 }
 
-/// Whether the field takes the low part of an address.
-fn is_low(operation: Operation) -> bool
-    ensures { result ≡ is.is_low operation }
+/// Whether an operation's number may be the low part of an address.
+fn takes_address(operation: Operation) -> bool
+    ensures { result ≡ table.takes_address (is.mnemonic_of operation) }
 {
     match operation {
-        Operation::Registers(operation, _, _) => has_immediate(operation),
-        Operation::Immediate(..)
-        | Operation::Load(..)
-        | Operation::Store(..)
-        | Operation::Jalr(..)
-        | Operation::JalrThen(..)
-        | Operation::JalrLinked(_)
-        | Operation::Jr(_) => true,
-        _ => false,
+        Operation::Registers(operation, ..) => !has_amount(operation),
+        Operation::Shift(..) | Operation::Li(_) => false,
+        _ => true,
     }
 }
 
-/// Whether the field takes a part of an address.
-fn takes_part(function: Function, operation: Operation) -> bool
-    ensures { result ≡ is.takes_part function operation }
+/// Whether an operation on registers has a form with a constant.
+fn has_constant(operation: RegisterOperation) -> bool
+    ensures { result ≡ is.is_constant_form (syntax.with_constant operation) }
 {
-    match function {
-        Function::Hi => is_upper(operation),
-        Function::PcrelHi => is_upper(operation),
-        Function::Lo => is_low(operation),
-        Function::PcrelLo => is_low(operation),
+    match operation {
+        RegisterOperation::Add
+        | RegisterOperation::Slt
+        | RegisterOperation::Sltu
+        | RegisterOperation::Xor
+        | RegisterOperation::Or
+        | RegisterOperation::And
+        | RegisterOperation::Addw => true,
+        _ => has_amount(operation),
     }
 }
 
-/// Whether the field takes the upper part of an address.
+/// Whether the field takes the upper part of a value.
 fn is_upper(operation: Operation) -> bool
     ensures { result ≡ is.is_upper operation }
 {
     matches!(operation, Operation::Upper(..))
 }
 
-/// The fault of what has to be so.
-fn unless(good: bool, code: SourceCode) -> Option<SourceCode>
-    ensures { result ≡ is.unless good code }
+/// Whether the field takes the low part of a value.
+fn is_lower(operation: Operation) -> bool
+    ensures { result ≡ is.is_lower operation }
 {
-    if good { None } else { Some(code) }
-}
-
-/// The fault of an operand that is a constant.
-fn constant_fault(
-    operation: Operation,
-    function: Option<Function>,
-    value: i64,
-) -> Option<SourceCode>
-    ensures { result ≡ is.operand_fault operation function (Some value) }
-{
-    match function {
-        None => unless(takes(operation, value), SourceCode::ImmediateRange),
-        Some(Function::Hi) => unless(
-            is_upper(operation) && takes(operation, upper_part(value)),
-            SourceCode::ImmediateRange,
-        ),
-        Some(Function::Lo) => unless(
-            !is_upper(operation) && takes(operation, lower_part(value)),
-            SourceCode::ImmediateRange,
-        ),
-        Some(Function::PcrelHi) => Some(SourceCode::ImmediateRange),
-        Some(Function::PcrelLo) => Some(SourceCode::UndefinedLocal),
+    match operation {
+        Operation::Registers(operation, _, _) => has_constant(operation),
+        Operation::Immediate(..)
+        | Operation::Shift(..)
+        | Operation::Load(..)
+        | Operation::Store(..)
+        | Operation::StoreSymbol(..)
+        | Operation::Jalr(..)
+        | Operation::JalrThen(..)
+        | Operation::JalrLinked(_)
+        | Operation::Jr(_)
+        | Operation::Li(_) => true,
+        _ => false,
     }
 }
 
-/// The fault of an operand that is open.
-fn open_fault(operation: Operation, function: Option<Function>) -> Option<SourceCode>
-    ensures { result ≡ is.operand_fault operation function None }
+/// Whether there is a row for an operand without faults.
+pub(crate) fn is_placed(operation: &Operation, function: Option<Function>) -> bool
+    ensures { result ≡ is.is_placed operation.now function }
 {
     match function {
-        None => unless(takes_target(&operation), SourceCode::NotConstant),
-        Some(function) => unless(takes_part(function, operation), SourceCode::NotConstant),
+        None => true,
+        Some(Function::Hi) => is_upper(*operation),
+        Some(Function::Lo) => is_lower(*operation),
+        Some(Function::PcrelHi) => is_upper(*operation),
+        Some(Function::PcrelLo) => is_lower(*operation),
     }
 }
+
+// ---- scratch registers
 
 /// Whether two registers are one.
 fn is_same(a: Reg, b: Reg) -> bool
@@ -161,32 +165,146 @@ fn is_same(a: Reg, b: Reg) -> bool
     a.number() == b.number()
 }
 
-/// Whether a statement's scratch register cannot be one.
-fn is_bad_scratch(operation: &Operation) -> bool
-    ensures { result ≡ is.is_bad_scratch operation.now }
+/// Whether a register on the way to a symbol cannot be used: x0 holds no address, and a store still needs its own.
+fn is_bad_scratch(operation: Operation) -> bool
+    ensures { result ≡ is.is_bad_scratch operation }
 {
     match operation {
-        Operation::LoadSymbol(_, rd) => is_x0(*rd),
-        Operation::StoreSymbol(_, rs2, rt) => is_x0(*rt) || is_same(*rt, *rs2),
-        Operation::Call(rd) => is_x0(*rd),
-        Operation::Jump(rt) => is_x0(*rt),
+        Operation::LoadSymbol(_, rd) => is_x0(rd),
+        Operation::StoreSymbol(_, rs2, rt) => is_x0(rt) || is_same(rt, rs2),
+        Operation::Call(rd) => is_x0(rd),
+        Operation::Jump(rt) => is_x0(rt),
         _ => false,
     }
 }
 
-/// The fault of a statement with an operand, the one with the lowest number.
-pub(crate) fn fault(
+/// The fault of a statement that also has that of a scratch register, if it has: the lower one.
+#[tactic(auto, using(crate::proofs::LowestLemmas::first_lowest))]
+fn beside_scratch(is_bad: bool, fault: Option<SourceCode>) -> Option<SourceCode>
+    ensures { (cs : List ℕ) → IsLowest fault cs
+        → IsLowest result (codes.faulty_if is_bad scratch_register ++ cs) }
+{
+    if !is_bad {
+        return fault;
+    }
+    match fault {
+        Some(code) => Some(if code.number() < 10 {
+            code
+        } else {
+            SourceCode::ScratchRegister
+        }),
+        None => Some(SourceCode::ScratchRegister),
+    }
+}
+
+// ---- by what an expression is worth
+
+/// The code, where it is a fault.
+fn faulty_if(test: bool, code: SourceCode) -> Option<SourceCode>
+    ensures { IsLowest result (codes.faulty_if test (number_of code)) }
+{
+    if test { Some(code) } else { None }
+}
+
+/// The fault of a number that has to be a constant in its range.
+fn number_fault(operation: Operation, worth: Worth) -> Option<SourceCode>
+    ensures { IsLowest result (table.number_faults (is.mnemonic_of operation) (is.worth_of worth)) }
+{
+    match worth {
+        Worth::Number(number) => {
+            faulty_if(!takes(operation, number), SourceCode::ImmediateRange)
+        }
+        Worth::Address(_) => Some(SourceCode::NotConstant),
+        Worth::Wrong(code) => Some(code),
+    }
+}
+
+/// The fault of a target.
+fn target_fault(worth: Worth) -> Option<SourceCode>
+    ensures { IsLowest result (table.target_faults (is.worth_of worth)) }
+{
+    match worth {
+        Worth::Number(_) => Some(SourceCode::ImmediateRange),
+        Worth::Address(_) => None,
+        Worth::Wrong(code) => Some(code),
+    }
+}
+
+/// The fault of what has its upper part taken.
+fn upper_fault(worth: Worth) -> Option<SourceCode>
+    ensures { IsLowest result (table.upper_faults (is.worth_of worth)) }
+{
+    match worth {
+        Worth::Number(number) => {
+            faulty_if(!is_upper_20(upper_part(number)), SourceCode::ImmediateRange)
+        }
+        Worth::Address(_) => None,
+        Worth::Wrong(code) => Some(code),
+    }
+}
+
+/// The fault of what has its low part taken, as an operation's number.
+fn low_fault(operation: Operation, worth: Worth) -> Option<SourceCode>
+    ensures { IsLowest result (table.low_faults (is.mnemonic_of operation) (is.worth_of worth)) }
+{
+    match worth {
+        Worth::Number(number) => faulty_if(
+            !takes(operation, lower_part(number)),
+            SourceCode::ImmediateRange,
+        ),
+        Worth::Address(_) => faulty_if(!takes_address(operation), SourceCode::NotConstant),
+        Worth::Wrong(code) => Some(code),
+    }
+}
+
+/// Whether it is a label of the source.
+fn is_labelled(worth: Worth) -> bool
+    ensures { result ≡ table.is_labelled (is.worth_of worth) }
+{
+    match worth {
+        Worth::Number(_) => false,
+        Worth::Address(labelled) => labelled,
+        Worth::Wrong(_) => false,
+    }
+}
+
+/// The fault of what names where the upper part of a distance stands, whose low part is an operation's number.
+fn distance_fault(operation: Operation, worth: Worth) -> Option<SourceCode>
+    ensures { IsLowest result
+        (table.distance_faults (is.mnemonic_of operation) (is.worth_of worth)) }
+{
+    if !is_labelled(worth) {
+        return Some(SourceCode::UndefinedLocal);
+    }
+    faulty_if(!takes_address(operation), SourceCode::NotConstant)
+}
+
+// ---- operands
+
+/// The fault of an operation with an expression.
+fn value_fault(operation: Operation, worth: Worth) -> Option<SourceCode>
+    ensures { IsLowest result (is.value_faults operation (is.worth_of worth)) }
+{
+    if takes_target(&operation) {
+        beside_scratch(is_bad_scratch(operation), target_fault(worth))
+    } else {
+        number_fault(operation, worth)
+    }
+}
+
+/// The fault of an operation with an operand, the one with the lowest number.
+pub(crate) fn operand_fault(
     operation: &Operation,
     function: Option<Function>,
-    value: Option<i64>,
+    worth: Worth,
 ) -> Option<SourceCode>
-    ensures { result ≡ is.fault operation.now function value }
+    ensures { IsLowest result (is.faults_of operation.now function (is.worth_of worth)) }
 {
-    if is_bad_scratch(operation) {
-        return Some(SourceCode::ScratchRegister);
-    }
-    match value {
-        Some(value) => constant_fault(*operation, function, value),
-        None => open_fault(*operation, function),
+    match function {
+        None => value_fault(*operation, worth),
+        Some(Function::Hi) => upper_fault(worth),
+        Some(Function::Lo) => low_fault(*operation, worth),
+        Some(Function::PcrelHi) => target_fault(worth),
+        Some(Function::PcrelLo) => distance_fault(*operation, worth),
     }
 }

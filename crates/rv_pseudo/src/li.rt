@@ -44,7 +44,7 @@ fn push_unless_zero(sequence: &mut ArrayVec<Inst, 8>, number: i32, inst: Inst)
 }
 
 /// Whether a number has 12 bits in two's complement.
-pub fn is_short(value: i64) -> bool
+pub(crate) fn is_short(value: i64) -> bool
     ensures { result ≡ is_signed 12 value }
 {
     -2048 <= value && value < 2048

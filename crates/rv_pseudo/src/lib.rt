@@ -2,17 +2,17 @@
 //! that are still open.
 //!
 //! It takes a statement of `rv_statement` and a [`Form`] of it: whether compressed code is on, the bytes of a branch or a
-//! jump, and the value of its expression where that is a constant. It gives [`Template`]s, or the fault of its operands.
+//! jump, and what its expression is worth. It gives [`Template`]s, or the lowest code of its faults.
 //!
 //! Main contracts: `expansion` answers the statement's row of the one table, `rv_pseudo_laws/specs/Code`, as templates
-//! (`specs/Templates`), exactly where it has no fault (`specs/Faults`); `without_operand` and `with_operand` answer the same of a
+//! (`specs/Templates`), exactly where it has no fault (`rv_pseudo_laws/specs/InstructionFaults`); `without_operand` and `with_operand` answer the same of a
 //! statement without an expression and of an operation with one; `li_sequence` answers `li`. What the rows are worth
 //! the laws of `rv_pseudo_laws` say. Neither takes memory. It must not know what names mean, where a statement stands, or
 //! how an instruction is written as bits.
 //!
 //! ```text
 //! let sequence = li_sequence(a0, 2048);            // lui a0, 1 and addiw a0, a0, -2048
-//! let form = Form { value: None, bytes: 4, rvc: true };
+//! let form = Form { worth: Worth::Address(false), bytes: 4, rvc: true };
 //! let templates = expansion(&statement, form)?;    // of `la a0, x`: auipc under PCREL_HI20, addi under PCREL_LO12_I
 //! ```
 //!
@@ -29,8 +29,6 @@ mod template;
 
 pub use bare::{single_bare, without_operand};
 pub use expanding::{expansion, single, with_operand};
-pub use fault::takes;
-pub use li::{is_short, li_sequence};
-pub use number::{lower_part, upper_part};
+pub use li::li_sequence;
 pub use target::takes_target;
-pub use template::{Form, Template, Templates};
+pub use template::{Form, Template, Templates, Worth};

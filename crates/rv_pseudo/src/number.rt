@@ -4,7 +4,7 @@
 //! template carries the relocation that fills it, so both cases make the same instruction. Ranges are tested before
 //! (`fault`), so each function here asks for a number in range and refuses none.
 
-ghost use Rattle.std.specs.Prelude.{◌≡◌, ◌<◌, ◌^◌, Option, true};
+ghost use Rattle.std.specs.Prelude.{◌≡◌, ◌<◌, ◌^◌, Option, true, false};
 ghost use Rattle.rv_isa.specs.Operations.{of_immediate, of_shift, of_upper, of_load, of_store};
 ghost use Rattle.rv_isa.specs.declared.kind.Kind.{Kind as SpecKind};
 ghost use Rattle.rv_isa.specs.Ranges.{IsSigned12, shift_limit};
@@ -13,7 +13,7 @@ ghost use Rattle.rv_isa_laws.specs.Halves.{hi, lo};
 ghost use Rattle.rv_parse_laws.specs.Syntax as syntax;
 ghost use Rattle.rv_pseudo_laws.specs.Code as row;
 ghost use Rattle.rv_pseudo_laws.specs.Li.{is_signed};
-ghost use Rattle.rv_pseudo_laws.specs.Valid.{form_takes, is_amount, is_upper_20};
+ghost use Rattle.rv_pseudo_laws.specs.Valid.{form_takes, is_amount, is_upper_20, takes};
 ghost use Rattle.rv_pseudo.specs.Faults as faults;
 ghost use Rattle.rv_pseudo.specs.Templates as is;
 
@@ -138,7 +138,8 @@ fn jump(rd: Reg, rs1: Reg, number: i64) -> Inst
 
 /// The one instruction of a statement with a number that is in the range of its field; none of `li`.
 fn instruction(operation: Operation, number: i64) -> Option<Inst>
-    requires { faults.takes operation number ≡ true }
+    requires range { takes (faults.mnemonic_of operation) number ≡ true }
+    requires away { faults.takes_target operation ≡ false }
     ensures { is.IsNumberedOne operation number result }
 {
     match operation {
@@ -162,7 +163,8 @@ fn instruction(operation: Operation, number: i64) -> Option<Inst>
 
 /// The same of an operation that is lent.
 pub(crate) fn numbered_one(operation: &Operation, number: i64) -> Option<Inst>
-    requires { faults.takes operation.now number ≡ true }
+    requires range { takes (faults.mnemonic_of operation.now) number ≡ true }
+    requires away { faults.takes_target operation.now ≡ false }
     ensures { is.IsNumberedOne operation.now number result }
 {
     instruction(*operation, number)
@@ -181,7 +183,8 @@ fn loaded(operation: Operation, number: i64) -> Templates
 
 /// The templates of a statement with a number that is in the range of its field.
 pub(crate) fn numbered(operation: Operation, number: i64, reloc: Option<Kind>) -> Templates
-    requires { faults.takes operation number ≡ true }
+    requires range { takes (faults.mnemonic_of operation) number ≡ true }
+    requires away { faults.takes_target operation ≡ false }
     ensures { is.AreNumbered operation number reloc result.items }
 {
     match numbered_one(&operation, number) {
@@ -191,14 +194,14 @@ pub(crate) fn numbered(operation: Operation, number: i64, reloc: Option<Kind>) -
 }
 
 /// The upper part of a number.
-pub fn upper_part(value: i64) -> i64
+pub(crate) fn upper_part(value: i64) -> i64
     ensures { result ≡ hi value }
 {
     halves(value).0
 }
 
 /// The lower part of a number.
-pub fn lower_part(value: i64) -> i64
+pub(crate) fn lower_part(value: i64) -> i64
     ensures { result ≡ lo value }
 {
     i64::from(halves(value).1)

@@ -2,16 +2,30 @@
 
 ghost use Rattle.std.specs.Prelude.{◌≡◌, [], ◌∷◌, map};
 ghost use Rattle.rv_isa.specs.declared.instruction.Inst.{Inst as Instruction};
+ghost use Rattle.rv_pseudo.specs.Faults as faults;
 ghost use Rattle.rv_pseudo.specs.Templates as is;
 
 use arrayvec::ArrayVec;
 use rv_isa::{Inst, Kind};
+use rv_lexer::SourceCode;
+
+/// What an expression is worth to an instruction.
+#[derive(Clone, Copy, Debug, PartialEq, Eq, Drop)]
+pub enum Worth {
+    /// A constant.
+    Number(i64),
+    /// The address of a symbol and a constant beside it: whether the symbol is a label of the source. Only `%pcrel_lo` asks
+    /// that.
+    Address(bool),
+    /// Neither, and the fault.
+    Wrong(SourceCode),
+}
 
 /// How a statement is written: what its templates depend on beside the statement.
 #[derive(Clone, Copy, Debug, PartialEq, Eq, Drop)]
 pub struct Form {
-    /// The value of its expression where that is a constant, before a function of it.
-    pub value: Option<i64>,
+    /// What its expression is worth, before a function of it.
+    pub worth: Worth,
     /// The bytes of a conditional branch (2, 4 or 8) or of `jal x0` (2 or 4); not looked at in others. A call has 8: only
     /// the linker shortens it.
     pub bytes: u8,
@@ -37,6 +51,17 @@ impl Default for Template {
 
 /// The templates of a statement, eight at most.
 pub type Templates = ArrayVec<Template, 8>;
+
+/// The constant that an expression is, if it is one.
+pub(crate) fn constant(worth: Worth) -> Option<i64>
+    ensures { result ≡ faults.constant_in (faults.worth_of worth) }
+{
+    match worth {
+        Worth::Number(number) => Some(number),
+        Worth::Address(_) => None,
+        Worth::Wrong(_) => None,
+    }
+}
 
 /// An instruction whose operands are all known.
 pub(crate) fn plain(inst: Inst) -> Template

@@ -3,3 +3,4 @@ pub mod Runs
 pub mod Code
 pub mod Filled
 pub mod Valid
+pub mod InstructionFaults

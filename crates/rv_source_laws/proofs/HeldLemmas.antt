@@ -8,7 +8,8 @@ use Rattle.rv_statement.specs.Statement.{StatementKind, Label, Numbered, Instruc
 use Rattle.rv_unit_laws.specs.Contributions.{Contribution, Bytes, Zero_bytes, contribution}
 use Rattle.rv_unit_laws.specs.Sections.{Section, is_nobits, section_at, current_section}
 use Rattle.rv_unit_laws.specs.Tables.{Tables, at_start, here, value, counted, contents_size, after, tables, stood, opened_of}
-use Rattle.rv_unit_laws.specs.Faults.{Fault, faulty_if, lowest, at_line, size_faults, contents_faults, past_section, contribution_faults, directive_faults, faults, first_fault_from, first_fault}
+use Rattle.rv_text_laws.specs.Codes.{faulty_if, lowest}
+use Rattle.rv_unit_laws.specs.Faults.{Fault, at_line, size_faults, contents_faults, past_section, contribution_faults, directive_faults, faults, first_fault_from, first_fault}
 use Rattle.rv_source_laws.specs.Located.{Located, located_from}
 use Rattle.rv_unit_laws.proofs.OpenedLemmas.{after_opened}
 use Rattle.rv_unit_laws.proofs.FewLemmas.{no_fault_from}

@@ -13,7 +13,8 @@ use Rattle.rv_statement.specs.Statement.{StatementKind, Label, Numbered, Instruc
 use Rattle.rv_unit_laws.specs.Sections.{entered_by}
 use Rattle.rv_unit_laws.specs.Tables.{Tables, Labelled, Assignment, here, value, label_of, assigned_ever, is_location, gives_location, is_defined, has_location, may_set, assigned, assigned_by, with_assignment, with_label, with_section, after_directive, after, after_all}
 use Rattle.rv_unit_laws.proofs.AloneLemmas.{Same, section_same, directive_same, own_label, other_label, undefined, unplaced}
-use Rattle.rv_unit_laws.specs.Faults.{lowest, faults, first_fault_from}
+use Rattle.rv_text_laws.specs.Codes.{lowest}
+use Rattle.rv_unit_laws.specs.Faults.{faults, first_fault_from}
 use Rattle.rv_unit_laws.proofs.FoundLemmas.{same_bytes}
 use Rattle.rv_unit_laws.proofs.BeforeLemmas.{IsBefore, placed_latest, before_after}
 use Rattle.rv_source_laws.specs.Located.{Located, is_placed, located_from}

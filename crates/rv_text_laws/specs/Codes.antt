@@ -1,6 +1,6 @@
 -- The codes of a source's faults: the numbers after the `E`.
 
-use Rattle.std.specs.Prelude.{ℕ}
+use Rattle.std.specs.Prelude.{ℕ, Bool, min, List, [], ◌∷◌, Option, Some, None, if◌then◌else◌}
 
 -- a byte that stands in strings and comments alone
 abbrev pub bad_byte : ℕ
@@ -69,3 +69,17 @@ option_stack = 16
 -- a source, line, name, alignment or section beyond its limit
 abbrev pub limit : ℕ
 limit = 17
+
+-- ---- the codes of what has several faults
+
+-- the code of a fault where it is one
+abbrev pub faulty_if : Bool → ℕ → List ℕ
+faulty_if test code = if test then code ∷ [] else []
+
+-- the lowest of codes
+abbrev pub lowest : List ℕ → Option ℕ
+lowest [] = None
+lowest (c ∷ cs) = elim (lowest cs) [
+  | None ↦ Some c
+  | Some d ↦ Some (min c d)
+]

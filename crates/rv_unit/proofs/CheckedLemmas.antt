@@ -2,13 +2,13 @@
 
 use Rattle.std.proofs.Common.{◌≡◌, ℕ, suc, ◌+◌, ◌<◌, ◌≤◌, List, ◌∷◌, length, map, drop, get_or, sym, ap, subst, ◌∙◌, arith, Option, Some, None, option_map}
 use Rattle.rv_lexer.specs.declared.fault.SourceCode.{SourceCode}
-use Rattle.rv_lexer.specs.Fault.{number_of}
+use Rattle.rv_lexer.specs.Fault.{number_of, IsLowest}
 use Rattle.rv_statement.specs.declared.statement.Statement.{Statement}
 use Rattle.rv_statement.specs.View.{statement_of}
-use Rattle.rv_unit.specs.Faults.{IsLowest}
 use Rattle.rv_statement.specs.Statement.{Statement as SpecStatement}
 use Rattle.rv_unit_laws.specs.Tables.{after, tables}
-use Rattle.rv_unit_laws.specs.Faults.{faults, lowest, at_line, first_fault_from}
+use Rattle.rv_text_laws.specs.Codes.{lowest}
+use Rattle.rv_unit_laws.specs.Faults.{faults, at_line, first_fault_from}
 use Rattle.rv_unit_tables.proofs.FillingLemmas.{drop_next}
 use Rattle.std.specs.Prelude.{slice_get}
 use Rattle.std.proofs.lemmas.List.{length-map}

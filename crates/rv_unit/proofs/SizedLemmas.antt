@@ -4,7 +4,8 @@ use Rattle.std.proofs.Common.{◌≡◌, ℕ, ◌+◌, ◌-◌, ◌^◌, ◌≤�
 use Rattle.std.proofs.lemmas.Bool.{leb-true, le-leb}
 use Rattle.std.specs.Prelude.{min, not, ◌&&◌, ◌||◌}
 use Rattle.rv_unit_laws.specs.Sections.{Section, is_nobits}
-use Rattle.rv_unit_laws.specs.Faults.{faulty_if, past_section}
+use Rattle.rv_text_laws.specs.Codes.{faulty_if}
+use Rattle.rv_unit_laws.specs.Faults.{past_section}
 
 shown : (offset n : ℕ) → nat_le (offset + min n (2 ^ 64 - 1)) (2 ^ 28) ≡ nat_le (offset + n) (2 ^ 28)
 shown offset n = by (nat_le (offset + n) (2 ^ 28)) refl

@@ -5,12 +5,13 @@
 //! at.
 
 ghost use Rattle.std.specs.Prelude.{◌≡◌, ◌≤◌, ◌<◌, ◌+◌, ◌^◌, ℕ, List, [], ◌∷◌, ◌++◌, Option, Some, None, not, ◌&&◌, ◌||◌, ◌==◌, nat_le, is_some};
+ghost use Rattle.rv_text_laws.specs.Codes as codes;
 ghost use Rattle.rv_text_laws.specs.Codes.{duplicate_label, wrong_section};
-ghost use Rattle.rv_lexer.specs.Fault.{number_of};
+ghost use Rattle.rv_lexer.specs.Fault.{number_of, IsLowest};
 ghost use Rattle.rv_unit_laws.specs.Sections.{is_nobits};
 ghost use Rattle.rv_unit_laws.specs.Faults as laws;
 ghost use Rattle.rv_unit_laws.specs.Tables as tables;
-ghost use Rattle.rv_unit.specs.Faults.{IsLowest, ForValue};
+ghost use Rattle.rv_unit.specs.Faults.{ForValue};
 ghost use Rattle.rv_unit_tables.specs.Sections.{section_of};
 
 use rv_statement::Choice;
@@ -34,7 +35,7 @@ pub(crate) fn lower(one: Option<SourceCode>, other: Option<SourceCode>) -> Optio
 
 /// The code, where it is a fault.
 pub(crate) fn faulty_if(test: bool, code: SourceCode) -> Option<SourceCode>
-    ensures { IsLowest result (laws.faulty_if test (number_of code)) }
+    ensures { IsLowest result (codes.faulty_if test (number_of code)) }
 {
     if test { Some(code) } else { None }
 }
@@ -119,7 +120,7 @@ pub(crate) fn past_section(executable: bool, offset: u32, bytes: u64) -> Option<
 /// The fault of data at an offset, but for the faults of its values.
 pub(crate) fn data_fault(section: Section<'_>, offset: u32, bytes: u64) -> Option<SourceCode>
     ensures { IsLowest result
-        (laws.faulty_if
+        (codes.faulty_if
         (section.entry.executable || is_nobits (section_of section.entry)) wrong_section
         ++ laws.past_section section.entry.executable offset bytes) }
 {
@@ -176,7 +177,7 @@ pub(crate) fn alignment_fault(
 /// The fault of a `.set` that gives no location, of a name that a label or a location has before.
 fn constant_set_fault(placed: bool, value: &Outcome<'_>) -> Option<SourceCode>
     ensures { ForValue value.now
-        (λ v. IsLowest result (laws.constant_faults v ++ laws.faulty_if placed duplicate_label)) }
+        (λ v. IsLowest result (laws.constant_faults v ++ codes.faulty_if placed duplicate_label)) }
 {
     lower(
         constant_fault(value),
@@ -229,7 +230,7 @@ pub(crate) fn choice_fault(depth: usize, choice: Choice) -> Option<SourceCode>
 /// The fault of an instruction in a section: it is none of code, or one without bytes.
 pub(crate) fn instruction_fault(section: Section<'_>) -> Option<SourceCode>
     ensures { IsLowest result
-        (laws.faulty_if
+        (codes.faulty_if
         (not section.entry.executable || is_nobits (section_of section.entry)) wrong_section) }
 {
     faulty_if(

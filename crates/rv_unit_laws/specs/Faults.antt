@@ -1,8 +1,8 @@
 -- The faults of labels and directives, and of instructions outside code; the first of them (GNU as,
 -- "Pseudo Ops", for what directives take).
 
-use Rattle.std.specs.Prelude.{ℕ, suc, ◌+◌, ◌^◌, Bool, true, false, not, ◌&&◌, ◌||◌, ◌==◌, nat_lt, nat_le, min, List, [], ◌∷◌, ◌++◌, length, drop, flat_map, Option, Some, None, is_some, if◌then◌else◌}
-use Rattle.rv_text_laws.specs.Codes.{duplicate_label, not_constant, immediate_range, wrong_section, option_stack, limit}
+use Rattle.std.specs.Prelude.{ℕ, suc, ◌+◌, ◌^◌, Bool, true, false, not, ◌&&◌, ◌||◌, ◌==◌, nat_lt, nat_le, List, [], ◌∷◌, ◌++◌, length, drop, flat_map, Option, Some, None, is_some, if◌then◌else◌}
+use Rattle.rv_text_laws.specs.Codes.{duplicate_label, not_constant, immediate_range, wrong_section, option_stack, limit, faulty_if, lowest}
 use Rattle.rv_text_laws.specs.Values.{Value, Constant, Symbolic, Difference, Faulty}
 use Rattle.rv_statement.specs.Limits.{most_statements}
 use Rattle.rv_statement.specs.Statement.{StatementKind, Label, Numbered, Instruction, Directs, Statement, Expression, Directive, Enters, Opens, Sets, Chooses}
@@ -12,18 +12,6 @@ use Rattle.rv_text_laws.specs.Expression.{Here}
 use Rattle.rv_unit_laws.specs.Sections.{Section, is_nobits, current_section, place_of_name, most_sections, entered_by}
 use Rattle.rv_unit_laws.specs.Contributions.{Contents, Numbers, Texts, AlignmentForm, As_power, As_bytes, Contribution, Nothing, Bytes, Zero_bytes, Alignment, contribution}
 use Rattle.rv_unit_laws.specs.Tables.{Tables, at_start, after, tables, here, value, has_location, is_defined, is_power, greatest_alignment, longest_section, alignment_as, contents_size, counted, padding, opened_of}
-
--- the code of a fault where it is one
-abbrev pub faulty_if : Bool → ℕ → List ℕ
-faulty_if test code = if test then code ∷ [] else []
-
--- the lowest of codes
-abbrev pub lowest : List ℕ → Option ℕ
-lowest [] = None
-lowest (c ∷ cs) = elim (lowest cs) [
-  | None ↦ Some c
-  | Some d ↦ Some (min c d)
-]
 
 -- a value where a constant is wanted
 abbrev pub constant_faults : Value → List ℕ

@@ -23,7 +23,8 @@ use Rattle.rv_source_laws.proofs.HeldLemmas.{none_left}
 use Rattle.rv_object_laws.specs.Shortened.{short_call}
 use Rattle.rv_assemble_laws.specs.CodeFields.{symbol_field, low_field, field_of, relax_fields}
 use Rattle.rv_assemble_laws.specs.Coded.{constants, AreCodedParts, joined, instructions_in}
-use Rattle.rv_assemble_laws.specs.InstructionFaults.{instruction_faults, operand_faults, scratch_faults, own_faults, has_row as has_operands_row, is_label}
+use Rattle.rv_pseudo_laws.specs.InstructionFaults.{operand_faults, scratch_faults, own_faults, has_row as has_operands_row}
+use Rattle.rv_assemble_laws.specs.InstructionFaults.{instruction_faults, worths, is_label}
 use Rattle.rv_assemble_laws.specs.Templates.{Open, Coded, open_at}
 use Rattle.rv_assemble_laws.specs.Sites.{Site, form, coded_templates, HasSize}
 use Rattle.rv_sources_link_laws.proofs.sections.AssembledLemmas.{templates}
@@ -79,17 +80,17 @@ module _ (t : Tables) (z : Site) (multiple : ℕ) (m : Mnemonic) (os : List Oper
       parts_are : c.ps ≡ Joined kind.CallPlt (auipc g.by) (jalr link g.by (pos 0)) ∷ []
       parts_are = some_same c.ps (Joined kind.CallPlt (auipc g.by) (jalr link g.by (pos 0)) ∷ []) both
 
-      faultless : operand_faults v (is_label t z.located.ordinal) m (Target g.to) ≡ []
+      faultless : operand_faults (worths v (is_label t z.located.ordinal)) m (Target g.to) ≡ []
       faultless =
           let all = subst (λ k. instruction_faults v (is_label t z.located.ordinal) k ≡ []) is_kind sound in
-          other_fault v (is_label t z.located.ordinal) m os (Target g.to) g.operand
-          (none_left (scratch_faults m os) _ (none_of_its_own (has_operands_row v m os) (own_faults v (is_label t z.located.ordinal) m os) all)).1
+          other_fault (worths v (is_label t z.located.ordinal)) m os (Target g.to) g.operand
+          (none_left (scratch_faults m os) _ (none_of_its_own (has_operands_row (constants v) m os) (own_faults (worths v (is_label t z.located.ordinal)) m os) all)).1
 
       go : (coded : List (List ℕ)) → z.coded ≡ coded → AreCodedParts (rvc && are_closed c.ps) (Joined kind.CallPlt (auipc g.by) (jalr link g.by (pos 0)) ∷ []) coded → IsLongCall t z m os
       go [] e h = absurd h
       go (bytes ∷ x ∷ coded) e (h, hs) = absurd hs
       go (bytes ∷ []) e ((open_upper, open_lower, (first, (second, a, b, w))), hs) =
-          let (q, (at, (plus, is))) = target_symbolic (v g.to) faultless in
+          let (q, (at, (plus, is))) = target_symbolic (is_label t z.located.ordinal) (v g.to) faultless in
           record {
             goes = g;
             symbol = q;

@@ -483,17 +483,17 @@ module _ (p : Program) (os : List Object) (starts : Starts) (file : ℕ) (sites 
       by_operand (Some (Of_value ex)) f (closed, known) = known_closed ex (ap (has_maybe p s) f) (subst (IsPaired p s) (sym f) tt) closed known
       by_operand (Some (Applied Hi ex)) f (inl (closed, known)) = known_closed ex (ap (has_maybe p s) f) (subst (IsPaired p s) (sym f) tt) closed known
       by_operand (Some (Applied Hi ex)) f (inr ((k, (i, hi, ps_are)), open_one)) =
-          let (q, (meaning, (plus, symbolic))) = upper_symbolic (V ex) open_one (fault_none p os starts file sites number o sections low are settled all_worths whole plain address index section x is at none loaded relocated z h mnemonic os' e c (Applied Hi ex) f) in
+          let (q, (meaning, (plus, symbolic))) = upper_symbolic (is_label T ordinal) (V ex) open_one (fault_none p os starts file sites number o sections low are settled all_worths whole plain address index section x is at none loaded relocated z h mnemonic os' e c (Applied Hi ex) f) in
           absolute_part (Applied Hi ex) f ex refl tt q meaning plus symbolic kind.Hi20 i (ps_are ∙ is_hi k i hi) refl refl refl (λ at_q a. absolute_is at_q plus) (λ a. refl)
       by_operand (Some (Applied Lo ex)) f (inl (closed, known)) = known_closed ex (ap (has_maybe p s) f) (subst (IsPaired p s) (sym f) tt) closed known
       by_operand (Some (Applied Lo ex)) f (inr ((k, (i, inl lo, ps_are)), open_one)) =
-          let (q, (meaning, (plus, symbolic))) = low_symbolic mnemonic (V ex) open_one (fault_none p os starts file sites number o sections low are settled all_worths whole plain address index section x is at none loaded relocated z h mnemonic os' e c (Applied Lo ex) f) in
+          let (q, (meaning, (plus, symbolic))) = low_symbolic (is_label T ordinal) mnemonic (V ex) open_one (fault_none p os starts file sites number o sections low are settled all_worths whole plain address index section x is at none loaded relocated z h mnemonic os' e c (Applied Lo ex) f) in
           absolute_part (Applied Lo ex) f ex refl tt q meaning plus symbolic kind.Lo12I i (ps_are ∙ ap (λ k. Open_part k i ∷ []) lo) refl refl refl (λ at_q a. absolute_is at_q plus) (λ a. refl)
       by_operand (Some (Applied Lo ex)) f (inr ((k, (i, inr lo, ps_are)), open_one)) =
-          let (q, (meaning, (plus, symbolic))) = low_symbolic mnemonic (V ex) open_one (fault_none p os starts file sites number o sections low are settled all_worths whole plain address index section x is at none loaded relocated z h mnemonic os' e c (Applied Lo ex) f) in
+          let (q, (meaning, (plus, symbolic))) = low_symbolic (is_label T ordinal) mnemonic (V ex) open_one (fault_none p os starts file sites number o sections low are settled all_worths whole plain address index section x is at none loaded relocated z h mnemonic os' e c (Applied Lo ex) f) in
           absolute_part (Applied Lo ex) f ex refl tt q meaning plus symbolic kind.Lo12S i (ps_are ∙ ap (λ k. Open_part k i ∷ []) lo) refl refl refl (λ at_q a. absolute_is at_q plus) (λ a. refl)
       by_operand (Some (Applied PcrelHi ex)) f (k, (i, hi, ps_are)) =
-          let (q, (meaning, (plus, symbolic))) = target_symbolic (V ex) (fault_none p os starts file sites number o sections low are settled all_worths whole plain address index section x is at none loaded relocated z h mnemonic os' e c (Applied PcrelHi ex) f) in
+          let (q, (meaning, (plus, symbolic))) = target_symbolic (is_label T ordinal) (V ex) (fault_none p os starts file sites number o sections low are settled all_worths whole plain address index section x is at none loaded relocated z h mnemonic os' e c (Applied PcrelHi ex) f) in
           one_part (Applied PcrelHi ex) f ex refl tt q meaning plus symbolic kind.PcrelHi20 i (ps_are ∙ ap (λ k. Open_part k i ∷ []) hi) refl refl
           (distance_as (Applied PcrelHi ex) f ex refl tt q meaning plus symbolic kind.PcrelHi20 refl (λ at_q a. relative_is at_q plus a) (λ a. refl))
       by_operand (Some (Applied PcrelLo ex)) f (k, (i, low_part, ps_are)) =
@@ -506,10 +506,10 @@ module _ (p : Program) (os : List Object) (starts : Starts) (file : ℕ) (sites 
           by_label ex f q meaning plus symbolic is_one (Some d) defined some k i low_part ps_are =
               label_result ex f q meaning plus symbolic d defined (whole.labels ordinal q d is_one defined) k i low_part ps_are
       by_operand (Some (Target ex)) f (inl (far, open_one)) =
-          let (q, (meaning, (plus, symbolic))) = target_symbolic (V ex) (fault_none p os starts file sites number o sections low are settled all_worths whole plain address index section x is at none loaded relocated z h mnemonic os' e c (Target ex) f) in
+          let (q, (meaning, (plus, symbolic))) = target_symbolic (is_label T ordinal) (V ex) (fault_none p os starts file sites number o sections low are settled all_worths whole plain address index section x is at none loaded relocated z h mnemonic os' e c (Target ex) f) in
           far_result ex f q meaning plus symbolic far open_one
       by_operand (Some (Target ex)) f (inr (k, (i, (j, low_part, ps_are)))) =
-          let (q, (meaning, (plus, symbolic))) = target_symbolic (V ex) (fault_none p os starts file sites number o sections low are settled all_worths whole plain address index section x is at none loaded relocated z h mnemonic os' e c (Target ex) f) in
+          let (q, (meaning, (plus, symbolic))) = target_symbolic (is_label T ordinal) (V ex) (fault_none p os starts file sites number o sections low are settled all_worths whole plain address index section x is at none loaded relocated z h mnemonic os' e c (Target ex) f) in
           pair_result ex f q meaning plus symbolic k i j low_part ps_are
 
       pub filled_code : Result

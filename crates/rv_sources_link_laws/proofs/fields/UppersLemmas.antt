@@ -31,7 +31,8 @@ use Rattle.rv_object_laws.specs.Values.{is_high, own_value, IsRelocated}
 use Rattle.rv_assemble_laws.specs.CodeFields.{symbol_field, field_of}
 use Rattle.rv_sources_link_laws.proofs.statements.MarkedLemmas.{part_fields}
 use Rattle.rv_assemble_laws.specs.Coded.{constants, AreCodedParts, IsCode, part_instructions, instructions_in}
-use Rattle.rv_assemble_laws.specs.InstructionFaults.{instruction_faults, operand_faults, scratch_faults, own_faults, else_unplaced, has_row as has_operands_row, is_label}
+use Rattle.rv_pseudo_laws.specs.InstructionFaults.{operand_faults, scratch_faults, own_faults, else_unplaced, has_row as has_operands_row}
+use Rattle.rv_assemble_laws.specs.InstructionFaults.{instruction_faults, worths, is_label}
 use Rattle.rv_assemble_laws.specs.Templates.{Template, Fixed, Datum, Coded, Open, open_at, value_fields, template_fields}
 use Rattle.rv_assemble_laws.specs.Sites.{Site, Part, form, part_of, part_bytes, coded_templates, sites_in}
 use Rattle.rv_assemble_laws.specs.Symbols.{site_at}
@@ -298,11 +299,11 @@ module _ (p : Program) (os : List Object) (starts : Starts) (file : ℕ) (sites 
               go (bytes ∷ coded) f a = by_bytes bytes coded f
 
         -- the faults of its operand that is no register
-        pub fault_none : (oper : Operand) → other_operand os' ≡ Some oper → operand_faults (v z) (is_label T z.located.ordinal) mnemonic oper ≡ []
+        pub fault_none : (oper : Operand) → other_operand os' ≡ Some oper → operand_faults (worths (v z) (is_label T z.located.ordinal)) mnemonic oper ≡ []
         fault_none oper f =
             let all = subst (λ k. instruction_faults (v z) (is_label T z.located.ordinal) k ≡ []) e h.sound in
-            other_fault (v z) (is_label T z.located.ordinal) mnemonic os' oper f
-            (none_left (scratch_faults mnemonic os') _ (none_of_its_own (has_operands_row (v z) mnemonic os') (own_faults (v z) (is_label T z.located.ordinal) mnemonic os') all)).1
+            other_fault (worths (v z) (is_label T z.located.ordinal)) mnemonic os' oper f
+            (none_left (scratch_faults mnemonic os') _ (none_of_its_own (has_operands_row (constants (v z)) mnemonic os') (own_faults (worths (v z) (is_label T z.located.ordinal)) mnemonic os') all)).1
 
         pub operand_as : (oper : Operand) → other_operand os' ≡ Some oper → operand_of z.located.kind ≡ Some oper
         operand_as oper f = ap operand_of e ∙ f
@@ -326,13 +327,13 @@ module _ (p : Program) (os : List Object) (starts : Starts) (file : ℕ) (sites 
         by_operand (Some (Applied PcrelLo ex)) f (k, (i, lo, ps_are)) =
             inl (no_upper_code (subst (λ ps. AllByRecursion IsLowPart ps) (sym ps_are) ((low_same k lo).1, tt)))
         by_operand (Some (Applied PcrelHi ex)) f (k, (i, hi, ps_are)) =
-            let (q, (meaning, (plus, symbolic))) = target_symbolic (v z ex) (fault_none (Applied PcrelHi ex) f) in
+            let (q, (meaning, (plus, symbolic))) = target_symbolic (is_label T z.located.ordinal) (v z ex) (fault_none (Applied PcrelHi ex) f) in
             let is_as = operand_as (Applied PcrelHi ex) f in
             inr (upper_code i [] (ps_are ∙ ap (λ k. Open_part k i ∷ []) hi) tt ex
             (ap (λ l. field_of T (v z) z.located.ordinal l kind.PcrelHi20) is_as) (λ n. ap (operand_number n) is_as) q meaning plus symbolic)
         by_operand (Some (Target ex)) f (inl far) = inl (no_upper_code (far_low c.ps far.0))
         by_operand (Some (Target ex)) f (inr (k, (i, (j, lo, ps_are)))) =
-            let (q, (meaning, (plus, symbolic))) = target_symbolic (v z ex) (fault_none (Target ex) f) in
+            let (q, (meaning, (plus, symbolic))) = target_symbolic (is_label T z.located.ordinal) (v z ex) (fault_none (Target ex) f) in
             let is_as = operand_as (Target ex) f in
             inr (upper_code i (Open_part k j ∷ []) ps_are ((low_same k lo).1, tt) ex
             (ap (λ l. field_of T (v z) z.located.ordinal l kind.PcrelHi20) is_as) (λ n. ap (operand_number n) is_as) q meaning plus symbolic)

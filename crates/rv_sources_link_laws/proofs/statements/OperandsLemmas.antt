@@ -20,7 +20,8 @@ use Rattle.rv_object_laws.specs.Moves.{alignments_of, moves, new_offset}
 use Rattle.rv_object_laws.specs.Inputs.{Starts}
 use Rattle.rv_object_laws.specs.Names.{Outer}
 use Rattle.rv_object_laws.specs.Values.{target, value, is_low, is_high, own_value, paired}
-use Rattle.rv_assemble_laws.specs.InstructionFaults.{target_faults, upper_faults, low_faults, is_labelled, distance_faults, operand_faults}
+use Rattle.rv_pseudo_laws.specs.InstructionFaults.{Worth, target_faults, upper_faults, low_faults, is_labelled, distance_faults, operand_faults}
+use Rattle.rv_assemble_laws.specs.InstructionFaults.{worth}
 use Rattle.rv_assemble_laws.specs.Templates.{Open, open_at}
 use Rattle.rv_assemble_laws.specs.IsObjectOf.{Numbering, relocation_at}
 use Rattle.rv_sources_link_laws.proofs.names.KnownLemmas.{still}
@@ -107,23 +108,23 @@ module _ (outer : Outer) (starts : Starts) (os : List Object) (file : ℕ) (o : 
 abbrev pub IsSymbolic : Value → Type 0
 IsSymbolic v = (q : Primary) × ((at : Meaning) × ((plus : ℕ) × (v ≡ Symbolic q at plus)))
 
-pub target_symbolic : (v : Value) → target_faults v ≡ [] → IsSymbolic v
-target_symbolic (Constant n) e = absurd (cc)
-target_symbolic (Symbolic q at plus) e = (q, (at, (plus, refl)))
-target_symbolic (Difference q r plus) e = absurd (cc)
-target_symbolic (Faulty c) e = absurd (cc)
+pub target_symbolic : (l : Primary → Bool) (v : Value) → target_faults (worth l v) ≡ [] → IsSymbolic v
+target_symbolic l (Constant n) e = absurd (cc)
+target_symbolic l (Symbolic q at plus) e = (q, (at, (plus, refl)))
+target_symbolic l (Difference q r plus) e = absurd (cc)
+target_symbolic l (Faulty c) e = absurd (cc)
 
-pub upper_symbolic : (v : Value) → constant_of v ≡ None → upper_faults v ≡ [] → IsSymbolic v
-upper_symbolic (Constant n) open_one e = absurd (cc)
-upper_symbolic (Symbolic q at plus) open_one e = (q, (at, (plus, refl)))
-upper_symbolic (Difference q r plus) open_one e = absurd (cc)
-upper_symbolic (Faulty c) open_one e = absurd (cc)
+pub upper_symbolic : (l : Primary → Bool) (v : Value) → constant_of v ≡ None → upper_faults (worth l v) ≡ [] → IsSymbolic v
+upper_symbolic l (Constant n) open_one e = absurd (cc)
+upper_symbolic l (Symbolic q at plus) open_one e = (q, (at, (plus, refl)))
+upper_symbolic l (Difference q r plus) open_one e = absurd (cc)
+upper_symbolic l (Faulty c) open_one e = absurd (cc)
 
-pub low_symbolic : (m : Mnemonic) (v : Value) → constant_of v ≡ None → low_faults m v ≡ [] → IsSymbolic v
-low_symbolic m (Constant n) open_one e = absurd (cc)
-low_symbolic m (Symbolic q at plus) open_one e = (q, (at, (plus, refl)))
-low_symbolic m (Difference q r plus) open_one e = absurd (cc)
-low_symbolic m (Faulty c) open_one e = absurd (cc)
+pub low_symbolic : (l : Primary → Bool) (m : Mnemonic) (v : Value) → constant_of v ≡ None → low_faults m (worth l v) ≡ [] → IsSymbolic v
+low_symbolic l m (Constant n) open_one e = absurd (cc)
+low_symbolic l m (Symbolic q at plus) open_one e = (q, (at, (plus, refl)))
+low_symbolic l m (Difference q r plus) open_one e = absurd (cc)
+low_symbolic l m (Faulty c) open_one e = absurd (cc)
 
 abbrev pub IsLabelled : (Primary → Bool) → Value → Type 0
 IsLabelled l v = (q : Primary) × ((at : Meaning) × ((plus : ℕ) × (v ≡ Symbolic q at plus) × (l q ≡ true)))
@@ -132,26 +133,26 @@ no_not : (b : Bool) → not b ≡ false → b ≡ true
 no_not true e = refl
 no_not false e = absurd (cc)
 
-labelled_by : (l : Primary → Bool) (v : Value) → is_labelled l v ≡ true → IsLabelled l v
+labelled_by : (l : Primary → Bool) (v : Value) → is_labelled (worth l v) ≡ true → IsLabelled l v
 labelled_by l (Constant n) e = absurd (cc)
 labelled_by l (Symbolic q at plus) e = (q, (at, (plus, refl, e)))
 labelled_by l (Difference q r plus) e = absurd (cc)
 labelled_by l (Faulty c) e = absurd (cc)
 
-pub label_symbolic : (l : Primary → Bool) (m : Mnemonic) (v : Value) → distance_faults l m v ≡ [] → IsLabelled l v
-label_symbolic l m v e = labelled_by l v (no_not (is_labelled l v) (no_test (not (is_labelled l v)) _ (none_left _ _ e).0))
+pub label_symbolic : (l : Primary → Bool) (m : Mnemonic) (v : Value) → distance_faults m (worth l v) ≡ [] → IsLabelled l v
+label_symbolic l m v e = labelled_by l v (no_not (is_labelled (worth l v)) (no_test (not (is_labelled (worth l v))) _ (none_left _ _ e).0))
 
 -- the faults of the one operand that is no register
-pub other_fault : (v : Expression → Value) (l : Primary → Bool) (m : Mnemonic) (os : List Operand) (o : Operand) → other_operand os ≡ Some o
-    → flat_map (operand_faults v l m) os ≡ [] → operand_faults v l m o ≡ []
-other_fault v l m [] o e h = absurd (cc)
-other_fault v l m (Register r ∷ os) o e h = other_fault v l m os o e h
-other_fault v l m (Of_value x ∷ os) o e h = let same : Of_value x ≡ o = cc in subst (λ q. operand_faults v l m q ≡ []) same (none_left (operand_faults v l m (Of_value x)) _ h).0
-other_fault v l m (Applied f x ∷ os) o e h = let same : Applied f x ≡ o = cc in subst (λ q. operand_faults v l m q ≡ []) same (none_left (operand_faults v l m (Applied f x)) _ h).0
-other_fault v l m (Target x ∷ os) o e h = let same : Target x ≡ o = cc in subst (λ q. operand_faults v l m q ≡ []) same (none_left (operand_faults v l m (Target x)) _ h).0
-other_fault v l m (Accesses x ∷ os) o e h = let same : Accesses x ≡ o = cc in subst (λ q. operand_faults v l m q ≡ []) same (none_left (operand_faults v l m (Accesses x)) _ h).0
-other_fault v l m (Word x ∷ os) o e h = let same : Word x ≡ o = cc in subst (λ q. operand_faults v l m q ≡ []) same (none_left (operand_faults v l m (Word x)) _ h).0
-other_fault v l m (Quoted x ∷ os) o e h = let same : Quoted x ≡ o = cc in subst (λ q. operand_faults v l m q ≡ []) same (none_left (operand_faults v l m (Quoted x)) _ h).0
+pub other_fault : (w : Expression → Worth) (m : Mnemonic) (os : List Operand) (o : Operand) → other_operand os ≡ Some o
+    → flat_map (operand_faults w m) os ≡ [] → operand_faults w m o ≡ []
+other_fault w m [] o e h = absurd (cc)
+other_fault w m (Register r ∷ os) o e h = other_fault w m os o e h
+other_fault w m (Of_value x ∷ os) o e h = let same : Of_value x ≡ o = cc in subst (λ q. operand_faults w m q ≡ []) same (none_left (operand_faults w m (Of_value x)) _ h).0
+other_fault w m (Applied f x ∷ os) o e h = let same : Applied f x ≡ o = cc in subst (λ q. operand_faults w m q ≡ []) same (none_left (operand_faults w m (Applied f x)) _ h).0
+other_fault w m (Target x ∷ os) o e h = let same : Target x ≡ o = cc in subst (λ q. operand_faults w m q ≡ []) same (none_left (operand_faults w m (Target x)) _ h).0
+other_fault w m (Accesses x ∷ os) o e h = let same : Accesses x ≡ o = cc in subst (λ q. operand_faults w m q ≡ []) same (none_left (operand_faults w m (Accesses x)) _ h).0
+other_fault w m (Word x ∷ os) o e h = let same : Word x ≡ o = cc in subst (λ q. operand_faults w m q ≡ []) same (none_left (operand_faults w m (Word x)) _ h).0
+other_fault w m (Quoted x ∷ os) o e h = let same : Quoted x ≡ o = cc in subst (λ q. operand_faults w m q ≡ []) same (none_left (operand_faults w m (Quoted x)) _ h).0
 
 -- ---- the numbers of values
 

@@ -1,8 +1,8 @@
-use Rattle.std.proofs.Common.{ap, None, Some}
+use Rattle.std.proofs.Common.{ap, refl}
 use Rattle.rv_text.specs.Expr.{tree_of_expr}
 use Rattle.rv_statement.specs.View.{statement_of, statement_kind}
 use Rattle.rv_instruction.specs.Scoped.{values_at, labels_at}
-use Rattle.rv_instruction.proofs.StatementKindsLemmas.{plain_expanded, operand_expanded}
+use Rattle.rv_instruction.proofs.StatementKindsLemmas.{plain_expanded}
 use Rattle.rv_instruction.proofs.coding.expanded.Goals as goal
 
 pub returns-in-Plain-clause-built : goal.returns-in-Plain-clause-built
@@ -15,17 +15,10 @@ returns-in-Plain-clause-built c = λ index filled stands.
 pub returns-in-With-clause-built : goal.returns-in-With-clause-built
 returns-in-With-clause-built c = λ index filled stands.
     let v = values_at c.args.scope.now index c.args.place in
-    let l = labels_at c.args.scope.now index in
-    let x = tree_of_expr c.in-With.expression in
-    operand_expanded c.in-With.operation None x (statement_of c.args.statement.now) c.args.bytes v l c.args.compressed c.with_value.result
-    (ap statement_kind c.in-With.is) (c.with_value.ensures.built index (v x) filled stands (c.value-value.ensures index filled stands))
+    c.with_value.ensures.built index (statement_of c.args.statement.now) v (tree_of_expr c.in-With.expression) filled stands (c.value-value.ensures index filled stands) (ap statement_kind c.in-With.is) refl
 
 pub returns-in-WithFunction-clause-built : goal.returns-in-WithFunction-clause-built
 returns-in-WithFunction-clause-built c = λ index filled stands.
     let v = values_at c.args.scope.now index c.args.place in
-    let l = labels_at c.args.scope.now index in
-    let x = tree_of_expr c.in-WithFunction.expression in
-    operand_expanded c.in-WithFunction.operation (Some c.in-WithFunction.function) x (statement_of c.args.statement.now) c.args.bytes v l c.args.compressed
-    c.with_value-in-WithFunction.result
-    (ap statement_kind c.in-WithFunction.is)
-    (c.with_value-in-WithFunction.ensures.built index (v x) filled stands (c.value-value-in-WithFunction.ensures index filled stands))
+    c.with_value-in-WithFunction.ensures.built index (statement_of c.args.statement.now) v (tree_of_expr c.in-WithFunction.expression) filled stands
+    (c.value-value-in-WithFunction.ensures index filled stands) (ap statement_kind c.in-WithFunction.is) refl

@@ -1,10 +1,10 @@
-use Rattle.std.proofs.Common.{ap, None, Ok}
+use Rattle.std.proofs.Common.{ap}
 use Rattle.rv_text.specs.Expr.{tree_of_expr}
 use Rattle.rv_statement.specs.View.{statement_of, statement_kind}
 use Rattle.rv_instruction.specs.Code.{alone}
 use Rattle.rv_instruction.specs.Scoped.{values_at, labels_at}
-use Rattle.rv_instruction.proofs.StatementKindsLemmas.{plain_expanded, operand_expanded}
-use Rattle.rv_instruction.proofs.OneInstructionLemmas.{some_more}
+use Rattle.rv_instruction.proofs.StatementKindsLemmas.{plain_expanded}
+use Rattle.rv_instruction.proofs.OneInstructionLemmas.{some_more, one_expanded}
 use Rattle.rv_instruction.proofs.coding.expanded_one.Goals as goal
 
 pub returns-in-Plain-clause-built : goal.returns-in-Plain-clause-built
@@ -16,8 +16,7 @@ returns-in-Plain-clause-built c =
 
 pub returns-in-With-clause-built : goal.returns-in-With-clause-built
 returns-in-With-clause-built c =
-    some_more _ _ (λ i built index filled stands rvc bytes.
-    let l = labels_at c.args.scope.now index in
-    operand_expanded c.in-With.operation None (tree_of_expr c.in-With.expression) (statement_of c.args.statement.now) bytes (values_at c.args.scope.now index c.args.place) l rvc (Ok (alone i))
-    (ap statement_kind c.in-With.is) (built index filled stands l rvc bytes))
-    c.operand_one.result c.operand_one.ensures.built
+    some_more _ _ (λ i one index filled stands rvc bytes.
+    one_expanded c.in-With.operation (tree_of_expr c.in-With.expression) (statement_of c.args.statement.now) (values_at c.args.scope.now index c.args.place) (labels_at c.args.scope.now index) rvc bytes i
+    (ap statement_kind c.in-With.is) (one index filled stands))
+    c.operand_one.result c.operand_one.ensures.one

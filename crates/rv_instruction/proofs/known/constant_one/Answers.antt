@@ -11,4 +11,4 @@ returns-clause-is c =
     constant_alone c.args.operation.now c.args.number _ same c.single.result c.single.ensures
 
 pub returns-clause-valid : goal.returns-clause-valid
-returns-clause-valid c = constant_valid c.args.operation.now c.args.number c.single.result c.operation_in_range.ensures (returns-clause-is c)
+returns-clause-valid c = constant_valid c.args.operation.now (signed 64 c.args.number) c.single.result c.operation_in_range.ensures (returns-clause-is c)

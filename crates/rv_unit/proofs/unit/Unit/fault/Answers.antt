@@ -9,7 +9,7 @@ use Rattle.rv_unit_laws.specs.Faults as faults
 use Rattle.rv_unit_laws.specs.Sections.{section_of}
 use Rattle.rv_unit_laws.specs.Tables as laws
 use Rattle.rv_unit_laws.proofs.OpenedLemmas.{after_opened}
-use Rattle.rv_unit.specs.Faults.{IsLowest}
+use Rattle.rv_lexer.specs.Fault.{IsLowest}
 use Rattle.rv_unit.specs.Unit.{said, passed, IsStatementOf}
 use Rattle.rv_unit.proofs.InstructionsLemmas.{plain_is, with_is}
 use Rattle.rv_unit.proofs.unit.Unit.fault.Goals as goal

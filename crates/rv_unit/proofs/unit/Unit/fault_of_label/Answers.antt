@@ -1,7 +1,7 @@
 use Rattle.std.proofs.Common.{◌∙◌, ◌+◌, length, subst}
+use Rattle.rv_text_laws.specs.Codes.{faulty_if}
 use Rattle.rv_statement.specs.Statement.{Label}
-use Rattle.rv_unit_laws.specs.Faults as faults
-use Rattle.rv_unit.specs.Faults.{IsLowest}
+use Rattle.rv_lexer.specs.Fault.{IsLowest}
 use Rattle.rv_unit.specs.Unit.{said}
 use Rattle.rv_unit.proofs.ScopedLemmas.{whole_before}
 use Rattle.rv_unit.proofs.StandingLemmas.{at_defined}
@@ -10,5 +10,5 @@ use Rattle.rv_unit.proofs.unit.Unit.fault_of_label.Goals as goal
 pub returns : goal.returns
 returns c = λ i p at.
     let u = c.args.self.now in
-    subst (λ b. IsLowest c.faulty_if.result (faults.faulty_if b 11))
+    subst (λ b. IsLowest c.faulty_if.result (faulty_if b 11))
     (c.is_defined_before.ensures at.filled.indexed (1 + length (said u)) (whole_before u at.filled) ∙ at_defined u i c.args.ordinal p (Label c.args.name.now) c.args.name.now at) c.faulty_if.ensures

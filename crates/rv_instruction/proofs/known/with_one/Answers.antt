@@ -1,7 +1,7 @@
 use Rattle.std.proofs.Common.{subst}
 use Rattle.rv_text.specs.Eval.{IsOutcome}
 use Rattle.rv_instruction.proofs.OneInstructionLemmas.{some_more}
-use Rattle.rv_instruction.proofs.known.taken_one.Goals as goal
+use Rattle.rv_instruction.proofs.known.with_one.Goals as goal
 
 pub returns-in-Ok-clause-is : goal.returns-in-Ok-clause-is
 returns-in-Ok-clause-is c =
