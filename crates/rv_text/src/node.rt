@@ -53,12 +53,7 @@ impl Node<'_> {
 fn are_numbers(nodes: &[Node<'_>]) -> bool
     ensures { result ≡ are_numbers (map node_of nodes.now) }
 {
-    for node in nodes {
-        if node.is_symbol() {
-            return false;
-        }
-    }
-    true
+    nodes.iter().all(|node| !node.is_symbol())
 }
 
 impl<'a> Nodes<'a> {
