@@ -231,10 +231,5 @@ fn finish(
 fn has_compressed(objects: &[ShortObject<'_, '_>]) -> bool
     ensures { result ≡ list_any (λ o. o.rvc) (map short_object_of objects.now) }
 {
-    for object in objects {
-        if object.whole.rvc {
-            return true;
-        }
-    }
-    false
+    objects.iter().any(|object| object.whole.rvc)
 }

@@ -1,22 +1,17 @@
-use Rattle.std.proofs.Common.{◌+◌, map, drop, sym, ap, ◌∙◌}
-use Rattle.std.specs.Prelude.{◌||◌}
+use Rattle.std.proofs.Common.{◌≡◌, ◌||◌, List, [], ◌∷◌, map, refl, ap, ◌∙◌, rules, tests}
 use Rattle.std.specs.List.{list_any}
+use Rattle.std.proofs.lemmas.Iterator.{YieldsList-from_slice}
+use Rattle.std.proofs.lemmas.Iterator.Search.{any_from_yields_List}
 use Rattle.rv_shorten.specs.View.{short_object_of}
-use Rattle.rv_link.proofs.StepsLemmas.{next_of}
+use Rattle.rv_shorten.specs.declared.object.ShortObject.{ShortObject}
 use Rattle.rv_link.proofs.passes.has_compressed.Goals as goal
 
-pub returns-then-object : goal.returns-then-object
-returns-then-object c =
-    let i = c.loop-object.object-index in
-    let x = c.object-item.result in
-    let objects = c.args.objects.now in
-    let rest = drop (i + 1) (map short_object_of objects) in
-    sym (ap (λ b. b || list_any (λ o. o.rvc) rest) c.if-object.true) ∙ ap (λ l. list_any (λ o. o.rvc) l) (sym (next_of short_object_of objects i x c.loop-object-test.true c.object-item.is)) ∙ c.loop-object.invariant
+as_objects : (os : List ShortObject) → list_any (λ o. o.whole.now.rvc) os ≡ list_any (λ o. o.rvc) (map short_object_of os)
+as_objects [] = refl
+as_objects (o ∷ os) = ap (λ b. o.whole.now.rvc || b) (as_objects os)
 
-pub loop-object-preserved : goal.loop-object-preserved
-loop-object-preserved c =
-    let i = c.loop-object.object-index in
-    let x = c.object-item.result in
+pub returns : goal.returns
+returns c =
     let objects = c.args.objects.now in
-    let rest = drop (i + 1) (map short_object_of objects) in
-    sym (ap (λ b. b || list_any (λ o. o.rvc) rest) c.if-object.false) ∙ ap (λ l. list_any (λ o. o.rvc) l) (sym (next_of short_object_of objects i x c.loop-object-test.true c.object-item.is)) ∙ c.loop-object.invariant
+    any_from_yields_List (λ o. o.whole.now.rvc) _ _ c.any.result c.any.ensures.ran (YieldsList-from_slice objects cc) (λ x b q k. search (rules, tests))
+    ∙ as_objects objects
