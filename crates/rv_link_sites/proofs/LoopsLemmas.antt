@@ -1,11 +1,17 @@
--- One relocation more of what stands behind a call.
+-- The loops over relocations: those that are left of a list, and what is found among them.
 
-use Rattle.std.proofs.Common.{◌≡◌, ℕ, zero, suc, ◌+◌, ◌<◌, ◌≤◌, Bool, true, false, ◌||◌, cond, List, [], ◌∷◌, Option, Some, None, length, map, drop, get_or, refl, sym, ap, subst, ◌∙◌, arith}
+use Rattle.std.proofs.Common.{◌≡◌, ℕ, ◌+◌, ◌<◌, ◌≤◌, Bool, true, false, ◌&&◌, ◌||◌, cond, List, [], ◌∷◌, Option, Some, None, length, map, drop, get_or, nat_cmp, nat_le, refl, sym, ap, ◌∙◌, arith}
 use Rattle.std.specs.Prelude.{◌==◌, option_map, pos}
-use Rattle.std.specs.List.{find}
+use Rattle.std.specs.Bool.{OnTrue}
+use Rattle.std.specs.Ordering.{is_le}
+use Rattle.std.specs.List.{find, list_any, take_while, IsAllAdjacentAnswer}
 use Rattle.std.specs.List.Sorted.{IsNonDecreasingBy}
 use Rattle.std.proofs.lemmas.List.{drop_more, drop_all}
-use Rattle.std.proofs.lemmas.Bool.{eq-eqb, and_from, and_left, lt-ltb, le-ltb}
+use Rattle.std.proofs.lemmas.List.Sorted.{IsNonDecreasingBy-from_all_adjacent}
+use Rattle.std.proofs.lemmas.List.Sums.{take_while-cons}
+use Rattle.std.proofs.lemmas.Map.Keys.{le_from_is_le}
+use Rattle.std.proofs.lemmas.Bool.{eq-eqb, lt-ltb, le-ltb, leb-true, leb-false}
+use Rattle.std.proofs.Math.Bool.{and-true}
 use Rattle.rv_isa.specs.declared.kind.Kind.TheVariants as kinds
 use Rattle.rv_isa.specs.Kinds.{width_of}
 use Rattle.rv_object.specs.declared.relocation.Relocation.{Relocation as Declared}
@@ -51,60 +57,26 @@ field_none xs i all past h = ap (λ l. next_field (map relocation_of l)) (sym (d
 
 -- ---- RELAX
 
--- those from an index on stand from a place on, and have a RELAX there just where all have one
-pub record IsLeft (place : ℕ) (rest : List Relocation) (all : Bool) : Type 0 where
-  pub rise : Rise place rest
-  pub same : has_relax place rest ≡ all
+pub relax_in_front : (place : ℕ) (xs : List Declared) → Rise place (map relocation_of xs)
+    → list_any (λ r. is_relax r.kind) (take_while (λ r. nat_le r.place place) xs) ≡ has_relax place (map relocation_of xs)
+relax_in_front place [] h = refl
+relax_in_front place (x ∷ xs) h = ap (list_any (λ r. is_relax r.kind)) (take_while-cons (λ r. nat_le r.place place) x xs) ∙ by (nat_le x.place place) refl (relax_in_front place xs)
+  where
+    front : List Declared
+    front = take_while (λ r. nat_le r.place place) xs
 
-module _ (place : ℕ) (xs : List Declared) (i : ℕ) (inside : i < length xs) (all : Bool) (h : IsLeft place (map relocation_of (drop i xs)) all) where
-  abbrev y : Declared
-  y = at xs i
-
-  rise_here : Rise place (relocation_of y ∷ map relocation_of (drop (i + 1) xs))
-  rise_here = subst (Rise place) (relocations_left xs i inside) h.rise
-
-  same_here : has_relax place (relocation_of y ∷ map relocation_of (drop (i + 1) xs)) ≡ all
-  same_here = sym (ap (has_relax place) (relocations_left xs i inside)) ∙ h.same
-
-  pub relax_past : place < y.place → false ≡ all
-  relax_past lt =
-      let r = rise_here in
-      sym (no_relax place y.place (relocation_of y ∷ map relocation_of (drop (i + 1) xs)) lt (omega arith, r.1)) ∙ same_here
-
-  pub relax_found : y.place ≤ place → is_relax y.kind ≡ true → true ≡ all
-  relax_found le relax =
-      let r = rise_here in
-      let low = r.0 in
-      sym (ap (λ b. b || has_relax place (map relocation_of (drop (i + 1) xs))) (and_from (is_relax y.kind) (y.place == place) relax (eq-eqb y.place place (omega (arith, le, low))))) ∙ same_here
-
-  pub relax_on : is_relax y.kind ≡ false → IsLeft place (map relocation_of (drop (i + 1) xs)) all
-  relax_on other =
-      let r = rise_here in
-      record {
-        rise = rise_lower place y.place (map relocation_of (drop (i + 1) xs)) r.0 r.1;
-        same = sym (ap (λ b. b || has_relax place (map relocation_of (drop (i + 1) xs))) (and_left (is_relax y.kind) (y.place == place) other)) ∙ same_here;
-      }
-
-pub relax_none : (place : ℕ) (xs : List Declared) (i : ℕ) (all : Bool) → length xs ≤ i → IsLeft place (map relocation_of (drop i xs)) all → false ≡ all
-relax_none place xs i all past h = ap (λ l. has_relax place (map relocation_of l)) (sym (drop_all i xs past)) ∙ h.same
+    by : (b : Bool) → nat_le x.place place ≡ b → (Rise place (map relocation_of xs) → list_any (λ r. is_relax r.kind) front ≡ has_relax place (map relocation_of xs))
+        → list_any (λ r. is_relax r.kind) (cond b (x ∷ front) []) ≡ has_relax place (map relocation_of (x ∷ xs))
+    by true e after =
+        let low = h.0 in let high = leb-true x.place place e in
+        let same = eq-eqb x.place place (omega (arith, low, high)) in
+        let more = after (rise_lower place x.place (map relocation_of xs) h.0 h.1) in
+        ap (λ b. b || list_any (λ r. is_relax r.kind) front) (sym (ap (λ b. is_relax x.kind && b) same ∙ and-true (is_relax x.kind)))
+        ∙ ap (λ b. (is_relax x.kind && (x.place == place)) || b) more
+    by false e after = sym (no_relax place x.place (map relocation_of (x ∷ xs)) (leb-false x.place place e) (omega arith, h.1))
 
 -- ---- in the order of places
 
-rise_at : (low : ℕ) (ys : List Declared) → Rise low (map relocation_of ys) → (j : ℕ) (d : Declared) → j < length ys → low ≤ (get_or ys j d).place
-rise_at low [] h j d inside = absurd (omega (arith, inside))
-rise_at low (y ∷ ys) h zero d inside = h.0
-rise_at low (y ∷ ys) h (suc j) d inside = let first = h.0 in let more = rise_at y.place ys h.1 j d (omega (arith, inside)) in omega (arith, first, more)
-
-pub ordered_by_place : (low : ℕ) (ys : List Declared) → Rise low (map relocation_of ys) → IsNonDecreasingBy place_of ys
-ordered_by_place low [] h i j d le inside = absurd (omega (arith, inside))
-ordered_by_place low (y ∷ ys) h zero zero d le inside = omega arith
-ordered_by_place low (y ∷ ys) h zero (suc j) d le inside = rise_at y.place ys h.1 j d (omega (arith, inside))
-ordered_by_place low (y ∷ ys) h (suc i) zero d le inside = absurd (omega (arith, le))
-ordered_by_place low (y ∷ ys) h (suc i) (suc j) d le inside = ordered_by_place y.place ys h.1 i j d (omega (arith, le)) (omega (arith, inside))
-
-pub rise_on : (xs : List Declared) (i last : ℕ) → i < length xs → last ≤ (at xs i).place → (Rise last (map relocation_of (drop i xs)) → Rise 0 (map relocation_of xs))
-    → Rise (at xs i).place (map relocation_of (drop (i + 1) xs)) → Rise 0 (map relocation_of xs)
-rise_on xs i last inside le h g = h (subst (Rise last) (sym (relocations_left xs i inside)) (le, g))
-
-pub rise_all : (xs : List Declared) (i last : ℕ) → length xs ≤ i → (Rise last (map relocation_of (drop i xs)) → Rise 0 (map relocation_of xs)) → Rise 0 (map relocation_of xs)
-rise_all xs i last past h = h (subst (λ l. Rise last (map relocation_of l)) (sym (drop_all i xs past)) tt)
+pub rise_adjacent : (xs : List Declared) (b : Bool) → IsAllAdjacentAnswer (λ x y b. b ≡ is_le (nat_cmp x.place y.place)) xs b → OnTrue b (IsNonDecreasingBy place_of xs)
+rise_adjacent xs true h = IsNonDecreasingBy-from_all_adjacent place_of xs (λ k d inside. le_from_is_le _ _ (sym (h k d inside)))
+rise_adjacent xs false h = tt

@@ -120,15 +120,10 @@ fn begin_with_relax(relocations: &[Relocation], place: u64) -> bool
     ensures { Rise place (map relocation_of relocations.now)
         → result ≡ laws.has_relax place (map relocation_of relocations.now) }
 {
-    for relocation in relocations {
-        if place < relocation.place {
-            return false;
-        }
-        if is_relax(relocation.kind) {
-            return true;
-        }
-    }
-    false
+    relocations
+        .iter()
+        .take_while(|relocation| relocation.place <= place)
+        .any(|relocation| is_relax(relocation.kind))
 }
 
 /// Whether a RELAX stands at the place of a call, which stands between these.

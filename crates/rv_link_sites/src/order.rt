@@ -12,14 +12,7 @@ use std::alloc::{AllocError, Global};
 fn are_ordered(relocations: &[Relocation]) -> bool
     ensures { OnTrue result (IsNonDecreasingBy (λ r. r.place) relocations.now) }
 {
-    let mut last = 0;
-    for relocation in relocations {
-        if relocation.place < last {
-            return false;
-        }
-        last = relocation.place;
-    }
-    true
+    relocations.is_sorted_by_key(|relocation| relocation.place)
 }
 
 /// Relocations in the order of their places; those at one place stay in theirs.
