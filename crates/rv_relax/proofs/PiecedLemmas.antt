@@ -1,11 +1,9 @@
 -- Pieces in order: which begin before an offset, and what of them is dropped there.
 
-use Rattle.std.proofs.Common.{◌≡◌, ℕ, zero, suc, ◌+◌, ◌-◌, ◌<◌, ◌≤◌, min, Bool, true, false, ◌&&◌, nat_lt, nat_le, List, [], ◌∷◌, length, drop, slice_index_or, refl, sym, ap, ◌∙◌, arith}
+use Rattle.std.proofs.Common.{◌≡◌, ℕ, zero, suc, ◌+◌, ◌-◌, ◌<◌, ◌≤◌, min, Bool, true, ◌&&◌, nat_lt, nat_le, List, [], ◌∷◌, length, slice_index_or, refl, ap, arith}
 use Rattle.std.specs.Prelude.{◌==◌}
-use Rattle.std.specs.List.{list_all}
 use Rattle.std.specs.List.Sorted.{IsPartitionedBy}
-use Rattle.std.proofs.lemmas.Bool.{ltb-true, leb-true, le-leb, lt-leb, eqb-true, eq-eqb, lt-ltb, and_parts, and_from}
-use Rattle.std.proofs.lemmas.List.{drop_more}
+use Rattle.std.proofs.lemmas.Bool.{ltb-true, leb-true, le-leb, eqb-true, eq-eqb, lt-ltb, and_parts, and_from}
 use Rattle.rv_layout_laws.specs.declared.site.Site.{Site}
 use Rattle.rv_layout_laws.specs.Calls.{bytes_of, dropped, dropped_of, InOrder}
 use Rattle.rv_relax.specs.declared.piece.Piece.{Piece}
@@ -131,14 +129,3 @@ same_dropped past (site ∷ sites) (k ∷ kept) old = ap (λ n. dropped_of site 
 
 abbrev pub fits : Piece → Bool
 fits p = nat_le p.left p.full
-
-pub one_fits : (ps : List Piece) (i : ℕ) (whole : Bool) → i < length ps → (slice_index_or ps i no_piece).left ≤ (slice_index_or ps i no_piece).full
-    → list_all fits (drop i ps) ≡ whole → list_all fits (drop (i + 1) ps) ≡ whole
-one_fits ps i whole inside low so_far =
-    let p = slice_index_or ps i no_piece in
-    sym (ap (list_all fits) (drop_more ps i no_piece inside) ∙ ap (λ b. b && list_all fits (drop (i + 1) ps)) (le-leb p.left p.full low)) ∙ so_far
-
-pub one_short : (ps : List Piece) (i : ℕ) (whole : Bool) → i < length ps → (slice_index_or ps i no_piece).full < (slice_index_or ps i no_piece).left → list_all fits (drop i ps) ≡ whole → false ≡ whole
-one_short ps i whole inside high so_far =
-    let p = slice_index_or ps i no_piece in
-    sym (ap (list_all fits) (drop_more ps i no_piece inside) ∙ ap (λ b. b && list_all fits (drop (i + 1) ps)) (lt-leb p.left p.full high)) ∙ so_far

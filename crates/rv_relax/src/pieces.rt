@@ -51,10 +51,5 @@ pub(crate) fn dropped_before(pieces: &[Piece], offset: u64) -> u64
 pub(crate) fn have_room(pieces: &[Piece]) -> bool
     ensures { result ≡ list_all (λ p. nat_le p.left p.full) pieces.now }
 {
-    for piece in pieces {
-        if piece.left > piece.full {
-            return false;
-        }
-    }
-    true
+    pieces.iter().all(|piece| piece.left <= piece.full)
 }
