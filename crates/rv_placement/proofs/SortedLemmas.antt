@@ -1,8 +1,12 @@
 -- A stable sort of rows by their ordinals gives the one list in order.
 
 use Rattle.std.proofs.Common.{◌≡◌, ℕ, Bool, true, false, cond, List, [], ◌∷◌, nat_cmp, nat_le, refl, sym, ap, ◌∙◌}
-use Rattle.std.specs.List.{list_all}
+use Rattle.std.specs.Bool.{OnTrue}
+use Rattle.std.specs.Ordering.{is_le}
+use Rattle.std.specs.List.{list_all, IsAllAdjacentAnswer}
 use Rattle.std.specs.List.Sorted.{IsNonDecreasingBy, IsStableByKey}
+use Rattle.std.proofs.lemmas.List.Sorted.{IsNonDecreasingBy-from_all_adjacent}
+use Rattle.std.proofs.lemmas.Map.Keys.{le_from_is_le}
 use Rattle.rv_object.specs.declared.row.Row.{Row}
 use Rattle.rv_object_laws.specs.IsLinkOf.{inserted_row, by_ordinal}
 use Rattle.rv_shorten.specs.declared.object.ShortObject.{ShortObject}
@@ -24,6 +28,12 @@ ordered_is (r ∷ rs) = inserted_is r (by_ordinal rs) ∙ ap (inserted_by ordina
 
 pub sorted_rows : (xs ys : List Row) → IsNonDecreasingBy ordinal ys → IsStableByKey ordinal nat_cmp xs ys → ys ≡ by_ordinal xs
 sorted_rows xs ys sorted stable = sorted_is ordinal xs ys sorted stable ∙ sym (ordered_is xs)
+
+-- rows that stand in it stay
+pub ordered_rows : (rs : List Row) (b : Bool) → IsAllAdjacentAnswer (λ x y b. b ≡ is_le (nat_cmp x.ordinal y.ordinal)) rs b → OnTrue b (by_ordinal rs ≡ rs)
+ordered_rows rs true h =
+    sym (sorted_rows rs rs (IsNonDecreasingBy-from_all_adjacent ordinal rs (λ k d inside. le_from_is_le _ _ (sym (h k d inside)))) (λ x. refl))
+ordered_rows rs false h = tt
 
 pub all_ordered : (p : Row → Bool) (rs : List Row) → list_all p rs ≡ true → list_all p (by_ordinal rs) ≡ true
 all_ordered p rs h = ap (list_all p) (ordered_is rs) ∙ all_ordered_by ordinal p rs h

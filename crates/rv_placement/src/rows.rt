@@ -47,14 +47,7 @@ fn map_row(file: u64, place: &PlacedSection, row: &Row) -> MapRow
 fn are_ordered(rows: &[Row]) -> bool
     ensures { OnTrue result (laws.by_ordinal rows.now ≡ rows.now) }
 {
-    let mut last = 0;
-    for row in rows {
-        if row.ordinal < last {
-            return false;
-        }
-        last = row.ordinal;
-    }
-    true
+    rows.is_sorted_by_key(|row| row.ordinal)
 }
 
 /// Rows in the order of their ordinals; those of one ordinal stay in theirs.

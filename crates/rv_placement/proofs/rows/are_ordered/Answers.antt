@@ -1,10 +1,9 @@
-use Rattle.std.proofs.Common.{sym, subst}
-use Rattle.std.proofs.lemmas.List.{drop_all}
-use Rattle.rv_object_laws.specs.Rising.{Rise}
-use Rattle.rv_object_laws.proofs.OrdinalsLemmas.{rows_stay}
+use Rattle.std.proofs.Common.{rules}
+use Rattle.std.proofs.lemmas.List.Sorted.{answers_always}
+use Rattle.rv_placement.proofs.SortedLemmas.{ordinal, ordered_rows}
 use Rattle.rv_placement.proofs.rows.are_ordered.Goals as goal
 
 pub returns : goal.returns
 returns c =
-    let rows = c.args.rows.now in
-    rows_stay 0 rows (c.loop-row.invariant (subst (Rise c.loop-row.last) (sym (drop_all c.loop-row.row-index rows c.loop-row-test.false)) tt))
+    let keys = answers_always _ _ _ (λ f a r next called. search rules) in
+    ordered_rows c.args.rows.now c.is_sorted_by_key.result (c.is_sorted_by_key.ensures.cases ordinal keys)
