@@ -34,12 +34,9 @@ impl Fields {
         ensures { result ≡ list_any (starts_in start end) self.now.by_start.entries }
     {
         let earliest = start.saturating_sub(LONGEST);
-        for (_, last) in self.by_start.range(earliest..end) {
-            if *last > start {
-                return true;
-            }
-        }
-        false
+        self.by_start
+            .range(earliest..end)
+            .any(|(_, last)| *last > start)
     }
 
     /// One more.
