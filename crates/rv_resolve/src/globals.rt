@@ -120,7 +120,8 @@ impl<'o> Names<'o> {
     ) -> Result<(), AllocError>
         ensures known { OnOk result (All (λ g. IsGlobal (global_of g)) globals.old.items
             → All (λ g. IsGlobal (global_of g)) globals.new.items) }
-        ensures added { OnOk result ((start : ℕ) → IsNames (map short_object_of objects.now) self.now
+        ensures added { OnOk result ((start : ℕ)
+            → IsNames (map short_object_of objects.now) self.now
             → IsPlacement (map short_object_of objects.now) start placement.now
             → slice_get (map short_object_of objects.now) file ≡ Some (short_object_of object.now)
             → map global_of globals.new.items ≡ map global_of globals.old.items

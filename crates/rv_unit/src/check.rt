@@ -121,7 +121,8 @@ impl<'a> Unit<'a> {
         bytes: &Expr<'a>,
     ) -> Option<SourceCode>
         ensures { (index : ℕ) →
-            IsStatementOf self.now index ordinal place (Directs (Aligns_to_bytes (tree_of_expr bytes.now)))
+            IsStatementOf self.now index ordinal place
+            (Directs (Aligns_to_bytes (tree_of_expr bytes.now)))
             → IsLowest result
             (directive_faults_at self.now index (Aligns_to_bytes (tree_of_expr bytes.now))) }
     {
@@ -200,7 +201,8 @@ impl<'a> Unit<'a> {
 
     /// The fault of a label: its name is defined before.
     fn fault_of_label(&self, ordinal: u32, name: &[u8]) -> Option<SourceCode>
-        ensures { (index : ℕ) (p : SectionOffsetOf) → IsStatementOf self.now index ordinal p (Label name.now)
+        ensures { (index : ℕ) (p : SectionOffsetOf)
+            → IsStatementOf self.now index ordinal p (Label name.now)
             → IsLowest result (faults_at self.now index (Label name.now)) }
     {
         faulty_if(
