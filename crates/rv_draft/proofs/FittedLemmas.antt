@@ -36,7 +36,7 @@ use Rattle.rv_draft.specs.Coded.{AreCoded}
 use Rattle.rv_draft.specs.DataParts.{is_filled, data_said, fields_said, data_parts, code_said, open_fields}
 use Rattle.rv_draft.specs.Items.{AreItems, grown}
 use Rattle.rv_draft.specs.Seated.{site_of, sites_of}
-use Rattle.rv_draft.specs.Sized.{IsPadded, IsSized, AreSized}
+use Rattle.rv_draft.specs.Sized.{IsItemPadded, IsSized, AreSized}
 use Rattle.rv_draft.proofs.FieldsSoFarLemmas.{value_long}
 use Rattle.rv_draft.proofs.EvensLemmas.{none_more, padding_of_even}
 use Rattle.rv_object.proofs.NopsLemmas.{length_even}
@@ -166,12 +166,12 @@ module _ (all : Tables) (s : Located) (x : Item) (begins : ℕ) (found : List Co
   padding_are false n = (tt, tt)
 
   -- an alignment in code has the bytes of its padding
-  padded_bytes : (b : Bool) (d : Directive) (a : Option ℕ) → b ≡ true → found ≡ [] → IsPadded b (size_of (pads (Directs d)) found) x begins a → x.bytes ≡ pads (Directs d)
+  padded_bytes : (b : Bool) (d : Directive) (a : Option ℕ) → b ≡ true → found ≡ [] → IsItemPadded b (size_of (pads (Directs d)) found) x begins a → x.bytes ≡ pads (Directs d)
   padded_bytes true d a e none h =
       h.0 ∙ ap (λ c. pads (Directs d) + length (joined (coded_by c))) none ∙ (let same : pads (Directs d) + 0 ≡ pads (Directs d) = omega arith in same)
   padded_bytes false d a e none h = absurd (cc)
 
-  aligned_bytes : (d : Directive) (a : Option ℕ) → found ≡ [] → IsPadded s.home.executable (size_of (pads (Directs d)) found) x begins a
+  aligned_bytes : (d : Directive) (a : Option ℕ) → found ≡ [] → IsItemPadded s.home.executable (size_of (pads (Directs d)) found) x begins a
       → x.bytes ≡ length (flat_map part_bytes (map (part_of s.ordinal) (padding_templates s.home.executable s.ordinal x.bytes)))
   aligned_bytes d a none h =
       padding_long s.home.executable x.bytes (λ e. ap (λ n. n % 2) (padded_bytes s.home.executable d a e none h) ∙ padding_of_even s.home.executable worth (Directs d))
@@ -295,7 +295,7 @@ module _ (all : Tables) (s : Located) (x : Item) (begins : ℕ) (found : List Co
   no_count says spare none h = h ∙ ap (λ n. operations_in n + instructions_of found) spare ∙ ap (λ c. operations_in 0 + instructions_of c) none
 
   padded_in : (b : Bool) (d : Directive) → s.home.executable ≡ b → found ≡ [] → x.instructions ≡ (size_of (pads (Directs d)) found).instructions
-      → IsPadded b (size_of (pads (Directs d)) found) x begins (alignment_of worth d) → IsMultiple (alignment_of worth d) begins × IsPaddedIn b site (alignment_of worth d)
+      → IsItemPadded b (size_of (pads (Directs d)) found) x begins (alignment_of worth d) → IsMultiple (alignment_of worth d) begins × IsPaddedIn b site (alignment_of worth d)
   padded_in true d e none count h =
       let own = padded_bytes true d (alignment_of worth d) refl none h in
       let all = ap (λ c. operations_in (pads (Directs d)) + instructions_of c) none in

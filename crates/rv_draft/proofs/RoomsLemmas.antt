@@ -21,7 +21,7 @@ use Rattle.rv_draft.specs.declared.item.CodeSize.{CodeSize}
 use Rattle.rv_draft.specs.declared.item.Item.{Item}
 use Rattle.rv_draft.specs.Items.{IsItem, grown}
 use Rattle.rv_layout.specs.Code.{value_at}
-use Rattle.rv_draft.specs.Sized.{IsPadded, IsSizedDirective, IsSized, bytes_of_sizes}
+use Rattle.rv_draft.specs.Sized.{IsItemPadded, IsSizedDirective, IsSized, bytes_of_sizes}
 use Rattle.rv_draft.specs.Measured.{stretch, IsSize}
 use Rattle.rv_layout.proofs.StandingLemmas.{all_at, got_or, located_at, stated_next}
 use Rattle.rv_draft.proofs.SoFarItemsLemmas.{passed_next}
@@ -76,7 +76,7 @@ stood_here t k (Directs d) placed = stood_directive t k d placed
 
 -- ---- sizes of items
 
-padded_as : (b : Bool) (own : CodeSize) (x : Item) (begins : ℕ) (alignment : Option ℕ) → IsPadded b own x begins alignment → IsPadded b own (stretch x.offset x.bytes) begins alignment
+padded_as : (b : Bool) (own : CodeSize) (x : Item) (begins : ℕ) (alignment : Option ℕ) → IsItemPadded b own x begins alignment → IsItemPadded b own (stretch x.offset x.bytes) begins alignment
 padded_as true own x begins alignment h = h
 padded_as false own x begins alignment h = h
 

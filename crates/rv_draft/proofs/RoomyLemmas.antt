@@ -18,12 +18,12 @@ use Rattle.rv_source_laws.specs.Located.{is_placed, is_placed_directive}
 use Rattle.rv_source_laws.proofs.HeldLemmas.{none_left, no_test}
 use Rattle.rv_assemble_laws.specs.Sites.{IsMultiple}
 use Rattle.rv_draft.specs.declared.item.CodeSize.{CodeSize}
-use Rattle.rv_draft.specs.Sized.{IsPadded, IsSizedDirective}
-use Rattle.rv_draft.specs.Measured.{stretch, IsSize, CanPad, HasSize, HasSizeDirective}
+use Rattle.rv_draft.specs.Sized.{IsItemPadded, IsSizedDirective}
+use Rattle.rv_draft.specs.Measured.{stretch, IsSize, CanPad, CanSize, CanSizeDirective}
 
 -- a statement's size, and what it makes of its section: in code no more than its code, else no more than up to this end
 pub record IsRoomy (v : Expression → Value) (executable : Bool) (begins offset stop : ℕ) (own : CodeSize) (says : StatementKind) : Type 0 where
-  pub size : HasSize v executable begins offset says
+  pub size : CanSize v executable begins offset says
   pub room : (n : ℕ) → IsSize v executable begins offset own says n → offset + n ≤ longest_section
   pub code : executable ≡ true → (n : ℕ) → IsSize v executable begins offset own says n → n ≤ own.bytes
   pub stored : executable ≡ false → (n : ℕ) → IsSize v executable begins offset own says n → offset + n ≤ stop
@@ -118,7 +118,7 @@ module _ (all t : Tables) (k begins offset : ℕ) (own : CodeSize) (low : offset
   Fits = home.executable ≡ true → offset + own.bytes ≤ longest_section
 
   -- data that end no later than those of the tables
-  put_here : (d : Directive) → home.executable ≡ false → puts d ≡ true → HasSizeDirective v home.executable begins offset d
+  put_here : (d : Directive) → home.executable ≡ false → puts d ≡ true → CanSizeDirective v home.executable begins offset d
       → (here t).offset + data_bytes first (here t).offset d ≤ longest_section
       → ((n : ℕ) → IsSizedDirective v home.executable own (stretch offset n) begins d → offset + n ≤ (here t).offset + data_bytes first (here t).offset d) → Here (Directs d)
   put_here d other puts size fits less = record {
@@ -129,7 +129,7 @@ module _ (all t : Tables) (k begins offset : ℕ) (own : CodeSize) (low : offset
   }
 
   -- a statement without bytes
-  none_here : (says : StatementKind) → HasSize v home.executable begins offset says → ((n : ℕ) → IsSize v home.executable begins offset own says n → n ≡ 0) → (here t).offset ≤ stop says → Here says
+  none_here : (says : StatementKind) → CanSize v home.executable begins offset says → ((n : ℕ) → IsSize v home.executable begins offset own says n → n ≡ 0) → (here t).offset ≤ stop says → Here says
   none_here says size none more = record {
     size = size;
     room = λ n h. let e = none n h in omega (arith, e, low);
@@ -138,7 +138,7 @@ module _ (all t : Tables) (k begins offset : ℕ) (own : CodeSize) (low : offset
   }
 
   -- code, where its section has room for it
-  code_here : (says : StatementKind) → HasSize v home.executable begins offset says → ((n : ℕ) → IsSize v home.executable begins offset own says n → n ≡ own.bytes)
+  code_here : (says : StatementKind) → CanSize v home.executable begins offset says → ((n : ℕ) → IsSize v home.executable begins offset own says n → n ≡ own.bytes)
       → home.executable ≡ true → offset + own.bytes ≤ longest_section → Here says
   code_here says size four code fits = record {
     size = size;
@@ -203,16 +203,16 @@ module _ (all t : Tables) (k begins offset : ℕ) (own : CodeSize) (low : offset
   -- what an alignment makes of its section
   aligned_here : (d : Directive) (alignment : Option ℕ) → puts d ≡ true → BeginsAt alignment begins → alignment_faults home (here t).offset alignment ≡ []
       → data_bytes first (here t).offset d ≡ within (here t).offset (padding alignment (here t).offset)
-      → HasSizeDirective v home.executable begins offset d
-      → ((n : ℕ) → IsSizedDirective v home.executable own (stretch offset n) begins d → IsPadded home.executable own (stretch offset n) begins alignment)
+      → CanSizeDirective v home.executable begins offset d
+      → ((n : ℕ) → IsSizedDirective v home.executable own (stretch offset n) begins d → IsItemPadded home.executable own (stretch offset n) begins alignment)
       → Fits → Here (Directs d)
   aligned_here d alignment puts multiples none bytes size padded fits = by home.executable refl
     where
-      code_size : (b : Bool) (n : ℕ) → b ≡ true → IsPadded b own (stretch offset n) begins alignment → n ≡ own.bytes
+      code_size : (b : Bool) (n : ℕ) → b ≡ true → IsItemPadded b own (stretch offset n) begins alignment → n ≡ own.bytes
       code_size true n e h = h.0
       code_size false n e h = absurd (cc)
 
-      data_size : (b : Bool) (n : ℕ) → b ≡ false → IsPadded b own (stretch offset n) begins alignment → n ≡ padding alignment offset
+      data_size : (b : Bool) (n : ℕ) → b ≡ false → IsItemPadded b own (stretch offset n) begins alignment → n ≡ padding alignment offset
       data_size true n e h = absurd (cc)
       data_size false n e h = h.0
 

@@ -7,9 +7,9 @@ use Rattle.rv_unit_laws.specs.Tables.{alignment_of}
 use Rattle.rv_draft.specs.declared.item.CodeSize.{CodeSize}
 use Rattle.rv_draft.specs.declared.item.Item.{Item}
 use Rattle.rv_draft.specs.Measured.{IsSize, stretch}
-use Rattle.rv_draft.specs.Sized.{IsPadded, IsSizedDirective, IsSized}
+use Rattle.rv_draft.specs.Sized.{IsItemPadded, IsSizedDirective, IsSized}
 
-padded : (b : Bool) (own : CodeSize) (x : Item) (begins : ℕ) (a : Option ℕ) → IsPadded b own (stretch x.offset x.bytes) begins a → IsPadded b own x begins a
+padded : (b : Bool) (own : CodeSize) (x : Item) (begins : ℕ) (a : Option ℕ) → IsItemPadded b own (stretch x.offset x.bytes) begins a → IsItemPadded b own x begins a
 padded true own x begins a h = h
 padded false own x begins a h = h
 

@@ -9,7 +9,7 @@ use Rattle.rv_assemble_laws.specs.Coded.{is_constant}
 use Rattle.rv_draft.specs.declared.item.CodeSize.{CodeSize}
 use Rattle.rv_draft.specs.declared.item.Item.{Item}
 use Rattle.rv_assemble_laws.specs.Sites.{IsMultiple}
-use Rattle.rv_draft.specs.Sized.{IsPadded, IsAligned, IsSized, IsSizedDirective}
+use Rattle.rv_draft.specs.Sized.{IsItemPadded, IsAligned, IsSized, IsSizedDirective}
 
 -- `bytes` bytes of data after `offset` others
 abbrev pub stretch : ℕ → ℕ → Item
@@ -49,34 +49,34 @@ CanCount v = (n : ℕ) × (v ≡ Constant n) × (n ≤ longest_section)
 
 -- a statement has a size, by the values of its expressions: in a section of code or not, that asks
 -- to begin at this multiple, after `offset` bytes
-abbrev pub HasSizeDirective : (Expression → Value) → Bool → ℕ → ℕ → Directive → Type 0
-HasSizeDirective v executable begins offset (Values width values) =
+abbrev pub CanSizeDirective : (Expression → Value) → Bool → ℕ → ℕ → Directive → Type 0
+CanSizeDirective v executable begins offset (Values width values) =
     width * length values ≤ longest_section
-HasSizeDirective v executable begins offset (Strings ended strings) =
+CanSizeDirective v executable begins offset (Strings ended strings) =
     length (string_bytes ended strings) ≤ longest_section
-HasSizeDirective v executable begins offset (Zeros count) = CanCount (v count)
-HasSizeDirective v executable begins offset (Aligns_to_power e) =
+CanSizeDirective v executable begins offset (Zeros count) = CanCount (v count)
+CanSizeDirective v executable begins offset (Aligns_to_power e) =
     CanAlign (v e) executable begins offset (alignment_of v (Aligns_to_power e))
-HasSizeDirective v executable begins offset (Aligns_to_bytes e) =
+CanSizeDirective v executable begins offset (Aligns_to_bytes e) =
     CanAlign (v e) executable begins offset (alignment_of v (Aligns_to_bytes e))
-HasSizeDirective v executable begins offset _ = ⊤
+CanSizeDirective v executable begins offset _ = ⊤
 
-abbrev pub HasSize : (Expression → Value) → Bool → ℕ → ℕ → StatementKind → Type 0
-HasSize v executable begins offset (Directs directive) =
-    HasSizeDirective v executable begins offset directive
-HasSize v executable begins offset _ = ⊤
+abbrev pub CanSize : (Expression → Value) → Bool → ℕ → ℕ → StatementKind → Type 0
+CanSize v executable begins offset (Directs directive) =
+    CanSizeDirective v executable begins offset directive
+CanSize v executable begins offset _ = ⊤
 
 -- and its section has room for it, where its code has this size
 pub record HasRoom (v : Expression → Value) (executable : Bool) (begins offset : ℕ)
     (code : CodeSize) (says : StatementKind) : Type 0 where
-  pub size : HasSize v executable begins offset says
+  pub size : CanSize v executable begins offset says
   pub room : (n : ℕ) → IsSize v executable begins offset code says n → offset + n ≤ longest_section
 
 -- ---- in a section with its bytes and the multiple at which it asks to begin
 
 abbrev pub PadsIn : Extent → CodeSize → ℕ → ℕ → Option ℕ → Type 0
 PadsIn e size offset bytes alignment =
-    IsPadded e.section.executable size (stretch offset bytes) e.alignment alignment
+    IsItemPadded e.section.executable size (stretch offset bytes) e.alignment alignment
 
 abbrev pub CanPadIn : Extent → ℕ → Option ℕ → Type 0
 CanPadIn e offset alignment = CanPad e.section.executable e.alignment offset alignment
@@ -93,8 +93,8 @@ abbrev pub IsSizeIn : Extent → (Expression → Value) → ℕ → CodeSize →
 IsSizeIn e v offset code kind bytes =
     IsSize v e.section.executable e.alignment offset code kind bytes
 
-abbrev pub HasSizeIn : Extent → (Expression → Value) → ℕ → StatementKind → Type 0
-HasSizeIn e v offset kind = HasSize v e.section.executable e.alignment offset kind
+abbrev pub CanSizeIn : Extent → (Expression → Value) → ℕ → StatementKind → Type 0
+CanSizeIn e v offset kind = CanSize v e.section.executable e.alignment offset kind
 
 abbrev pub HasRoomIn : Extent → (Expression → Value) → ℕ → CodeSize → StatementKind → Type 0
 HasRoomIn e v offset code kind = HasRoom v e.section.executable e.alignment offset code kind

@@ -14,14 +14,14 @@ pub use Rattle.rv_draft.specs.Code.{bytes_of_sizes}
 
 -- the padding of an alignment, in a section that asks for a multiple of it: in code that of its
 -- size as code, in data up to the multiple
-abbrev pub IsPadded : Bool → CodeSize → Item → ℕ → Option ℕ → Type 0
-IsPadded true size i begins alignment = (i.bytes ≡ size.bytes) × IsMultiple alignment begins
-IsPadded false size i begins alignment =
+abbrev pub IsItemPadded : Bool → CodeSize → Item → ℕ → Option ℕ → Type 0
+IsItemPadded true size i begins alignment = (i.bytes ≡ size.bytes) × IsMultiple alignment begins
+IsItemPadded false size i begins alignment =
     (i.bytes ≡ padding alignment i.offset) × IsMultiple alignment begins
 
 abbrev pub IsAligned : Value → Bool → CodeSize → Item → ℕ → Option ℕ → Type 0
 IsAligned v executable size i begins alignment =
-    (is_constant v ≡ true) × IsPadded executable size i begins alignment
+    (is_constant v ≡ true) × IsItemPadded executable size i begins alignment
 
 -- the bytes of a directive, by whether its section is one of code, its size there, and the multiple
 -- at which the section asks to begin

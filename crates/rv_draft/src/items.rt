@@ -17,7 +17,7 @@ ghost use Rattle.rv_draft.specs.Items.{AreItems};
 ghost use Rattle.rv_assemble_laws.specs.Sites.{IsMultiple};
 ghost use Rattle.rv_instruction.specs.Scoped.{values_at, is_placed_at, AtNext, StandsHere, ForOutcome};
 ghost use Rattle.rv_draft.specs.Sized.{AreSized, bytes_of_sizes};
-ghost use Rattle.rv_draft.specs.Measured.{CanCount, PadsIn, CanPadIn, AlignsIn, CanAlignIn, IsSizeIn, HasSizeIn, HasRoomIn, IsSizedIn};
+ghost use Rattle.rv_draft.specs.Measured.{CanCount, PadsIn, CanPadIn, AlignsIn, CanAlignIn, IsSizeIn, CanSizeIn, HasRoomIn, IsSizedIn};
 
 use crate::item::{CodeSize, Item};
 use rv_instruction::constant;
@@ -158,7 +158,7 @@ fn size(
         IsSizeIn extent.entry (values_at scope.now index place) offset code
         (statement_kind (statement.now).kind) n)) }
     ensures refuses { IfErr result (λ _. AtNext scope.now (λ index.
-        HasSizeIn extent.entry (values_at scope.now index place) offset
+        CanSizeIn extent.entry (values_at scope.now index place) offset
         (statement_kind (statement.now).kind) → ⊥)) }
 {
     let line = statement.line;
@@ -203,7 +203,7 @@ fn placed_size(
         → IsSizeIn extent.entry (values_at scope.now index place) offset code
         (statement_kind (statement.now).kind) n)) }
     ensures refuses { IfErr result (λ _. AtNext scope.now (λ index.
-        (placed ≡ true → HasSizeIn extent.entry (values_at scope.now index place) offset
+        (placed ≡ true → CanSizeIn extent.entry (values_at scope.now index place) offset
         (statement_kind (statement.now).kind)) → ⊥)) }
 {
     if !placed {

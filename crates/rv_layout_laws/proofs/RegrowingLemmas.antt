@@ -9,7 +9,7 @@ use Rattle.rv_layout_laws.specs.declared.site.SiteKind.{SiteKind}
 use Rattle.rv_layout_laws.specs.declared.site.SiteKind.TheVariants.{Call, Padding}
 use Rattle.rv_layout_laws.specs.Offsets.{GrowsEvenly, AtMost}
 use Rattle.rv_layout_laws.specs.Calls.{bytes_of, Offers, half, is_call, site_at, dropped_of, dropped, new_offset, ReachesFrom, ReachesBy, IsFamily, IsGreatestClosed, InOrder, IsOutside, IsText}
-use Rattle.rv_layout_laws.specs.Paddings.{IsLeastPadding, IsLaid, IsPadded, MayRegrow, Regrows, AllReach, IsFullPadding, LeadsEvenly, IsEvenText}
+use Rattle.rv_layout_laws.specs.Paddings.{IsLeastPadding, IsLaid, IsRelaxedText, MayRegrow, Regrows, AllReach, IsFullPadding, LeadsEvenly, IsEvenText}
 use Rattle.rv_layout_laws.proofs.ReachingLemmas.{reaches_nearer}
 use Rattle.rv_layout_laws.proofs.DroppingLemmas.{DropsEvenly, all_drop_evenly, drops_outside, drops_even, offsets_nearer, dropped_most}
 use Rattle.rv_layout_laws.proofs.ShorteningLemmas.{offers_most, call_even, greatest_reaching, before_all}
@@ -161,7 +161,7 @@ laid_regrows (Padding padding) sized start kept full at h =
     let le : kept + 2 ≤ padding.alignment = fits.0 in
     (omega arith, fits.1)
 
-laid_before : (sites : List Site) → InOrder 0 sites → IsEvenText sites → ((i : ℕ) → IsFullPadding (site_at sites i).kind) → (sized kept : List ℕ) → IsFamily sites sized → IsPadded sites sized kept
+laid_before : (sites : List Site) → InOrder 0 sites → IsEvenText sites → ((i : ℕ) → IsFullPadding (site_at sites i).kind) → (sized kept : List ℕ) → IsFamily sites sized → IsRelaxedText sites sized kept
     → (n : ℕ) → n ≤ length sites → (i : ℕ) → i < n → MayRegrow (site_at sites i).kind (slice_index sized i) (slice_index kept i)
 laid_before sites order even full sized kept f padded zero le i lt = absurd (omega arith)
 laid_before sites order even full sized kept f padded (suc n) le i lt =
@@ -175,7 +175,7 @@ laid_before sites order even full sized kept f padded (suc n) le i lt =
       | inr other ↦ before i (omega arith)
     ]
 
-pub padded_regrows : (sites : List Site) → IsText sites → IsEvenText sites → ((i : ℕ) → IsFullPadding (site_at sites i).kind) → (sized kept : List ℕ) → IsFamily sites sized → IsPadded sites sized kept
+pub padded_regrows : (sites : List Site) → IsText sites → IsEvenText sites → ((i : ℕ) → IsFullPadding (site_at sites i).kind) → (sized kept : List ℕ) → IsFamily sites sized → IsRelaxedText sites sized kept
     → Regrows sites sized kept
 padded_regrows sites text even full sized kept f padded = record {
   same_length = padded.same_length;

@@ -19,7 +19,7 @@ IsLaid (Call call) sized start kept = kept ≡ sized
 IsLaid (Padding padding) sized start kept = IsLeastPadding padding.alignment start kept
 
 -- the text after relaxation
-pub record IsPadded (sites : List Site) (sized kept : List ℕ) : Type 0 where
+pub record IsRelaxedText (sites : List Site) (sized kept : List ℕ) : Type 0 where
   pub same_length : length kept ≡ length sites
   pub laid : (i : ℕ) → let site = site_at sites i in
       IsLaid site.kind (slice_index sized i) (new_offset sites kept site.offset)

@@ -3,7 +3,7 @@
 ghost use Rattle.std.specs.Prelude.{◌≡◌, ◌⊎◌, ℕ, ◌+◌, ◌*◌, ◌%◌, ◌≤◌, ◌<◌, List};
 ghost use Rattle.rv_layout_laws.specs.declared.site.Site.{Site as AnySite};
 ghost use Rattle.rv_layout_laws.specs.Calls.{IsClosed, IsFamily, IsGreatestClosed, IsText, MayShorten, Rounds, Shortenings, calls, site_at, whole_sizes};
-ghost use Rattle.rv_layout_laws.specs.Paddings.{AllReach, IsEvenText, IsFullPadding, IsLeastPadding, IsPadded, Regrows};
+ghost use Rattle.rv_layout_laws.specs.Paddings.{AllReach, IsEvenText, IsFullPadding, IsLeastPadding, IsRelaxedText, Regrows};
 
 /// There is a greatest closed family.
 pub fn greatest_closed_exists()
@@ -55,6 +55,6 @@ pub fn least_padding_fits()
 pub fn least_paddings_regrow()
     ensures { (sites : List AnySite) → IsText sites → IsEvenText sites →
         ((i : ℕ) → IsFullPadding (site_at sites i).kind) →
-        (sized kept : List ℕ) → IsFamily sites sized → IsPadded sites sized kept →
+        (sized kept : List ℕ) → IsFamily sites sized → IsRelaxedText sites sized kept →
         Regrows sites sized kept }
 {}

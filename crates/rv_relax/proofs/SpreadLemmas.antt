@@ -14,7 +14,7 @@ use Rattle.rv_layout_laws.specs.declared.site.SiteKind.{SiteKind}
 use Rattle.rv_layout_laws.specs.declared.site.SiteKind.TheVariants.{Call, Padding}
 use Rattle.rv_layout_laws.specs.Offsets.{offset}
 use Rattle.rv_layout_laws.specs.Calls.{bytes_of, dropped, is_call, new_offset, site_at, InOrder}
-use Rattle.rv_layout_laws.specs.Paddings.{IsLaid, IsLeastPadding, IsPadded}
+use Rattle.rv_layout_laws.specs.Paddings.{IsLaid, IsLeastPadding, IsRelaxedText}
 use Rattle.rv_relax.specs.declared.piece.Piece.{Piece}
 use Rattle.rv_relax.specs.Padded.{are_roomy, inner, joined, kept_at, padded, pads}
 use Rattle.rv_relax.specs.Passes.{drops}
@@ -91,7 +91,7 @@ laid_by (Padding padding) sized start kept aligning is = subst (IsLeastPadding p
 laid_past : (sized start kept : ℕ) → kept ≡ 0 → IsLaid no_site.kind sized start kept
 laid_past sized start kept is = record { aligned = omega arith; least = λ other h. omega arith }
 
-pub is_padded : (sites : List Site) (sized : List ℕ) → InOrder 0 sites → ((i : ℕ) → is_aligning (site_at sites i).kind ≡ true) → length sized ≡ length sites → IsPadded sites sized (padded 0 sites sized)
+pub is_padded : (sites : List Site) (sized : List ℕ) → InOrder 0 sites → ((i : ℕ) → is_aligning (site_at sites i).kind ≡ true) → length sized ≡ length sites → IsRelaxedText sites sized (padded 0 sites sized)
 is_padded sites sized order aligning same = record {
   same_length = padded_length 0 sites sized same;
   laid = λ i. elim (cases_lt i (length sites)) [

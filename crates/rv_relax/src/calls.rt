@@ -5,7 +5,7 @@
 
 ghost use Rattle.std.specs.Prelude.{◌≡◌, true, ◌+◌, ◌*◌, ◌<◌, ◌≤◌, ◌++◌, [], ◌∷◌, length, slice_index, IfOk, OnOk, IsTrue, if◌then◌else◌};
 ghost use Rattle.rv_layout_laws.specs.Calls.{calls, is_call as is_call_site, new_offset as offset_of, whole_sizes};
-ghost use Rattle.rv_layout_laws.specs.Paddings.{IsPadded};
+ghost use Rattle.rv_layout_laws.specs.Paddings.{IsRelaxedText};
 ghost use Rattle.rv_relax.specs.Padded.{alignments, are_roomy, inner, joined, padded, pads as pads_of};
 ghost use Rattle.rv_relax.specs.Passes.{IsInput, are_laid};
 ghost use Rattle.rv_relax.specs.Pieces.{are_pieces, pieces_of};
@@ -134,7 +134,7 @@ impl<'p> Plan<'p> {
         ensures planned { IfOk result
             (λ plan. IsPlanned relax (placed_sites placed.now) (kept_of plan)) }
         ensures padded { IfOk result
-            (λ plan. IsPadded (placed_sites placed.now) (kept_of plan) (padded_of plan)) }
+            (λ plan. IsRelaxedText (placed_sites placed.now) (kept_of plan) (padded_of plan)) }
         ensures rounds { IfOk result
             (λ plan. rounds_of plan ≤ 2 * calls (placed_sites placed.now) + 1) }
     {

@@ -34,8 +34,8 @@ use Rattle.rv_unique_link_laws.proofs.BelowLemmas.{starts_below}
 abbrev IsFit : Section → Type 0
 IsFit s = IsTrue (fit_inside s.contents s.relocations)
 
-abbrev IsPadded : Section → Type 0
-IsPadded s = IsTrue (are_paddings s.executable s.contents s.relocations)
+abbrev HasPaddings : Section → Type 0
+HasPaddings s = IsTrue (are_paddings s.executable s.contents s.relocations)
 
 abbrev IsAligned : Section → Type 0
 IsAligned s = IsTrue (is_alignment s.alignment)
@@ -60,8 +60,8 @@ cut_sound : (o : Object) (mss : List (List Move)) → AllCut o.sections mss → 
 cut_sound o mss cuts sound = record {
   alignments = all_cut IsAligned IsAligned (λ s ms are h. h) o.sections mss cuts sound.alignments;
   inside = all_cut IsFit IsFit (λ s ms are h. fit_stays s ms h are) o.sections mss cuts sound.inside;
-  paddings = all_cut (λ s. IsFit s × IsPadded s) IsPadded (λ s ms are h. paddings_stay s ms s.executable h.0 are h.1) o.sections mss cuts
-      (all_both IsFit IsPadded (λ s. IsFit s × IsPadded s) (λ s a b. (a, b)) o.sections sound.inside sound.paddings);
+  paddings = all_cut (λ s. IsFit s × HasPaddings s) HasPaddings (λ s ms are h. paddings_stay s ms s.executable h.0 are h.1) o.sections mss cuts
+      (all_both IsFit HasPaddings (λ s. IsFit s × HasPaddings s) (λ s a b. (a, b)) o.sections sound.inside sound.paddings);
   rows = rows_stay o.sections mss o.rows cuts (fits o.sections sound.inside) sound.rows;
 }
 
@@ -93,7 +93,7 @@ walked_small (o ∷ os) sites kept walk (sound, h) (small, k) = (
 
 -- ---- the sites of sound objects
 
-sound_sections : (ss : List Section) → AllByRecursion IsFit ss → AllByRecursion IsPadded ss → AreSound ss
+sound_sections : (ss : List Section) → AllByRecursion IsFit ss → AllByRecursion HasPaddings ss → AreSound ss
 sound_sections [] h k = tt
 sound_sections (s ∷ ss) (fit, h) (padded, k) = (record { fit = fit; paddings = padded }, sound_sections ss h k)
 
@@ -111,7 +111,7 @@ text_inputs whole file (o ∷ os) some each (sound, h) = (
     there = at;
     text = text;
     inside = all_at IsFit o.sections index s sound.inside at;
-    paddings = all_at IsPadded o.sections index s sound.paddings at;
+    paddings = all_at HasPaddings o.sections index s sound.paddings at;
   },
   text_inputs whole (suc file) os (omega (arith, some)) (λ n. ap (object_at whole) (let e : suc file + n ≡ file + suc n = omega arith in e) ∙ each (suc n)) h,
 )

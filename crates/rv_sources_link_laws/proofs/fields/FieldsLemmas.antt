@@ -27,7 +27,7 @@ use Rattle.rv_sources_link_laws.proofs.names.KnownLemmas.{still, outer_in, meant
 use Rattle.rv_sources_link_laws.proofs.names.GlobalsLemmas.{IsLow}
 use Rattle.rv_sources_link_laws.proofs.fields.WholesLemmas.{IsSound, IsWhole}
 use Rattle.rv_sources_link_laws.proofs.sections.SectionsLemmas.{split, each, AtOffsets, AreAt, at_sites, of_parts, meant_in}
-use Rattle.rv_sources_link_laws.proofs.moves.ShrunkLemmas.{parts_of, parts, HasSize, IsSectionOf, AreSectionsOf}
+use Rattle.rv_sources_link_laws.proofs.moves.ShrunkLemmas.{parts_of, parts, HasShrunkSize, IsSectionOf, AreSectionsOf}
 
 module _ (p : Program) (os : List Object) (starts : Starts) (file : ℕ) (sites : List Site) (number : Numbering) (o : Object) (sections : List SourceSection)
     (low : AllByRecursion IsGlobal p.map.globals) (are : AreSectionsOf (tables_in p file) sites number o.symbols 0 sections o.sections)
@@ -122,7 +122,7 @@ module _ (p : Program) (os : List Object) (starts : Starts) (file : ℕ) (sites 
 
     pub record Facts (z : Site) : Type 0 where
       pub inside : IsSiteIn index section z
-      pub sized : z.located.placed ≡ true → HasSize (form t z.located) z x.alignment z.located.kind
+      pub sized : z.located.placed ≡ true → HasShrunkSize (form t z.located) z x.alignment z.located.kind
       pub knows : AllByRecursion Known (parts_of t z)
       pub related : AtOffsets (AreAt Q number) z.offset (parts_of t z)
       pub uses : AllByRecursion (λ q. AllByRecursion (IsNumbered t sites number o.symbols) (references_in q)) (parts_of t z)
@@ -131,7 +131,7 @@ module _ (p : Program) (os : List Object) (starts : Starts) (file : ℕ) (sites 
       pub itself : site_at sites z.located.ordinal ≡ Some z
 
     facts_from : (zs : List Site) → AllByRecursion (IsSiteIn index section) zs
-        → AllByRecursion (λ z. z.located.placed ≡ true → HasSize (form t z.located) z x.alignment z.located.kind) zs
+        → AllByRecursion (λ z. z.located.placed ≡ true → HasShrunkSize (form t z.located) z x.alignment z.located.kind) zs
         → AllByRecursion (λ z. AllByRecursion Known (parts_of t z)) zs
         → AllByRecursion (λ z. AtOffsets (AreAt Q number) z.offset (parts_of t z)) zs
         → AllByRecursion (λ z. AllByRecursion (λ q. AllByRecursion (IsNumbered t sites number o.symbols) (references_in q)) (parts_of t z)) zs

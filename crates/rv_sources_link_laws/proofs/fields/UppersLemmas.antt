@@ -47,7 +47,7 @@ use Rattle.rv_sources_link_laws.proofs.statements.BeginningsLemmas.{is_upper_par
 use Rattle.rv_sources_link_laws.proofs.statements.RowsLemmas.{IsFar, Shape, IsRow, row_of}
 use Rattle.rv_sources_link_laws.proofs.statements.OperandsLemmas.{relative_is, low_same, distance_not_high, own_is, target_symbolic, other_fault, symbolic_some}
 use Rattle.rv_sources_link_laws.proofs.fields.FieldsLemmas.{Known, Facts}
-use Rattle.rv_sources_link_laws.proofs.moves.ShrunkLemmas.{parts_of, parts, templates, Tile, HasSize, IsSectionOf, AreSectionsOf, contribution_templates}
+use Rattle.rv_sources_link_laws.proofs.moves.ShrunkLemmas.{parts_of, parts, templates, Tile, HasShrunkSize, IsSectionOf, AreSectionsOf, contribution_templates}
 
 -- ---- faults
 
@@ -352,7 +352,7 @@ module _ (p : Program) (os : List Object) (starts : Starts) (file : ℕ) (sites 
         lacks = ap takes_upper e;
       })
       by_kind (Instruction mnemonic os') e =
-          let c = subst (HasSize (v z) z x.alignment) e (h.sized (h.inside.instructed mnemonic os' e)) in
+          let c = subst (HasShrunkSize (v z) z x.alignment) e (h.sized (h.inside.instructed mnemonic os' e)) in
           by_operand mnemonic os' e c (other_operand os') refl (row mnemonic os' e c).shape
 
       pub upper_or_not : NoUpper z ⊎ HasUpper z

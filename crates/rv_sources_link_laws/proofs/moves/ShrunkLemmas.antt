@@ -63,22 +63,22 @@ IsPaddedIn true s alignment =
     (s.bytes ≡ (if is_low alignment then 0 else padding alignment s.offset)) × (s.bytes % 2 ≡ 0) × (s.instructions ≡ operations_in s.bytes)
 IsPaddedIn false s alignment = (s.bytes ≡ padding alignment s.offset) × (s.instructions ≡ 0)
 
-abbrev pub IsPadded : Site → ℕ → Value → Option ℕ → Type 0
-IsPadded s multiple v alignment = (is_constant v ≡ true) × IsMultiple alignment multiple × IsPaddedIn s.located.home.executable s alignment
+abbrev pub IsShrunkPadded : Site → ℕ → Value → Option ℕ → Type 0
+IsShrunkPadded s multiple v alignment = (is_constant v ≡ true) × IsMultiple alignment multiple × IsPaddedIn s.located.home.executable s alignment
 
 abbrev pub DirectiveSize : (Expression → Value) → Site → ℕ → Directive → Type 0
 DirectiveSize v s multiple (Values width values) = (s.instructions ≡ 0) × (s.bytes ≡ width * length values)
 DirectiveSize v s multiple (Strings ended strings) = (s.instructions ≡ 0) × (s.bytes ≡ length (string_bytes ended strings))
 DirectiveSize v s multiple (Zeros count) = (s.instructions ≡ 0) × (v count ≡ Constant s.bytes)
-DirectiveSize v s multiple (Aligns_to_power e) = IsPadded s multiple (v e) (alignment_of v (Aligns_to_power e))
-DirectiveSize v s multiple (Aligns_to_bytes e) = IsPadded s multiple (v e) (alignment_of v (Aligns_to_bytes e))
+DirectiveSize v s multiple (Aligns_to_power e) = IsShrunkPadded s multiple (v e) (alignment_of v (Aligns_to_power e))
+DirectiveSize v s multiple (Aligns_to_bytes e) = IsShrunkPadded s multiple (v e) (alignment_of v (Aligns_to_bytes e))
 DirectiveSize v s multiple _ = (s.bytes ≡ 0) × (s.instructions ≡ 0)
 
-abbrev pub HasSize : (Expression → Value) → Site → ℕ → StatementKind → Type 0
-HasSize v s multiple (Label name) = (s.bytes ≡ 0) × (s.instructions ≡ 0)
-HasSize v s multiple (Numbered number) = (s.bytes ≡ 0) × (s.instructions ≡ 0)
-HasSize v s multiple (Instruction mnemonic operands) = IsCode v s.located.options.rvc mnemonic operands s.bytes s.coded s.instructions
-HasSize v s multiple (Directs directive) = DirectiveSize v s multiple directive
+abbrev pub HasShrunkSize : (Expression → Value) → Site → ℕ → StatementKind → Type 0
+HasShrunkSize v s multiple (Label name) = (s.bytes ≡ 0) × (s.instructions ≡ 0)
+HasShrunkSize v s multiple (Numbered number) = (s.bytes ≡ 0) × (s.instructions ≡ 0)
+HasShrunkSize v s multiple (Instruction mnemonic operands) = IsCode v s.located.options.rvc mnemonic operands s.bytes s.coded s.instructions
+HasShrunkSize v s multiple (Directs directive) = DirectiveSize v s multiple directive
 
 -- ---- sections
 
@@ -93,7 +93,7 @@ pub record IsSectionOf (t : Tables) (all : List Site) (number : Numbering) (symb
   pub code : goes_to_text section ≡ true → is_nobits section ≡ true → flat_map part_bytes (parts t sites) ≡ []
   pub relocations : x.relocations ≡ (if section.loaded then relocations_from number 0 (parts t sites) else [])
   pub numbered : section.loaded ≡ true → ArePartsNumbered t all number symbols (parts t sites)
-  pub sizes : section.loaded ≡ true → AllByRecursion (λ s. s.located.placed ≡ true → HasSize (form t s.located) s x.alignment s.located.kind) sites
+  pub sizes : section.loaded ≡ true → AllByRecursion (λ s. s.located.placed ≡ true → HasShrunkSize (form t s.located) s x.alignment s.located.kind) sites
   pub fields : AllByRecursion (λ p. IsTemplate p.template) (parts t sites)
   -- nothing moves any more
   pub plain : alignments_of x ≡ []

@@ -235,15 +235,15 @@ module _ (t : Tables) (number : Numbering) (section : SourceSection) (multiple :
 
   -- sizes
   pub sizes_kept : (o gone : ℕ) (zs : List Site) → Steps o gone zs
-      → AllByRecursion (λ (y : Site). y.located.placed ≡ true → shrunk.HasSize (form t y.located) y multiple y.located.kind) (map S zs)
+      → AllByRecursion (λ (y : Site). y.located.placed ≡ true → shrunk.HasShrunkSize (form t y.located) y multiple y.located.kind) (map S zs)
   sizes_kept o gone [] st = tt
   sizes_kept o gone (z ∷ zs) (off, bytes, low, evens, inl (s, st)) = (
-    subst (λ (y : Site). y.located.placed ≡ true → shrunk.HasSize (form t y.located) y multiple y.located.kind) (sym s.plain_is)
+    subst (λ (y : Site). y.located.placed ≡ true → shrunk.HasShrunkSize (form t y.located) y multiple y.located.kind) (sym s.plain_is)
         (λ placed. s.plain_kind.sized (o - gone) s.aside placed),
     sizes_kept (o + z.bytes) gone zs st,
   )
   sizes_kept o gone (z ∷ zs) (off, bytes, low, evens, inr (s, st)) = (
-    subst (λ (y : Site). y.located.placed ≡ true → shrunk.HasSize (form t y.located) y multiple y.located.kind) (sym s.pad_is)
+    subst (λ (y : Site). y.located.placed ≡ true → shrunk.HasShrunkSize (form t y.located) y multiple y.located.kind) (sym s.pad_is)
         (λ placed. s.pad_kind.sized (o - gone) s.least s.pads_to s.least_even),
     sizes_kept (o + z.bytes) (gone + (z.bytes - s.least)) zs st,
   )

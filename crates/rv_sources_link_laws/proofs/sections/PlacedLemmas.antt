@@ -39,7 +39,7 @@ use Rattle.rv_sources_link_laws.proofs.sections.SectionsLemmas.{join, each, HasA
 use Rattle.rv_sources_link_laws.proofs.statements.SuitsLemmas as suits
 use Rattle.rv_sources_link_laws.proofs.statements.CodeOfLemmas.{IsCodeOf}
 use Rattle.rv_sources_link_laws.proofs.statements.FittingLemmas.{IsFilled, IsFilledCode, fits, is_written}
-use Rattle.rv_sources_link_laws.proofs.moves.ShrunkLemmas.{parts_of, parts, templates, HasSize, IsSectionOf, AreSectionsOf}
+use Rattle.rv_sources_link_laws.proofs.moves.ShrunkLemmas.{parts_of, parts, templates, HasShrunkSize, IsSectionOf, AreSectionsOf}
 
 -- what the row of a statement owes to it, and its bytes, where a function gives the code of each
 pub record IsFit (p : Program) (starts : Starts) (bytes : Mapped → List ℕ) (worths : ℕ → ℕ → ℕ → Open → ℤ) (file : ℕ) (z : Site) : Type 0 where
@@ -73,7 +73,7 @@ module _ (p : Program) (os : List Object) (starts : Starts) (file : ℕ) (sites 
     KnownPart q = Known p os starts file sites number o sections low are settled (all_worths file) whole plain address index section x is at none loaded relocated q
 
     -- each field of code lies in its part
-    roomy_of : (z : Site) → IsSiteIn index section z → (z.located.placed ≡ true → HasSize (form t z.located) z x.alignment z.located.kind)
+    roomy_of : (z : Site) → IsSiteIn index section z → (z.located.placed ≡ true → HasShrunkSize (form t z.located) z x.alignment z.located.kind)
         → AllByRecursion (λ q. HasRoom q.template) (parts_of t z)
     roomy_of z here sized = of_ordinal z.located.ordinal (templates t z z.located.kind) (roomy t z x.alignment here.bare sized)
       where
@@ -81,7 +81,7 @@ module _ (p : Program) (os : List Object) (starts : Starts) (file : ℕ) (sites 
         of_ordinal ordinal [] h = tt
         of_ordinal ordinal (q ∷ ts) (h, hs) = (h, of_ordinal ordinal ts hs)
 
-    all_roomy : (zs : List Site) → AllByRecursion (IsSiteIn index section) zs → AllByRecursion (λ z. z.located.placed ≡ true → HasSize (form t z.located) z x.alignment z.located.kind) zs
+    all_roomy : (zs : List Site) → AllByRecursion (IsSiteIn index section) zs → AllByRecursion (λ z. z.located.placed ≡ true → HasShrunkSize (form t z.located) z x.alignment z.located.kind) zs
         → AllByRecursion (λ q. HasRoom q.template) (parts t zs)
     all_roomy [] h sz = tt
     all_roomy (z ∷ zs) (h, hs) (sz, szs) = join (λ q. HasRoom q.template) (parts_of t z) (parts t zs) (roomy_of z h sz) (all_roomy zs hs szs)
@@ -133,7 +133,7 @@ module _ (p : Program) (os : List Object) (starts : Starts) (file : ℕ) (sites 
     filled_by z h shown upper (Numbered digits) e = tt
     filled_by z h shown upper (Directs d) e = tt
     filled_by z h shown upper (Instruction mnemonic operands) e = λ qs code_is coded_as.
-        let c = subst (HasSize (form t z.located) z x.alignment) e (h.sized (h.inside.instructed mnemonic operands e)) in
+        let c = subst (HasShrunkSize (form t z.located) z x.alignment) e (h.sized (h.inside.instructed mnemonic operands e)) in
         let both : Some c.ps ≡ Some qs = sym c.parts ∙ code_is in
         let same_parts : c.ps ≡ qs = cc in
         subst (IsFilledCode p file z.located.ordinal z.located.section z.located.offset z.located.line z.located.options z.located.home z.located.placed (row_in starts file z) z.offset (starts file z.located.section) z.coded

@@ -31,7 +31,7 @@ use Rattle.rv_sources_link_laws.proofs.statements.StatementsLemmas.{mapped_at}
 use Rattle.rv_sources_link_laws.proofs.statements.SettledLemmas.{IsPlacedKind}
 use Rattle.rv_sources_link_laws.proofs.statements.SuitsLemmas as suits
 use Rattle.rv_object.specs.Padding.{no_operations, operations_in}
-use Rattle.rv_sources_link_laws.proofs.moves.ShrunkLemmas.{padding_templates, IsPaddedIn, parts_of, parts, Tile, templates, HasSize}
+use Rattle.rv_sources_link_laws.proofs.moves.ShrunkLemmas.{padding_templates, IsPaddedIn, parts_of, parts, Tile, templates, HasShrunkSize}
 
 -- ---- lists
 
@@ -163,7 +163,7 @@ pub suits_by : (s : Site) (file multiple start : ℕ) (row : MapRow) (v : Expres
     → row.bytes ≡ s.bytes → row.instructions ≡ s.instructions → row.address ≡ start + s.offset
     → ((a : Option ℕ) → IsMultiple a multiple → suits.IsMultiple a start)
     → ((width : ℕ) (values : List Expression) → kind ≡ Directs (Values width values) → valued ≡ true)
-    → IsPlacedKind kind → HasSize v s multiple kind → suits.Suits v valued s.located.home s.located.options.rvc s.coded row s.offset start kind
+    → IsPlacedKind kind → HasShrunkSize v s multiple kind → suits.Suits v valued s.located.home s.located.options.rvc s.coded row s.offset start kind
 suits_by s file multiple start row v valued (Label name) b i at m values placed (x, y) = (b ∙ x, i ∙ y)
 suits_by s file multiple start row v valued (Numbered number) b i at m values placed (x, y) = (b ∙ x, i ∙ y)
 suits_by s file multiple start row v valued (Instruction mnemonic operands) b i at m values placed h = record {
@@ -209,7 +209,7 @@ module _ (p : Program) (file : ℕ) where
         (values_spelled w (offset + length (part_bytes (part_of ordinal (Datum width (v e))))) ordinal width v es)
 
     pub spelled_by : (starts : Starts) (s : Site) (multiple : ℕ) (kind : StatementKind) → IsHeld s.located.home kind → s.located.home.executable ≡ false
-        → HasSize (form (tables_in p file) s.located) s multiple kind
+        → HasShrunkSize (form (tables_in p file) s.located) s multiple kind
         → let m : Mapped = mapped_at starts file s in
         spelled_said (number_of p m) kind s.bytes ≡ says s kind
     spelled_by starts s multiple (Label name) held aside size = refl
@@ -244,7 +244,7 @@ module _ (p : Program) (file : ℕ) where
 
     -- in code its parts are its code
     pub coded_by : (s : Site) (multiple : ℕ) (kind : StatementKind) → IsHeld s.located.home kind → s.located.home.executable ≡ true
-        → HasSize (form (tables_in p file) s.located) s multiple kind
+        → HasShrunkSize (form (tables_in p file) s.located) s multiple kind
         → suits.code_said (worth s.located.section) (part_fields (tables_in p file) (form (tables_in p file) s.located) s.located) (form (tables_in p file) s.located) s.located.options.rvc s.offset s.bytes s.coded kind
         ≡ says s kind
     coded_by s multiple (Label name) held code size = refl

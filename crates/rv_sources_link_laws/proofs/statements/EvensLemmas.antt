@@ -15,7 +15,7 @@ use Rattle.rv_assemble_laws.specs.Sites.{Site, form, part_of, part_bytes, sites_
 use Rattle.rv_sources_link_laws.proofs.statements.SettledLemmas.{IsSettled, settled, of_sections, IsSiteIn, sites_are_in}
 use Rattle.rv_sources_link_laws.proofs.statements.OrderedLemmas.{its_section}
 use Rattle.rv_sources_link_laws.proofs.statements.CodingLemmas.{all_few}
-use Rattle.rv_sources_link_laws.proofs.moves.ShrunkLemmas.{IsPaddedIn, parts_of, Tile, HasSize, IsSectionOf, IsObjectOf}
+use Rattle.rv_sources_link_laws.proofs.moves.ShrunkLemmas.{IsPaddedIn, parts_of, Tile, HasShrunkSize, IsSectionOf, IsObjectOf}
 
 abbrev pub IsEven : Site → Type 0
 IsEven s = goes_to_text s.located.home ≡ true → s.offset % 2 ≡ 0
@@ -27,7 +27,7 @@ none_even n e = ap (λ n. n % 2) e
 
 -- a statement of code with a place has an even count of bytes
 pub even_by : (s : Site) (section : SourceSection) (multiple : ℕ) (v : Expression → Value) (kind : StatementKind) → IsHeld section kind → section.executable ≡ true → s.located.home ≡ section
-    → HasSize v s multiple kind → s.bytes % 2 ≡ 0
+    → HasShrunkSize v s multiple kind → s.bytes % 2 ≡ 0
 even_by s section multiple v (Label name) held code home size = none_even s.bytes size.0
 even_by s section multiple v (Numbered number) held code home size = none_even s.bytes size.0
 even_by s section multiple v (Instruction mnemonic operands) held code home size =
@@ -56,7 +56,7 @@ even_by s section multiple v (Directs Ignored) held code home size = none_even s
 
 module _ (t : Tables) (index : ℕ) (section : SourceSection) (multiple : ℕ) where
   abbrev Sized : Site → Type 0
-  Sized s = s.located.placed ≡ true → HasSize (form t s.located) s multiple s.located.kind
+  Sized s = s.located.placed ≡ true → HasShrunkSize (form t s.located) s multiple s.located.kind
 
   bytes_even : (s : Site) → section.executable ≡ true → IsSiteIn index section s → s.bytes ≡ length (flat_map part_bytes (parts_of t s)) → Sized s → s.bytes % 2 ≡ 0
   bytes_even s code is bytes size = go s.located.placed refl

@@ -111,7 +111,7 @@ padded n b z = record { located = z.located; offset = n; bytes = b; instructions
 pub record IsPlainSite (t : Tables) (section : SourceSection) (multiple : ℕ) (z : Site) (kind : StatementKind) : Type 0 where
   pub same : (n : ℕ) → shrunk.templates t (at n z) kind ≡ templates t z kind
   pub none : AllByRecursion IsPlain (templates t z kind)
-  pub sized : (n : ℕ) → (section.executable ≡ false → n ≡ z.offset) → z.located.placed ≡ true → shrunk.HasSize (form t z.located) (at n z) multiple kind
+  pub sized : (n : ℕ) → (section.executable ≡ false → n ≡ z.offset) → z.located.placed ≡ true → shrunk.HasShrunkSize (form t z.located) (at n z) multiple kind
   pub even : section.executable ≡ true → z.bytes % 2 ≡ 0
 
 pub record IsPadSite (t : Tables) (section : SourceSection) (multiple : ℕ) (z : Site) (kind : StatementKind) : Type 0 where
@@ -123,7 +123,7 @@ pub record IsPadSite (t : Tables) (section : SourceSection) (multiple : ℕ) (z 
   pub divides : multiple % a ≡ 0
   pub was : templates t z kind ≡ Coded (no_operations z.bytes) (align_field z.located.ordinal z.bytes ∷ []) ∷ []
   pub is : (n b : ℕ) → shrunk.templates t (padded n b z) kind ≡ shrunk.padding_templates true b
-  pub sized : (n b : ℕ) → b ≡ padding (Some a) n → b % 2 ≡ 0 → shrunk.HasSize (form t z.located) (padded n b z) multiple kind
+  pub sized : (n b : ℕ) → b ≡ padding (Some a) n → b % 2 ≡ 0 → shrunk.HasShrunkSize (form t z.located) (padded n b z) multiple kind
 
 padding_was : (o n : ℕ) → 0 < n → padding_templates true o n ≡ Coded (no_operations n) (align_field o n ∷ []) ∷ []
 padding_was o zero h = absurd (omega (arith, h))
@@ -173,8 +173,8 @@ module _ (t : Tables) (section : SourceSection) (multiple : ℕ) (z : Site) (hom
       (was : templates t z kind ≡ padding_templates z.located.home.executable z.located.ordinal z.bytes)
       (at_is : (n : ℕ) → shrunk.templates t (at n z) kind ≡ shrunk.padding_templates z.located.home.executable z.bytes)
       (padded_is : (n b : ℕ) → shrunk.templates t (padded n b z) kind ≡ shrunk.padding_templates z.located.home.executable b)
-      (at_sized : (n : ℕ) → shrunk.IsPaddedIn z.located.home.executable (at n z) al → shrunk.HasSize v (at n z) multiple kind)
-      (padded_sized : (n b : ℕ) → shrunk.IsPaddedIn z.located.home.executable (padded n b z) al → shrunk.HasSize v (padded n b z) multiple kind) where
+      (at_sized : (n : ℕ) → shrunk.IsPaddedIn z.located.home.executable (at n z) al → shrunk.HasShrunkSize v (at n z) multiple kind)
+      (padded_sized : (n b : ℕ) → shrunk.IsPaddedIn z.located.home.executable (padded n b z) al → shrunk.HasShrunkSize v (padded n b z) multiple kind) where
     in_data : z.located.home.executable ≡ false → z.bytes ≡ padding al z.offset → z.instructions ≡ 0 → Plain kind
     in_data e bytes none =
         let aside : section.executable ≡ false = ap (λ x. x.executable) (sym home) ∙ e in
@@ -200,7 +200,7 @@ module _ (t : Tables) (section : SourceSection) (multiple : ℕ) (z : Site) (hom
   module _ (kind : StatementKind) (a : ℕ) (divides : IsMultiple (Some a) multiple)
       (was : templates t z kind ≡ padding_templates z.located.home.executable z.located.ordinal z.bytes)
       (padded_is : (n b : ℕ) → shrunk.templates t (padded n b z) kind ≡ shrunk.padding_templates z.located.home.executable b)
-      (padded_sized : (n b : ℕ) → shrunk.IsPaddedIn z.located.home.executable (padded n b z) (Some a) → shrunk.HasSize v (padded n b z) multiple kind) where
+      (padded_sized : (n b : ℕ) → shrunk.IsPaddedIn z.located.home.executable (padded n b z) (Some a) → shrunk.HasShrunkSize v (padded n b z) multiple kind) where
     with_padding : z.located.home.executable ≡ true → IsPower a → z.bytes ≡ a - 2 → z.instructions ≡ operations_in z.bytes → Pad kind
     with_padding e power bytes count =
         let some : 0 < z.bytes = let h = (high a power).1 in omega (arith, bytes, h) in
@@ -221,8 +221,8 @@ module _ (t : Tables) (section : SourceSection) (multiple : ℕ) (z : Site) (hom
       → templates t z kind ≡ padding_templates z.located.home.executable z.located.ordinal z.bytes
       → ((n : ℕ) → shrunk.templates t (at n z) kind ≡ shrunk.padding_templates z.located.home.executable z.bytes)
       → ((n b : ℕ) → shrunk.templates t (padded n b z) kind ≡ shrunk.padding_templates z.located.home.executable b)
-      → ((n : ℕ) → shrunk.IsPaddedIn z.located.home.executable (at n z) al → shrunk.HasSize v (at n z) multiple kind)
-      → ((n b : ℕ) → shrunk.IsPaddedIn z.located.home.executable (padded n b z) al → shrunk.HasSize v (padded n b z) multiple kind)
+      → ((n : ℕ) → shrunk.IsPaddedIn z.located.home.executable (at n z) al → shrunk.HasShrunkSize v (at n z) multiple kind)
+      → ((n b : ℕ) → shrunk.IsPaddedIn z.located.home.executable (padded n b z) al → shrunk.HasShrunkSize v (padded n b z) multiple kind)
       → (x : Bool) → z.located.home.executable ≡ x → IsPaddedIn x z al → Plain kind ⊎ Pad kind
   align_by kind al valid divides was ai pi as' ps false e (bytes, none) = inl (in_data kind al valid divides was ai pi as' ps e bytes none)
   align_by kind None valid divides was ai pi as' ps true e (bytes, count) = inl (without kind None valid divides was ai pi as' ps e refl bytes count)

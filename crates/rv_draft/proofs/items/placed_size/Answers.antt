@@ -4,7 +4,7 @@ use Rattle.rv_statement.specs.View.{statement_kind}
 use Rattle.rv_unit_laws.specs.Tables as laws
 use Rattle.rv_unit_tables.specs.Sections.{offset_of}
 use Rattle.rv_unit.specs.Unit.{said, IsFilled, IsScope}
-use Rattle.rv_draft.specs.Measured.{HasSize, IsSize}
+use Rattle.rv_draft.specs.Measured.{CanSize, IsSize}
 use Rattle.rv_draft.proofs.items.placed_size.Goals as goal
 
 pub returns-clause-size : goal.returns-clause-size
@@ -25,7 +25,7 @@ returns-clause-refuses c =
     let extent = c.args.extent in
     let placed : c.args.placed ≡ true = search rules in
     IfErr-weaker c.size.result
-    (λ y. (index : ℕ) → IsFilled u → IsScope c.args.scope.now index → HasSize (λ e. laws.value (laws.tables (said u)) true (index + 1) p e) extent.section.executable extent.alignment c.args.offset (statement_kind c.args.statement.now.kind) → ⊥)
-    (λ y. (index : ℕ) → IsFilled u → IsScope c.args.scope.now index → (c.args.placed ≡ true → HasSize (λ e. laws.value (laws.tables (said u)) true (index + 1) p e) extent.section.executable extent.alignment c.args.offset (statement_kind c.args.statement.now.kind)) → ⊥)
+    (λ y. (index : ℕ) → IsFilled u → IsScope c.args.scope.now index → CanSize (λ e. laws.value (laws.tables (said u)) true (index + 1) p e) extent.section.executable extent.alignment c.args.offset (statement_kind c.args.statement.now.kind) → ⊥)
+    (λ y. (index : ℕ) → IsFilled u → IsScope c.args.scope.now index → (c.args.placed ≡ true → CanSize (λ e. laws.value (laws.tables (said u)) true (index + 1) p e) extent.section.executable extent.alignment c.args.offset (statement_kind c.args.statement.now.kind)) → ⊥)
     (λ y h index f s has. h index f s (has placed))
     c.size.ensures.refuses

@@ -6,7 +6,7 @@ use Rattle.rv_statement.specs.View.{statement_kind}
 use Rattle.rv_unit_laws.specs.Tables as laws
 use Rattle.rv_unit_tables.specs.Sections.{offset_of}
 use Rattle.rv_unit.specs.Unit.{said, IsFilled, IsScope}
-use Rattle.rv_draft.specs.Measured.{CanAlign, CanCount, HasSize, IsSize, stretch}
+use Rattle.rv_draft.specs.Measured.{CanAlign, CanCount, CanSize, IsSize, stretch}
 use Rattle.rv_draft.specs.Sized.{IsAligned}
 use Rattle.rv_draft.proofs.items.size.Goals as goal
 
@@ -28,10 +28,10 @@ returns-in-Zeros c =
       refuses =
           IfErr-weaker c.bytes_of_zeros.result
           (λ y. (v : values.Value) → IsOutcome c.value.result line v → CanCount v → ⊥)
-          (λ y. (index : ℕ) → IsFilled u → IsScope c.args.scope.now index → HasSize (λ e. laws.value (laws.tables (said u)) true (index + 1) p e) extent.section.executable extent.alignment c.args.offset (statement_kind c.args.statement.now.kind) → ⊥)
+          (λ y. (index : ℕ) → IsFilled u → IsScope c.args.scope.now index → CanSize (λ e. laws.value (laws.tables (said u)) true (index + 1) p e) extent.section.executable extent.alignment c.args.offset (statement_kind c.args.statement.now.kind) → ⊥)
           (λ y h index f s has.
           h _ (c.value.ensures index f s)
-          (subst (λ k. HasSize (λ e. laws.value (laws.tables (said u)) true (index + 1) p e) extent.section.executable extent.alignment c.args.offset (statement_kind k)) c.in-Zeros.is has))
+          (subst (λ k. CanSize (λ e. laws.value (laws.tables (said u)) true (index + 1) p e) extent.section.executable extent.alignment c.args.offset (statement_kind k)) c.in-Zeros.is has))
           c.bytes_of_zeros.ensures.refuses;
     }
 
@@ -53,10 +53,10 @@ returns-in-AlignsToPower c =
       refuses =
           IfErr-weaker c.padding_to_power.result
           (λ y. (v : values.Value) → IsOutcome c.value-in-AlignsToPower.result line v → CanAlign v extent.section.executable extent.alignment c.args.offset (laws.power_alignment v) → ⊥)
-          (λ y. (index : ℕ) → IsFilled u → IsScope c.args.scope.now index → HasSize (λ e. laws.value (laws.tables (said u)) true (index + 1) p e) extent.section.executable extent.alignment c.args.offset (statement_kind c.args.statement.now.kind) → ⊥)
+          (λ y. (index : ℕ) → IsFilled u → IsScope c.args.scope.now index → CanSize (λ e. laws.value (laws.tables (said u)) true (index + 1) p e) extent.section.executable extent.alignment c.args.offset (statement_kind c.args.statement.now.kind) → ⊥)
           (λ y h index f s has.
           h _ (c.value-in-AlignsToPower.ensures index f s)
-          (subst (λ k. HasSize (λ e. laws.value (laws.tables (said u)) true (index + 1) p e) extent.section.executable extent.alignment c.args.offset (statement_kind k)) c.in-AlignsToPower.is has))
+          (subst (λ k. CanSize (λ e. laws.value (laws.tables (said u)) true (index + 1) p e) extent.section.executable extent.alignment c.args.offset (statement_kind k)) c.in-AlignsToPower.is has))
           c.padding_to_power.ensures.refuses;
     }
 
@@ -78,9 +78,9 @@ returns-in-AlignsToBytes c =
       refuses =
           IfErr-weaker c.padding_to_bytes.result
           (λ y. (v : values.Value) → IsOutcome c.value-in-AlignsToBytes.result line v → CanAlign v extent.section.executable extent.alignment c.args.offset (laws.byte_alignment v) → ⊥)
-          (λ y. (index : ℕ) → IsFilled u → IsScope c.args.scope.now index → HasSize (λ e. laws.value (laws.tables (said u)) true (index + 1) p e) extent.section.executable extent.alignment c.args.offset (statement_kind c.args.statement.now.kind) → ⊥)
+          (λ y. (index : ℕ) → IsFilled u → IsScope c.args.scope.now index → CanSize (λ e. laws.value (laws.tables (said u)) true (index + 1) p e) extent.section.executable extent.alignment c.args.offset (statement_kind c.args.statement.now.kind) → ⊥)
           (λ y h index f s has.
           h _ (c.value-in-AlignsToBytes.ensures index f s)
-          (subst (λ k. HasSize (λ e. laws.value (laws.tables (said u)) true (index + 1) p e) extent.section.executable extent.alignment c.args.offset (statement_kind k)) c.in-AlignsToBytes.is has))
+          (subst (λ k. CanSize (λ e. laws.value (laws.tables (said u)) true (index + 1) p e) extent.section.executable extent.alignment c.args.offset (statement_kind k)) c.in-AlignsToBytes.is has))
           c.padding_to_bytes.ensures.refuses;
     }

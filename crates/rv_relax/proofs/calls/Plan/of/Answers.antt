@@ -1,6 +1,6 @@
 use Rattle.std.proofs.Common.{◌≡◌, ◌+◌, ◌*◌, ◌≤◌, length, arith, subst, sym, ◌∙◌, ap}
 use Rattle.rv_layout_laws.specs.Calls.{IsFamily, InOrder, calls}
-use Rattle.rv_layout_laws.specs.Paddings.{IsPadded}
+use Rattle.rv_layout_laws.specs.Paddings.{IsRelaxedText}
 use Rattle.rv_relax.specs.Padded.{inner, joined, padded, pads}
 use Rattle.rv_relax.specs.Pieces.{are_pieces, pieces_of}
 use Rattle.rv_relax.specs.Plan.{kept_of, padded_of, rounds_of, sites_in, starts_in}
@@ -50,7 +50,7 @@ returns-clause-padded c =
     let sites = c.sites-sites.result.now in
     let kept = c.in_ok-kept.field-0.kept.items in
     let family : IsFamily sites kept = planned_family c.args.relax sites kept c.in_ok-kept.ensures.planned in
-    subst (λ placed. IsPadded placed kept (padded 0 sites kept)) c.sites-sites.ensures.value
+    subst (λ placed. IsRelaxedText placed kept (padded 0 sites kept)) c.sites-sites.ensures.value
     (is_padded sites kept c.sites-sites.ensures.input.text.in_order c.sites-sites.ensures.aligning family.same_length)
 
 pub returns-clause-rounds : goal.returns-clause-rounds
