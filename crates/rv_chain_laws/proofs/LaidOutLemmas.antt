@@ -30,8 +30,8 @@ pub record AreRegions (l : Linked) : Type 0 where
 
 -- ---- a part without memory is no segment, and holds no address
 
-size_of : (part : Part) → length (part.stored ++ zeros part.zeros) ≡ memory_size_of part
-size_of part = length-append part.stored (zeros part.zeros) ∙ ap (λ n. length part.stored + n) (length-replicate {A = ℕ} part.zeros 0)
+part_size : (part : Part) → length (part.stored ++ zeros part.zeros) ≡ memory_size_of part
+part_size part = length-append part.stored (zeros part.zeros) ∙ ap (λ n. length part.stored + n) (length-replicate {A = ℕ} part.zeros 0)
 
 not_false : (b : Bool) → not b ≡ false → b ≡ true
 not_false true e = refl
@@ -40,7 +40,7 @@ not_false false e = absurd (cc)
 empty_none : (part : Part) (x : ℕ) → has_memory part ≡ false → lies_in (segment_of_part part) x ≡ false
 empty_none part x e =
     let none : memory_size_of part ≡ 0 = eqb-true (memory_size_of part) 0 (not_false (memory_size_of part == 0) e) in
-    let short : length (part.stored ++ zeros part.zeros) ≡ 0 = size_of part ∙ none in
+    let short : length (part.stored ++ zeros part.zeros) ≡ 0 = part_size part ∙ none in
     ap (λ n. nat_le part.address x && nat_lt x (part.address + n)) short ∙ empty part.address
   where
     empty : (a : ℕ) → (nat_le a x && nat_lt x (a + 0)) ≡ false

@@ -12,7 +12,7 @@ use Rattle.rv_assemble_laws.specs.Refusals.{else_fault}
 use Rattle.rv_instruction.specs.declared.encoded.Coded.{Coded}
 use Rattle.rv_instruction.specs.Code.{near_forms_of, HasCode, Codes}
 use Rattle.rv_draft.specs.Added.{IsAdded, Adds}
-use Rattle.rv_draft.specs.Code.{GrowsBy, bytes_in, code_bytes, size_of, full_fault, full_at}
+use Rattle.rv_draft.specs.Code.{GrowsBy, bytes_in, code_bytes, code_size, full_fault, full_at}
 use Rattle.rv_layout.specs.Code.{padding_of}
 use Rattle.rv_draft.specs.declared.code.Coder.{Coder}
 
@@ -23,7 +23,7 @@ adds_fault old new section executable rvc bytes wanted v l s OutOfMemory h = tt
 
 pub added_by : (old new : Coder) (section : ℕ) (executable : Bool) (faults : List ℕ) (v : Expression → values.Value) (rvc : Bool) (bytes wanted padding : ℕ) (s : Statement) (coded : List Coded)
     → faults ≡ [] → padding ≡ padding_of executable v s.kind → HasCode v rvc bytes s.kind coded → (is_some (near_forms_of rvc s.kind) ≡ true → bytes ≡ wanted) → GrowsBy old.sections.items new.sections.items section (code_bytes padding coded)
-    → new.sizes.items ≡ old.sizes.items ++ size_of padding coded ∷ []
+    → new.sizes.items ≡ old.sizes.items ++ code_size padding coded ∷ []
     → full_fault new.full ≡ else_fault (full_fault old.full) (full_at s.line (length (bytes_in new.sections.items section)))
     → IsAdded old new section executable faults v rvc wanted s
 added_by old new section executable faults v rvc bytes wanted padding s coded none is has asked grows counts full = record {
@@ -32,6 +32,6 @@ added_by old new section executable faults v rvc bytes wanted padding s coded no
   is = (bytes, has);
   asked = asked;
   grows = subst (λ p. GrowsBy old.sections.items new.sections.items section (code_bytes p coded)) is grows;
-  counts = counts ∙ ap (λ p. old.sizes.items ++ size_of p coded ∷ []) is;
+  counts = counts ∙ ap (λ p. old.sizes.items ++ code_size p coded ∷ []) is;
   full = full;
 }

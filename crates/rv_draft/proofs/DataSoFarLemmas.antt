@@ -17,7 +17,7 @@ use Rattle.rv_assemble_laws.proofs.FilledLemmas.{bytes_append}
 use Rattle.rv_draft.specs.declared.field.OpenField.{OpenField}
 use Rattle.rv_draft.specs.declared.item.CodeSize.{CodeSize}
 use Rattle.rv_draft.specs.declared.item.Item.{Item}
-use Rattle.rv_draft.specs.Code.{GrowsBy, bytes_in, size_of, sizes_of}
+use Rattle.rv_draft.specs.Code.{GrowsBy, bytes_in, code_size, sizes_of}
 use Rattle.rv_layout.specs.Code.{padding_of, padding_at, bytes_coded, value_at}
 use Rattle.rv_draft.specs.Coded.{IsCodedAt, AreCoded}
 use Rattle.rv_draft.specs.DataParts.{is_filled, data_said, fields_said, data_parts, code_said, open_fields, data_bytes, sites, HasRoomFor, HaveCode, IsLaid, IsDataTo, IsData}
@@ -132,11 +132,11 @@ abbrev pub code_of : ℕ → List (List Coded) → List Coded
 code_of i codes = first_code (drop i codes)
 
 size_left : (t : Tables) (ls : List Located) (codes : List (List Coded)) (i : ℕ) (l : Located) (rest : List Located) → AreCoded t ls codes → drop i ls ≡ l ∷ rest
-    → first_size (drop i (sizes_of t ls codes)) ≡ size_of (padding_at t l) (code_of i codes)
+    → first_size (drop i (sizes_of t ls codes)) ≡ code_size (padding_at t l) (code_of i codes)
 size_left t [] codes zero l rest h e = absurd (cc)
 size_left t [] codes (suc i) l rest h e = absurd (cc)
 size_left t (y ∷ ys) [] i l rest h e = absurd h
-size_left t (y ∷ ys) (coded ∷ codes) zero l rest h e = ap (λ (l : Located). size_of (padding_at t l) coded) (first_same y l ys rest e)
+size_left t (y ∷ ys) (coded ∷ codes) zero l rest h e = ap (λ (l : Located). code_size (padding_at t l) coded) (first_same y l ys rest e)
 size_left t (y ∷ ys) (coded ∷ codes) (suc i) l rest h e = size_left t ys codes i l rest h.1 e
 
 coded_left : (t : Tables) (ls : List Located) (codes : List (List Coded)) (i : ℕ) (l : Located) (rest : List Located) → AreCoded t ls codes → drop i ls ≡ l ∷ rest → IsCodedAt t l (code_of i codes)
@@ -153,7 +153,7 @@ coded_here ss is codes i s have here =
 
 -- an instruction has the bytes of its code
 bytes_by_kind : (t : Tables) (k : ℕ) (v : Expression → Value) (b : Bool) (x : Item) (begins : ℕ) (coded : List Coded) (kind : StatementKind)
-    → (is_placed t k kind ≡ true → IsSized v b x begins (size_of (padding_of b v kind) coded) kind) → HasBytesOf coded x kind
+    → (is_placed t k kind ≡ true → IsSized v b x begins (code_size (padding_of b v kind) coded) kind) → HasBytesOf coded x kind
 bytes_by_kind t k v b x begins coded (Label name) h = tt
 bytes_by_kind t k v b x begins coded (Numbered number) h = tt
 bytes_by_kind t k v b x begins coded (Instruction mnemonic operands) h = (h refl).0 ∙ sym (none_more (length (bytes_coded coded)))

@@ -31,7 +31,7 @@ use Rattle.rv_instruction.specs.declared.encoded.Coded.{Coded as CodedPart}
 use Rattle.rv_instruction.specs.Code.{coded_by, instructions_of, IsCodeOf}
 use Rattle.rv_draft.specs.declared.item.Item.{Item}
 use Rattle.rv_layout.specs.Code.{value_at, padding_of, padding_at, IsCoded}
-use Rattle.rv_draft.specs.Code.{code_bytes as bytes_of_code, size_of, sizes_of}
+use Rattle.rv_draft.specs.Code.{code_bytes as bytes_of_code, code_size, sizes_of}
 use Rattle.rv_draft.specs.Coded.{AreCoded}
 use Rattle.rv_draft.specs.DataParts.{is_filled, data_said, fields_said, data_parts, code_said, open_fields}
 use Rattle.rv_draft.specs.Items.{AreItems, grown}
@@ -104,7 +104,7 @@ module _ (all : Tables) (s : Located) (x : Item) (begins : ℕ) (found : List Co
   code_of says = bytes_of_code (pads says) found
 
   abbrev Sized : StatementKind → Type 0
-  Sized says = s.placed ≡ true → IsSized worth s.home.executable x begins (size_of (pads says) found) says
+  Sized says = s.placed ≡ true → IsSized worth s.home.executable x begins (code_size (pads says) found) says
 
   abbrev Own : StatementKind → Type 0
   Own says = IsCoded worth s.options.rvc says found
@@ -166,12 +166,12 @@ module _ (all : Tables) (s : Located) (x : Item) (begins : ℕ) (found : List Co
   padding_are false n = (tt, tt)
 
   -- an alignment in code has the bytes of its padding
-  padded_bytes : (b : Bool) (d : Directive) (a : Option ℕ) → b ≡ true → found ≡ [] → IsItemPadded b (size_of (pads (Directs d)) found) x begins a → x.bytes ≡ pads (Directs d)
+  padded_bytes : (b : Bool) (d : Directive) (a : Option ℕ) → b ≡ true → found ≡ [] → IsItemPadded b (code_size (pads (Directs d)) found) x begins a → x.bytes ≡ pads (Directs d)
   padded_bytes true d a e none h =
       h.0 ∙ ap (λ c. pads (Directs d) + length (joined (coded_by c))) none ∙ (let same : pads (Directs d) + 0 ≡ pads (Directs d) = omega arith in same)
   padded_bytes false d a e none h = absurd (cc)
 
-  aligned_bytes : (d : Directive) (a : Option ℕ) → found ≡ [] → IsItemPadded s.home.executable (size_of (pads (Directs d)) found) x begins a
+  aligned_bytes : (d : Directive) (a : Option ℕ) → found ≡ [] → IsItemPadded s.home.executable (code_size (pads (Directs d)) found) x begins a
       → x.bytes ≡ length (flat_map part_bytes (map (part_of s.ordinal) (padding_templates s.home.executable s.ordinal x.bytes)))
   aligned_bytes d a none h =
       padding_long s.home.executable x.bytes (λ e. ap (λ n. n % 2) (padded_bytes s.home.executable d a e none h) ∙ padding_of_even s.home.executable worth (Directs d))
@@ -291,11 +291,11 @@ module _ (all : Tables) (s : Located) (x : Item) (begins : ℕ) (found : List Co
   -- sizes
 
   -- what has no padding and no code is no instruction
-  no_count : (says : StatementKind) → pads says ≡ 0 → found ≡ [] → x.instructions ≡ (size_of (pads says) found).instructions → x.instructions ≡ 0
+  no_count : (says : StatementKind) → pads says ≡ 0 → found ≡ [] → x.instructions ≡ (code_size (pads says) found).instructions → x.instructions ≡ 0
   no_count says spare none h = h ∙ ap (λ n. operations_in n + instructions_of found) spare ∙ ap (λ c. operations_in 0 + instructions_of c) none
 
-  padded_in : (b : Bool) (d : Directive) → s.home.executable ≡ b → found ≡ [] → x.instructions ≡ (size_of (pads (Directs d)) found).instructions
-      → IsItemPadded b (size_of (pads (Directs d)) found) x begins (alignment_of worth d) → IsMultiple (alignment_of worth d) begins × IsPaddedIn b site (alignment_of worth d)
+  padded_in : (b : Bool) (d : Directive) → s.home.executable ≡ b → found ≡ [] → x.instructions ≡ (code_size (pads (Directs d)) found).instructions
+      → IsItemPadded b (code_size (pads (Directs d)) found) x begins (alignment_of worth d) → IsMultiple (alignment_of worth d) begins × IsPaddedIn b site (alignment_of worth d)
   padded_in true d e none count h =
       let own = padded_bytes true d (alignment_of worth d) refl none h in
       let all = ap (λ c. operations_in (pads (Directs d)) + instructions_of c) none in
@@ -304,7 +304,7 @@ module _ (all : Tables) (s : Located) (x : Item) (begins : ℕ) (found : List Co
   padded_in false d e none count h =
       (h.1, (h.0, no_count (Directs d) (ap (λ b. if b then code_padding (alignment_of worth d) else 0) e) none count))
 
-  directive_size : (d : Directive) → s.placed ≡ true → PlacedDirective s.placed d → IsSized worth s.home.executable x begins (size_of (pads (Directs d)) found) (Directs d) → found ≡ [] → HasSize worth site begins (Directs d)
+  directive_size : (d : Directive) → s.placed ≡ true → PlacedDirective s.placed d → IsSized worth s.home.executable x begins (code_size (pads (Directs d)) found) (Directs d) → found ≡ [] → HasSize worth site begins (Directs d)
   directive_size (Sets name e) there is h none = (h.1, no_count (Directs (Sets name e)) (no_pad s.home.executable) none h.0)
   directive_size (Values w vs) there is h none = (no_count (Directs (Values w vs)) (no_pad s.home.executable) none h.0, h.1)
   directive_size (Strings ended strings) there is h none = (no_count (Directs (Strings ended strings)) (no_pad s.home.executable) none h.0, h.1)
@@ -315,7 +315,7 @@ module _ (all : Tables) (s : Located) (x : Item) (begins : ℕ) (found : List Co
       let padded = padded_in s.home.executable (Aligns_to_bytes e) refl none h.0 h.1.1 in (h.1.0, padded.0, padded.1)
   directive_size _ there is h none = absurd (both_ways s.placed is there)
 
-  said_size : (says : StatementKind) → s.placed ≡ true → PlacedAs s.placed says → IsSized worth s.home.executable x begins (size_of (pads says) found) says → Own says → HasSize worth site begins says
+  said_size : (says : StatementKind) → s.placed ≡ true → PlacedAs s.placed says → IsSized worth s.home.executable x begins (code_size (pads says) found) says → Own says → HasSize worth site begins says
   said_size (Label name) there is h (asked, none) = (h.0, no_count (Label name) refl none h.1)
   said_size (Numbered number) there is h (asked, none) = (h.0, no_count (Numbered number) refl none h.1)
   said_size (Instruction mnemonic operands) there is h (asked, own) =
@@ -471,13 +471,13 @@ pub record Fit (t : Tables) (s : Site) : Type 0 where
   pub fields : open_fields t s ≡ fields_at t s
 
 pub fit_one : (all : Tables) (s : Located) (x : Item) (found : List CodedPart) → PlacedAs s.placed s.kind → (s.placed ≡ false → x.bytes ≡ 0) → x.section ≡ s.section
-    → (s.placed ≡ true → IsSized (λ e. value_at all s e) s.home.executable x (slice_index_or (alignments_of all) x.section 1) (size_of (padding_at all s) found) s.kind)
+    → (s.placed ≡ true → IsSized (λ e. value_at all s e) s.home.executable x (slice_index_or (alignments_of all) x.section 1) (code_size (padding_at all s) found) s.kind)
     → IsCoded (λ e. value_at all s e) s.options.rvc s.kind found → Held s → HaveFields all s → IsSpare all s → Fit all (site_of s x found)
 fit_one all s x found is absent at size own held fields spare =
     let v : Expression → Value = λ e. value_at all s e in
     let begins = slice_index_or (alignments_of all) s.section 1 in
-    let size' : s.placed ≡ true → IsSized v s.home.executable x begins (size_of (padding_at all s) found) s.kind =
-    λ e. subst (λ n. IsSized v s.home.executable x (slice_index_or (alignments_of all) n 1) (size_of (padding_at all s) found) s.kind) at (size e) in
+    let size' : s.placed ≡ true → IsSized v s.home.executable x begins (code_size (padding_at all s) found) s.kind =
+    λ e. subst (λ n. IsSized v s.home.executable x (slice_index_or (alignments_of all) n 1) (code_size (padding_at all s) found) s.kind) at (size e) in
     record {
       size = λ e. said_size all s x begins found s.kind e is (size' e) own;
       bytes = said_bytes all s x begins found s.kind is size' absent own;

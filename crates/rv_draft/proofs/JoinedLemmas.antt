@@ -9,7 +9,7 @@ use Rattle.rv_object.specs.Padding.{operations_in}
 use Rattle.rv_instruction.specs.declared.encoded.Encoded.{Encoded}
 use Rattle.rv_instruction.specs.declared.encoded.Encoded.TheVariants.{Parcel, Word, Pair}
 use Rattle.rv_instruction.specs.Code.{alone_coded, encoded_bytes, encoded_instructions}
-use Rattle.rv_draft.specs.Code.{code_bytes, size_of}
+use Rattle.rv_draft.specs.Code.{code_bytes, code_size}
 
 pub flat_more : {X : Type 0} (f : X → List ℕ) (rest next : List X) (x : X) (old new all : List ℕ) → rest ≡ x ∷ next
     → new ≡ old ++ flat_map f (x ∷ []) → old ++ flat_map f rest ≡ all → new ++ flat_map f next ≡ all
@@ -51,7 +51,7 @@ alone_bytes e = append-nil (encoded_bytes e)
 
 -- its bytes, and its instructions
 pub alone_size : (padding : ℕ) (e : Encoded)
-    → size_of padding (alone_coded e).items ≡ record { bytes = padding + length (encoded_bytes e); instructions = operations_in padding + encoded_instructions e }
+    → code_size padding (alone_coded e).items ≡ record { bytes = padding + length (encoded_bytes e); instructions = operations_in padding + encoded_instructions e }
 alone_size padding (Parcel p) = refl
 alone_size padding (Word w) = refl
 alone_size padding (Pair v w) = refl

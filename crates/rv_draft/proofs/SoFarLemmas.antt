@@ -12,7 +12,7 @@ use Rattle.rv_instruction.specs.declared.encoded.Coded.{Coded}
 use Rattle.rv_instruction.specs.Code.{coded_by, instructions_of}
 use Rattle.rv_assemble_laws.specs.Coded.{IsCode}
 use Rattle.rv_assemble_laws.specs.Refusals.{code_faults_at, code_fault_from, size_fault_from, else_fault, grown, HasCodeSize, AreCodeSizes}
-use Rattle.rv_draft.specs.Code.{bytes_in, code_bytes, size_of, sizes_of, bytes_of_sizes, bytes_of_codes, section_code, full_fault, full_at}
+use Rattle.rv_draft.specs.Code.{bytes_in, code_bytes, code_size, sizes_of, bytes_of_sizes, bytes_of_codes, section_code, full_fault, full_at}
 use Rattle.rv_layout.specs.Code.{bytes_coded, value_at, padding_of, padding_at, IsCoded}
 use Rattle.rv_draft.specs.Coded.{AreCoded}
 use Rattle.rv_draft.specs.Added.{IsAdded, IsCodeSoFar, IsWhole, IsLong}
@@ -56,7 +56,7 @@ next_code t all s next old new wanted h a =
     let g = λ (j : ℕ). length (bytes_in new.sections.items j) in
     let code = code_bytes (padding_at t s) a.coded in
     let size : ℕ = padding_at t s + length (bytes_coded a.coded) in
-    let own : CodeSize = size_of (padding_at t s) a.coded in
+    let own : CodeSize = code_size (padding_at t s) a.coded in
     let alike : (j : ℕ) → g j ≡ (if j == s.section then f j + size else f j) =
     λ j. ap length (a.grows.1 j) ∙ grown_length (j == s.section) (bytes_in old.sections.items j) code ∙ ap (λ n. if j == s.section then f j + n else f j) (code_long t s a.coded) in
     let here : g s.section ≡ f s.section + size = alike s.section ∙ ap (λ b. if b then f s.section + size else f s.section) (same s.section) in

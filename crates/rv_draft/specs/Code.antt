@@ -34,8 +34,8 @@ abbrev pub code_bytes : ℕ → List Coded → List ℕ
 code_bytes padding found = no_operations padding ++ bytes_coded found
 
 -- how large it is
-abbrev pub size_of : ℕ → List Coded → CodeSize
-size_of padding found =
+abbrev pub code_size : ℕ → List Coded → CodeSize
+code_size padding found =
     record {
       bytes = padding + length (bytes_coded found);
       instructions = operations_in padding + instructions_of found;
@@ -46,7 +46,7 @@ size_of padding found =
 abbrev pub sizes_of : Tables → List Located → List (List Coded) → List CodeSize
 sizes_of t [] codes = []
 sizes_of t (s ∷ ss) [] = []
-sizes_of t (s ∷ ss) (found ∷ codes) = size_of (padding_at t s) found ∷ sizes_of t ss codes
+sizes_of t (s ∷ ss) (found ∷ codes) = code_size (padding_at t s) found ∷ sizes_of t ss codes
 
 -- how many bytes each statement has
 abbrev pub bytes_of_sizes : List CodeSize → List ℕ

@@ -146,10 +146,10 @@ fn instructions_in(code: &[Coded]) -> u8
 }
 
 /// How large the code of a statement is.
-fn size_of(padding: u32, code: &[Coded]) -> CodeSize
+fn code_size(padding: u32, code: &[Coded]) -> CodeSize
     requires low { padding ≤ 65535 }
     requires few { length code.now ≤ 8 }
-    ensures { result ≡ laws.size_of padding code.now }
+    ensures { result ≡ laws.code_size padding code.now }
 {
     CodeSize {
         bytes: padding + u32::from(bytes_of(code)),
@@ -161,7 +161,7 @@ fn size_of(padding: u32, code: &[Coded]) -> CodeSize
 #[tactic(auto, using(crate::proofs::JoinedLemmas::alone_size))]
 fn size_of_one(padding: u32, encoded: Encoded) -> CodeSize
     requires { padding ≤ 65535 }
-    ensures { result ≡ laws.size_of padding (alone_coded encoded).items }
+    ensures { result ≡ laws.code_size padding (alone_coded encoded).items }
 {
     CodeSize {
         bytes: padding + u32::from(width(encoded)),
@@ -366,7 +366,7 @@ impl Coder {
             (statement_of statement.now) result }
     {
         put_section(self.sections.as_mut_slice(), section, padding, found)?;
-        self.sizes.push(size_of(padding, found))?;
+        self.sizes.push(code_size(padding, found))?;
         let bytes = bytes_in(self.sections.as_slice(), section);
         self.full = full_behind(self.full, bytes, statement.line);
         Ok(())

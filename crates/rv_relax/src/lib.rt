@@ -5,7 +5,7 @@
 //! with every padding in full (`rv_layout_laws`, `IsGreatestClosed`). [`Plan`] takes the sites of a text ([`Placed`]) and finds
 //! them in passes, forwards and backwards in turn, over tables of numbers: no byte moves, and the passes are at most twice the
 //! calls and one. Where relaxation is off each call keeps its eight bytes. With these sizes each padding is then the least that
-//! aligns its end (`IsPadded`), where the text begins at a multiple of all alignments. A plan tells how long each call and each
+//! aligns its end (`IsRelaxedText`), where the text begins at a multiple of all alignments. A plan tells how long each call and each
 //! alignment is, whether an alignment would need more bytes than it has, and where an offset is afterwards.
 //!
 //! An alignment in code (R_RISCV_ALIGN) brings as much padding as it can ever need. Where its section starts at an address,

@@ -26,7 +26,7 @@ fn jump(forms: Forms, target: u32, addend: i64) -> Item {
 }
 
 /// The bytes of statement `i` among statements of two sections.
-fn size_of(alloc: Global, items: &[Item], i: usize) -> Result<Option<u32>, AllocError> {
+fn size_at(alloc: Global, items: &[Item], i: usize) -> Result<Option<u32>, AllocError> {
     if !is_input(items, 2) {
         return Ok(None);
     }
@@ -36,7 +36,7 @@ fn size_of(alloc: Global, items: &[Item], i: usize) -> Result<Option<u32>, Alloc
 
 /// The bytes of a branch or jump over so many bytes.
 fn ahead(alloc: Global, forms: Forms, between: u32) -> Result<Option<u32>, AllocError> {
-    size_of(
+    size_at(
         alloc,
         &[jump(forms, 2, 0), filled(0, between), filled(0, 0)],
         0,
@@ -45,7 +45,7 @@ fn ahead(alloc: Global, forms: Forms, between: u32) -> Result<Option<u32>, Alloc
 
 /// The bytes of a branch or jump back over so many bytes.
 fn behind(alloc: Global, forms: Forms, between: u32) -> Result<Option<u32>, AllocError> {
-    size_of(alloc, &[filled(0, between), jump(forms, 0, 0)], 1)
+    size_at(alloc, &[filled(0, between), jump(forms, 0, 0)], 1)
 }
 
 #[test]
@@ -77,21 +77,21 @@ fn reaches_behind(rt: HostRuntime) -> Result<(), Fail> {
 fn counts_constants(rt: HostRuntime) -> Result<(), Fail> {
     let alloc = rt.alloc();
     assert_eq!(rt;
-        size_of(alloc, &[jump(Forms::CompressedBranch, 0, 3)], 0)?,
+        size_at(alloc, &[jump(Forms::CompressedBranch, 0, 3)], 0)?,
         Some(8)
     );
     assert_eq!(rt;
-        size_of(alloc, &[jump(Forms::CompressedBranch, 0, 4)], 0)?,
+        size_at(alloc, &[jump(Forms::CompressedBranch, 0, 4)], 0)?,
         Some(2)
     );
     assert_eq!(rt;
-        size_of(alloc, &[jump(Forms::CompressedBranch, 0, i64::MAX)], 0)?,
+        size_at(alloc, &[jump(Forms::CompressedBranch, 0, i64::MAX)], 0)?,
         Some(8)
     );
     let near = [jump(Forms::Branch, 2, -8), filled(0, 4096), filled(0, 0)];
-    assert_eq!(rt; size_of(alloc, &near, 0)?, Some(4));
+    assert_eq!(rt; size_at(alloc, &near, 0)?, Some(4));
     let far = [filled(0, 8192), jump(Forms::Branch, 0, 4098)];
-    assert_eq!(rt; size_of(alloc, &far, 1)?, Some(8));
+    assert_eq!(rt; size_at(alloc, &far, 1)?, Some(8));
     Ok(())
 }
 
@@ -105,7 +105,7 @@ fn counts_one_section(rt: HostRuntime) -> Result<(), Fail> {
         filled(0, 252),
         filled(0, 0),
     ];
-    assert_eq!(rt; size_of(alloc, &items, 0)?, Some(2));
+    assert_eq!(rt; size_at(alloc, &items, 0)?, Some(2));
     Ok(())
 }
 
