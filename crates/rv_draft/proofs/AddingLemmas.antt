@@ -13,7 +13,7 @@ use Rattle.rv_instruction.specs.declared.encoded.Coded.{Coded}
 use Rattle.rv_instruction.specs.Code.{near_forms_of, HasCode, Codes}
 use Rattle.rv_draft.specs.Added.{IsAdded, Adds}
 use Rattle.rv_draft.specs.Code.{GrowsBy, bytes_in, code_bytes, code_size, full_fault, full_at}
-use Rattle.rv_layout.specs.Code.{padding_of}
+use Rattle.rv_layout.specs.Code.{statement_padding}
 use Rattle.rv_draft.specs.declared.code.Coder.{Coder}
 
 pub adds_fault : (old new : Coder) (section : ℕ) (executable rvc : Bool) (bytes wanted : ℕ) (v : Expression → values.Value) (l : Primary → Bool) (s : Statement) (fault : SourceFault)
@@ -22,7 +22,7 @@ adds_fault old new section executable rvc bytes wanted v l s (At code line) h = 
 adds_fault old new section executable rvc bytes wanted v l s OutOfMemory h = tt
 
 pub added_by : (old new : Coder) (section : ℕ) (executable : Bool) (faults : List ℕ) (v : Expression → values.Value) (rvc : Bool) (bytes wanted padding : ℕ) (s : Statement) (coded : List Coded)
-    → faults ≡ [] → padding ≡ padding_of executable v s.kind → HasCode v rvc bytes s.kind coded → (is_some (near_forms_of rvc s.kind) ≡ true → bytes ≡ wanted) → GrowsBy old.sections.items new.sections.items section (code_bytes padding coded)
+    → faults ≡ [] → padding ≡ statement_padding executable v s.kind → HasCode v rvc bytes s.kind coded → (is_some (near_forms_of rvc s.kind) ≡ true → bytes ≡ wanted) → GrowsBy old.sections.items new.sections.items section (code_bytes padding coded)
     → new.sizes.items ≡ old.sizes.items ++ code_size padding coded ∷ []
     → full_fault new.full ≡ else_fault (full_fault old.full) (full_at s.line (length (bytes_in new.sections.items section)))
     → IsAdded old new section executable faults v rvc wanted s

@@ -13,7 +13,7 @@ use Rattle.rv_source_laws.proofs.HeldLemmas.{all_held}
 use Rattle.rv_source_laws.proofs.HomesLemmas.{homes_from}
 use Rattle.rv_assemble_laws.specs.Refusals.{code_faults_at}
 use Rattle.rv_instruction.specs.Code.{near_forms_of, MayHave}
-use Rattle.rv_layout.specs.Code.{value_at, padding_of, data_of, beside_of}
+use Rattle.rv_layout.specs.Code.{value_at, statement_padding, data_of, beside_of}
 use Rattle.rv_layout.specs.Measure.{HasLength, IsSize, AreSizes}
 use Rattle.rv_layout.proofs.StandingLemmas.{first_same}
 use Rattle.rv_draft.specs.Lengths.{IsLength, AreLengths, code_length, code_lengths}
@@ -21,7 +21,7 @@ use Rattle.rv_draft.proofs.LeastAllLemmas.{Agree, least_all}
 
 -- ---- one statement
 
-no_padding : (v : Expression → Value) (kind : StatementKind) → padding_of false v kind ≡ 0
+no_padding : (v : Expression → Value) (kind : StatementKind) → statement_padding false v kind ≡ 0
 no_padding v (Label name) = refl
 no_padding v (Numbered number) = refl
 no_padding v (Instruction mnemonic operands) = refl
@@ -33,7 +33,7 @@ no_data true n = refl
 no_data false n = let same : n - 0 ≡ n = omega arith in same
 
 told_length : (v : Expression → Value) (rvc b : Bool) (faults : List ℕ) (offset : ℕ) (kind : StatementKind) (n : ℕ) → HasLength v rvc faults (beside_of b v offset kind) kind n
-    → HasLength v rvc faults (padding_of b v kind) kind (if b then n else n - data_of v offset kind)
+    → HasLength v rvc faults (statement_padding b v kind) kind (if b then n else n - data_of v offset kind)
 told_length v rvc true faults offset kind n h = h
 told_length v rvc false faults offset kind n h = λ sound none found is.
     let whole = h sound none found is in

@@ -18,7 +18,7 @@ use Rattle.rv_draft.specs.declared.field.OpenField.{OpenField}
 use Rattle.rv_draft.specs.declared.item.CodeSize.{CodeSize}
 use Rattle.rv_draft.specs.declared.item.Item.{Item}
 use Rattle.rv_draft.specs.Code.{GrowsBy, bytes_in, code_size, sizes_of}
-use Rattle.rv_layout.specs.Code.{padding_of, padding_at, bytes_coded, value_at}
+use Rattle.rv_layout.specs.Code.{statement_padding, padding_at, bytes_coded, value_at}
 use Rattle.rv_draft.specs.Coded.{IsCodedAt, AreCoded}
 use Rattle.rv_draft.specs.DataParts.{is_filled, data_said, fields_said, data_parts, code_said, open_fields, data_bytes, sites, HasRoomFor, HaveCode, IsLaid, IsDataTo, IsData}
 use Rattle.rv_draft.specs.Draft.{field_of}
@@ -153,7 +153,7 @@ coded_here ss is codes i s have here =
 
 -- an instruction has the bytes of its code
 bytes_by_kind : (t : Tables) (k : ℕ) (v : Expression → Value) (b : Bool) (x : Item) (begins : ℕ) (coded : List Coded) (kind : StatementKind)
-    → (is_placed t k kind ≡ true → IsSized v b x begins (code_size (padding_of b v kind) coded) kind) → HasBytesOf coded x kind
+    → (is_placed t k kind ≡ true → IsSized v b x begins (code_size (statement_padding b v kind) coded) kind) → HasBytesOf coded x kind
 bytes_by_kind t k v b x begins coded (Label name) h = tt
 bytes_by_kind t k v b x begins coded (Numbered number) h = tt
 bytes_by_kind t k v b x begins coded (Instruction mnemonic operands) h = (h refl).0 ∙ sym (none_more (length (bytes_coded coded)))

@@ -12,7 +12,7 @@ use Rattle.rv_source_laws.specs.Located.{Located}
 use Rattle.rv_object.specs.Padding.{no_operations}
 use Rattle.rv_source_laws.specs.Sizes.{code_padding}
 use Rattle.rv_instruction.specs.declared.encoded.Coded.{Coded}
-use Rattle.rv_layout.specs.Code.{value_at, padding_of, padding_at, bytes_coded}
+use Rattle.rv_layout.specs.Code.{value_at, statement_padding, padding_at, bytes_coded}
 use Rattle.rv_draft.specs.Code.{code_bytes}
 use Rattle.rv_object.proofs.NopsLemmas.{length_even}
 
@@ -23,7 +23,7 @@ padding_even None h = refl
 padding_even (Some n) (zero, e) = let one : n ≡ 1 = e in omega (arith, one)
 padding_even (Some n) (suc k, e) = let twice : n ≡ 2 * 2 ^ k = e ∙ pow-succ' 2 k in omega (arith, twice)
 
-pub padding_of_even : (executable : Bool) (v : Expression → Value) (kind : StatementKind) → padding_of executable v kind % 2 ≡ 0
+pub padding_of_even : (executable : Bool) (v : Expression → Value) (kind : StatementKind) → statement_padding executable v kind % 2 ≡ 0
 padding_of_even true v (Directs directive) = padding_even (alignment_of v directive) (directive_aligned v directive)
 padding_of_even false v (Directs directive) = refl
 padding_of_even b v (Label name) = refl

@@ -30,7 +30,7 @@ use Rattle.rv_assemble_laws.specs.Fields.{Field, fields_from, fields_at}
 use Rattle.rv_instruction.specs.declared.encoded.Coded.{Coded as CodedPart}
 use Rattle.rv_instruction.specs.Code.{coded_by, instructions_of, IsCodeOf}
 use Rattle.rv_draft.specs.declared.item.Item.{Item}
-use Rattle.rv_layout.specs.Code.{value_at, padding_of, padding_at, IsCoded}
+use Rattle.rv_layout.specs.Code.{value_at, statement_padding, padding_at, IsCoded}
 use Rattle.rv_draft.specs.Code.{code_bytes as bytes_of_code, code_size, sizes_of}
 use Rattle.rv_draft.specs.Coded.{AreCoded}
 use Rattle.rv_draft.specs.DataParts.{is_filled, data_said, fields_said, data_parts, code_said, open_fields}
@@ -98,7 +98,7 @@ module _ (all : Tables) (s : Located) (x : Item) (begins : ℕ) (found : List Co
 
   -- its padding, and all that it has as code
   abbrev pads : StatementKind → ℕ
-  pads says = padding_of s.home.executable worth says
+  pads says = statement_padding s.home.executable worth says
 
   abbrev code_of : StatementKind → List ℕ
   code_of says = bytes_of_code (pads says) found
@@ -410,7 +410,7 @@ module _ (all t : Tables) (k : ℕ) (whole : (e : Expression) (n : ℕ) → valu
   current = current_section (opened_of t)
 
   abbrev Spare : StatementKind → Section → Type 0
-  Spare says home = is_nobits home ≡ true → padding_of home.executable (λ e. value all true k (stood t k says) e) says ≡ 0
+  Spare says home = is_nobits home ≡ true → statement_padding home.executable (λ e. value all true k (stood t k says) e) says ≡ 0
 
   power_spare : (e : Expression) → directive_faults all t k (Aligns_to_power e) ≡ [] → Spare (Directs (Aligns_to_power e)) current
   power_spare e none empty =

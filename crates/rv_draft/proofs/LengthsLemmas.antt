@@ -11,7 +11,7 @@ use Rattle.rv_pseudo_laws.specs.Code.{code}
 use Rattle.rv_source_laws.specs.Sizes.{near_forms}
 use Rattle.rv_instruction.specs.declared.encoded.Coded.{Coded}
 use Rattle.rv_instruction.specs.Code.{HasCode, near_forms_of}
-use Rattle.rv_layout.specs.Code.{bytes_coded, padding_of, IsCoded}
+use Rattle.rv_layout.specs.Code.{bytes_coded, statement_padding, IsCoded}
 use Rattle.rv_layout.proofs.LengthsLemmas.{code_long}
 use Rattle.rv_draft.specs.Coded.{HasBytes}
 use Rattle.rv_layout.specs.Measure.{HasLength}
@@ -22,7 +22,7 @@ near_of : (o : Option Forms) (f : Forms) → o ≡ Some f → is_some o ≡ true
 near_of o f e = ap is_some e
 
 near_length : (v : Expression → Value) (rvc executable : Bool) (wanted asked : ℕ) (f : Forms) (kind : StatementKind) (found : List Coded) → near_forms_of rvc kind ≡ Some f
-    → HasCode v rvc asked kind found → asked ≡ wanted → padding_of executable v kind + length (bytes_coded found) ≡ wanted
+    → HasCode v rvc asked kind found → asked ≡ wanted → statement_padding executable v kind + length (bytes_coded found) ≡ wanted
 near_length v rvc executable wanted asked f (Label name) found e h same = absurd (cc)
 near_length v rvc executable wanted asked f (Numbered number) found e h same = absurd (cc)
 near_length v rvc executable wanted asked f (Instruction mnemonic operands) found e h same =
@@ -32,11 +32,11 @@ near_length v rvc executable wanted asked f (Instruction mnemonic operands) foun
 near_length v rvc executable wanted asked f (Directs directive) found e h same = absurd (cc)
 
 pub added_length : (v : Expression → Value) (rvc executable : Bool) (faults : List ℕ) (wanted : ℕ) (kind : StatementKind) (found : List Coded) → faults ≡ []
-    → (is : IsCoded v rvc kind found) → (is_some (near_forms_of rvc kind) ≡ true → is.0 ≡ wanted) → HasLength v rvc faults (padding_of executable v kind) kind wanted
-    → padding_of executable v kind + length (bytes_coded found) ≡ wanted
+    → (is : IsCoded v rvc kind found) → (is_some (near_forms_of rvc kind) ≡ true → is.0 ≡ wanted) → HasLength v rvc faults (statement_padding executable v kind) kind wanted
+    → statement_padding executable v kind + length (bytes_coded found) ≡ wanted
 added_length v rvc executable faults wanted kind found sound is asked told = go (near_forms_of rvc kind) refl
   where
-    go : (o : Option Forms) → near_forms_of rvc kind ≡ o → padding_of executable v kind + length (bytes_coded found) ≡ wanted
+    go : (o : Option Forms) → near_forms_of rvc kind ≡ o → statement_padding executable v kind + length (bytes_coded found) ≡ wanted
     go None e = told sound e found is
     go (Some f) e = near_length v rvc executable wanted is.0 f kind found e is.1 (asked (near_of (near_forms_of rvc kind) f e))
 

@@ -20,7 +20,7 @@ use Rattle.rv_draft.specs.declared.data.Spot.{Spot}
 use Rattle.rv_draft.specs.declared.item.CodeSize.{CodeSize}
 use Rattle.rv_draft.specs.declared.item.Item.{Item}
 use Rattle.rv_draft.specs.Added.{IsWhole}
-use Rattle.rv_layout.specs.Code.{bytes_coded, padding_of, padding_at, value_at, IsCoded}
+use Rattle.rv_layout.specs.Code.{bytes_coded, statement_padding, padding_at, value_at, IsCoded}
 use Rattle.rv_draft.specs.Code.{bytes_of_codes, code_size, sizes_of}
 use Rattle.rv_draft.specs.Coded.{AreCoded, HasBytes}
 use Rattle.rv_draft.specs.DataParts.{AreMade, IsMade}
@@ -33,7 +33,7 @@ use Rattle.rv_draft.proofs.WholeLemmas.{one_file}
 
 -- an instruction has the bytes of its code, which it was asked for
 kind_offered : (t : Tables) (k : ℕ) (v : Expression → Value) (b rvc : Bool) (x : Item) (begins : ℕ) (coded : List Coded) (n : ℕ) (kind : StatementKind)
-    → (is_placed t k kind ≡ true → IsSized v b x begins (code_size (padding_of b v kind) coded) kind) → padding_of b v kind + length (bytes_coded coded) ≡ n → MayHave rvc kind n → MayHave rvc kind x.bytes
+    → (is_placed t k kind ≡ true → IsSized v b x begins (code_size (statement_padding b v kind) coded) kind) → statement_padding b v kind + length (bytes_coded coded) ≡ n → MayHave rvc kind n → MayHave rvc kind x.bytes
 kind_offered t k v b rvc x begins coded n (Label name) sized told may = tt
 kind_offered t k v b rvc x begins coded n (Numbered number) sized told may = tt
 kind_offered t k v b rvc x begins coded n (Instruction mnemonic operands) sized told may =
@@ -41,7 +41,7 @@ kind_offered t k v b rvc x begins coded n (Instruction mnemonic operands) sized 
 kind_offered t k v b rvc x begins coded n (Directs directive) sized told may = tt
 
 kind_long : (t : Tables) (k : ℕ) (v : Expression → Value) (b : Bool) (x : Item) (begins : ℕ) (coded : List Coded) (kind : StatementKind)
-    → (is_placed t k kind ≡ true → IsSized v b x begins (code_size (padding_of b v kind) coded) kind) → HasBytes coded x.bytes kind
+    → (is_placed t k kind ≡ true → IsSized v b x begins (code_size (statement_padding b v kind) coded) kind) → HasBytes coded x.bytes kind
 kind_long t k v b x begins coded (Label name) sized = tt
 kind_long t k v b x begins coded (Numbered number) sized = tt
 kind_long t k v b x begins coded (Instruction mnemonic operands) sized =

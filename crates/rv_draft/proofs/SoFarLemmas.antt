@@ -13,7 +13,7 @@ use Rattle.rv_instruction.specs.Code.{coded_by, instructions_of}
 use Rattle.rv_assemble_laws.specs.Coded.{IsCode}
 use Rattle.rv_assemble_laws.specs.Refusals.{code_faults_at, code_fault_from, size_fault_from, else_fault, grown, HasCodeSize, AreCodeSizes}
 use Rattle.rv_draft.specs.Code.{bytes_in, code_bytes, code_size, sizes_of, bytes_of_sizes, bytes_of_codes, section_code, full_fault, full_at}
-use Rattle.rv_layout.specs.Code.{bytes_coded, value_at, padding_of, padding_at, IsCoded}
+use Rattle.rv_layout.specs.Code.{bytes_coded, value_at, statement_padding, padding_at, IsCoded}
 use Rattle.rv_draft.specs.Coded.{AreCoded}
 use Rattle.rv_draft.specs.Added.{IsAdded, IsCodeSoFar, IsWhole, IsLong}
 use Rattle.rv_draft.specs.declared.code.Coder.{Coder}
@@ -124,13 +124,13 @@ whole_code t all c lengths none told h = record {
 }
 
 -- the size of a statement's code
-has_size : (b : Bool) (v : Expression → Value) (rvc : Bool) (says : StatementKind) (coded : List Coded) → IsCoded v rvc says coded → HasCodeSize b v rvc says (padding_of b v says + length (bytes_coded coded))
+has_size : (b : Bool) (v : Expression → Value) (rvc : Bool) (says : StatementKind) (coded : List Coded) → IsCoded v rvc says coded → HasCodeSize b v rvc says (statement_padding b v says + length (bytes_coded coded))
 has_size b v rvc (Instruction mnemonic operands) coded (asked, h) =
     (coded_by coded, (instructions_of coded, subst (λ n. IsCode v rvc mnemonic operands n (coded_by coded) (instructions_of coded)) (none_more (length (bytes_coded coded))) h.is))
 has_size b v rvc (Label name) coded (asked, h) = ap (λ c. 0 + length (bytes_coded c)) h
 has_size b v rvc (Numbered number) coded (asked, h) = ap (λ c. 0 + length (bytes_coded c)) h
 has_size b v rvc (Directs directive) coded (asked, h) =
-    let padding = padding_of b v (Directs directive) in
+    let padding = statement_padding b v (Directs directive) in
     ap (λ c. padding + length (bytes_coded c)) h ∙ (let all : padding + 0 ≡ padding = omega arith in all)
 
 have_sizes : (t : Tables) (ss : List Located) (codes : List (List Coded)) → AreCoded t ss codes → AreCodeSizes t ss (bytes_of_codes t ss codes)

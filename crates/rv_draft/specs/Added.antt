@@ -13,7 +13,7 @@ use Rattle.rv_unit_laws.specs.Tables.{Tables, tables}
 use Rattle.rv_source_laws.specs.Located.{Located, located}
 use Rattle.rv_assemble_laws.specs.Refusals.{code_fault_from, size_fault_from, code_fault, else_fault, AreCodeSizes, IsTooLong}
 use Rattle.rv_draft.specs.Code.{GrowsBy, bytes_in, code_bytes, code_size, sizes_of, bytes_of_codes, section_code, full_fault, full_at}
-use Rattle.rv_layout.specs.Code.{padding_of, IsCoded}
+use Rattle.rv_layout.specs.Code.{statement_padding, IsCoded}
 use Rattle.rv_draft.specs.Coded.{AreCoded}
 use Rattle.rv_instruction.specs.declared.encoded.Coded.{Coded}
 use Rattle.rv_instruction.specs.Code.{near_forms_of}
@@ -30,9 +30,9 @@ pub record IsAdded (old new : Coder) (section : ℕ) (executable : Bool) (faults
   pub is : IsCoded v rvc s.kind coded
   pub asked : is_some (near_forms_of rvc s.kind) ≡ true → is.0 ≡ wanted
   pub grows : GrowsBy old.sections.items new.sections.items section
-      (code_bytes (padding_of executable v s.kind) coded)
+      (code_bytes (statement_padding executable v s.kind) coded)
   pub counts : new.sizes.items
-      ≡ old.sizes.items ++ code_size (padding_of executable v s.kind) coded ∷ []
+      ≡ old.sizes.items ++ code_size (statement_padding executable v s.kind) coded ∷ []
   pub full : full_fault new.full
       ≡ else_fault (full_fault old.full)
       (full_at s.line (length (bytes_in new.sections.items section)))

@@ -27,7 +27,7 @@ ghost use Rattle.rv_instruction.specs.Scoped.{values_at, faults_at};
 
 use crate::item::CodeSize;
 use rv_instruction::{Coded, Encoded, code as code_of, one_code};
-use rv_layout::{Layout, bytes_of, extent_at, padding_of, width};
+use rv_layout::{Layout, bytes_of, extent_at, statement_padding, width};
 use rv_object::{operations, put_no_operations};
 use rv_statement::Statement;
 use rv_text::{SourceCode, SourceFault};
@@ -285,7 +285,7 @@ impl Coder {
             (values_at scope.now index place) compressed wanted (statement_of statement.now)
             result }
     {
-        let padding = padding_of(statement, scope, place, executable);
+        let padding = statement_padding(statement, scope, place, executable);
         match one_code(statement, scope, place, compressed) {
             Some(encoded) => self.add_one(statement, place.section, padding, encoded),
             None => self.add_code(statement, scope, place, padding, compressed, wanted),
@@ -306,7 +306,7 @@ impl Coder {
         requires low { padding ≤ 65535 }
         requires section { place.section < length self.old.sections.items }
         ensures { (index : ℕ) → IsFilled (scope.now).unit.now → IsScope scope.now index
-            → (executable : Bool) → padding ≡ sizes.padding_of executable
+            → (executable : Bool) → padding ≡ sizes.statement_padding executable
             (values_at scope.now index place) (statement_of statement.now).kind
             → Adds self.old self.new place.section executable
             (faults_at scope.now index place (statement_of statement.now).kind)
@@ -331,7 +331,7 @@ impl Coder {
         requires section { section < length self.old.sections.items }
         ensures { (executable : Bool) (faults : List ℕ) (v : Expression → values.Value)
             (rvc : Bool) (bytes wanted : ℕ) → faults ≡ []
-            → padding ≡ sizes.padding_of executable v (statement_of statement.now).kind
+            → padding ≡ sizes.statement_padding executable v (statement_of statement.now).kind
             → HasCode v rvc bytes (statement_of statement.now).kind (alone_coded encoded).items
             → (is_some (near_forms_of rvc (statement_of statement.now).kind) ≡ true
             → bytes ≡ wanted)
@@ -358,7 +358,7 @@ impl Coder {
         requires section { section < length self.old.sections.items }
         ensures { (executable : Bool) (faults : List ℕ) (v : Expression → values.Value)
             (rvc : Bool) (bytes wanted : ℕ) → faults ≡ []
-            → padding ≡ sizes.padding_of executable v (statement_of statement.now).kind
+            → padding ≡ sizes.statement_padding executable v (statement_of statement.now).kind
             → HasCode v rvc bytes (statement_of statement.now).kind found.now
             → (is_some (near_forms_of rvc (statement_of statement.now).kind) ≡ true
             → bytes ≡ wanted)

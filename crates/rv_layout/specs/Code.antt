@@ -43,13 +43,13 @@ IsCoded v rvc kind found = (asked : ℕ) × HasCode v rvc asked kind found
 -- ---- beside code
 
 -- the bytes of the padding of an alignment in a section of code
-abbrev pub padding_of : Bool → (Expression → Value) → StatementKind → ℕ
-padding_of executable v (Directs directive) =
+abbrev pub statement_padding : Bool → (Expression → Value) → StatementKind → ℕ
+statement_padding executable v (Directs directive) =
     if executable then code_padding (alignment_of v directive) else 0
-padding_of executable v kind = 0
+statement_padding executable v kind = 0
 
 abbrev pub padding_at : Tables → Located → ℕ
-padding_at t s = padding_of s.home.executable (λ e. value_at t s e) s.kind
+padding_at t s = statement_padding s.home.executable (λ e. value_at t s e) s.kind
 
 -- the bytes of data at an offset, with the padding of an alignment there
 abbrev pub data_of : (Expression → Value) → ℕ → StatementKind → ℕ
@@ -59,7 +59,7 @@ data_of v offset kind = 0
 -- the bytes of a statement that are no code: of padding in a section of code, else of data
 abbrev pub beside_of : Bool → (Expression → Value) → ℕ → StatementKind → ℕ
 beside_of executable v offset kind =
-    if executable then padding_of true v kind else data_of v offset kind
+    if executable then statement_padding true v kind else data_of v offset kind
 
 abbrev pub beside_at : Tables → Located → ℕ
 beside_at t s = beside_of s.home.executable (λ e. value_at t s e) s.offset s.kind

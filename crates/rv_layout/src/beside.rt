@@ -33,14 +33,14 @@ fn code_padding(alignment: Option<u32>) -> u32
 }
 
 /// The bytes of the padding of the statement that is next: of an alignment in a section of code.
-pub fn padding_of<'a>(
+pub fn statement_padding<'a>(
     statement: &Statement<'a>,
     scope: &Scope<'_, 'a>,
     place: SectionOffset,
     executable: bool,
 ) -> u32
     ensures is { AtNext scope.now (λ index. result
-        ≡ laws.padding_of executable (values_at scope.now index place)
+        ≡ laws.statement_padding executable (values_at scope.now index place)
         (statement_kind (statement.now).kind)) }
     ensures low { result ≤ 65535 }
 {
@@ -125,7 +125,7 @@ pub(crate) fn beside<'a>(
     ensures low { result ≤ 2 ^ 28 }
 {
     if executable {
-        return padding_of(statement, scope, place, true);
+        return statement_padding(statement, scope, place, true);
     }
     data_of(statement, scope, place)
 }

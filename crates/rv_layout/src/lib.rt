@@ -26,7 +26,7 @@ mod layout;
 mod measure;
 mod widths;
 
-pub use beside::padding_of;
+pub use beside::statement_padding;
 pub use extents::extent_at;
 pub use layout::Layout;
 pub use widths::{bytes_of, width};

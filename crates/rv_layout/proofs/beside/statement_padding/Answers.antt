@@ -5,9 +5,9 @@ use Rattle.rv_statement.specs.View.{statement_kind}
 use Rattle.rv_unit_laws.specs.Tables.{or_none, power_alignment, byte_alignment}
 use Rattle.rv_source_laws.specs.Sizes.{code_padding}
 use Rattle.rv_instruction.specs.Scoped.{values_at}
-use Rattle.rv_layout.specs.Code.{padding_of}
+use Rattle.rv_layout.specs.Code.{statement_padding}
 use Rattle.rv_layout.proofs.BesideLemmas.{power_low, bytes_low}
-use Rattle.rv_layout.proofs.beside.padding_of.Goals as goal
+use Rattle.rv_layout.proofs.beside.statement_padding.Goals as goal
 
 pub returns-in-AlignsToPower-clause-is : goal.returns-in-AlignsToPower-clause-is
 returns-in-AlignsToPower-clause-is c = λ index filled stands.
@@ -17,7 +17,7 @@ returns-in-AlignsToPower-clause-is c = λ index filled stands.
     let code : c.args.executable ≡ true = search rules in
     c.code_padding.ensures.is (subst (λ a. or_none a ≤ 4096) (sym alignment) (power_low w)) ∙ ap code_padding alignment
     ∙ ap (λ b. if b then code_padding (power_alignment w) else 0) (sym code)
-    ∙ ap (λ k. padding_of c.args.executable v (statement_kind k)) (sym c.in-AlignsToPower.is)
+    ∙ ap (λ k. statement_padding c.args.executable v (statement_kind k)) (sym c.in-AlignsToPower.is)
 
 pub returns-in-AlignsToBytes-clause-is : goal.returns-in-AlignsToBytes-clause-is
 returns-in-AlignsToBytes-clause-is c = λ index filled stands.
@@ -27,4 +27,4 @@ returns-in-AlignsToBytes-clause-is c = λ index filled stands.
     let code : c.args.executable ≡ true = search rules in
     c.code_padding-in-AlignsToBytes.ensures.is (subst (λ a. or_none a ≤ 4096) (sym alignment) (bytes_low w)) ∙ ap code_padding alignment
     ∙ ap (λ b. if b then code_padding (byte_alignment w) else 0) (sym code)
-    ∙ ap (λ k. padding_of c.args.executable v (statement_kind k)) (sym c.in-AlignsToBytes.is)
+    ∙ ap (λ k. statement_padding c.args.executable v (statement_kind k)) (sym c.in-AlignsToBytes.is)
