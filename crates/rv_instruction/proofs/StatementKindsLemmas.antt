@@ -26,7 +26,7 @@ use Rattle.rv_pseudo.specs.declared.template.Form.{Form}
 use Rattle.rv_pseudo.specs.declared.template.Template.{Template}
 use Rattle.rv_pseudo.specs.declared.template.Worth.{Worth}
 use Rattle.rv_pseudo.specs.Faults.{worth_of, constant_in, known_as, takes_target, is_bad_scratch, faults_of}
-use Rattle.rv_pseudo.specs.Templates.{all_templates, templates, constants_of, worths_of, faults_by, statement_with, number_operand, asked_bytes, Answers, AreTemplates}
+use Rattle.rv_pseudo.specs.Templates.{all_templates, form_templates, constants_of, worths_of, faults_by, statement_with, number_operand, asked_bytes, Answers, AreTemplates}
 use Rattle.rv_pseudo.specs.Templates as pseudo
 use Rattle.rv_pseudo.proofs.InRangeLemmas.{is_taken, sound_taken, good_away, good_scratch, target_alone}
 use Rattle.rv_pseudo.proofs.LowestLemmas.{none_of_its_own}
@@ -117,7 +117,7 @@ form_with told rvc bytes = record { worth = told; bytes = bytes; rvc = rvc }
 abbrev pub AreAnswers : Operation → Option Function → Worth → Bool → ℕ → Result (ArrayVec Template) SourceCode → Type 0
 AreAnswers operation function told rvc bytes r =
     (e : Expression)
-    → Answers (faults_by (form_with told rvc bytes) (statement_with operation function e)) (templates (form_with told rvc bytes) (statement_with operation function e)) r
+    → Answers (faults_by (form_with told rvc bytes) (statement_with operation function e)) (form_templates (form_with told rvc bytes) (statement_with operation function e)) r
 
 pub answered : (operation : Operation) (function : Option Function) (told : Worth) (rvc : Bool) (bytes : ℕ) (found : ArrayVec Template) → AreAnswers operation function told rvc bytes (Ok found)
     → IsOfNumber (known_as operation function) function (constant_in (worth_of told)) rvc bytes found
@@ -130,7 +130,7 @@ answered operation function told rvc bytes found answers =
     record {
       taken = taken;
       scratch = λ target. good_scratch operation function (worth_of told) own.1 (target_alone (known_as operation function) function _ taken target) target;
-      rows = λ e. ap (templates form) (part_statement operation function e) ∙ (answers e).1;
+      rows = λ e. ap (form_templates form) (part_statement operation function e) ∙ (answers e).1;
     }
 
 -- ---- with a constant

@@ -154,14 +154,14 @@ parts_in (t ∷ u ∷ w ∷ ts) = part_of t ∷ part_of u ∷ part_of w ∷ map 
 
 -- instructions without open fields, as parts of a statement's code
 abbrev pub known_parts : List Template → List Part
-known_parts templates = map (λ t. Closed t.inst) templates
+known_parts form_templates = map (λ t. Closed t.inst) form_templates
 
 -- no field is open
 abbrev pub is_closed : Template → Bool
 is_closed t = not (is_some t.reloc)
 
 abbrev pub are_all_closed : List Template → Bool
-are_all_closed templates = list_all is_closed templates
+are_all_closed form_templates = list_all is_closed form_templates
 
 -- the fields of two bytes, of parcels
 abbrev pub is_short : Kind → Bool
@@ -178,10 +178,10 @@ IsCodable (Open k i) =
 IsCodable (Joined k i j) = IsOpen k i × IsOpen k j × (width_of k ≡ 8)
 
 abbrev pub AreCodableEach : List Template → Type 0
-AreCodableEach templates = AllByRecursion (λ t. IsCodable (part_of t)) templates
+AreCodableEach form_templates = AllByRecursion (λ t. IsCodable (part_of t)) form_templates
 
 abbrev pub AreCodable : List Template → Type 0
-AreCodable templates = AllByRecursion IsCodable (parts_in templates)
+AreCodable form_templates = AllByRecursion IsCodable (parts_in form_templates)
 
 -- these are the instructions of an instruction
 pub record AreTemplatesOf (v : Expression → values.Value) (rvc : Bool) (bytes : ℕ)

@@ -9,7 +9,7 @@ use Rattle.rv_statement.specs.View.{with_operand}
 use Rattle.rv_pseudo_laws.specs.Code.{Closed}
 use Rattle.rv_pseudo_laws.specs.InstructionFaults.{Number}
 use Rattle.rv_pseudo.specs.Faults.{takes_target, faults_of}
-use Rattle.rv_pseudo.specs.Templates.{plain, all_templates, templates, constants_of, worths_of, parts_of, form_by, statement_with, is_store, Puts, ArePut, IsNumberedOne, IsOne}
+use Rattle.rv_pseudo.specs.Templates.{plain, all_templates, form_templates, constants_of, worths_of, parts_of, form_by, statement_with, is_store, Puts, ArePut, IsNumberedOne, IsOne}
 use Rattle.rv_pseudo.proofs.InRangeLemmas.{is_taken, sound_taken}
 use Rattle.rv_pseudo.proofs.LowestLemmas.{faultless}
 use Rattle.rv_pseudo.proofs.RowsLemmas.{away_operand, row_some, row_known}
@@ -23,9 +23,9 @@ known_put : (number : ℤ) (store : Bool) → Puts None (Some number) store numb
 known_put number store = (λ make e. one_put (make number), λ make e. one_put _, λ k e h. (ap (λ o. unwrap_or o number) (sym h), refl))
 
 one_row : (operation : Operation) (number : ℤ) (i : Inst) → is_taken operation None (Some number) ≡ true → takes_target operation ≡ false → IsNumberedOne operation number (Some i)
-    → (rvc : Bool) (bytes : ℕ) (e : Expression) → templates (form_by number rvc bytes) (statement_with operation None e) ≡ Some (plain i ∷ [])
+    → (rvc : Bool) (bytes : ℕ) (e : Expression) → form_templates (form_by number rvc bytes) (statement_with operation None e) ≡ Some (plain i ∷ [])
 one_row operation number i taken away one rvc bytes e =
-    ap (λ o. templates (form_by number rvc bytes) (with_operand operation o)) (away_operand operation None e away)
+    ap (λ o. form_templates (form_by number rvc bytes) (with_operand operation o)) (away_operand operation None e away)
     ∙ row_known _ _ (row_some operation None (Some number) rvc bytes e taken away)
     (λ parts row. one None None (Some number) rvc bytes e parts (known_put number (is_store operation)) row)
 

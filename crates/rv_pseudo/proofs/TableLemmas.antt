@@ -22,7 +22,7 @@ use Rattle.rv_pseudo_laws.specs.InstructionFaults.{Worth, target_faults, else_un
 use Rattle.rv_pseudo.specs.declared.template.Form.{Form}
 use Rattle.rv_pseudo.specs.declared.template.Template.{Template}
 use Rattle.rv_pseudo.specs.Faults.{worth_of, known_as, is_upper, is_constant_form, is_placed, scratch_of, faults_of}
-use Rattle.rv_pseudo.specs.Templates.{all_templates, constants_of, worths_of, parts_of, templates, faults_by, statement_with, Answers}
+use Rattle.rv_pseudo.specs.Templates.{all_templates, constants_of, worths_of, parts_of, form_templates, faults_by, statement_with, Answers}
 use Rattle.rv_pseudo.proofs.LowestLemmas.{lowest_same, unplaced, faultless}
 
 -- ---- its statement
@@ -166,8 +166,8 @@ some_of None found e = absurd (cc)
 some_of (Some ps) found e = refl
 
 pub answer_found : (operation : Operation) (function : Option Function) (form : Form) (found : ArrayVec Template) → faults_of operation function (worth_of form.worth) ≡ []
-    → ((e : Expression) → templates form (statement_with operation function e) ≡ Some found.items) → (e : Expression)
-    → Answers (faults_by form (statement_with operation function e)) (templates form (statement_with operation function e)) (Ok found)
+    → ((e : Expression) → form_templates form (statement_with operation function e) ≡ Some found.items) → (e : Expression)
+    → Answers (faults_by form (statement_with operation function e)) (form_templates form (statement_with operation function e)) (Ok found)
 answer_found operation function form found own rows e =
     let v = constants_of form in
     let placed = sym (same_row operation function e v form.rvc form.bytes) ∙ some_of (parts_of v form.rvc form.bytes (statement_with operation function e)) found.items (rows e) in
@@ -175,14 +175,14 @@ answer_found operation function form found own rows e =
 
 pub answer_fault : (operation : Operation) (function : Option Function) (form : Form) (fault : Option SourceCode) (code : SourceCode) → fault ≡ Some code
     → IsLowest fault (faults_of operation function (worth_of form.worth)) → (e : Expression)
-    → Answers (faults_by form (statement_with operation function e)) (templates form (statement_with operation function e)) (Err code)
+    → Answers (faults_by form (statement_with operation function e)) (form_templates form (statement_with operation function e)) (Err code)
 answer_fault operation function form fault code is low e =
     ap lowest (with_faults operation function e (constants_of form) (worths_of form))
     ∙ lowest_same (has_rows (constants_of form) (statement_with operation function e)) (faults_of operation function (worth_of form.worth)) (number_of code) (sym low ∙ ap (option_map number_of) is)
 
 pub answer_unplaced : (operation : Operation) (function : Option Function) (form : Form) (code : SourceCode) → number_of code ≡ unsupported_here
     → faults_of operation function (worth_of form.worth) ≡ [] → is_placed operation function ≡ false → (e : Expression)
-    → Answers (faults_by form (statement_with operation function e)) (templates form (statement_with operation function e)) (Err code)
+    → Answers (faults_by form (statement_with operation function e)) (form_templates form (statement_with operation function e)) (Err code)
 answer_unplaced operation function form code is own away e =
     ap lowest (with_faults operation function e (constants_of form) (worths_of form))
     ∙ unplaced _ _ (row_none operation function (constants_of form) e away) own ∙ ap Some (sym is)

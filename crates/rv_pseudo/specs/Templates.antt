@@ -67,8 +67,8 @@ parts_of v rvc bytes (Instruction mnemonic operands) =
     code v rvc (asked_bytes mnemonic bytes) mnemonic operands
 parts_of v rvc bytes kind = Some []
 
-abbrev pub templates : Form → StatementKind → Option (List Template)
-templates form kind =
+abbrev pub form_templates : Form → StatementKind → Option (List Template)
+form_templates form kind =
     option_map all_templates (parts_of (constants_of form) form.rvc form.bytes kind)
 
 -- the codes of its faults
@@ -175,7 +175,7 @@ pub record IsOne (operation : Operation) (number : ℤ) (i : Inst) : Type 0 wher
   pub sound : (rvc : Bool) (bytes : ℕ) (e : Expression) →
       faults_by (form_by number rvc bytes) (statement_with operation None e) ≡ []
   pub is : (rvc : Bool) (bytes : ℕ) (e : Expression) →
-      templates (form_by number rvc bytes) (statement_with operation None e)
+      form_templates (form_by number rvc bytes) (statement_with operation None e)
       ≡ Some (plain i ∷ [])
 
 abbrev pub is_unary : Plain → Bool

@@ -48,11 +48,11 @@ fn known_as(operation: Operation, function: Option<Function>) -> Operation
 }
 
 /// The templates of a statement with an operand that has no fault, and a row.
-fn templates(operation: Operation, function: Option<Function>, form: Form) -> Templates
+fn operation_templates(operation: Operation, function: Option<Function>, form: Form) -> Templates
     requires sound { faults.faults_of operation function (faults.worth_of form.worth) ≡ [] }
     requires placed { faults.is_placed operation function ≡ true }
     ensures { (e : Expression) →
-        is.templates form (is.statement_with operation function e) ≡ Some result.items }
+        is.form_templates form (is.statement_with operation function e) ≡ Some result.items }
 {
     let known = known_as(operation, function);
     if takes_target(&known) {
@@ -73,10 +73,10 @@ fn else_unplaced(
     requires { faults.faults_of operation function (faults.worth_of form.worth) ≡ [] }
     ensures { (e : Expression) →
         Answers (is.faults_by form (is.statement_with operation function e))
-        (is.templates form (is.statement_with operation function e)) result }
+        (is.form_templates form (is.statement_with operation function e)) result }
 {
     if is_placed(&operation, function) {
-        Ok(templates(operation, function, form))
+        Ok(operation_templates(operation, function, form))
     } else {
         Err(SourceCode::UnsupportedHere)
     }
@@ -90,7 +90,7 @@ pub fn with_operand(
 ) -> Result<Templates, SourceCode>
     ensures { (e : Expression) →
         Answers (is.faults_by form (is.statement_with operation function e))
-        (is.templates form (is.statement_with operation function e)) result }
+        (is.form_templates form (is.statement_with operation function e)) result }
 {
     match operand_fault(&operation, function, form.worth) {
         Some(code) => Err(code),
@@ -114,7 +114,7 @@ pub fn single(operation: &Operation, number: i64) -> Option<Inst>
 /// The templates of what a statement says, or the lowest code of its faults.
 fn expanded(kind: &StatementKind<'_>, form: Form) -> Result<Templates, SourceCode>
     ensures { Answers (is.faults_by form (statement_kind kind.now))
-        (is.templates form (statement_kind kind.now)) result }
+        (is.form_templates form (statement_kind kind.now)) result }
 {
     match kind {
         StatementKind::Plain(statement) => Ok(without_operand(*statement, form.rvc)),
@@ -137,7 +137,7 @@ fn expanded(kind: &StatementKind<'_>, form: Form) -> Result<Templates, SourceCod
 /// in a field that takes none. Never want of memory.
 pub fn expansion(statement: &Statement<'_>, form: Form) -> Result<Templates, SourceFault>
     ensures { IsExpansion (is.faults_by form (statement_kind (statement.now).kind))
-        (is.templates form (statement_kind (statement.now).kind)) (statement.now).line result }
+        (is.form_templates form (statement_kind (statement.now).kind)) (statement.now).line result }
 {
     match expanded(&statement.kind, form) {
         Ok(templates) => Ok(templates),

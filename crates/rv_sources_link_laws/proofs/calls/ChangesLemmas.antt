@@ -36,7 +36,7 @@ use Rattle.rv_assemble_laws.specs.Templates.{Template, Coded, Open, template_fie
 use Rattle.rv_assemble_laws.specs.Sites.{Site, form, part_of, part_bytes, IsPaddedIn}
 use Rattle.rv_assemble_laws.specs.Symbols.{StandsFor}
 use Rattle.rv_assemble_laws.specs.IsObjectOf.{Numbering, relocation_at, relocations_from}
-use Rattle.rv_sources_link_laws.proofs.sections.AssembledLemmas.{templates, parts_of}
+use Rattle.rv_sources_link_laws.proofs.sections.AssembledLemmas.{assembled_templates, parts_of}
 use Rattle.rv_sources_link_laws.proofs.calls.CutsLemmas.{IsCalm, NoCalls, template_calm}
 use Rattle.rv_sources_link_laws.proofs.calls.CutSectionsLemmas.{HasWords}
 use Rattle.rv_sources_link_laws.proofs.statements.FieldedLemmas.{IsPlain}
@@ -157,11 +157,11 @@ module _ (p : Program) (starts : Starts) (os : List Object) (text : List Placed)
         join (λ r. may r ≡ false) (map (relocation_at number q) (template_fields ordinal w)) (relocations_from number (q + length (part_bytes (part_of ordinal w))) (map (part_of ordinal) ts))
         (may_not q (template_fields ordinal w) (template_calm ordinal w h) (template_plain ordinal w k)) (quiet_parts (q + length (part_bytes (part_of ordinal w))) ordinal ts hs ks)
 
-    pub stay : AllByRecursion IsCalm (templates t z z.located.kind) → AllByRecursion IsPlain (templates t z z.located.kind)
+    pub stay : AllByRecursion IsCalm (assembled_templates t z z.located.kind) → AllByRecursion IsPlain (assembled_templates t z z.located.kind)
         → ((first : ℕ) → [] ≡ sites_by p text (placed_at first z) z.located.kind) → IsOne z
     stay h k made = record {
       change = None;
-      is = filter_none may (rels z) (quiet_parts z.offset z.located.ordinal (templates t z z.located.kind) h k);
+      is = filter_none may (rels z) (quiet_parts z.offset z.located.ordinal (assembled_templates t z z.located.kind) h k);
       fits = λ r e. absurd (cc);
       made = made;
     }
@@ -176,15 +176,15 @@ module _ (p : Program) (starts : Starts) (os : List Object) (text : List Placed)
   -- ---- an alignment
 
   module _ (z : Site) (d : Directive) (is_kind : z.located.kind ≡ Directs d) (home : z.located.home ≡ s)
-      (padded : templates t z (Directs d) ≡ padding_templates z.located.home.executable z.located.ordinal z.bytes) where
+      (padded : assembled_templates t z (Directs d) ≡ padding_templates z.located.home.executable z.located.ordinal z.bytes) where
     v : Expression → Value
     v e = form t z.located e
 
     in_code : z.located.home.executable ≡ true
     in_code = ap (λ y. y.executable) home ∙ code
 
-    pads : templates t z z.located.kind ≡ padding_templates true z.located.ordinal z.bytes
-    pads = ap (templates t z) is_kind ∙ padded ∙ ap (λ b. padding_templates b z.located.ordinal z.bytes) in_code
+    pads : assembled_templates t z z.located.kind ≡ padding_templates true z.located.ordinal z.bytes
+    pads = ap (assembled_templates t z) is_kind ∙ padded ∙ ap (λ b. padding_templates b z.located.ordinal z.bytes) in_code
 
     -- what the source has of it
     says : (first : ℕ) → alignment_sites (first + z.offset) (source_alignment (form t z.located) d) ≡ sites_by p text (placed_at first z) z.located.kind
@@ -194,7 +194,7 @@ module _ (p : Program) (starts : Starts) (os : List Object) (text : List Placed)
 
     without : z.bytes ≡ 0 → ((first : ℕ) → [] ≡ alignment_sites (first + z.offset) (source_alignment (form t z.located) d)) → IsOne z
     without none made =
-        let empty : templates t z z.located.kind ≡ [] = pads ∙ ap (padding_templates true z.located.ordinal) none in
+        let empty : assembled_templates t z z.located.kind ≡ [] = pads ∙ ap (padding_templates true z.located.ordinal) none in
         stay z (subst (λ l. AllByRecursion IsCalm l) (sym empty) tt) (subst (λ l. AllByRecursion IsPlain l) (sym empty) tt) (λ first. made first ∙ says first)
 
     with_padding : (a : ℕ) → IsPower a → source_alignment (form t z.located) d ≡ Some a → z.bytes ≡ a - 2 → IsOne z
@@ -253,7 +253,7 @@ module _ (p : Program) (starts : Starts) (os : List Object) (text : List Placed)
     relax = z.located.options.relax
 
     rels_are : rels z ≡ r ∷ (marks ++ [])
-    rels_are = ap (λ k. relocations_from number z.offset (map (part_of z.located.ordinal) (templates t z k))) is_kind
+    rels_are = ap (λ k. relocations_from number z.offset (map (part_of z.located.ordinal) (assembled_templates t z k))) is_kind
         ∙ ap (λ l. relocations_from number z.offset (map (part_of z.located.ordinal) l)) (long.was t z multiple m ops is_kind call h)
 
     marks_not : (b : Bool) → AllByRecursion (λ r. may r ≡ false) (map (relocation_at number z.offset) (relax_fields b z.located.ordinal) ++ [])

@@ -31,7 +31,7 @@ use Rattle.rv_assemble_laws.specs.Templates.{Coded}
 use Rattle.rv_assemble_laws.specs.Symbols.{StandsFor, references_in}
 use Rattle.rv_assemble_laws.specs.IsObjectOf.{Numbering, IsNumbered, relocation_at, relocations_from, ArePartsNumbered}
 use Rattle.rv_assemble_laws.proofs.FilledLemmas.{bytes_append}
-use Rattle.rv_sources_link_laws.proofs.sections.AssembledLemmas.{templates, parts_of, parts, Tile}
+use Rattle.rv_sources_link_laws.proofs.sections.AssembledLemmas.{assembled_templates, parts_of, parts, Tile}
 use Rattle.rv_sources_link_laws.proofs.calls.CalledLemmas.{uncalled}
 use Rattle.rv_sources_link_laws.proofs.calls.ChangesLemmas as change
 use Rattle.rv_sources_link_laws.proofs.calls.ChangesLemmas.{list_of, filter_join, count_none, any_amid, count_amid, are_words}
@@ -89,15 +89,15 @@ module _ (p : Program) (starts : Starts) (os : List Object) (text : List Placed)
       pub stands : StandsFor t all z.located.ordinal h.symbol (slice_get o.symbols (number z.located.ordinal h.symbol))
 
     module _ (seated : (m : Mnemonic) (ops : List Operand) → z.located.kind ≡ Instruction m ops → is_call m ≡ true → (h : IsLongCall t z m ops) → IsSeated m ops h) where
-      abbrev stay : AllByRecursion IsCalm (templates t z z.located.kind) → AllByRecursion IsPlain (templates t z z.located.kind)
+      abbrev stay : AllByRecursion IsCalm (assembled_templates t z z.located.kind) → AllByRecursion IsPlain (assembled_templates t z z.located.kind)
           → ((first : ℕ) → [] ≡ sites_by p text (change.placed_at p starts os text f t same_tables o j x s code number all multiple flag meant final stays first z) z.located.kind) → One z
       stay = change.stay p starts os text f t same_tables o j x s code number all multiple flag meant final stays z
 
       -- a statement without templates
-      bare : (kind : StatementKind) → z.located.kind ≡ kind → templates t z kind ≡ []
+      bare : (kind : StatementKind) → z.located.kind ≡ kind → assembled_templates t z kind ≡ []
           → ((first : ℕ) → [] ≡ sites_by p text (change.placed_at p starts os text f t same_tables o j x s code number all multiple flag meant final stays first z) kind) → One z
       bare kind e none made =
-          let empty : templates t z z.located.kind ≡ [] = ap (templates t z) e ∙ none in
+          let empty : assembled_templates t z z.located.kind ≡ [] = ap (assembled_templates t z) e ∙ none in
           stay (subst (λ l. AllByRecursion IsCalm l) (sym empty) tt) (subst (λ l. AllByRecursion IsPlain l) (sym empty) tt)
           (λ first. made first ∙ ap (sites_by p text (change.placed_at p starts os text f t same_tables o j x s code number all multiple flag meant final stays first z)) (sym e))
 
@@ -116,10 +116,10 @@ module _ (p : Program) (starts : Starts) (os : List Object) (text : List Placed)
               change.called_one p starts os text f t same_tables o j x s code number all multiple flag meant final stays z m ops e call h k.relaxed k.words k.linked k.entered k.counted k.stands
           go false call =
               stay
-              (subst (λ k. AllByRecursion IsCalm (templates t z k)) (sym e)
+              (subst (λ k. AllByRecursion IsCalm (assembled_templates t z k)) (sym e)
               (subst (λ q. AllByRecursion IsCalm (coded_templates (part_fields t (form t z.located) z.located) (unwrap_or q []) z.coded)) (sym size'.parts)
               (code_calm t (form t z.located) z size'.ps z.coded (uncalled (constants (form t z.located)) z.located.options.rvc z.bytes m ops size'.ps call size'.parts))))
-              (subst (λ k. AllByRecursion IsPlain (templates t z k)) (sym e)
+              (subst (λ k. AllByRecursion IsPlain (assembled_templates t z k)) (sym e)
               (sized_each IsPlain (λ bytes. tt) (λ width value. tt) t z multiple (plain_part t (form t z.located) z.located) (Instruction m ops) size'))
               (λ first. quiet_call (change.placed_at p starts os text f t same_tables o j x s code number all multiple flag meant final stays first z) m ops call
               ∙ ap (sites_by p text (change.placed_at p starts os text f t same_tables o j x s code number all multiple flag meant final stays first z)) (sym e))
@@ -233,7 +233,7 @@ module _ (p : Program) (starts : Starts) (os : List Object) (text : List Placed)
     later = rels (q + z.bytes) ys
 
     own_parts : parts_of t z ≡ part_of z.located.ordinal (Coded (h.first ++ h.second) (long.field t z multiple m ops e call h kinds.CallPlt ∷ long.mark t z multiple m ops e call h)) ∷ []
-    own_parts = ap (λ k. map (part_of z.located.ordinal) (templates t z k)) e ∙ ap (map (part_of z.located.ordinal)) (long.was t z multiple m ops e call h)
+    own_parts = ap (λ k. map (part_of z.located.ordinal) (assembled_templates t z k)) e ∙ ap (map (part_of z.located.ordinal)) (long.was t z multiple m ops e call h)
 
     all_are : x.relocations ≡ R ++ ((r ∷ (marks ++ [])) ++ later)
     all_are =

@@ -19,7 +19,7 @@ use Rattle.rv_assemble_laws.specs.Templates.{Open, Coded, template_fields}
 use Rattle.rv_assemble_laws.specs.Sites.{Site, Part, form, part_of, part_bytes, end_of, HasSize}
 use Rattle.rv_assemble_laws.specs.IsObjectOf.{Numbering, relocation_at, relocations_from}
 use Rattle.rv_assemble_laws.proofs.FilledLemmas.{bytes_append}
-use Rattle.rv_sources_link_laws.proofs.sections.AssembledLemmas.{templates, parts_of, parts, Tile}
+use Rattle.rv_sources_link_laws.proofs.sections.AssembledLemmas.{assembled_templates, parts_of, parts, Tile}
 use Rattle.rv_sources_link_laws.proofs.calls.CalledLemmas.{short_coded}
 use Rattle.rv_sources_link_laws.proofs.calls.CutsLemmas.{link_of, is_cut, AreCalm, IsStill, IsCutCall}
 use Rattle.rv_sources_link_laws.proofs.calls.LongCallsLemmas as long
@@ -291,11 +291,11 @@ module _ (t : Tables) (number : Numbering) (sizes : Sizes) (multiple : ℕ) wher
     own_cut : (o gone : ℕ) (z : Site) (s : CutStep o gone z) → parts_of t (S z) ≡ short_part z s.cut ∷ []
     own_cut o gone z s =
         let h = s.cut in
-        ap (parts_of t) s.is ∙ ap (λ k. map (part_of z.located.ordinal) (templates t (cut_at (o - gone) z h) k)) h.is_kind
+        ap (parts_of t) s.is ∙ ap (λ k. map (part_of z.located.ordinal) (assembled_templates t (cut_at (o - gone) z h) k)) h.is_kind
         ∙ ap (map (part_of z.located.ordinal)) (long.is t z multiple h.m h.os h.is_kind h.call h.long (sizes z.offset) h.short (o - gone))
 
     pub long_part : (z : Site) (h : Cut z) → parts_of t z ≡ part_of z.located.ordinal (Coded (h.long.first ++ h.long.second) (long.field t z multiple h.m h.os h.is_kind h.call h.long kinds.CallPlt ∷ mark z)) ∷ []
-    long_part z h = ap (λ k. map (part_of z.located.ordinal) (templates t z k)) h.is_kind ∙ ap (map (part_of z.located.ordinal)) (long.was t z multiple h.m h.os h.is_kind h.call h.long)
+    long_part z h = ap (λ k. map (part_of z.located.ordinal) (assembled_templates t z k)) h.is_kind ∙ ap (map (part_of z.located.ordinal)) (long.was t z multiple h.m h.os h.is_kind h.call h.long)
 
     part_long : (z : Site) (h : Cut z) → length (flat_map part_bytes (short_part z h ∷ [])) ≡ sizes z.offset
     part_long z h =

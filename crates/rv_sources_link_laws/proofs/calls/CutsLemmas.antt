@@ -22,7 +22,7 @@ use Rattle.rv_assemble_laws.specs.Coded.{constants}
 use Rattle.rv_assemble_laws.specs.Templates.{Template, Fixed, Datum, Coded, Open, value_fields, template_fields, absolute_kind, add_kind, subtract_kind, padding_templates}
 use Rattle.rv_assemble_laws.specs.Sites.{Site, form, part_of, part_bytes, coded_templates, HasSize, IsPadded, IsPaddedIn}
 use Rattle.rv_assemble_laws.specs.IsObjectOf.{Numbering, relocation_at, relocations_from}
-use Rattle.rv_sources_link_laws.proofs.sections.AssembledLemmas.{templates}
+use Rattle.rv_sources_link_laws.proofs.sections.AssembledLemmas.{assembled_templates}
 use Rattle.rv_sources_link_laws.proofs.calls.CalledLemmas.{IsForm, IsUncalled, uncalled}
 use Rattle.rv_sources_link_laws.proofs.statements.FieldedLemmas.{part_kinds}
 use Rattle.rv_sources_link_laws.proofs.calls.LongCallsLemmas as long
@@ -51,8 +51,8 @@ AreCalm sizes rs = AllByRecursion (λ r. is_shortened sizes r ≡ false) rs
 pub record IsStill (t : Tables) (number : Numbering) (sizes : Sizes) (multiple : ℕ) (z : Site) (kind : StatementKind) : Type 0 where
   pub calm : (calls kind && nat_lt (sizes z.offset) 8) ≡ false
   pub whole : calls kind ≡ true → z.bytes ≡ sizes z.offset
-  pub same : (n : ℕ) → templates t (at n z) kind ≡ templates t z kind
-  pub none : AreCalm sizes (relocations_from number z.offset (map (part_of z.located.ordinal) (templates t z kind)))
+  pub same : (n : ℕ) → assembled_templates t (at n z) kind ≡ assembled_templates t z kind
+  pub none : AreCalm sizes (relocations_from number z.offset (map (part_of z.located.ordinal) (assembled_templates t z kind)))
   pub sized : (n : ℕ) → z.located.placed ≡ true → HasSize (form t z.located) (at n z) multiple kind
 
 -- a call that is cut
@@ -209,7 +209,7 @@ module _ (t : Tables) (number : Numbering) (sizes : Sizes) (multiple : ℕ) (sec
         calm = ap (λ b. b && nat_lt (sizes z.offset) 8) call;
         whole = λ c. let f : true ≡ false = sym c ∙ call in absurd (cc);
         same = λ n. refl;
-        none = none_of (templates t z (Instruction m os))
+        none = none_of (assembled_templates t z (Instruction m os))
             (subst (λ o. AllByRecursion IsCalm (coded_templates (part_fields t v z.located) (unwrap_or o []) z.coded)) (sym size.parts)
             (code_calm t v z size.ps z.coded (uncalled (constants v) z.located.options.rvc z.bytes m os size.ps call size.parts)));
         sized = λ n placed. size;
@@ -251,8 +251,8 @@ module _ (t : Tables) (number : Numbering) (sizes : Sizes) (multiple : ℕ) (sec
       go : (b : Bool) → z.located.placed ≡ b → Still z.located.kind ⊎ IsCutCall t sizes z
       go true e = sort_placed z.located.kind refl (size e)
       go false e =
-          let bare : (n : ℕ) → templates t (at n z) z.located.kind ≡ [] = λ n. bare_before z.located.kind (λ all y. is.bare e all y) t (at n z) in
-          let here : templates t z z.located.kind ≡ [] = bare_before z.located.kind (λ all y. is.bare e all y) t z in
+          let bare : (n : ℕ) → assembled_templates t (at n z) z.located.kind ≡ [] = λ n. bare_before z.located.kind (λ all y. is.bare e all y) t (at n z) in
+          let here : assembled_templates t z z.located.kind ≡ [] = bare_before z.located.kind (λ all y. is.bare e all y) t z in
           inl (record {
             calm = ap (λ b. b && nat_lt (sizes z.offset) 8) (no_call z.located.kind is.instructed e);
             whole = λ c. let f : true ≡ false = sym c ∙ no_call z.located.kind is.instructed e in absurd (cc);

@@ -28,7 +28,7 @@ use Rattle.rv_assemble_laws.specs.Sites.{Site, form, part_of, part_bytes, sites_
 use Rattle.rv_assemble_laws.specs.IsObjectOf.{Numbering, relocations_from, IsObjectOf}
 use Rattle.rv_assemble_laws.proofs.FilledLemmas.{bytes_append}
 use Rattle.rv_sources_link_laws.specs.Joins.{AreObjectsOf}
-use Rattle.rv_sources_link_laws.proofs.sections.AssembledLemmas.{Tile, parts, parts_of, templates, IsSectionOf, AreSectionsOf}
+use Rattle.rv_sources_link_laws.proofs.sections.AssembledLemmas.{Tile, parts, parts_of, assembled_templates, IsSectionOf, AreSectionsOf}
 use Rattle.rv_sources_link_laws.proofs.calls.CalledLemmas.{IsForm}
 use Rattle.rv_sources_link_laws.proofs.calls.CutObjectsLemmas.{Fitting}
 use Rattle.rv_sources_link_laws.proofs.calls.CutsLemmas.{link_of}
@@ -250,7 +250,7 @@ module _ (t : Tables) (number : Numbering) (j : ℕ) (s : SourceSection) (code :
           let w : IsLongCall t z m ops = long_call t z multiple m ops e call size_here (u c) k in
           let rest = flat_map part_bytes (parts t zs) in
           let own_is : flat_map part_bytes (parts_of t z) ≡ w.first ++ w.second =
-          ap (λ k. flat_map part_bytes (map (part_of z.located.ordinal) (templates t z k))) e
+          ap (λ k. flat_map part_bytes (map (part_of z.located.ordinal) (assembled_templates t z k))) e
           ∙ ap (λ l. flat_map part_bytes (map (part_of z.located.ordinal) l)) (long.was t z multiple m ops e call w) ∙ append-nil (w.first ++ w.second) in
           let bytes_as : bytes ≡ front ++ ((w.first ++ w.second) ++ rest) =
           whole ∙ ap (λ l. front ++ l) (bytes_append (parts_of t z) (parts t zs)) ∙ ap (λ l. front ++ (l ++ rest)) own_is in

@@ -27,7 +27,7 @@ use Rattle.rv_pseudo_laws.specs.InstructionFaults.{operand_faults, scratch_fault
 use Rattle.rv_assemble_laws.specs.InstructionFaults.{instruction_faults, worths, is_label}
 use Rattle.rv_assemble_laws.specs.Templates.{Open, Coded, open_at}
 use Rattle.rv_assemble_laws.specs.Sites.{Site, form, coded_templates, HasSize}
-use Rattle.rv_sources_link_laws.proofs.sections.AssembledLemmas.{templates}
+use Rattle.rv_sources_link_laws.proofs.sections.AssembledLemmas.{assembled_templates}
 use Rattle.rv_sources_link_laws.proofs.calls.CalledLemmas.{IsCalled, called, short_part, short_coded, short_one}
 use Rattle.rv_sources_link_laws.proofs.statements.MarkedLemmas.{is_jump, marked, part_fields}
 use Rattle.rv_sources_link_laws.proofs.statements.OperandsLemmas.{target_symbolic, other_fault}
@@ -122,7 +122,7 @@ module _ (t : Tables) (z : Site) (multiple : ℕ) (m : Mnemonic) (os : List Oper
         ap (λ o. field_of t v z.located.ordinal o k) (ap operand_of is_kind ∙ h.goes.operand)
         ∙ ap (λ b. if b then low_field k z.located.ordinal 0 else symbol_field k z.located.ordinal (v h.goes.to)) plain ∙ ap (symbol_field k z.located.ordinal) h.symbolic
 
-    pub was : templates t z (Instruction m os) ≡ Coded (h.first ++ h.second) (field kind.CallPlt ∷ mark) ∷ []
+    pub was : assembled_templates t z (Instruction m os) ≡ Coded (h.first ++ h.second) (field kind.CallPlt ∷ mark) ∷ []
     was =
         ap (λ o. coded_templates (part_fields t v z.located) (unwrap_or o []) z.coded) (ap (λ n. code (constants v) rvc n m os) h.bytes ∙ h.goes.codes 8)
         ∙ ap (coded_templates (part_fields t v z.located) (Joined kind.CallPlt (auipc h.goes.by) (jalr link h.goes.by (pos 0)) ∷ [])) h.coded
@@ -147,7 +147,7 @@ module _ (t : Tables) (z : Site) (multiple : ℕ) (m : Mnemonic) (os : List Oper
       is_marked_call : (is_jump short_kind && calls z.located.kind) ≡ true
       is_marked_call = ap (λ b. b && calls z.located.kind) (jump_plain ((link == 0) && (size == 2))).1 ∙ ap calls is_kind ∙ call
 
-      pub is : (n : ℕ) → templates t (cut_to n) (Instruction m os) ≡ Coded (short_call size link) (field short_kind ∷ mark) ∷ []
+      pub is : (n : ℕ) → assembled_templates t (cut_to n) (Instruction m os) ≡ Coded (short_call size link) (field short_kind ∷ mark) ∷ []
       is n =
           ap (λ o. coded_templates (part_fields t v z.located) (unwrap_or o []) (short_call size link ∷ [])) codes_short
           ∙ ap (λ b. Coded (short_call size link) (marked b z.located (field_of t v z.located.ordinal (operand_of z.located.kind) short_kind)) ∷ []) is_marked_call

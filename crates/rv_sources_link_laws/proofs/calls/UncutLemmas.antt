@@ -26,7 +26,7 @@ use Rattle.rv_sources_link_laws.specs.Joins.{AreObjectsOf}
 use Rattle.rv_sources_link_laws.proofs.names.ExportedLemmas.{exported_are}
 use Rattle.rv_sources_link_laws.proofs.statements.MarkedLemmas.{is_jump, marked, part_fields}
 use Rattle.rv_sources_link_laws.proofs.calls.CalledLemmas.{called}
-use Rattle.rv_sources_link_laws.proofs.sections.AssembledLemmas.{templates, parts_of, parts, Tile, IsSectionOf, AreSectionsOf, IsAssembled, AreAssembled}
+use Rattle.rv_sources_link_laws.proofs.sections.AssembledLemmas.{assembled_templates, parts_of, parts, Tile, IsSectionOf, AreSectionsOf, IsAssembled, AreAssembled}
 
 -- ---- calls have 8 bytes
 
@@ -102,7 +102,7 @@ module _ (t : Tables) (z : Site) (eight : IsUncut z) where
           ap (λ l. coded_templates (part_fields t v z.located) l z.coded) is ∙ whole t z.located (link_register m os) c.by z.coded
           ∙ ap (λ l. coded_templates (plain_fields t v z.located) l z.coded) (sym is)
 
-  by_kind : (kind : StatementKind) → z.located.kind ≡ kind → templates t z kind ≡ plain_templates t z kind
+  by_kind : (kind : StatementKind) → z.located.kind ≡ kind → assembled_templates t z kind ≡ plain_templates t z kind
   by_kind (Label name) e = refl
   by_kind (Numbered number) e = refl
   by_kind (Instruction m os) e = by_code m os e (code (constants v) z.located.options.rvc z.bytes m os) refl

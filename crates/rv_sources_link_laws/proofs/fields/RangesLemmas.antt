@@ -19,7 +19,7 @@ use Rattle.rv_assemble_laws.specs.Coded.{IsCodedPart, AreCodedParts}
 use Rattle.rv_assemble_laws.specs.Templates.{Template, Fixed, Datum, Coded, Open, template_fields, padding_templates}
 use Rattle.rv_assemble_laws.specs.Sites.{Site, form, part_of, part_bytes, coded_templates, HasSize}
 use Rattle.rv_assemble_laws.specs.IsObjectOf.{Numbering, relocation_at, relocations_from}
-use Rattle.rv_sources_link_laws.proofs.sections.AssembledLemmas.{templates, parts_of}
+use Rattle.rv_sources_link_laws.proofs.sections.AssembledLemmas.{assembled_templates, parts_of}
 use Rattle.rv_sources_link_laws.proofs.statements.CodingLemmas.{encoded_long, encoded_two_or_four, joined_long}
 use Rattle.rv_sources_link_laws.proofs.statements.FieldedLemmas.{part_kinds}
 use Rattle.rv_sources_link_laws.proofs.statements.MarkedLemmas.{part_fields}
@@ -121,7 +121,7 @@ module _ (t : Tables) (section : SourceSection) (multiple : ℕ) (z : Site) (cod
   no_data : {A : Type 0} → section.executable ≡ false → A
   no_data aside = let e : true ≡ false = sym code ∙ aside in absurd (cc)
 
-  pub solid : (kind : StatementKind) → IsHeld section kind → HasSize (form t z.located) z multiple kind → z.bytes % 2 ≡ 0 → AllByRecursion IsSolid (templates t z kind)
+  pub solid : (kind : StatementKind) → IsHeld section kind → HasSize (form t z.located) z multiple kind → z.bytes % 2 ≡ 0 → AllByRecursion IsSolid (assembled_templates t z kind)
   solid (Label name) held size even = tt
   solid (Numbered number) held size even = tt
   solid (Instruction m os) held size even =
@@ -151,8 +151,8 @@ module _ (t : Tables) (number : Numbering) (j : ℕ) (s : SourceSection) (code :
       go (inr h) = ap (λ n. n % 2) h.full ∙ (power_some h.a h.power).1
 
   pub in_range : AllByRecursion (InRange z.offset z.bytes) (relocations_from number z.offset (parts_of t z))
-  in_range = subst (λ n. AllByRecursion (InRange z.offset n) (relocations_from number z.offset (parts_of t z))) (sym bytes) (ranges number z.offset z.located.ordinal (templates t z z.located.kind) (go z.located.placed refl))
+  in_range = subst (λ n. AllByRecursion (InRange z.offset n) (relocations_from number z.offset (parts_of t z))) (sym bytes) (ranges number z.offset z.located.ordinal (assembled_templates t z z.located.kind) (go z.located.placed refl))
     where
-      go : (b : Bool) → z.located.placed ≡ b → AllByRecursion IsSolid (templates t z z.located.kind)
+      go : (b : Bool) → z.located.placed ≡ b → AllByRecursion IsSolid (assembled_templates t z z.located.kind)
       go true e = solid t s multiple z code z.located.kind inside.held (size e) even_bytes
       go false e = subst (λ l. AllByRecursion IsSolid l) (sym (bare_before z.located.kind (λ q y. inside.bare e q y) t z)) tt

@@ -47,7 +47,7 @@ use Rattle.rv_sources_link_laws.proofs.statements.BeginningsLemmas.{is_upper_par
 use Rattle.rv_sources_link_laws.proofs.statements.RowsLemmas.{IsFar, Shape, IsRow, row_of}
 use Rattle.rv_sources_link_laws.proofs.statements.OperandsLemmas.{relative_is, low_same, distance_not_high, own_is, target_symbolic, other_fault, symbolic_some}
 use Rattle.rv_sources_link_laws.proofs.fields.FieldsLemmas.{Known, Facts}
-use Rattle.rv_sources_link_laws.proofs.moves.ShrunkLemmas.{parts_of, parts, templates, Tile, HasShrunkSize, IsSectionOf, AreSectionsOf, contribution_templates}
+use Rattle.rv_sources_link_laws.proofs.moves.ShrunkLemmas.{parts_of, parts, shrunk_templates, Tile, HasShrunkSize, IsSectionOf, AreSectionsOf, contribution_templates}
 
 -- ---- faults
 
@@ -229,14 +229,14 @@ module _ (p : Program) (os : List Object) (starts : Starts) (file : ℕ) (sites 
           own (Joined k i j) e =
               part_kinds (λ k. is_high k ≡ false) T (v z) z.located (Joined k i j) (λ k' i' f. absurd (cc)) (λ k' i' j' f. subst IsLowPart f e) refl
 
-      no_parts : templates T z z.located.kind ≡ [] → takes_upper z.located.kind ≡ false → NoUpper z
+      no_parts : shrunk_templates T z z.located.kind ≡ [] → takes_upper z.located.kind ≡ false → NoUpper z
       no_parts e f = record { none_at = λ offset. ap (λ l. find (IsUpperAt offset) (relocations_from number z.offset (map (part_of z.located.ordinal) l))) e; lacks = f }
 
       module _ (mnemonic : Mnemonic) (os' : List Operand) (e : z.located.kind ≡ Instruction mnemonic os')
           (c : IsCode (v z) z.located.options.rvc mnemonic os' z.bytes z.coded z.instructions) where
         pub parts_are : parts_of T z ≡ map (part_of z.located.ordinal) (coded_templates (fields z) c.ps z.coded)
         parts_are =
-            ap (λ k. map (part_of z.located.ordinal) (templates T z k)) e
+            ap (λ k. map (part_of z.located.ordinal) (shrunk_templates T z k)) e
             ∙ ap (λ l. map (part_of z.located.ordinal) (coded_templates (fields z) (unwrap_or l []) z.coded)) c.parts
 
         pub have_is : takes_upper z.located.kind ≡ list_any is_upper_part c.ps
@@ -342,11 +342,11 @@ module _ (p : Program) (os : List Object) (starts : Starts) (file : ℕ) (sites 
         by_operand (Some (Quoted s)) f shape = inl (no_upper_code (closed_low c.ps shape))
 
       by_kind : (k : StatementKind) → z.located.kind ≡ k → NoUpper z ⊎ HasUpper z
-      by_kind (Label name) e = inl (no_parts (ap (templates T z) e) (ap takes_upper e))
-      by_kind (Numbered digits) e = inl (no_parts (ap (templates T z) e) (ap takes_upper e))
+      by_kind (Label name) e = inl (no_parts (ap (shrunk_templates T z) e) (ap takes_upper e))
+      by_kind (Numbered digits) e = inl (no_parts (ap (shrunk_templates T z) e) (ap takes_upper e))
       by_kind (Directs d) e = inl (record {
         none_at = λ offset.
-            ap (λ k. find (IsUpperAt offset) (relocations_from number z.offset (map (part_of z.located.ordinal) (templates T z k)))) e
+            ap (λ k. find (IsUpperAt offset) (relocations_from number z.offset (map (part_of z.located.ordinal) (shrunk_templates T z k)))) e
             ∙ none_found number offset z.located.ordinal z.offset (contribution_templates z.located.home.executable (v z) (contribution d) z.bytes)
             (directed IsLowTemplate (λ bytes. tt) (λ width value. tt) z.located.home.executable (v z) (contribution d) z.bytes);
         lacks = ap takes_upper e;

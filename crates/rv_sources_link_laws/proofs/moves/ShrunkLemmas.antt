@@ -38,16 +38,16 @@ contribution_templates executable v (Bytes contents) bytes = contents_templates 
 contribution_templates executable v (Zero_bytes count) bytes = Fixed (zeros bytes) ∷ []
 contribution_templates executable v (Alignment form number) bytes = padding_templates executable bytes
 
-abbrev pub templates : Tables → Site → StatementKind → List Template
-templates t s (Label name) = []
-templates t s (Numbered number) = []
-templates t s (Instruction mnemonic operands) =
+abbrev pub shrunk_templates : Tables → Site → StatementKind → List Template
+shrunk_templates t s (Label name) = []
+shrunk_templates t s (Numbered number) = []
+shrunk_templates t s (Instruction mnemonic operands) =
     let v = form t s.located in
     coded_templates (part_fields t v s.located) (unwrap_or (code (constants v) s.located.options.rvc s.bytes mnemonic operands) []) s.coded
-templates t s (Directs directive) = contribution_templates s.located.home.executable (form t s.located) (contribution directive) s.bytes
+shrunk_templates t s (Directs directive) = contribution_templates s.located.home.executable (form t s.located) (contribution directive) s.bytes
 
 abbrev pub parts_of : Tables → Site → List Part
-parts_of t s = map (part_of s.located.ordinal) (templates t s s.located.kind)
+parts_of t s = map (part_of s.located.ordinal) (shrunk_templates t s s.located.kind)
 
 abbrev pub parts : Tables → List Site → List Part
 parts t sites = flat_map (parts_of t) sites

@@ -22,7 +22,7 @@ use Rattle.rv_assemble_laws.specs.Symbols.{references_in}
 use Rattle.rv_assemble_laws.specs.IsObjectOf.{Numbering, IsNumbered, ArePartsNumbered, contents_of, relocations_from}
 use Rattle.rv_assemble_laws.proofs.FilledLemmas.{bytes_append}
 use Rattle.rv_sources_link_laws.proofs.statements.OrderedLemmas.{filled}
-use Rattle.rv_sources_link_laws.proofs.sections.AssembledLemmas.{parts_of, parts, templates, Tile, IsSectionOf}
+use Rattle.rv_sources_link_laws.proofs.sections.AssembledLemmas.{parts_of, parts, assembled_templates, Tile, IsSectionOf}
 use Rattle.rv_sources_link_laws.proofs.statements.SettledLemmas.{IsSiteIn}
 use Rattle.rv_sources_link_laws.proofs.sections.SectionsLemmas.{split, join, multiple_from}
 use Rattle.rv_sources_link_laws.proofs.moves.ShrunkLemmas as shrunk
@@ -67,7 +67,7 @@ padding_alike true o zero = inl refl
 padding_alike true o (suc n) = inr (no_operations (suc n), (_, refl, refl))
 padding_alike false o n = inl refl
 
-alike : (t : Tables) (z : Site) (kind : StatementKind) → Alike (shrunk.templates t z kind) (templates t z kind)
+alike : (t : Tables) (z : Site) (kind : StatementKind) → Alike (shrunk.shrunk_templates t z kind) (assembled_templates t z kind)
 alike t z (Label name) = inl refl
 alike t z (Numbered number) = inl refl
 alike t z (Instruction m os) = inl refl
@@ -95,7 +95,7 @@ parts_alike P fixed o after before (inr (bytes, (fs, e, f))) h = subst (λ l. Al
 
 module _ (t : Tables) where
   own_bytes : (z : Site) → flat_map part_bytes (shrunk.parts_of t z) ≡ flat_map part_bytes (parts_of t z)
-  own_bytes z = bytes_alike z.located.ordinal (shrunk.templates t z z.located.kind) (templates t z z.located.kind) (alike t z z.located.kind)
+  own_bytes z = bytes_alike z.located.ordinal (shrunk.shrunk_templates t z z.located.kind) (assembled_templates t z z.located.kind) (alike t z z.located.kind)
 
   all_bytes : (zs : List Site) → flat_map part_bytes (shrunk.parts t zs) ≡ flat_map part_bytes (parts t zs)
   all_bytes [] = refl
@@ -112,7 +112,7 @@ module _ (t : Tables) where
   parts_stay P fixed (z ∷ zs) h =
       let both = split P (parts_of t z) (parts t zs) h in
       join P (shrunk.parts_of t z) (shrunk.parts t zs)
-      (parts_alike P fixed z.located.ordinal (shrunk.templates t z z.located.kind) (templates t z z.located.kind) (alike t z z.located.kind) both.0) (parts_stay P fixed zs both.1)
+      (parts_alike P fixed z.located.ordinal (shrunk.shrunk_templates t z z.located.kind) (assembled_templates t z z.located.kind) (alike t z z.located.kind) both.0) (parts_stay P fixed zs both.1)
 
 -- ---- contents
 

@@ -14,7 +14,7 @@ use Rattle.rv_object_laws.specs.Moves.{Move, new_offset, kept, has_padding, alig
 use Rattle.rv_object_laws.specs.Inputs.{raised}
 use Rattle.rv_assemble_laws.specs.Templates.{Fixed, Open, template_fields}
 use Rattle.rv_assemble_laws.specs.Sites.{Site, Part, form, part_of, part_bytes, end_of}
-use Rattle.rv_sources_link_laws.proofs.sections.AssembledLemmas.{parts_of, parts, templates}
+use Rattle.rv_sources_link_laws.proofs.sections.AssembledLemmas.{parts_of, parts, assembled_templates}
 use Rattle.rv_assemble_laws.specs.IsObjectOf.{Numbering, relocation_at, relocations_from}
 use Rattle.rv_assemble_laws.proofs.FilledLemmas.{bytes_append}
 use Rattle.rv_sources_link_laws.proofs.sections.SectionsLemmas.{split, join}
@@ -195,7 +195,7 @@ module _ (t : Tables) (number : Numbering) (section : SourceSection) (multiple :
   relocations_kept o gone (z ∷ zs) (off, bytes, low, evens, inl (s, st)) =
       let own = parts_of t z in
       let later = shrunk.parts t (map S zs) in
-      let none = parts_none t number o own (of_ordinal t number z.located.ordinal (templates t z z.located.kind) s.plain_kind.none) in
+      let none = parts_none t number o own (of_ordinal t number z.located.ordinal (assembled_templates t z z.located.kind) s.plain_kind.none) in
       ap (shrunk_relocations ms) (relocations_join t number o own (parts t zs))
       ∙ shrunk_join ms (relocations_from number o own) (relocations_from number (o + length (flat_map part_bytes own)) (parts t zs))
       ∙ ap (λ l. l ++ shrunk_relocations ms (relocations_from number (o + length (flat_map part_bytes own)) (parts t zs)))

@@ -18,7 +18,7 @@ use Rattle.rv_object.specs.Valid.{is_align}
 use Rattle.rv_object_laws.specs.Moves.{Move, dropped, new_offset, kept, full_padding, has_padding, alignment_of, inserted, by_place, plan, lost, lost_in}
 use Rattle.rv_assemble_laws.specs.Templates.{Template, Fixed, Datum, Coded, Open, value_fields, template_fields, absolute_kind, add_kind, subtract_kind, align_field}
 use Rattle.rv_assemble_laws.specs.Sites.{Site, Part, part_of, part_bytes}
-use Rattle.rv_sources_link_laws.proofs.sections.AssembledLemmas.{parts_of, parts, templates}
+use Rattle.rv_sources_link_laws.proofs.sections.AssembledLemmas.{parts_of, parts, assembled_templates}
 pub use Rattle.rv_sources_link_laws.proofs.sections.AssembledLemmas.{Tile}
 use Rattle.rv_assemble_laws.specs.IsObjectOf.{Numbering, relocation_at, relocations_from}
 use Rattle.rv_sources_link_laws.proofs.statements.FieldedLemmas.{IsPlain}
@@ -261,7 +261,7 @@ module _ (t : Tables) (number : Numbering) where
     pub pads_plain : (o : ℕ) (z : Site) (zs : List Site) → z.bytes ≡ length (flat_map part_bytes (parts_of t z)) → Plain z → pads o (z ∷ zs) ≡ pads (o + z.bytes) zs
     pads_plain o z zs bytes h =
         pads_split o z zs bytes
-        ∙ ap (λ l. l ++ pads (o + z.bytes) zs) (parts_none o (parts_of t z) (of_ordinal z.located.ordinal (templates t z z.located.kind) h.none))
+        ∙ ap (λ l. l ++ pads (o + z.bytes) zs) (parts_none o (parts_of t z) (of_ordinal z.located.ordinal (assembled_templates t z z.located.kind) h.none))
 
     pad_some : (z : Site) → Pad z → 0 < z.bytes
     pad_some z h =

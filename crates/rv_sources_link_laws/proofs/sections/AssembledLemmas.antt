@@ -23,16 +23,16 @@ use Rattle.rv_sources_link_laws.proofs.statements.OrderedLemmas.{Follow, AreInOr
 
 -- ---- templates
 
-abbrev pub templates : Tables → Site → StatementKind → List Template
-templates t s (Label name) = []
-templates t s (Numbered number) = []
-templates t s (Instruction mnemonic operands) =
+abbrev pub assembled_templates : Tables → Site → StatementKind → List Template
+assembled_templates t s (Label name) = []
+assembled_templates t s (Numbered number) = []
+assembled_templates t s (Instruction mnemonic operands) =
     let v = form t s.located in
     coded_templates (part_fields t v s.located) (unwrap_or (code (constants v) s.located.options.rvc s.bytes mnemonic operands) []) s.coded
-templates t s (Directs directive) = contribution_templates s.located.home.executable s.located.ordinal (form t s.located) (contribution directive) s.bytes
+assembled_templates t s (Directs directive) = contribution_templates s.located.home.executable s.located.ordinal (form t s.located) (contribution directive) s.bytes
 
 abbrev pub parts_of : Tables → Site → List Part
-parts_of t s = map (part_of s.located.ordinal) (templates t s s.located.kind)
+parts_of t s = map (part_of s.located.ordinal) (assembled_templates t s s.located.kind)
 
 abbrev pub parts : Tables → List Site → List Part
 parts t sites = flat_map (parts_of t) sites

@@ -39,7 +39,7 @@ use Rattle.rv_sources_link_laws.proofs.sections.SectionsLemmas.{join, each, HasA
 use Rattle.rv_sources_link_laws.proofs.statements.SuitsLemmas as suits
 use Rattle.rv_sources_link_laws.proofs.statements.CodeOfLemmas.{IsCodeOf}
 use Rattle.rv_sources_link_laws.proofs.statements.FittingLemmas.{IsFilled, IsFilledCode, fits, is_written}
-use Rattle.rv_sources_link_laws.proofs.moves.ShrunkLemmas.{parts_of, parts, templates, HasShrunkSize, IsSectionOf, AreSectionsOf}
+use Rattle.rv_sources_link_laws.proofs.moves.ShrunkLemmas.{parts_of, parts, shrunk_templates, HasShrunkSize, IsSectionOf, AreSectionsOf}
 
 -- what the row of a statement owes to it, and its bytes, where a function gives the code of each
 pub record IsFit (p : Program) (starts : Starts) (bytes : Mapped → List ℕ) (worths : ℕ → ℕ → ℕ → Open → ℤ) (file : ℕ) (z : Site) : Type 0 where
@@ -75,7 +75,7 @@ module _ (p : Program) (os : List Object) (starts : Starts) (file : ℕ) (sites 
     -- each field of code lies in its part
     roomy_of : (z : Site) → IsSiteIn index section z → (z.located.placed ≡ true → HasShrunkSize (form t z.located) z x.alignment z.located.kind)
         → AllByRecursion (λ q. HasRoom q.template) (parts_of t z)
-    roomy_of z here sized = of_ordinal z.located.ordinal (templates t z z.located.kind) (roomy t z x.alignment here.bare sized)
+    roomy_of z here sized = of_ordinal z.located.ordinal (shrunk_templates t z z.located.kind) (roomy t z x.alignment here.bare sized)
       where
         of_ordinal : (ordinal : ℕ) (ts : List Template) → AllByRecursion HasRoom ts → AllByRecursion (λ q. HasRoom q.template) (map (part_of ordinal) ts)
         of_ordinal ordinal [] h = tt
@@ -177,9 +177,9 @@ module _ (p : Program) (os : List Object) (starts : Starts) (file : ℕ) (sites 
             let ordinal = z.located.ordinal in
             ap (has_values_by p (mapped_at starts file z)) k
             ∙ all_valued (meant_in p file) ordinal width v es
-            (subst (λ kind. AllByRecursion (λ q. IsTemplate q.template) (map (part_of ordinal) (templates t z kind))) k template)
-            (has_parts (map (part_of ordinal) (templates t z (Directs (Values width es))))
-            (subst (λ kind. AllByRecursion KnownPart (map (part_of ordinal) (templates t z kind))) k h.knows))
+            (subst (λ kind. AllByRecursion (λ q. IsTemplate q.template) (map (part_of ordinal) (shrunk_templates t z kind))) k template)
+            (has_parts (map (part_of ordinal) (shrunk_templates t z (Directs (Values width es))))
+            (subst (λ kind. AllByRecursion KnownPart (map (part_of ordinal) (shrunk_templates t z kind))) k h.knows))
 
     all_fit : ((m : ℕ) → 0 < m → x.alignment % m ≡ 0 → starts file index % m ≡ 0) → (zs : List Site)
         → AllByRecursion Fact zs → AllByRecursion (IsOwn p os starts file sites number o sections low are settled (all_worths file) whole plain address index section x is at none loaded relocated 0 own) zs

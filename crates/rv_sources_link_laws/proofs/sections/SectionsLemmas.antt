@@ -31,7 +31,7 @@ use Rattle.rv_sources_link_laws.proofs.statements.StatementsLemmas.{mapped_at}
 use Rattle.rv_sources_link_laws.proofs.statements.SettledLemmas.{IsPlacedKind}
 use Rattle.rv_sources_link_laws.proofs.statements.SuitsLemmas as suits
 use Rattle.rv_object.specs.Padding.{no_operations, operations_in}
-use Rattle.rv_sources_link_laws.proofs.moves.ShrunkLemmas.{padding_templates, IsPaddedIn, parts_of, parts, Tile, templates, HasShrunkSize}
+use Rattle.rv_sources_link_laws.proofs.moves.ShrunkLemmas.{padding_templates, IsPaddedIn, parts_of, parts, Tile, shrunk_templates, HasShrunkSize}
 
 -- ---- lists
 
@@ -198,7 +198,7 @@ module _ (p : Program) (file : ℕ) where
 
   module _ (worth : ℕ → ℕ → Open → ℤ) where
     abbrev says : Site → StatementKind → List ℕ
-    says z kind = written_from (written meant_in (worth z.located.section)) z.offset (map (part_of z.located.ordinal) (templates (tables_in p file) z kind))
+    says z kind = written_from (written meant_in (worth z.located.section)) z.offset (map (part_of z.located.ordinal) (shrunk_templates (tables_in p file) z kind))
 
     -- in data a statement's parts are what it spells
     values_spelled : (w : ℕ → Open → ℤ) (offset ordinal width : ℕ) (v : Expression → Value) (es : List Expression)

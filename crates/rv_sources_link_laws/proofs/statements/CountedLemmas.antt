@@ -15,7 +15,7 @@ use Rattle.rv_object_laws.specs.Moves.{Move, new_offset}
 use Rattle.rv_assemble_laws.specs.Templates.{Coded, align_field, padding_templates}
 use Rattle.rv_object.specs.Padding.{no_operations}
 use Rattle.rv_assemble_laws.specs.Sites.{Site, form, part_of, part_bytes, HasSize, IsPaddedIn}
-use Rattle.rv_sources_link_laws.proofs.sections.AssembledLemmas.{parts_of, templates, Tile}
+use Rattle.rv_sources_link_laws.proofs.sections.AssembledLemmas.{parts_of, assembled_templates, Tile}
 use Rattle.rv_assemble_laws.specs.IsObjectOf.{Numbering}
 use Rattle.rv_sources_link_laws.proofs.statements.SettledLemmas.{IsBare, IsSiteIn}
 use Rattle.rv_sources_link_laws.proofs.statements.FieldedLemmas.{IsPlain, data_each, sized_each, plain_part}
@@ -28,7 +28,7 @@ bytes_with ms z = new_offset ms (z.offset + z.bytes) - new_offset ms z.offset
 
 -- those of a statement without an alignment stay
 abbrev pub StaysBy : Tables → List Move → Site → StatementKind → Type 0
-StaysBy t ms z kind = AllByRecursion IsPlain (templates t z kind) → bytes_with ms z ≡ z.bytes
+StaysBy t ms z kind = AllByRecursion IsPlain (assembled_templates t z kind) → bytes_with ms z ≡ z.bytes
 
 abbrev pub Stays : Tables → List Move → Site → Type 0
 Stays t ms z = StaysBy t ms z z.located.kind
@@ -74,7 +74,7 @@ module _ (t : Tables) (ms : List Move) (z : Site) (multiple : ℕ) where
 -- ---- one without
 
 -- what has no templates after the moves has none before
-bare_before : (t : Tables) (z : Site) (kind : StatementKind) → ((y : Site) → shrunk.templates t y kind ≡ []) → templates t z kind ≡ []
+bare_before : (t : Tables) (z : Site) (kind : StatementKind) → ((y : Site) → shrunk.shrunk_templates t y kind ≡ []) → assembled_templates t z kind ≡ []
 bare_before t z (Label name) h = refl
 bare_before t z (Numbered number) h = refl
 bare_before t z (Instruction m os) h = h z

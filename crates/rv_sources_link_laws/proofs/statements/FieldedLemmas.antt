@@ -29,7 +29,7 @@ use Rattle.rv_assemble_laws.specs.Sites.{Site, form, coded_templates}
 use Rattle.rv_sources_link_laws.proofs.statements.SettledLemmas.{IsBare}
 use Rattle.rv_sources_link_laws.proofs.fields.PatchesLemmas.{HasRoom}
 use Rattle.rv_sources_link_laws.proofs.statements.CodingLemmas.{encoded_long, joined_long}
-use Rattle.rv_sources_link_laws.proofs.moves.ShrunkLemmas.{padding_templates, templates, HasShrunkSize, contribution_templates}
+use Rattle.rv_sources_link_laws.proofs.moves.ShrunkLemmas.{padding_templates, shrunk_templates, HasShrunkSize, contribution_templates}
 
 -- ---- the fields of a part
 
@@ -137,7 +137,7 @@ module _ (P : Template → Type 0) (fixed : (bytes : List ℕ) → P (Fixed byte
     coded_each c (p ∷ ps) [] h = tt
     coded_each c (p ∷ ps) (bytes ∷ coded) (h, hs) = (part c p bytes h, coded_each c ps coded hs)
 
-    pub sized_each : (kind : StatementKind) → HasShrunkSize (form t z.located) z multiple kind → AllByRecursion P (templates t z kind)
+    pub sized_each : (kind : StatementKind) → HasShrunkSize (form t z.located) z multiple kind → AllByRecursion P (shrunk_templates t z kind)
     sized_each (Label name) h = tt
     sized_each (Numbered number) h = tt
     sized_each (Instruction mnemonic operands) h =
@@ -145,10 +145,10 @@ module _ (P : Template → Type 0) (fixed : (bytes : List ℕ) → P (Fixed byte
         (coded_each (z.located.options.rvc && are_closed h.ps) h.ps z.coded h.coded_as)
     sized_each (Directs d) h = directed z.located.home.executable (form t z.located) (contribution d) z.bytes
 
-    pub each_template : IsBare z.located → (z.located.placed ≡ true → HasShrunkSize (form t z.located) z multiple z.located.kind) → AllByRecursion P (templates t z z.located.kind)
+    pub each_template : IsBare z.located → (z.located.placed ≡ true → HasShrunkSize (form t z.located) z multiple z.located.kind) → AllByRecursion P (shrunk_templates t z z.located.kind)
     each_template bare sized = go z.located.placed refl
       where
-        go : (b : Bool) → z.located.placed ≡ b → AllByRecursion P (templates t z z.located.kind)
+        go : (b : Bool) → z.located.placed ≡ b → AllByRecursion P (shrunk_templates t z z.located.kind)
         go true e = sized_each z.located.kind (sized e)
         go false e = subst (λ l. AllByRecursion P l) (sym (bare e t z)) tt
 
@@ -174,7 +174,7 @@ room_part t v s c (Joined k i j) bytes (fits, also, (first, (second, x, y, is)))
     (relaxing (λ k. width_of k ≤ length bytes) s.options.relax s.ordinal (omega arith))
 
 pub roomy : (t : Tables) (z : Site) (multiple : ℕ) → IsBare z.located → (z.located.placed ≡ true → HasShrunkSize (form t z.located) z multiple z.located.kind)
-    → AllByRecursion HasRoom (templates t z z.located.kind)
+    → AllByRecursion HasRoom (shrunk_templates t z z.located.kind)
 roomy t z multiple bare sized = each_template HasRoom (λ bytes. tt) (λ width v. tt) t z multiple (room_part t (form t z.located) z.located) bare sized
 
 abbrev pub IsPlain : Template → Type 0

@@ -15,7 +15,7 @@ use Rattle.rv_source_laws.proofs.HeldLemmas.{IsHeld}
 use Rattle.rv_object.specs.Padding.{no_operations, operations_in}
 use Rattle.rv_assemble_laws.specs.Templates.{Fixed, Coded, align_field, padding_templates}
 use Rattle.rv_assemble_laws.specs.Sites.{Site, form, part_of, part_bytes, IsMultiple, IsPaddedIn, HasSize}
-use Rattle.rv_sources_link_laws.proofs.sections.AssembledLemmas.{templates, parts_of}
+use Rattle.rv_sources_link_laws.proofs.sections.AssembledLemmas.{assembled_templates, parts_of}
 use Rattle.rv_sources_link_laws.proofs.moves.ShrunkLemmas as shrunk
 use Rattle.rv_sources_link_laws.proofs.statements.SettledLemmas.{IsBare, IsSiteIn}
 use Rattle.rv_sources_link_laws.proofs.statements.FieldedLemmas.{IsPlain, data_each, sized_each, plain_part}
@@ -109,8 +109,8 @@ abbrev pub padded : ℕ → ℕ → Site → Site
 padded n b z = record { located = z.located; offset = n; bytes = b; instructions = operations_in b; coded = z.coded }
 
 pub record IsPlainSite (t : Tables) (section : SourceSection) (multiple : ℕ) (z : Site) (kind : StatementKind) : Type 0 where
-  pub same : (n : ℕ) → shrunk.templates t (at n z) kind ≡ templates t z kind
-  pub none : AllByRecursion IsPlain (templates t z kind)
+  pub same : (n : ℕ) → shrunk.shrunk_templates t (at n z) kind ≡ assembled_templates t z kind
+  pub none : AllByRecursion IsPlain (assembled_templates t z kind)
   pub sized : (n : ℕ) → (section.executable ≡ false → n ≡ z.offset) → z.located.placed ≡ true → shrunk.HasShrunkSize (form t z.located) (at n z) multiple kind
   pub even : section.executable ≡ true → z.bytes % 2 ≡ 0
 
@@ -121,8 +121,8 @@ pub record IsPadSite (t : Tables) (section : SourceSection) (multiple : ℕ) (z 
   pub full : z.bytes ≡ a - 2
   pub count : z.instructions ≡ operations_in z.bytes
   pub divides : multiple % a ≡ 0
-  pub was : templates t z kind ≡ Coded (no_operations z.bytes) (align_field z.located.ordinal z.bytes ∷ []) ∷ []
-  pub is : (n b : ℕ) → shrunk.templates t (padded n b z) kind ≡ shrunk.padding_templates true b
+  pub was : assembled_templates t z kind ≡ Coded (no_operations z.bytes) (align_field z.located.ordinal z.bytes ∷ []) ∷ []
+  pub is : (n b : ℕ) → shrunk.shrunk_templates t (padded n b z) kind ≡ shrunk.padding_templates true b
   pub sized : (n b : ℕ) → b ≡ padding (Some a) n → b % 2 ≡ 0 → shrunk.HasShrunkSize (form t z.located) (padded n b z) multiple kind
 
 padding_was : (o n : ℕ) → 0 < n → padding_templates true o n ≡ Coded (no_operations n) (align_field o n ∷ []) ∷ []
@@ -134,7 +134,7 @@ high a h =
     by_power (λ a. (is_low (Some a) ≡ false) × (0 < a - 2)) (refl, omega arith) (refl, omega arith) (refl, omega arith) (refl, omega arith) (refl, omega arith) (refl, omega arith)
     (refl, omega arith) (refl, omega arith) (refl, omega arith) (refl, omega arith) (refl, omega arith) a h
 
-pub bare_before : (kind : StatementKind) → ((all : Tables) (z : Site) → shrunk.templates all z kind ≡ []) → (all : Tables) (z : Site) → templates all z kind ≡ []
+pub bare_before : (kind : StatementKind) → ((all : Tables) (z : Site) → shrunk.shrunk_templates all z kind ≡ []) → (all : Tables) (z : Site) → assembled_templates all z kind ≡ []
 bare_before (Label name) h all z = refl
 bare_before (Numbered number) h all z = refl
 bare_before (Instruction m os) h all z = h all z
@@ -170,15 +170,15 @@ module _ (t : Tables) (section : SourceSection) (multiple : ℕ) (z : Site) (hom
   -- ---- an alignment
 
   module _ (kind : StatementKind) (al : Option ℕ) (valid : IsValidAlignment al) (divides : IsMultiple al multiple)
-      (was : templates t z kind ≡ padding_templates z.located.home.executable z.located.ordinal z.bytes)
-      (at_is : (n : ℕ) → shrunk.templates t (at n z) kind ≡ shrunk.padding_templates z.located.home.executable z.bytes)
-      (padded_is : (n b : ℕ) → shrunk.templates t (padded n b z) kind ≡ shrunk.padding_templates z.located.home.executable b)
+      (was : assembled_templates t z kind ≡ padding_templates z.located.home.executable z.located.ordinal z.bytes)
+      (at_is : (n : ℕ) → shrunk.shrunk_templates t (at n z) kind ≡ shrunk.padding_templates z.located.home.executable z.bytes)
+      (padded_is : (n b : ℕ) → shrunk.shrunk_templates t (padded n b z) kind ≡ shrunk.padding_templates z.located.home.executable b)
       (at_sized : (n : ℕ) → shrunk.IsPaddedIn z.located.home.executable (at n z) al → shrunk.HasShrunkSize v (at n z) multiple kind)
       (padded_sized : (n b : ℕ) → shrunk.IsPaddedIn z.located.home.executable (padded n b z) al → shrunk.HasShrunkSize v (padded n b z) multiple kind) where
     in_data : z.located.home.executable ≡ false → z.bytes ≡ padding al z.offset → z.instructions ≡ 0 → Plain kind
     in_data e bytes none =
         let aside : section.executable ≡ false = ap (λ x. x.executable) (sym home) ∙ e in
-        let before : templates t z kind ≡ Fixed (zeros z.bytes) ∷ [] = was ∙ ap (λ b. padding_templates b z.located.ordinal z.bytes) e in
+        let before : assembled_templates t z kind ≡ Fixed (zeros z.bytes) ∷ [] = was ∙ ap (λ b. padding_templates b z.located.ordinal z.bytes) e in
         record {
           same = λ n. at_is n ∙ ap (λ b. shrunk.padding_templates b z.bytes) e ∙ sym before;
           none = subst (λ l. AllByRecursion IsPlain l) (sym before) (tt, tt);
@@ -188,7 +188,7 @@ module _ (t : Tables) (section : SourceSection) (multiple : ℕ) (z : Site) (hom
 
     without : z.located.home.executable ≡ true → is_low al ≡ true → z.bytes ≡ 0 → z.instructions ≡ operations_in z.bytes → Plain kind
     without e low bytes count =
-        let before : templates t z kind ≡ [] = was ∙ ap (λ b. padding_templates b z.located.ordinal z.bytes) e ∙ ap (padding_templates true z.located.ordinal) bytes in
+        let before : assembled_templates t z kind ≡ [] = was ∙ ap (λ b. padding_templates b z.located.ordinal z.bytes) e ∙ ap (padding_templates true z.located.ordinal) bytes in
         record {
           same = λ n. at_is n ∙ ap (λ b. shrunk.padding_templates b z.bytes) e ∙ ap (shrunk.padding_templates true) bytes ∙ sym before;
           none = subst (λ l. AllByRecursion IsPlain l) (sym before) tt;
@@ -198,8 +198,8 @@ module _ (t : Tables) (section : SourceSection) (multiple : ℕ) (z : Site) (hom
         }
 
   module _ (kind : StatementKind) (a : ℕ) (divides : IsMultiple (Some a) multiple)
-      (was : templates t z kind ≡ padding_templates z.located.home.executable z.located.ordinal z.bytes)
-      (padded_is : (n b : ℕ) → shrunk.templates t (padded n b z) kind ≡ shrunk.padding_templates z.located.home.executable b)
+      (was : assembled_templates t z kind ≡ padding_templates z.located.home.executable z.located.ordinal z.bytes)
+      (padded_is : (n b : ℕ) → shrunk.shrunk_templates t (padded n b z) kind ≡ shrunk.padding_templates z.located.home.executable b)
       (padded_sized : (n b : ℕ) → shrunk.IsPaddedIn z.located.home.executable (padded n b z) (Some a) → shrunk.HasShrunkSize v (padded n b z) multiple kind) where
     with_padding : z.located.home.executable ≡ true → IsPower a → z.bytes ≡ a - 2 → z.instructions ≡ operations_in z.bytes → Pad kind
     with_padding e power bytes count =
@@ -218,9 +218,9 @@ module _ (t : Tables) (section : SourceSection) (multiple : ℕ) (z : Site) (hom
         }
 
   align_by : (kind : StatementKind) (al : Option ℕ) → IsValidAlignment al → IsMultiple al multiple
-      → templates t z kind ≡ padding_templates z.located.home.executable z.located.ordinal z.bytes
-      → ((n : ℕ) → shrunk.templates t (at n z) kind ≡ shrunk.padding_templates z.located.home.executable z.bytes)
-      → ((n b : ℕ) → shrunk.templates t (padded n b z) kind ≡ shrunk.padding_templates z.located.home.executable b)
+      → assembled_templates t z kind ≡ padding_templates z.located.home.executable z.located.ordinal z.bytes
+      → ((n : ℕ) → shrunk.shrunk_templates t (at n z) kind ≡ shrunk.padding_templates z.located.home.executable z.bytes)
+      → ((n b : ℕ) → shrunk.shrunk_templates t (padded n b z) kind ≡ shrunk.padding_templates z.located.home.executable b)
       → ((n : ℕ) → shrunk.IsPaddedIn z.located.home.executable (at n z) al → shrunk.HasShrunkSize v (at n z) multiple kind)
       → ((n b : ℕ) → shrunk.IsPaddedIn z.located.home.executable (padded n b z) al → shrunk.HasShrunkSize v (padded n b z) multiple kind)
       → (x : Bool) → z.located.home.executable ≡ x → IsPaddedIn x z al → Plain kind ⊎ Pad kind
@@ -267,7 +267,7 @@ module _ (t : Tables) (section : SourceSection) (multiple : ℕ) (z : Site) (hom
 
   sort_unplaced : IsBare z.located → z.located.placed ≡ false → z.bytes ≡ length (flat_map part_bytes (parts_of t z)) → Plain z.located.kind
   sort_unplaced bare e bytes =
-      let before : templates t z z.located.kind ≡ [] = bare_before z.located.kind (λ all y. bare e all y) t z in
+      let before : assembled_templates t z z.located.kind ≡ [] = bare_before z.located.kind (λ all y. bare e all y) t z in
       record {
         same = λ n. bare e t (at n z) ∙ sym before;
         none = subst (λ l. AllByRecursion IsPlain l) (sym before) tt;

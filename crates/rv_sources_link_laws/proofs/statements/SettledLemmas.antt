@@ -22,12 +22,12 @@ use Rattle.rv_assemble_laws.proofs.FaultlessLemmas.{no_first_fault}
 use Rattle.rv_object_laws.specs.Inputs.{Starts}
 use Rattle.rv_sources_link_laws.proofs.fields.PatchesLemmas.{written_from}
 use Rattle.rv_sources_link_laws.proofs.statements.StatementsLemmas.{row_in, mapped_at, mapped_from}
-use Rattle.rv_sources_link_laws.proofs.moves.ShrunkLemmas.{templates, parts_of, parts, Tile}
+use Rattle.rv_sources_link_laws.proofs.moves.ShrunkLemmas.{shrunk_templates, parts_of, parts, Tile}
 
 -- ---- a statement
 
 -- a statement without a place has no bytes
-unplaced_by : (t : Tables) (k : ℕ) (kind : StatementKind) → is_placed t k kind ≡ false → (all : Tables) (z : Site) → templates all z kind ≡ []
+unplaced_by : (t : Tables) (k : ℕ) (kind : StatementKind) → is_placed t k kind ≡ false → (all : Tables) (z : Site) → shrunk_templates all z kind ≡ []
 unplaced_by t k (Label name) e all z = absurd (cc)
 unplaced_by t k (Numbered number) e all z = absurd (cc)
 unplaced_by t k (Instruction mnemonic operands) e all z = absurd (cc)
@@ -40,7 +40,7 @@ unplaced_by t k (Directs (Aligns_to_bytes x)) e all z = absurd (cc)
 unplaced_by t k (Directs _) e all z = refl
 
 abbrev pub IsBare : Located → Type 0
-IsBare l = l.placed ≡ false → (all : Tables) (z : Site) → templates all z l.kind ≡ []
+IsBare l = l.placed ≡ false → (all : Tables) (z : Site) → shrunk_templates all z l.kind ≡ []
 
 bare_from : (file k : ℕ) (t : Tables) (ss : List Statement) → AllByRecursion IsBare (located_from file k t ss)
 bare_from file k t [] = tt

@@ -10,15 +10,15 @@ returns-in-Plain c =
     let form = c.args.form in
     let says = ap statement_kind c.in-Plain.is in (
       ap (is.faults_by form) says ∙ plain_faults c.in-Plain.statement (is.constants_of form) (is.worths_of form),
-      ap (is.templates form) says ∙ c.without_operand.ensures form.bytes (is.constants_of form),
+      ap (is.form_templates form) says ∙ c.without_operand.ensures form.bytes (is.constants_of form),
     )
 
 pub returns-in-With : goal.returns-in-With
 returns-in-With c =
-    subst (λ k. is.Answers (is.faults_by c.args.form k) (is.templates c.args.form k) c.with_operand.result) (sym (ap statement_kind c.in-With.is))
+    subst (λ k. is.Answers (is.faults_by c.args.form k) (is.form_templates c.args.form k) c.with_operand.result) (sym (ap statement_kind c.in-With.is))
     (c.with_operand.ensures (tree_of_expr c.in-With.field-1))
 
 pub returns-in-WithFunction : goal.returns-in-WithFunction
 returns-in-WithFunction c =
-    subst (λ k. is.Answers (is.faults_by c.args.form k) (is.templates c.args.form k) c.with_operand-in-WithFunction.result) (sym (ap statement_kind c.in-WithFunction.is))
+    subst (λ k. is.Answers (is.faults_by c.args.form k) (is.form_templates c.args.form k) c.with_operand-in-WithFunction.result) (sym (ap statement_kind c.in-WithFunction.is))
     (c.with_operand-in-WithFunction.ensures (tree_of_expr c.in-WithFunction.field-2))

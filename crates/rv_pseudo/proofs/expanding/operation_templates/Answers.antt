@@ -7,7 +7,7 @@ use Rattle.rv_pseudo.specs.Templates as is
 use Rattle.rv_pseudo.proofs.InRangeLemmas.{is_taken, sound_taken, number_takes, good_scratch, target_alone}
 use Rattle.rv_pseudo.proofs.RowsLemmas.{away_operand, target_operand, row_some, row_known}
 use Rattle.rv_pseudo.proofs.TableLemmas.{part_statement}
-use Rattle.rv_pseudo.proofs.expanding.templates.Goals as goal
+use Rattle.rv_pseudo.proofs.expanding.operation_templates.Goals as goal
 
 pub targeted-requires-clause-scratch : goal.targeted-requires-clause-scratch
 targeted-requires-clause-scratch c =
@@ -26,8 +26,8 @@ returns-then-takes_target c = λ e.
     let taken = sound_taken c.args.operation function (faults.worth_of c.args.form.worth) c.requires.sound c.requires.placed in
     let target : faults.takes_target known ≡ true = sym c.takes_target.ensures ∙ c.if-takes_target.true in
     let alone = target_alone (faults.known_as c.args.operation function) function _ taken (ap faults.takes_target (sym c.known_as-known.ensures) ∙ target) in
-    ap (is.templates c.args.form) (sym (part_statement c.args.operation function e) ∙ ap (λ o. is.statement_with o function e) (sym c.known_as-known.ensures))
-    ∙ ap (λ o. is.templates c.args.form (with_operand known o)) (target_operand known function e alone target)
+    ap (is.form_templates c.args.form) (sym (part_statement c.args.operation function e) ∙ ap (λ o. is.statement_with o function e) (sym c.known_as-known.ensures))
+    ∙ ap (λ o. is.form_templates c.args.form (with_operand known o)) (target_operand known function e alone target)
     ∙ c.targeted.ensures c.args.form.rvc e (is.constants_of c.args.form)
 
 pub numbered-requires-clause-range : goal.numbered-requires-clause-range
@@ -56,7 +56,7 @@ returns c = λ e.
     let told = subst (λ v. is.Puts function v c.is_store.result (faults.number function v) c.relocation-reloc.result) c.constant-value.ensures c.relocation-reloc.ensures in
     let stored = subst (λ b. is.Puts function value b (faults.number function value) c.relocation-reloc.result) c.is_store.ensures told in
     let puts = subst (λ (z : ℤ). is.Puts function value (is.is_store known) z c.relocation-reloc.result) (sym same) stored in
-    ap (is.templates c.args.form) (sym (part_statement c.args.operation function e) ∙ ap (λ o. is.statement_with o function e) (sym c.known_as-known.ensures))
-    ∙ ap (λ o. is.templates c.args.form (with_operand known o)) (away_operand known function e away)
+    ap (is.form_templates c.args.form) (sym (part_statement c.args.operation function e) ∙ ap (λ o. is.statement_with o function e) (sym c.known_as-known.ensures))
+    ∙ ap (λ o. is.form_templates c.args.form (with_operand known o)) (away_operand known function e away)
     ∙ row_known _ _ (row_some known function value c.args.form.rvc c.args.form.bytes e taken away)
     (λ parts row. c.numbered.ensures function value c.args.form.rvc c.args.form.bytes e parts puts row)
