@@ -36,7 +36,7 @@ use Rattle.rv_source_laws.specs.Exports.{names_where}
 use Rattle.rv_source_laws.specs.Program.{MaybeMapped, Mapped, Program, Export, export, exports_at, exports_where, candidates, chosen, program, number, seated, mapped_of, address_of, tables_in}
 use Rattle.rv_source_laws.specs.Resolves.{is_label, run_start}
 use Rattle.rv_source_laws.specs.Lines.{parts, Line, Lie, expansion}
-use Rattle.rv_source_laws.specs.Fits.{IsRowOf, CodeFits, IsPaddingIn, ContributionFits, SizeFits, InputSection, input_section, input_sections, input_sections_of_file, input_sections_of, greatest, Holds, Stand, end_of}
+use Rattle.rv_source_laws.specs.Fits.{IsRowOf, CodeFits, IsPaddingIn, ContributionFits, SizeFits, InputSection, input_section, input_sections, input_sections_of_file, input_sections_of, greatest, Holds, Stand, layout_end}
 use Rattle.rv_source_laws.specs.Start.{is_within, is_in, right_at, first_byte, byte_of, spelled, spelled_contribution}
 use Rattle.rv_source_laws.specs.SourceRun.{Starts, Gap, Outside, starts_or_inside, place, found}
 use Rattle.rv_source_laws.proofs.HeldLemmas.{ContributionHeld, DirectiveHeld, IsHeld, Held}
@@ -393,9 +393,9 @@ module _ (sources : List (List Statement)) (a : ℕ) (relax : Bool) (l : Linked)
   data_is : l.data ≡ contents (spelled p) map_of.data.start (region goes_to_data)
   data_is = h.data
 
-  filled : (start place stop : ℕ) (bytes : Mapped → List ℕ) (bs : List InputSection) (stored : List ℕ) → start ≡ place → stop ≡ end_of place bs → stored ≡ contents bytes start bs → AllIn (Sized bytes) bs → AllByRecursion IsAligned bs → start + length stored ≡ stop
+  filled : (start place stop : ℕ) (bytes : Mapped → List ℕ) (bs : List InputSection) (stored : List ℕ) → start ≡ place → stop ≡ layout_end place bs → stored ≡ contents bytes start bs → AllIn (Sized bytes) bs → AllByRecursion IsAligned bs → start + length stored ≡ stop
   filled start place stop bytes bs stored at ends is sized up =
-      ap (λ x. start + length x) is ∙ length_blocks bytes bs start sized up ∙ ap (λ x. end_of x bs) at ∙ sym ends
+      ap (λ x. start + length x) is ∙ length_blocks bytes bs start sized up ∙ ap (λ x. layout_end x bs) at ∙ sym ends
 
   pub are_regions : AreRegions l
   are_regions = record {
@@ -405,7 +405,7 @@ module _ (sources : List (List Statement)) (a : ℕ) (relax : Bool) (l : Linked)
     rodata_after = subst (λ x. map_of.text.end ≤ x) (sym rodata_holds.0) (above 4096 map_of.text.end (omega arith));
     data_after = subst (λ x. map_of.rodata.end ≤ x) (sym data_holds.0) (above 4096 map_of.rodata.end (omega arith));
     bss_after = subst (λ x. map_of.data.end ≤ x) (sym bss_holds.0) (above (greatest (region goes_to_bss)) map_of.data.end (some_alignment (region goes_to_bss)));
-    bss_ends = subst (λ x. map_of.bss.start ≤ x) (sym bss_holds.2) (subst (λ x. x ≤ end_of (aligned (greatest (region goes_to_bss)) map_of.data.end) (region goes_to_bss)) (sym bss_holds.0) (end_above (region goes_to_bss) (aligned (greatest (region goes_to_bss)) map_of.data.end) (is_aligned goes_to_bss)));
+    bss_ends = subst (λ x. map_of.bss.start ≤ x) (sym bss_holds.2) (subst (λ x. x ≤ layout_end (aligned (greatest (region goes_to_bss)) map_of.data.end) (region goes_to_bss)) (sym bss_holds.0) (end_above (region goes_to_bss) (aligned (greatest (region goes_to_bss)) map_of.data.end) (is_aligned goes_to_bss)));
     below = h.below;
   }
 
@@ -417,10 +417,10 @@ module _ (sources : List (List Statement)) (a : ℕ) (relax : Bool) (l : Linked)
     same_end : (n k : ℕ) → n ≡ k → k ≤ n
     same_end n k e = omega arith
 
-    lies : (goes : Section → Bool) (start place stop : ℕ) → start ≡ place → Stand place (region goes) → stop ≡ end_of place (region goes) → AllByRecursion (In goes (LiesIn start stop)) p.mapped
+    lies : (goes : Section → Bool) (start place stop : ℕ) → start ≡ place → Stand place (region goes) → stop ≡ layout_end place (region goes) → AllByRecursion (In goes (LiesIn start stop)) p.mapped
     lies goes start place stop at stand ends =
         from_blocks p.mapped sources goes (LiesIn start stop) at_home
-        (lie_blocks (region goes) place start stop (is_aligned goes) stand (same_end place start (sym at)) (same_end stop (end_of place (region goes)) ends))
+        (lie_blocks (region goes) place start stop (is_aligned goes) stand (same_end place start (sym at)) (same_end stop (layout_end place (region goes)) ends))
 
     held : (goes : Section → Bool) (bytes : Mapped → List ℕ) (start place : ℕ) (stored : List ℕ) → start ≡ place → Stand place (region goes) → stored ≡ contents bytes start (region goes) → AllIn (Sized bytes) (region goes) → HasBytes m start stored
         → AllByRecursion (In goes (λ s. HasBytes m s.row.address (bytes s))) p.mapped
@@ -608,11 +608,11 @@ module _ (sources : List (List Statement)) (a : ℕ) (relax : Bool) (l : Linked)
     missed goes x none = to_blocks p.mapped sources goes (Misses x) at_home (all_map (Misses x) (In goes (Misses x)) p.mapped (λ s e good. e) none)
 
     -- no row lies over a byte that can be read: it is zero
-    region_zero : (goes : Section → Bool) (start place stop x : ℕ) (stored : List ℕ) → start ≡ place → Stand place (region goes) → stop ≡ end_of place (region goes) → stored ≡ contents (spelled p) start (region goes) → AllIn (Sized (spelled p)) (region goes) → HasBytes m start stored
+    region_zero : (goes : Section → Bool) (start place stop x : ℕ) (stored : List ℕ) → start ≡ place → Stand place (region goes) → stop ≡ layout_end place (region goes) → stored ≡ contents (spelled p) start (region goes) → AllIn (Sized (spelled p)) (region goes) → HasBytes m start stored
         → AllByRecursion (Misses x) p.mapped → start ≤ x → x < stop → m.byte x ≡ 0
     region_zero goes start place stop x stored at stand ends is sized has none low high =
         zero_blocks (spelled p) m (region goes) start x sized (is_aligned goes) (subst (λ y. Stand y (region goes)) (sym at) stand) (subst (HasBytes m start) is has) (missed goes x none) low
-        (subst (λ y. x < y) (ends ∙ ap (λ y. end_of y (region goes)) (sym at)) high)
+        (subst (λ y. x < y) (ends ∙ ap (λ y. layout_end y (region goes)) (sym at)) high)
 
     none_zero : (x : ℕ) → AllByRecursion (Misses x) p.mapped → right_at map_of x Read ≡ true → m.byte x ≡ 0
     none_zero x none readable =
@@ -653,7 +653,7 @@ module _ (sources : List (List Statement)) (a : ℕ) (relax : Bool) (l : Linked)
     gaps_blank pc even e =
         let inside : list_any (λ (gap : Region). is_in gap pc) map_of.gaps ≡ true = (gap_when (is_in map_of.text pc) (list_any (λ gap. is_in gap pc) map_of.gaps) (found p.mapped pc) e).1 in
         let bs = region goes_to_text in
-        let there : IsBlank m a (end_of a bs) pc =
+        let there : IsBlank m a (layout_end a bs) pc =
         gap_blank code m bs a pc code_sized (is_aligned goes_to_text) (even_files p.mapped 1 sources) text_holds.1
         (subst (λ x. HasBytes m x (contents code x bs)) text_holds.0 (subst (HasBytes m map_of.text.start) text_is (text_held l are_regions))) even
         (subst (λ gaps. list_any (λ (gap : Region). is_in gap pc) gaps ≡ true) h.fits.gaps inside) in

@@ -15,7 +15,7 @@ use Rattle.rv_isa_laws.specs.Memory.{Mem}
 use Rattle.rv_map.specs.declared.map.Row.{Row}
 use Rattle.rv_map.specs.declared.map.Region.{Region}
 use Rattle.rv_source_laws.specs.Program.{Mapped}
-use Rattle.rv_source_laws.specs.Fits.{InputSection, rows_of, Follow, size, Stand, end_of, gaps_of}
+use Rattle.rv_source_laws.specs.Fits.{InputSection, rows_of, Follow, size, Stand, layout_end, gaps_of}
 use Rattle.rv_source_laws.specs.Start.{is_within, is_in}
 use Rattle.rv_chain_laws.specs.Contents.{contents}
 use Rattle.rv_chain_laws.proofs.WordsLemmas.{HasBytes, bytes_behind}
@@ -112,19 +112,19 @@ above n a some =
     let x = a + (n - 1) in
     not_below x (x / n * n) (x % n) n a (mod-eq-sub-div-mul x n) (div-mul-le_self x n) (mod-lt x some) refl
 
-pub end_above : (bs : List InputSection) (a : ℕ) → AllByRecursion IsAligned bs → a ≤ end_of a bs
+pub end_above : (bs : List InputSection) (a : ℕ) → AllByRecursion IsAligned bs → a ≤ layout_end a bs
 end_above [] a l = omega arith
 end_above (b ∷ bs) a (l, ls) =
     let up = above b.alignment a l in
     let more = end_above bs (aligned b.alignment a + size (rows_of b)) ls in
     omega arith
 
-pub lie_blocks : (bs : List InputSection) (a low high : ℕ) → AllByRecursion IsAligned bs → Stand a bs → low ≤ a → end_of a bs ≤ high → AllIn (LiesIn low high) bs
+pub lie_blocks : (bs : List InputSection) (a low high : ℕ) → AllByRecursion IsAligned bs → Stand a bs → low ≤ a → layout_end a bs ≤ high → AllIn (LiesIn low high) bs
 lie_blocks [] a low high l st lo hi = tt
 lie_blocks (b ∷ bs) a low high (l, ls) (f, st) lo hi =
     let start = aligned b.alignment a in
     let up : a ≤ start = above b.alignment a l in
-    let more : start + size (rows_of b) ≤ end_of (start + size (rows_of b)) bs = end_above bs (start + size (rows_of b)) ls in
+    let more : start + size (rows_of b) ≤ layout_end (start + size (rows_of b)) bs = end_above bs (start + size (rows_of b)) ls in
     (lie_follow b.mapped start low high f (omega arith) (omega arith), lie_blocks bs (start + size (rows_of b)) low high ls st (omega arith) hi)
 
 module _ (bytes : Mapped → List ℕ) (m : Mem) where
@@ -146,7 +146,7 @@ module _ (bytes : Mapped → List ℕ) (m : Mem) where
       (here.0, held_blocks bs (start + size (rows_of b)) zs ls st here.1)
 
   -- where no row lies there is zero
-  pub zero_blocks : (bs : List InputSection) (a x : ℕ) → AllIn (Sized bytes) bs → AllByRecursion IsAligned bs → Stand a bs → HasBytes m a (contents bytes a bs) → AllIn (Misses x) bs → a ≤ x → x < end_of a bs → m.byte x ≡ 0
+  pub zero_blocks : (bs : List InputSection) (a x : ℕ) → AllIn (Sized bytes) bs → AllByRecursion IsAligned bs → Stand a bs → HasBytes m a (contents bytes a bs) → AllIn (Misses x) bs → a ≤ x → x < layout_end a bs → m.byte x ≡ 0
   zero_blocks [] a x z l st h n lo hi = absurd (omega arith)
   zero_blocks (b ∷ bs) a x (z, zs) (l, ls) (f, st) h (n, ns) lo hi =
       let start = aligned b.alignment a in
@@ -180,7 +180,7 @@ below_even : (x stop : ℕ) → x % 2 ≡ 0 → stop % 2 ≡ 0 → x < stop → 
 below_even x stop e f less = omega arith
 
 -- in a gap before a section of code there are zeros
-pub gap_blank : (bytes : Mapped → List ℕ) (m : Mem) (bs : List InputSection) (a x : ℕ) → AllIn (Sized bytes) bs → AllByRecursion IsAligned bs → AllByRecursion BeginsEven bs → Stand a bs → HasBytes m a (contents bytes a bs) → x % 2 ≡ 0 → list_any (λ (gap : Region). is_in gap x) (gaps_of a bs) ≡ true → IsBlank m a (end_of a bs) x
+pub gap_blank : (bytes : Mapped → List ℕ) (m : Mem) (bs : List InputSection) (a x : ℕ) → AllIn (Sized bytes) bs → AllByRecursion IsAligned bs → AllByRecursion BeginsEven bs → Stand a bs → HasBytes m a (contents bytes a bs) → x % 2 ≡ 0 → list_any (λ (gap : Region). is_in gap x) (gaps_of a bs) ≡ true → IsBlank m a (layout_end a bs) x
 gap_blank bytes m [] a x z l v st h even e = absurd (cc)
 gap_blank bytes m (b ∷ bs) a x (z, zs) (l, ls) (v, vs) (f, st) h even e =
     go (nat_lt a start) e (gap_blank bytes m bs next x zs ls vs st (held_follow bytes m b.mapped start (contents bytes next bs) z f (behind_zeros bytes m a start (later bytes m start b bs) up h)).1 even)
@@ -194,13 +194,13 @@ gap_blank bytes m (b ∷ bs) a x (z, zs) (l, ls) (v, vs) (f, st) h even e =
     up : a ≤ start
     up = above b.alignment a l
 
-    ends : next ≤ end_of next bs
+    ends : next ≤ layout_end next bs
     ends = end_above bs next ls
 
     test : Region → Bool
     test gap = is_in gap x
 
-    before : is_within a start x ≡ true → IsBlank m a (end_of next bs) x
+    before : is_within a start x ≡ true → IsBlank m a (layout_end next bs) x
     before inside =
         let parts = within_parts a start x inside in
         let room : x + 1 < start = below_even x start even (aligned_even b.alignment a v) parts.1 in
@@ -212,24 +212,24 @@ gap_blank bytes m (b ∷ bs) a x (z, zs) (l, ls) (v, vs) (f, st) h even e =
           second = byte_zero m (start - a) a (x + 1) gap (omega arith) (omega arith);
         }
 
-    onward : IsBlank m next (end_of next bs) x → IsBlank m a (end_of next bs) x
+    onward : IsBlank m next (layout_end next bs) x → IsBlank m a (layout_end next bs) x
     onward k = record { starts = (let s = k.starts in omega (arith, up)); room = k.room; first = k.first; second = k.second }
 
-    go : (t : Bool) → list_any test (if t then record { start = a; end = start } ∷ gaps_of next bs else gaps_of next bs) ≡ true → (list_any test (gaps_of next bs) ≡ true → IsBlank m next (end_of next bs) x) → IsBlank m a (end_of next bs) x
+    go : (t : Bool) → list_any test (if t then record { start = a; end = start } ∷ gaps_of next bs else gaps_of next bs) ≡ true → (list_any test (gaps_of next bs) ≡ true → IsBlank m next (layout_end next bs) x) → IsBlank m a (layout_end next bs) x
     go true e ih = elim (or_cases (is_within a start x) (list_any test (gaps_of next bs)) e) [ inl inside ↦ before inside | inr more ↦ onward (ih more) ]
     go false e ih = onward (ih e)
 
-pub length_blocks : (bytes : Mapped → List ℕ) (bs : List InputSection) (a : ℕ) → AllIn (Sized bytes) bs → AllByRecursion IsAligned bs → a + length (contents bytes a bs) ≡ end_of a bs
+pub length_blocks : (bytes : Mapped → List ℕ) (bs : List InputSection) (a : ℕ) → AllIn (Sized bytes) bs → AllByRecursion IsAligned bs → a + length (contents bytes a bs) ≡ layout_end a bs
 length_blocks bytes [] a z l = omega arith
 length_blocks bytes (b ∷ bs) a (z, zs) (l, ls) =
     let start = aligned b.alignment a in
     let up : a ≤ start = above b.alignment a l in
     let next = start + size (rows_of b) in
     let rest : List ℕ = contents bytes next bs in
-    let more : next + length rest ≡ end_of next bs = length_blocks bytes bs next zs ls in
+    let more : next + length rest ≡ layout_end next bs = length_blocks bytes bs next zs ls in
     let one : length (zeros (start - a)) ≡ start - a = length-replicate {A = ℕ} (start - a) 0 in
     let two : length (flat_map bytes b.mapped) ≡ size (rows_of b) = length_follow bytes b.mapped z in
     let three : length (zeros (start - a) ++ (flat_map bytes b.mapped ++ rest)) ≡ length (zeros (start - a)) + length (flat_map bytes b.mapped ++ rest) = length-append (zeros (start - a)) (flat_map bytes b.mapped ++ rest) in
     let four : length (flat_map bytes b.mapped ++ rest) ≡ length (flat_map bytes b.mapped) + length rest = length-append (flat_map bytes b.mapped) rest in
-    let whole : a + length (zeros (start - a) ++ (flat_map bytes b.mapped ++ rest)) ≡ end_of next bs = omega arith in
+    let whole : a + length (zeros (start - a) ++ (flat_map bytes b.mapped ++ rest)) ≡ layout_end next bs = omega arith in
     whole

@@ -8,7 +8,7 @@ use Rattle.rv_layout_laws.specs.Alignment.{aligned}
 use Rattle.rv_map.specs.declared.map.Region.{Region}
 use Rattle.rv_object.specs.Object.{Relocation, Section, Object}
 use Rattle.rv_object_laws.specs.Moves.{Move, moves, new_offset, kept, has_room, alignments_of}
-use Rattle.rv_object_laws.specs.Inputs.{Starts, InputSection, goes_to_text, inputs_from, inputs_of, raised, begins_at, start_of, size, Stand, end_of, Holds, contents}
+use Rattle.rv_object_laws.specs.Inputs.{Starts, InputSection, goes_to_text, inputs_from, inputs_of, raised, begins_at, start_of, size, Stand, sections_end, Holds, contents}
 use Rattle.rv_object_laws.specs.Names.{object_at, no_object}
 use Rattle.rv_object_laws.specs.Values.{patched_at, applied, initial_bytes}
 use Rattle.rv_shorten.specs.Sections.{short_section_of}
@@ -61,7 +61,7 @@ grown_first bytes starts region place whole (begins, stand, ends) =
     let place' : region.start + 0 ≡ place = at ∙ begins in
     record {
       stand = subst (λ n. Stand starts n whole) (sym place') stand;
-      ends = ap (λ n. end_of starts n whole) place' ∙ sym ends;
+      ends = ap (λ n. sections_end starts n whole) place' ∙ sym ends;
       holds = ap (λ n. contents bytes starts n whole) at;
     }
 
@@ -83,7 +83,7 @@ grown_next bytes starts region whole from i left out new is front long made =
     let ends : region.start + length new ≡ start + size starts i = omega (arith, added, long) in
     record {
       stand = subst (λ n. Stand starts n left) (sym ends) stand.1;
-      ends = ap (λ n. end_of starts n left) ends ∙ ap (λ l. end_of starts stop l) (sym front) ∙ is.ends;
+      ends = ap (λ n. sections_end starts n left) ends ∙ ap (λ l. sections_end starts stop l) (sym front) ∙ is.ends;
       holds =
           ap (λ n. new ++ contents bytes starts n left) ends ∙ ap (λ l. l ++ contents bytes starts (start + size starts i) left) made
           ∙ append_assoc out (zeros gap ++ bytes i) (contents bytes starts (start + size starts i) left)

@@ -6,19 +6,19 @@ use Rattle.std.specs.List.{AllByRecursion}
 use Rattle.rv_map.specs.declared.map.Region.{Region}
 use Rattle.rv_map.specs.Limits.{IsRegion}
 use Rattle.rv_object.specs.Object.{Object}
-use Rattle.rv_object_laws.specs.Inputs.{Starts, InputSection, goes_to_text, inputs, start_of, size, Stand, end_of, gaps_of}
+use Rattle.rv_object_laws.specs.Inputs.{Starts, InputSection, goes_to_text, inputs, start_of, size, Stand, sections_end, gaps_of}
 use Rattle.rv_placement.specs.declared.placement.Placement.{Placement}
 use Rattle.rv_placement.specs.Placement.{starts_of, IsPlacement}
 use Rattle.rv_link.proofs.GrowingLemmas.{later}
 
-ends_up : (starts : Starts) (stop : ℕ) (is : List InputSection) → Stand starts stop is → stop ≤ end_of starts stop is
+ends_up : (starts : Starts) (stop : ℕ) (is : List InputSection) → Stand starts stop is → stop ≤ sections_end starts stop is
 ends_up starts stop [] h = omega arith
 ends_up starts stop (i ∷ is) h =
     let here = later starts stop i is h in
     let more = ends_up starts (start_of starts i + size starts i) is h.1 in
     omega (arith, here, more)
 
-gaps_low : (starts : Starts) (stop : ℕ) (is : List InputSection) → Stand starts stop is → end_of starts stop is < 2 ^ 64 → AllByRecursion IsRegion (gaps_of starts stop is)
+gaps_low : (starts : Starts) (stop : ℕ) (is : List InputSection) → Stand starts stop is → sections_end starts stop is < 2 ^ 64 → AllByRecursion IsRegion (gaps_of starts stop is)
 gaps_low starts stop [] h low = tt
 gaps_low starts stop (i ∷ is) h low =
     let here = later starts stop i is h in

@@ -5,7 +5,7 @@ use Rattle.std.specs.List.{AllByRecursion}
 use Rattle.rv_map.specs.Globals.{AreDistinct}
 use Rattle.rv_map.specs.declared.map.Region.{Region}
 use Rattle.rv_object.specs.Object.{Section, Object}
-use Rattle.rv_object_laws.specs.Inputs.{Starts, InputSection, goes_to_text, goes_to_rodata, goes_to_data, inputs_from, inputs_of, inputs, Stand, end_of, contents}
+use Rattle.rv_object_laws.specs.Inputs.{Starts, InputSection, goes_to_text, goes_to_rodata, goes_to_data, inputs_from, inputs_of, inputs, Stand, sections_end, contents}
 use Rattle.rv_map.specs.Map.{Map}
 use Rattle.rv_object_laws.specs.Names.{object_at, outer_address, globals_of, global_names, shown_linker_symbols}
 use Rattle.rv_resolve.specs.declared.names.Names.{Names}
@@ -46,7 +46,7 @@ left_files os file goes = inputs_of goes (file + 1) (drop file os)
 pub record IsGrown (bytes : InputSection → List ℕ) (starts : Starts) (region : Region)
     (whole left : List InputSection) (out : List ℕ) : Type 0 where
   pub stand : Stand starts (region.start + length out) left
-  pub ends : end_of starts (region.start + length out) left ≡ region.end
+  pub ends : sections_end starts (region.start + length out) left ≡ region.end
   pub holds : out ++ contents bytes starts (region.start + length out) left
       ≡ contents bytes starts region.start whole
 

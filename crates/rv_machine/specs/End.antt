@@ -5,17 +5,17 @@ use Rattle.rv_machine.specs.declared.end.End.{End}
 use Rattle.rv_machine.specs.declared.end.End.TheVariants.{Exited, Limit, Breakpoint, Illegal, FetchOutside, LoadText, LoadOutside, StoreText, StoreOutside, MisalignedAtomic}
 use Rattle.rv_isa_laws.specs.Hart as laws
 
-abbrev pub end_of : End → laws.End
-end_of (Exited code) = laws.Exited code
-end_of Limit = laws.Limit
-end_of Breakpoint = laws.Breakpoint
-end_of (Illegal a) = laws.Illegal a
-end_of (FetchOutside a) = laws.FetchOutside a
-end_of (LoadText a) = laws.LoadText a
-end_of (LoadOutside a) = laws.LoadOutside a
-end_of (StoreText a) = laws.StoreText a
-end_of (StoreOutside a) = laws.StoreOutside a
-end_of (MisalignedAtomic a) = laws.MisalignedAtomic a
+abbrev pub law_end : End → laws.End
+law_end (Exited code) = laws.Exited code
+law_end Limit = laws.Limit
+law_end Breakpoint = laws.Breakpoint
+law_end (Illegal a) = laws.Illegal a
+law_end (FetchOutside a) = laws.FetchOutside a
+law_end (LoadText a) = laws.LoadText a
+law_end (LoadOutside a) = laws.LoadOutside a
+law_end (StoreText a) = laws.StoreText a
+law_end (StoreOutside a) = laws.StoreOutside a
+law_end (MisalignedAtomic a) = laws.MisalignedAtomic a
 
 abbrev pub name_of : End → List ℕ
 name_of (Exited code) = codes "Exited"

@@ -6,7 +6,7 @@ use Rattle.rv_isa_laws.specs.Effect.{Next, On, Over}
 use Rattle.rv_machine.specs.declared.end.End.{End}
 use Rattle.rv_machine.specs.declared.running.RunFault.{RunFault}
 use Rattle.rv_machine.specs.declared.running.RunFault.TheVariants.{InputFault, OutputFault, OutOfMemory}
-use Rattle.rv_machine.specs.End.{end_of}
+use Rattle.rv_machine.specs.End.{law_end}
 use Rattle.rv_machine.specs.Streams.{IsFront, MayFollow}
 
 -- what is known of a run's input between two steps: whether a take of the run gave nothing, the
@@ -38,7 +38,7 @@ StepsTo (Ok None) read written none_empty before after =
     (rest console : List ℕ) → MayFollow none_empty rest →
     before (read ++ rest) console ≡ after rest (console ++ written)
 StepsTo (Ok (Some e)) read written none_empty before after =
-    (read ≡ []) × ((written ≡ []) × ((rest console : List ℕ) → before rest console ≡ Over (end_of e)))
+    (read ≡ []) × ((written ≡ []) × ((rest console : List ℕ) → before rest console ≡ Over (law_end e)))
 StepsTo (Err InputFault) read written none_empty before after = written ≡ []
 StepsTo (Err OutputFault) read written none_empty before after =
     (read ≡ []) × ((rest console : List ℕ) → Writes (before rest console) (console ++ written))

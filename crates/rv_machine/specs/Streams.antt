@@ -6,7 +6,7 @@ use Rattle.rv_isa_laws.specs.Hart as laws
 use Rattle.rv_machine.specs.declared.end.End.{End}
 use Rattle.rv_machine.specs.declared.running.RunFault.{RunFault}
 use Rattle.rv_machine.specs.declared.running.RunFault.TheVariants.{InputFault, OutputFault, OutOfMemory}
-use Rattle.rv_machine.specs.End.{end_of}
+use Rattle.rv_machine.specs.End.{law_end}
 
 -- a take gave the first bytes of its buffer, and a failed one lost none
 abbrev pub Takes : {E : Type 0} → Result ℕ E → List ℕ → Option (List ℕ) → Option (List ℕ) → Type 0
@@ -35,7 +35,7 @@ MayFollow none_empty rest = (rest ≡ []) ⊎ none_empty
 -- what a run has written beside the outcome of a machine with all its input: the same, with its end;
 -- where a stream failed, the beginning
 abbrev pub Accords : Result End RunFault → List ℕ → laws.Outcome → Type 0
-Accords (Ok e) written outcome = outcome ≡ record { console = written; «end» = end_of e }
+Accords (Ok e) written outcome = outcome ≡ record { console = written; «end» = law_end e }
 Accords (Err _) written outcome = IsFront written outcome.console
 
 -- which streams have failed after a run: the reader exactly at InputFault, the writer exactly at

@@ -9,7 +9,7 @@ ghost use Rattle.rv_isa_laws.specs.Arithmetic.{extended, low};
 ghost use Rattle.rv_isa_laws.specs.Meaning.{jumps, with_result};
 ghost use Rattle.rv_memory.specs.Rights.{IsWidth};
 ghost use Rattle.rv_machine.specs.Action.{effect_of, made, of_word, of_double};
-ghost use Rattle.rv_machine.specs.End.{end_of};
+ghost use Rattle.rv_machine.specs.End.{law_end};
 ghost use Rattle.rv_machine.specs.Hart.{hart_of};
 ghost use Rattle.rv_machine.specs.Machine.{ComesOf};
 ghost use Rattle.rv_machine.specs.declared.action.Action.TheVariants as is;
@@ -47,7 +47,7 @@ fn is_text<M: Memory>(memory: &M, address: u64, bytes: u64) -> bool
 /// Why bytes can't be read.
 #[inline(never)]
 fn load_end<M: Memory>(memory: &M, address: u64, bytes: u64) -> End
-    ensures { end_of result ≡ load_refusal (M.mem memory.now) address bytes }
+    ensures { law_end result ≡ load_refusal (M.mem memory.now) address bytes }
 {
     if is_text(memory, address, bytes) {
         End::LoadText(address)
@@ -59,7 +59,7 @@ fn load_end<M: Memory>(memory: &M, address: u64, bytes: u64) -> End
 /// Why bytes can't be written.
 #[inline(never)]
 fn store_end<M: Memory>(memory: &M, address: u64, bytes: u64) -> End
-    ensures { end_of result ≡ store_refusal (M.mem memory.now) address bytes }
+    ensures { law_end result ≡ store_refusal (M.mem memory.now) address bytes }
 {
     if is_text(memory, address, bytes) {
         End::StoreText(address)

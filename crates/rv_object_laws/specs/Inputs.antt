@@ -82,14 +82,14 @@ Stand starts stop (i ∷ is) =
     × Stand starts (start_of starts i + size starts i) is
 
 -- the end of the last of them
-abbrev pub end_of : Starts → ℕ → List InputSection → ℕ
-end_of starts stop [] = stop
-end_of starts stop (i ∷ is) = end_of starts (start_of starts i + size starts i) is
+abbrev pub sections_end : Starts → ℕ → List InputSection → ℕ
+sections_end starts stop [] = stop
+sections_end starts stop (i ∷ is) = sections_end starts (start_of starts i + size starts i) is
 
 -- a region holds its sections from an address on
 abbrev pub Holds : Starts → Region → ℕ → List InputSection → Type 0
 Holds starts region place is =
-    (region.start ≡ place) × Stand starts place is × (region.end ≡ end_of starts place is)
+    (region.start ≡ place) × Stand starts place is × (region.end ≡ sections_end starts place is)
 
 -- a gap stands before each section that begins past the end before
 abbrev pub gaps_of : Starts → ℕ → List InputSection → List Region

@@ -10,7 +10,7 @@ use Rattle.rv_layout_laws.specs.Alignment.{aligned}
 use Rattle.rv_isa_laws.specs.Platform.{stack_start, memory_limit}
 use Rattle.rv_map.specs.declared.map.Region.{Region}
 use Rattle.rv_object.specs.Object.{Section, Object}
-use Rattle.rv_object_laws.specs.Inputs.{Starts, is_nobits, goes_to_text, goes_to_rodata, goes_to_data, goes_to_bss, inputs, inputs_of, Stand, Holds, end_of, greatest}
+use Rattle.rv_object_laws.specs.Inputs.{Starts, is_nobits, goes_to_text, goes_to_rodata, goes_to_data, goes_to_bss, inputs, inputs_of, Stand, Holds, sections_end, greatest}
 use Rattle.rv_placement.specs.declared.destination.Destination.TheVariants.{Rodata, Data, Bss}
 use Rattle.rv_placement.specs.declared.placement.PlacedSection.{PlacedSection}
 use Rattle.rv_placement.specs.declared.placement.Placement.{Placement}
@@ -121,7 +121,7 @@ pub holds : (starts : Starts) (to : Section → Bool) (region : Region) (place :
 holds starts to region place os e st ends = (
   e,
   subst (λ n. Stand starts n (inputs_of to 1 os)) e st,
-  ends ∙ sym (stand_ends to starts region.start os st) ∙ ap (λ n. end_of starts n (inputs_of to 1 os)) e,
+  ends ∙ sym (stand_ends to starts region.start os st) ∙ ap (λ n. sections_end starts n (inputs_of to 1 os)) e,
 )
 
 module _ (os : List Object) (start : ℕ) (p : Placement) (fs : List (List PlacedSection)) (begins : p.text.start ≡ start) (ends : p.text.end ≡ ended_files goes_to_text start os)

@@ -6,7 +6,7 @@ use Rattle.std.specs.List.{AllZip, slice_get}
 use Rattle.rv_map.specs.declared.map.Region.{Region}
 use Rattle.rv_object.specs.Object.{Section, Object, size_of}
 use Rattle.rv_object_laws.specs.Moves.{has_padding, plan, by_place, moves, new_offset}
-use Rattle.rv_object_laws.specs.Inputs.{Starts, InputSection, goes_to_text, begins_at, inputs_from, inputs_of, start_of, size, Stand, end_of, gaps_of, greatest}
+use Rattle.rv_object_laws.specs.Inputs.{Starts, InputSection, goes_to_text, begins_at, inputs_from, inputs_of, start_of, size, Stand, sections_end, gaps_of, greatest}
 use Rattle.rv_placement.specs.declared.placement.PlacedSection.{PlacedSection}
 use Rattle.rv_placement.specs.Placement.{start_in}
 use Rattle.rv_placement.specs.Walk.{start_behind, end_from, end_behind, next, ended, ended_files, start_from, started, started_files, text_starts, text_files, gap_between, gapped, gapped_files, greatest_in, greatest_of, IsKept, AreKept}
@@ -158,7 +158,7 @@ gaps_last stop (i ∷ is) = gap_between stop (start_behind stop i.section) ++ ga
 ends_at : (starts : Starts) (i : InputSection) (stop : ℕ) → start_of starts i ≡ start_behind stop i.section → start_of starts i + size starts i ≡ end_behind stop i.section
 ends_at starts i stop e = ap (λ n. n + new_offset (moves n i.section) (size_of i.section.contents)) e
 
-end_is : (starts : Starts) (stop : ℕ) (is : List InputSection) → Stand starts stop is → end_of starts stop is ≡ last stop is
+end_is : (starts : Starts) (stop : ℕ) (is : List InputSection) → Stand starts stop is → sections_end starts stop is ≡ last stop is
 end_is starts stop [] h = refl
 end_is starts stop (i ∷ is) h =
     let e = ends_at starts i stop h.0 in
@@ -214,7 +214,7 @@ module _ (to : Section → Bool) where
   greatest_is file (o ∷ os) = greatest_file file o 0 o.sections (inputs_of to (suc file) os) ∙ ap (max (greatest_in to o.sections)) (greatest_is (suc file) os)
 
   -- however sections start that stand one behind another, they end there
-  pub stand_ends : (starts : Starts) (stop : ℕ) (os : List Object) → Stand starts stop (inputs_of to 1 os) → end_of starts stop (inputs_of to 1 os) ≡ ended_files to stop os
+  pub stand_ends : (starts : Starts) (stop : ℕ) (os : List Object) → Stand starts stop (inputs_of to 1 os) → sections_end starts stop (inputs_of to 1 os) ≡ ended_files to stop os
   stand_ends starts stop os h = end_is starts stop (inputs_of to 1 os) h ∙ last_files 1 stop os
 
 gaps_file : (file : ℕ) (o : Object) (index stop : ℕ) (ss : List Section) (rest : List InputSection)

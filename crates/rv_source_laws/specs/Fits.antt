@@ -166,9 +166,9 @@ Stand stop (b ∷ bs) =
     × Stand (aligned b.alignment stop + size (rows_of b)) bs
 
 -- the end of the last of them
-abbrev pub end_of : ℕ → List InputSection → ℕ
-end_of stop [] = stop
-end_of stop (b ∷ bs) = end_of (aligned b.alignment stop + size (rows_of b)) bs
+abbrev pub layout_end : ℕ → List InputSection → ℕ
+layout_end stop [] = stop
+layout_end stop (b ∷ bs) = layout_end (aligned b.alignment stop + size (rows_of b)) bs
 
 -- a gap stands before each section that begins past the end before
 abbrev pub gaps_of : ℕ → List InputSection → List Region
@@ -180,7 +180,7 @@ gaps_of stop (b ∷ bs) =
 
 -- a region holds its sections from a place on
 abbrev pub Holds : Region → ℕ → List InputSection → Type 0
-Holds region place bs = (region.start ≡ place) × Stand place bs × (region.end ≡ end_of place bs)
+Holds region place bs = (region.start ≡ place) × Stand place bs × (region.end ≡ layout_end place bs)
 
 abbrev pub greatest : List InputSection → ℕ
 greatest [] = 1

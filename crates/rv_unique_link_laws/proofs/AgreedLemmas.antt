@@ -8,7 +8,7 @@ use Rattle.rv_isa_laws.specs.Bytes.{zeros}
 use Rattle.rv_map.specs.declared.map.Region.{Region}
 use Rattle.rv_object.specs.Object.{Section, Object, size_of}
 use Rattle.rv_object_laws.specs.Moves.{moves, new_offset}
-use Rattle.rv_object_laws.specs.Inputs.{Starts, InputSection, is_nobits, goes_to_text, goes_to_rodata, goes_to_data, goes_to_bss, inputs_from, inputs_of, inputs, start_of, size, Stand, end_of, Holds, gaps_of, greatest, contents}
+use Rattle.rv_object_laws.specs.Inputs.{Starts, InputSection, is_nobits, goes_to_text, goes_to_rodata, goes_to_data, goes_to_bss, inputs_from, inputs_of, inputs, start_of, size, Stand, sections_end, Holds, gaps_of, greatest, contents}
 use Rattle.rv_unique_link_laws.proofs.FoundLemmas.{all_left, all_right, found_in}
 use Rattle.rv_unique_link_laws.proofs.ExportsLemmas.{OfFiles}
 
@@ -18,13 +18,13 @@ module _ (s t : Starts) where
   abbrev pub StartsSame : InputSection → Type 0
   StartsSame i = start_of s i ≡ start_of t i
 
-  pub stand_same : (stop : ℕ) (is : List InputSection) → Stand s stop is → Stand t stop is → AllByRecursion StartsSame is × (end_of s stop is ≡ end_of t stop is)
+  pub stand_same : (stop : ℕ) (is : List InputSection) → Stand s stop is → Stand t stop is → AllByRecursion StartsSame is × (sections_end s stop is ≡ sections_end t stop is)
   stand_same stop [] h k = (tt, refl)
   stand_same stop (i ∷ is) (a, h) (b, k) =
       let same : start_of s i ≡ start_of t i = a ∙ sym b in
       let stops : start_of s i + size s i ≡ start_of t i + size t i = ap (λ n. n + new_offset (moves n i.section) (size_of i.section.contents)) same in
       let more = stand_same (start_of s i + size s i) is h (subst (λ n. Stand t n is) (sym stops) k) in
-      ((same, more.0), more.1 ∙ ap (λ n. end_of t n is) stops)
+      ((same, more.0), more.1 ∙ ap (λ n. sections_end t n is) stops)
 
   pub gaps_same : (stop : ℕ) (is : List InputSection) → AllByRecursion StartsSame is → gaps_of s stop is ≡ gaps_of t stop is
   gaps_same stop [] h = refl

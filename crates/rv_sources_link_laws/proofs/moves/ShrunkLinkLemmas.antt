@@ -18,7 +18,7 @@ use Rattle.rv_object.specs.declared.symbol.Binding.{Binding}
 use Rattle.rv_object.specs.declared.symbol.Binding.TheVariants as bindings
 use Rattle.rv_object.specs.Object.{Contents, Progbits, Note, Nobits, Section, Symbol, Object, size_of}
 use Rattle.rv_object_laws.specs.Moves.{Move, alignments_of, plan, moves, new_offset, kept, has_room, lost}
-use Rattle.rv_object_laws.specs.Inputs.{Starts, InputSection, is_nobits, goes_to_text, goes_to_rodata, goes_to_data, goes_to_bss, inputs_from, inputs_of, inputs, raised, begins_at, start_of, size, Stand, end_of, Holds, gaps_of, greatest, contents}
+use Rattle.rv_object_laws.specs.Inputs.{Starts, InputSection, is_nobits, goes_to_text, goes_to_rodata, goes_to_data, goes_to_bss, inputs_from, inputs_of, inputs, raised, begins_at, start_of, size, Stand, sections_end, Holds, gaps_of, greatest, contents}
 use Rattle.rv_object.specs.Bindings.{is_shared, is_global, is_weak}
 use Rattle.rv_object_laws.specs.Names.{Export, Outer, is_defined, is_export, exports_in, exports_from, exports_where, names_of, candidates, chosen, is_this, is_chosen, chosen_exports, export_address, globals_of, global_names, shown_linker_symbols, can_begin, begins_run, run_start, entry_of, object_at}
 use Rattle.rv_object_laws.specs.Values.{initial_bytes, linked_bytes, IsRelocated}
@@ -98,9 +98,9 @@ module _ (starts : Starts) where
     subst (λ n. Stand starts (start_of starts i + n) (map mv is)) (sym (size_same i h)) (stand_same (start_of starts i + size starts i) is hs st),
   )
 
-  end_same : (stop : ℕ) (is : List InputSection) → AllByRecursion Tidy is → end_of starts stop (map mv is) ≡ end_of starts stop is
+  end_same : (stop : ℕ) (is : List InputSection) → AllByRecursion Tidy is → sections_end starts stop (map mv is) ≡ sections_end starts stop is
   end_same stop [] h = refl
-  end_same stop (i ∷ is) (h, hs) = ap (λ n. end_of starts (start_of starts i + n) (map mv is)) (size_same i h) ∙ end_same (start_of starts i + size starts i) is hs
+  end_same stop (i ∷ is) (h, hs) = ap (λ n. sections_end starts (start_of starts i + n) (map mv is)) (size_same i h) ∙ end_same (start_of starts i + size starts i) is hs
 
   gaps_same : (stop : ℕ) (is : List InputSection) → AllByRecursion Tidy is → gaps_of starts stop (map mv is) ≡ gaps_of starts stop is
   gaps_same stop [] h = refl

@@ -18,7 +18,7 @@ use Rattle.rv_chain_laws.specs.Contents.{contents as source_contents}
 use Rattle.rv_chain_laws.proofs.RegionsLemmas.{AllIn}
 use Rattle.rv_object.specs.Object.{Section, Object, size_of}
 use Rattle.rv_object_laws.specs.Moves.{alignments_of}
-use Rattle.rv_object_laws.specs.Inputs.{Starts, InputSection, inputs_from, begins_at, start_of, size, Stand, end_of, gaps_of, raised, greatest, contents, goes_to_text}
+use Rattle.rv_object_laws.specs.Inputs.{Starts, InputSection, inputs_from, begins_at, start_of, size, Stand, sections_end, gaps_of, raised, greatest, contents, goes_to_text}
 use Rattle.rv_object_laws.specs.Values.{initial_bytes, linked_bytes, IsRelocated}
 use Rattle.rv_object_laws.specs.IsLinkOf.{is_loaded}
 use Rattle.rv_assemble_laws.specs.Templates.{Open}
@@ -55,7 +55,7 @@ module _ (p : Program) (all : List Object) (starts : Starts) (spells : Mapped �
 
   pub record IsRegion (stop : ℕ) (is : List InputSection) (bs : List source.InputSection) : Type 0 where
     pub stand : source.Stand stop bs
-    pub end : end_of starts stop is ≡ source.end_of stop bs
+    pub end : sections_end starts stop is ≡ source.layout_end stop bs
     pub gaps : gaps_of starts stop is ≡ source.gaps_of stop bs
     pub bytes : stores ≡ true → contents (linked_bytes (outer_in p all) starts all) starts stop is ≡ source_contents spells stop bs
     pub each : AllIn P bs
@@ -73,7 +73,7 @@ module _ (p : Program) (all : List Object) (starts : Starts) (spells : Mapped �
       let after = there + source.size (source.rows_of b) in
       record {
         stand = (subst (λ n. source.Follow n (source.rows_of b)) here h.follow, rest.stand);
-        end = ap (λ n. end_of starts n is) next ∙ rest.end;
+        end = ap (λ n. sections_end starts n is) next ∙ rest.end;
         gaps = ap (λ n. if nat_lt stop n then record { start = stop; end = n } ∷ gaps_of starts (n + size starts i) is else gaps_of starts (n + size starts i) is) here
             ∙ ap (λ n. if nat_lt stop there then record { start = stop; end = there } ∷ gaps_of starts n is else gaps_of starts n is) (ap (λ n. there + n) h.count)
             ∙ ap (λ (l : List Region). if nat_lt stop there then record { start = stop; end = there } ∷ l else l) rest.gaps;

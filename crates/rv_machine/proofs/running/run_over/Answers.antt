@@ -2,7 +2,7 @@ use Rattle.std.proofs.Common.{◌≡◌, suc, ◌+◌, ◌-◌, ℕ, false, [], 
 use Rattle.rv_isa_laws.specs.Memory.{Mem}
 use Rattle.rv_isa_laws.specs.Hart as laws
 use Rattle.rv_isa_laws.specs.Run.{run}
-use Rattle.rv_machine.specs.End.{end_of}
+use Rattle.rv_machine.specs.End.{law_end}
 use Rattle.rv_machine.specs.Hart.{hart_of}
 use Rattle.rv_machine.specs.StreamSteps.{Input, input_of}
 use Rattle.rv_machine.proofs.KnownLemmas.{has_read_none, has_read_more, appends_kept, appends_more, keeps_self, follows_ends}
@@ -41,7 +41,7 @@ returns-in-Ok-Some-clause-runs g c =
       λ r rest may.
           let over = steps_as _ _ more.0 more.1 _ _ _ c.in-Ok-Some.field-0-is (more.4 r) in
           came_to r c.args.limit (c.loop-left.left) (laws.start c.args.entry) (g.M.Memory.mem c.args.memory) before after c.loop-left.hart (g.M.Memory.mem c.loop-left.memory) far.0 more.0 far.1 more.1 more.2 (far.4 r)
-          (c.loop-left.left - 1) (end_of c.in-Ok-Some.end) is over.0 over.1.0 over.1.1 rest (follows_ends first after (far.0 ++ more.0) rest refl read may),
+          (c.loop-left.left - 1) (law_end c.in-Ok-Some.end) is over.0 over.1.0 over.1.1 rest (follows_ends first after (far.0 ++ more.0) rest refl read may),
     )
 
 pub returns-in-Err-clause-runs : goal.returns-in-Err-clause-runs
