@@ -2,10 +2,10 @@
 
 use Rattle.std.proofs.Common.{◌≡◌, List, Option, Some, None, refl}
 use Rattle.rv_statement.specs.Statement.{Statement}
-use Rattle.rv_unit_laws.specs.Faults.{Fault, first_fault}
+use Rattle.rv_unit_laws.specs.Faults.{StatementFault, first_fault}
 use Rattle.rv_assemble_laws.specs.Refusals.{code_fault, else_fault, statements_fault}
 
-no_first : (f other : Option Fault) → else_fault f other ≡ None → (f ≡ None) × (other ≡ None)
+no_first : (f other : Option StatementFault) → else_fault f other ≡ None → (f ≡ None) × (other ≡ None)
 no_first None other e = (refl, e)
 no_first (Some f) other e = absurd (cc)
 

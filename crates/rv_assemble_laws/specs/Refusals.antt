@@ -6,7 +6,7 @@ use Rattle.rv_text_laws.specs.Codes.{limit, lowest}
 use Rattle.rv_text_laws.specs.Values.{Value}
 use Rattle.rv_statement.specs.Statement.{StatementKind, Instruction, Directs, Statement, Expression}
 use Rattle.rv_unit_laws.specs.Tables.{Tables, tables, value, longest_section, alignment_of}
-use Rattle.rv_unit_laws.specs.Faults.{Fault, at_line, first_fault}
+use Rattle.rv_unit_laws.specs.Faults.{StatementFault, at_line, first_fault}
 use Rattle.rv_source_laws.specs.Located.{Located, located}
 use Rattle.rv_source_laws.specs.Program.{place_of}
 use Rattle.rv_assemble_laws.specs.Coded.{IsCode}
@@ -20,13 +20,13 @@ abbrev pub code_faults_at : Tables → Located → List ℕ
 code_faults_at t s =
     instruction_faults (λ e. value t true s.ordinal (place_of s) e) (is_label t s.ordinal) s.kind
 
-abbrev pub code_fault_from : Tables → List Located → Option Fault
+abbrev pub code_fault_from : Tables → List Located → Option StatementFault
 code_fault_from t [] = None
 code_fault_from t (s ∷ ss) =
     at_line s.line (lowest (code_faults_at t s)) (code_fault_from t ss)
 
 -- the first statement that is faulty as code, with the lowest code of its faults
-abbrev pub code_fault : List Statement → Option Fault
+abbrev pub code_fault : List Statement → Option StatementFault
 code_fault ss = code_fault_from (tables ss) (located (ss ∷ []))
 
 -- ---- the sizes of code
@@ -59,7 +59,7 @@ grown before section bytes j = if j == section then before j + bytes else before
 
 -- the first statement whose end passes the longest section, where so many bytes stand before in
 -- each section
-abbrev pub size_fault_from : (before : ℕ → ℕ) → List Located → (sizes : List ℕ) → Option Fault
+abbrev pub size_fault_from : (before : ℕ → ℕ) → List Located → (sizes : List ℕ) → Option StatementFault
 size_fault_from before (s ∷ ss) (bytes ∷ sizes) =
     at_line s.line
     (if nat_lt longest_section (before s.section + bytes) then Some limit else None)
@@ -67,7 +67,7 @@ size_fault_from before (s ∷ ss) (bytes ∷ sizes) =
 size_fault_from before ss sizes = None
 
 -- a section of code becomes too long, and this is where
-pub record IsTooLong (ss : List Statement) (f : Fault) : Type 0 where
+pub record IsTooLong (ss : List Statement) (f : StatementFault) : Type 0 where
   pub sizes : List ℕ
   pub are_sizes : AreCodeSizes (tables ss) (located (ss ∷ [])) sizes
   pub least : AreLeast (tables ss) (located (ss ∷ [])) sizes
@@ -75,15 +75,15 @@ pub record IsTooLong (ss : List Statement) (f : Fault) : Type 0 where
 
 -- ---- the first fault of a source
 
-abbrev pub else_fault : Option Fault → Option Fault → Option Fault
+abbrev pub else_fault : Option StatementFault → Option StatementFault → Option StatementFault
 else_fault (Some f) other = Some f
 else_fault None other = other
 
 -- labels and directives come first, then code
-abbrev pub statements_fault : List Statement → Option Fault
+abbrev pub statements_fault : List Statement → Option StatementFault
 statements_fault ss = else_fault (first_fault ss) (code_fault ss)
 
 -- the fault for which a source is refused: sizes come after all others
-abbrev pub IsStatementsFault : List Statement → Fault → Type 0
+abbrev pub IsStatementsFault : List Statement → StatementFault → Type 0
 IsStatementsFault ss f =
     (statements_fault ss ≡ Some f) ⊎ ((statements_fault ss ≡ None) × IsTooLong ss f)

@@ -10,10 +10,10 @@ use Rattle.rv_lexer.specs.declared.fault.SourceFault.{SourceFault}
 use Rattle.rv_lexer.specs.declared.fault.SourceFault.TheVariants as sources
 use Rattle.rv_statement.specs.Statement.{Statement}
 use Rattle.rv_parse_laws.specs.Reading.{Reads}
-use Rattle.rv_parse_laws.specs.Refusals.{Fault as TextFault, Refuses}
+use Rattle.rv_parse_laws.specs.Refusals.{SyntaxFault as TextFault, Refuses}
 use Rattle.rv_unit_laws.specs.Sections.{most_sections}
 use Rattle.rv_unit_laws.specs.Tables.{longest_section}
-use Rattle.rv_unit_laws.specs.Faults.{Fault as StatementsFault}
+use Rattle.rv_unit_laws.specs.Faults.{StatementFault as StatementsFault}
 use Rattle.rv_object.specs.Object.{Object, size_of}
 use Rattle.rv_object.specs.View.{object_of}
 use Rattle.rv_assemble_laws.specs.Refusals.{statements_fault, IsTooLong, IsStatementsFault}

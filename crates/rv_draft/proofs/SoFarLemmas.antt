@@ -5,7 +5,7 @@ use Rattle.std.specs.Global.{Vec}
 use Rattle.rv_text_laws.specs.Codes.{limit, lowest}
 use Rattle.rv_statement.specs.Statement.{StatementKind, Label, Numbered, Instruction, Directs, Expression}
 use Rattle.rv_text_laws.specs.Values.{Value}
-use Rattle.rv_unit_laws.specs.Faults.{Fault, at_line}
+use Rattle.rv_unit_laws.specs.Faults.{StatementFault, at_line}
 use Rattle.rv_unit_laws.specs.Tables.{Tables, longest_section}
 use Rattle.rv_source_laws.specs.Located.{Located}
 use Rattle.rv_instruction.specs.declared.encoded.Coded.{Coded}
@@ -20,11 +20,11 @@ use Rattle.rv_draft.specs.declared.code.Coder.{Coder}
 use Rattle.rv_draft.specs.declared.item.CodeSize.{CodeSize}
 use Rattle.rv_draft.proofs.EvensLemmas.{none_more, code_long}
 
-else_assoc : (a b c : Option Fault) → else_fault (else_fault a b) c ≡ else_fault a (else_fault b c)
+else_assoc : (a b c : Option StatementFault) → else_fault (else_fault a b) c ≡ else_fault a (else_fault b c)
 else_assoc (Some f) b c = refl
 else_assoc None b c = refl
 
-at_else : (line : ℕ) (code : Option ℕ) (other : Option Fault) → else_fault (at_line line code None) other ≡ at_line line code other
+at_else : (line : ℕ) (code : Option ℕ) (other : Option StatementFault) → else_fault (at_line line code None) other ≡ at_line line code other
 at_else line None other = refl
 at_else line (Some code) other = refl
 
@@ -93,7 +93,7 @@ wrong_code t all s next old code h e = sym h.faults ∙ ap (λ c. at_line s.line
 
 -- ---- after the last statement
 
-else_none : (a : Option Fault) → else_fault a None ≡ a
+else_none : (a : Option StatementFault) → else_fault a None ≡ a
 else_none None = refl
 else_none (Some f) = refl
 

@@ -12,7 +12,7 @@ use Rattle.rv_statement.specs.Statement.{Expression, Statement as SpecStatement}
 use Rattle.rv_statement.specs.View.{statement_of}
 use Rattle.rv_statement.specs.declared.statement.Statement.{Statement}
 use Rattle.rv_text_laws.specs.Codes.{lowest}
-use Rattle.rv_unit_laws.specs.Faults.{Fault}
+use Rattle.rv_unit_laws.specs.Faults.{StatementFault}
 use Rattle.rv_unit_laws.specs.Tables.{Tables, SectionOffset as Standing, at_start, tables, value, stood}
 use Rattle.rv_unit_tables.specs.declared.section_offset.SectionOffset.{SectionOffset}
 use Rattle.rv_unit.specs.declared.unit.Unit.{Unit as SourceUnit}
@@ -95,7 +95,7 @@ added_as c d section b faults v rvc m n s same a = record {
 fault_first : (ss : List SpecStatement) (code line at : ℕ) → code_fault_from (tables ss) (located (ss ∷ [])) ≡ Some (record { code = code; line = line }) → at ≡ line → IsCodeFault ss (record { code = code; line = at })
 fault_first ss code line at e f = inl (e ∙ ap (λ n. fault_at code n) (sym f))
   where
-    fault_at : ℕ → ℕ → Option Fault
+    fault_at : ℕ → ℕ → Option StatementFault
     fault_at code line = Some (record { code = code; line = line })
 
 pub one_file : (ss : List SpecStatement) → located (ss ∷ []) ≡ located_from 1 1 (at_start ss) ss

@@ -8,7 +8,7 @@ use Rattle.rv_lexer.specs.declared.fault.SourceFault.TheVariants.{At, OutOfMemor
 use Rattle.rv_lexer.specs.Fault.{number_of}
 use Rattle.rv_statement.specs.Statement.{Expression, Statement}
 use Rattle.rv_text_laws.specs.Codes.{lowest}
-use Rattle.rv_unit_laws.specs.Faults.{Fault}
+use Rattle.rv_unit_laws.specs.Faults.{StatementFault}
 use Rattle.rv_unit_laws.specs.Tables.{Tables, tables}
 use Rattle.rv_source_laws.specs.Located.{Located, located}
 use Rattle.rv_assemble_laws.specs.Refusals.{code_fault_from, size_fault_from, code_fault, else_fault, AreCodeSizes, IsTooLong}
@@ -76,7 +76,7 @@ pub record IsWhole (t : Tables) (all : List Located) (lengths : List ℕ) (secti
   pub told : bytes_of_codes t all codes ≡ lengths
 
 -- a section of code becomes too long, and this is where
-pub record IsLong (t : Tables) (all : List Located) (lengths : List ℕ) (f : Fault) : Type 0 where
+pub record IsLong (t : Tables) (all : List Located) (lengths : List ℕ) (f : StatementFault) : Type 0 where
   pub faults : code_fault_from t all ≡ None
   pub sizes : List ℕ
   pub are_sizes : AreCodeSizes t all sizes
@@ -92,7 +92,7 @@ IsAllCode t all lengths (Err (At code line)) =
 IsAllCode t all lengths (Err OutOfMemory) = Unit {0}
 
 -- the first fault of a source as code, or of the sizes of its code
-abbrev pub IsCodeFault : List Statement → Fault → Type 0
+abbrev pub IsCodeFault : List Statement → StatementFault → Type 0
 IsCodeFault ss f = (code_fault ss ≡ Some f) ⊎ ((code_fault ss ≡ None) × IsTooLong ss f)
 
 -- the code of a source by the least lengths, or the first fault of its code and of the sizes of code; memory may run

@@ -3,7 +3,7 @@
 use Rattle.std.specs.Prelude.{◌≡◌, ℕ, ◌+◌, ◌==◌, List, [], ◌∷◌, ◌++◌, map, Option, Some, None, length, nat_lt, slice_get, if◌then◌else◌}
 use Rattle.std.specs.Global.{Vec}
 use Rattle.rv_text_laws.specs.Codes.{limit}
-use Rattle.rv_unit_laws.specs.Faults.{Fault, at_line}
+use Rattle.rv_unit_laws.specs.Faults.{StatementFault, at_line}
 use Rattle.rv_unit_laws.specs.Tables.{Tables, longest_section}
 use Rattle.rv_object.specs.Padding.{no_operations, operations_in}
 use Rattle.rv_source_laws.specs.Located.{Located}
@@ -64,9 +64,9 @@ section_code t section (s ∷ ss) (found ∷ codes) =
     ++ section_code t section ss codes
 
 -- a section of code that is too long, at a line
-abbrev pub full_fault : Option ℕ → Option Fault
+abbrev pub full_fault : Option ℕ → Option StatementFault
 full_fault None = None
 full_fault (Some line) = Some (record { code = limit; line = line })
 
-abbrev pub full_at : ℕ → ℕ → Option Fault
+abbrev pub full_at : ℕ → ℕ → Option StatementFault
 full_at line bytes = at_line line (if nat_lt longest_section bytes then Some limit else None) None

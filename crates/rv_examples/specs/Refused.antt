@@ -17,12 +17,12 @@ use Rattle.rv_isa.specs.declared.operation.UpperOperation.TheVariants.{Lui, Auip
 use Rattle.rv_isa.specs.declared.operation.LoadOperation.TheVariants.{Ld}
 use Rattle.rv_isa.specs.declared.operation.StoreOperation.TheVariants.{Sd}
 use Rattle.rv_statement.specs.Statement.{StatementKind, Label, Instruction, Directs, Statement, Expression, Register, Value, Applied, Target, Enters, Opens, Sets, Aligns_to_power, Chooses}
-use Rattle.rv_unit_laws.specs.Faults.{Fault}
+use Rattle.rv_unit_laws.specs.Faults.{StatementFault}
 use Rattle.rv_examples.specs.Exit7.{said, constant, norvc}
 use Rattle.rv_examples.specs.Data.{call, symbol}
 
 -- a fault by its code and its line
-abbrev pub fault : ℕ → ℕ → Option Fault
+abbrev pub fault : ℕ → ℕ → Option StatementFault
 fault code line = Some (record { code = code; line = line })
 
 -- one instruction at line 2, where compressed code is off

@@ -16,7 +16,7 @@ use Rattle.rv_parse_laws.specs.Reading.{AreParts, Reads, said, IsPastLine, longe
 use Rattle.rv_statement.specs.Limits.{most_statements}
 use Rattle.rv_parse_laws.specs.Opening.{OpenWell}
 use Rattle.rv_parse_laws.proofs.OpenedWellLemmas.{all_open_well}
-use Rattle.rv_parse_laws.specs.Refusals.{OpensWell, AllOpenWell, CanGoOn, WrongToken, WrongOpening, PastStatements, Stands, Fault, Refuses}
+use Rattle.rv_parse_laws.specs.Refusals.{OpensWell, AllOpenWell, CanGoOn, WrongToken, WrongOpening, PastStatements, Stands, SyntaxFault, Refuses}
 use Rattle.rv_parse_laws.specs.Wrong.{IsWrongStatement}
 use Rattle.rv_parse_laws.proofs.WrongStatementsLemmas.{statement_wrongs, statement_said}
 use Rattle.rv_parse_laws.proofs.WrongPlacesLemmas.{statement_occurs}
@@ -478,11 +478,11 @@ same_first p q c d (inl lt) (inr (e, le)) = absurd (omega (arith, lt, e))
 same_first p q c d (inr (e, le)) (inl gt) = absurd (omega (arith, gt, e))
 same_first p q c d (inr (e, le)) (inr (f, ge)) = (e, omega (arith, le, ge))
 
-same_faults : (f g : Fault) → f.code ≡ g.code → f.line ≡ g.line → f ≡ g
+same_faults : (f g : SyntaxFault) → f.code ≡ g.code → f.line ≡ g.line → f ≡ g
 same_faults f g code line = ap (λ n. record { code = n; line = f.line }) code ∙ ap (λ n. record { code = g.code; line = n }) line
 
 -- at most one fault is refused
-pub one_fault : (bytes : List ℕ) (f g : Fault) → Refuses bytes f → Refuses bytes g → f ≡ g
+pub one_fault : (bytes : List ℕ) (f g : SyntaxFault) → Refuses bytes f → Refuses bytes g → f ≡ g
 one_fault bytes f g (inl (long, is)) (inl (long', is')) = is ∙ sym is'
 one_fault bytes f g (inl (long, is)) (inr (short, x)) = absurd (omega (arith, long, short))
 one_fault bytes f g (inr (short, x)) (inl (long, is)) = absurd (omega (arith, long, short))
@@ -491,7 +491,7 @@ one_fault bytes f g (inr (short, x)) (inr (short', y)) =
     same_faults f g s.1 (x.line ∙ ap (λ n. 1 + newlines (take n bytes)) s.0 ∙ sym y.line)
 
 -- no source is both read and refused
-pub not_both : (bytes : List ℕ) (ss : List Statement) (f : Fault) → Reads bytes ss → Refuses bytes f → ⊥
+pub not_both : (bytes : List ℕ) (ss : List Statement) (f : SyntaxFault) → Reads bytes ss → Refuses bytes f → ⊥
 not_both bytes ss f (short, lines, few, ts, ps, lexes, cut, is, opens) (inl (long, e)) = omega (arith, long, short)
 not_both bytes ss f (short, lines, few, ts, ps, lexes, cut, is, opens) (inr (short', x)) = go x.stands
   where

@@ -102,20 +102,20 @@ Stands bytes place code =
     ⊎ ((code ≡ limit) × IsPastLine bytes place) ⊎ ((code ≡ limit) × PastStatements bytes place)
 
 -- a fault's code, by its number, and the line that it names
-pub record Fault : Type 0 where
+pub record SyntaxFault : Type 0 where
   pub code : ℕ
   pub line : ℕ
 
 -- the first fault in the order of the bytes: at one byte the lowest number; one in a source that is
 -- not too long
-pub record IsFirst (bytes : List ℕ) (f : Fault) : Type 0 where
+pub record IsFirst (bytes : List ℕ) (f : SyntaxFault) : Type 0 where
   pub place : ℕ
   pub stands : Stands bytes place f.code
   pub first : (p c : ℕ) → Stands bytes p c → (place < p) ⊎ ((place ≡ p) × (f.code ≤ c))
   pub line : f.line ≡ 1 + newlines (take place bytes)
 
 -- the first fault of phase one: a source that is too long has it at line 0, before all others
-abbrev pub Refuses : List ℕ → Fault → Type 0
+abbrev pub Refuses : List ℕ → SyntaxFault → Type 0
 Refuses bytes f =
     ((longest_source < length bytes) × (f ≡ record { code = limit; line = 0 }))
     ⊎ ((length bytes ≤ longest_source) × IsFirst bytes f)

@@ -5,7 +5,7 @@ ghost use Rattle.rv_isa.specs.declared.instruction.Format.{Format};
 ghost use Rattle.rv_statement.specs.Statement.{Statement};
 ghost use Rattle.rv_parse_laws.specs.Names.{word_of, mnemonic_of};
 ghost use Rattle.rv_parse_laws.specs.Reading.{Reads};
-ghost use Rattle.rv_parse_laws.specs.Refusals.{Fault, Refuses};
+ghost use Rattle.rv_parse_laws.specs.Refusals.{SyntaxFault, Refuses};
 ghost use Rattle.rv_parse_laws.specs.Words.{mnemonic_named};
 
 /// Bytes have at most one reading.
@@ -16,13 +16,13 @@ pub fn one_reading()
 
 /// Bytes have at most one first fault.
 pub fn one_fault()
-    ensures { (bytes : List ℕ) (fault other : Fault) → Refuses bytes fault → Refuses bytes other →
+    ensures { (bytes : List ℕ) (fault other : SyntaxFault) → Refuses bytes fault → Refuses bytes other →
         fault ≡ other }
 {}
 
 /// No bytes have both a reading and a fault.
 pub fn not_both()
-    ensures { (bytes : List ℕ) (ss : List Statement) (fault : Fault) → Reads bytes ss →
+    ensures { (bytes : List ℕ) (ss : List Statement) (fault : SyntaxFault) → Reads bytes ss →
         Refuses bytes fault → ⊥ }
 {}
 

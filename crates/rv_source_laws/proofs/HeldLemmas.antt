@@ -9,7 +9,7 @@ use Rattle.rv_unit_laws.specs.Contributions.{Contribution, Bytes, Zero_bytes, co
 use Rattle.rv_unit_laws.specs.Sections.{Section, is_nobits, section_at, current_section}
 use Rattle.rv_unit_laws.specs.Tables.{Tables, at_start, here, value, counted, contents_size, after, tables, stood, opened_of}
 use Rattle.rv_text_laws.specs.Codes.{faulty_if, lowest}
-use Rattle.rv_unit_laws.specs.Faults.{Fault, at_line, size_faults, contents_faults, past_section, contribution_faults, directive_faults, faults, first_fault_from, first_fault}
+use Rattle.rv_unit_laws.specs.Faults.{StatementFault, at_line, size_faults, contents_faults, past_section, contribution_faults, directive_faults, faults, first_fault_from, first_fault}
 use Rattle.rv_source_laws.specs.Located.{Located, located_from}
 use Rattle.rv_unit_laws.proofs.OpenedLemmas.{after_opened}
 use Rattle.rv_unit_laws.proofs.FewLemmas.{no_fault_from}
@@ -50,7 +50,7 @@ no_lowest (c ∷ cs) e = go (lowest cs) e
     go None f = absurd (cc)
     go (Some d) f = absurd (cc)
 
-pub no_fault : (line : ℕ) (code : Option ℕ) (others : Option Fault) → at_line line code others ≡ None → (code ≡ None) × (others ≡ None)
+pub no_fault : (line : ℕ) (code : Option ℕ) (others : Option StatementFault) → at_line line code others ≡ None → (code ≡ None) × (others ≡ None)
 no_fault line None others e = (refl, e)
 no_fault line (Some code) others e = absurd (cc)
 

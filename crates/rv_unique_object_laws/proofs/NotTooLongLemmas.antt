@@ -8,7 +8,7 @@ use Rattle.rv_text_laws.specs.Codes.{limit}
 use Rattle.rv_statement.specs.Statement.{Statement}
 use Rattle.rv_unit_laws.specs.Sections.{Section}
 use Rattle.rv_unit_laws.specs.Tables.{at_start, tables, opened_of, longest_section}
-use Rattle.rv_unit_laws.specs.Faults.{Fault, at_line}
+use Rattle.rv_unit_laws.specs.Faults.{StatementFault, at_line}
 use Rattle.rv_source_laws.specs.Located.{located_from, located}
 use Rattle.rv_source_laws.specs.Sizes.{AreLeast}
 use Rattle.rv_source_laws.proofs.HomesLemmas.{all_map}
@@ -53,7 +53,7 @@ end_of_data home outside offset (s ∷ ss) (at, h) =
 abbrev Fit : List Section → (ℕ → ℕ) → List Site → Type 0
 Fit sections before ss = (j : ℕ) (home : Section) → slice_get sections j ≡ Some home → code_end (before j) (sites_in j ss) ≤ longest_section
 
-no_fault : (n line : ℕ) (rest : Option Fault) → n ≤ longest_section → at_line line (if nat_lt longest_section n then Some limit else None) rest ≡ rest
+no_fault : (n line : ℕ) (rest : Option StatementFault) → n ≤ longest_section → at_line line (if nat_lt longest_section n then Some limit else None) rest ≡ rest
 no_fault n line rest le = ap (λ b. at_line line (if b then Some limit else None) rest) (le-ltb longest_section n le)
 
 -- the end of a section in which the first statement stands, or does not
@@ -102,7 +102,7 @@ module _ (ss : List Statement) (o : Object) (h : IsObjectOf ss o) where
   no_long_code : size_fault_from (λ j. 0) (located_from 1 1 (at_start ss) ss) sizes ≡ None
   no_long_code = subst (λ l. size_fault_from (λ j. 0) l sizes ≡ None) h.located (fits (opened_of (tables ss)).sections (λ j. 0) h.sites (at_home ss o h) all_fit)
 
-  pub not_too_long : (f : Fault) → IsTooLong ss f → ⊥
+  pub not_too_long : (f : StatementFault) → IsTooLong ss f → ⊥
   not_too_long f long =
       let ls = located_from 1 1 (at_start ss) ss in
       let one_file : located (ss ∷ []) ≡ ls = append-nil ls in

@@ -4,19 +4,19 @@ use Rattle.std.proofs.Common.{◌≡◌, List, [], ◌∷◌, sym, ap, ◌∙◌
 use Rattle.std.specs.Prelude.{Option}
 use Rattle.rv_statement.specs.Statement.{Statement}
 use Rattle.rv_unit_laws.specs.Tables.{tables}
-use Rattle.rv_unit_laws.specs.Faults.{Fault}
+use Rattle.rv_unit_laws.specs.Faults.{StatementFault}
 use Rattle.rv_source_laws.specs.Located.{located}
 use Rattle.rv_assemble_laws.specs.Refusals.{size_fault_from, IsTooLong, statements_fault, IsStatementsFault}
 use Rattle.rv_unique_object_laws.proofs.CodeSizesLemmas.{one_code_sizes}
 
-same_some : (f g : Fault) → ◌≡◌ {A = Option Fault} (Some f) (Some g) → f ≡ g
+same_some : (f g : StatementFault) → ◌≡◌ {A = Option StatementFault} (Some f) (Some g) → f ≡ g
 same_some f g e = cc
 
-none_some : (f : Fault) (o : Option Fault) → o ≡ None → o ≡ Some f → ⊥
-none_some f o a b = absurd (let clash : ◌≡◌ {A = Option Fault} None (Some f) = sym a ∙ b in cc)
+none_some : (f : StatementFault) (o : Option StatementFault) → o ≡ None → o ≡ Some f → ⊥
+none_some f o a b = absurd (let clash : ◌≡◌ {A = Option StatementFault} None (Some f) = sym a ∙ b in cc)
 
 -- the sizes of code are the least, so one section becomes too long first
-one_too_long : (ss : List Statement) (f g : Fault) → IsTooLong ss f → IsTooLong ss g → f ≡ g
+one_too_long : (ss : List Statement) (f g : StatementFault) → IsTooLong ss f → IsTooLong ss g → f ≡ g
 one_too_long ss f g h k =
     let ls = located (ss ∷ []) in
     same_some f g
@@ -24,7 +24,7 @@ one_too_long ss f g h k =
     ∙ ap (size_fault_from (λ j. 0) ls) (one_code_sizes (tables ss) ls h.sizes k.sizes h.are_sizes k.are_sizes h.least k.least)
     ∙ k.fault)
 
-pub one_fault : (ss : List Statement) (f g : Fault) → IsStatementsFault ss f → IsStatementsFault ss g → f ≡ g
+pub one_fault : (ss : List Statement) (f g : StatementFault) → IsStatementsFault ss f → IsStatementsFault ss g → f ≡ g
 one_fault ss f g (inl h) (inl k) = same_some f g (sym h ∙ k)
 one_fault ss f g (inl h) (inr (none, long)) = absurd (none_some f (statements_fault ss) none h)
 one_fault ss f g (inr (none, long)) (inl k) = absurd (none_some g (statements_fault ss) none k)

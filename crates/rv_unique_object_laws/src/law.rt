@@ -6,7 +6,7 @@ ghost use Rattle.rv_statement.specs.Statement.{Statement};
 ghost use Rattle.rv_parse_laws.specs.Reading.{Reads};
 ghost use Rattle.rv_unit_laws.specs.Sections.{most_sections};
 ghost use Rattle.rv_unit_laws.specs.Tables.{longest_section};
-ghost use Rattle.rv_unit_laws.specs.Faults.{Fault};
+ghost use Rattle.rv_unit_laws.specs.Faults.{StatementFault};
 ghost use Rattle.rv_object.specs.Object.{Object, size_of};
 ghost use Rattle.rv_object_file_laws.specs.Written.{HasFile};
 ghost use Rattle.rv_assemble_laws.specs.Refusals.{IsTooLong, IsStatementsFault};
@@ -33,13 +33,13 @@ pub fn objects_are_small()
 /// Statements that have an object are not refused for a section of code that becomes too long: the sizes of their code are
 /// those that the object has for it.
 pub fn objects_are_not_too_long()
-    ensures { (statements : List Statement) (o : Object) (f : Fault) →
+    ensures { (statements : List Statement) (o : Object) (f : StatementFault) →
         IsObjectOf statements o → IsTooLong statements f → ⊥ }
 {}
 
 /// Statements are refused for one fault: sizes, which are looked at last, are those of one family.
 pub fn statements_have_one_fault()
-    ensures { (statements : List Statement) (f g : Fault) → IsStatementsFault statements f →
+    ensures { (statements : List Statement) (f g : StatementFault) → IsStatementsFault statements f →
         IsStatementsFault statements g → f ≡ g }
 {}
 

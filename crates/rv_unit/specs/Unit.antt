@@ -5,7 +5,7 @@ use Rattle.rv_lexer.specs.declared.fault.SourceFault.{SourceFault}
 use Rattle.rv_lexer.specs.declared.fault.SourceFault.TheVariants as refusals
 use Rattle.rv_lexer.specs.declared.fault.SourceCode.{SourceCode}
 use Rattle.rv_lexer.specs.Fault.{number_of}
-use Rattle.rv_unit_laws.specs.Faults.{Fault, first_fault}
+use Rattle.rv_unit_laws.specs.Faults.{StatementFault, first_fault}
 use Rattle.rv_statement.specs.Statement.{Statement, StatementKind}
 use Rattle.rv_statement.specs.View.{statement_of}
 use Rattle.rv_unit_laws.specs.Tables as laws
@@ -49,7 +49,7 @@ pub record IsScope (s : Scope) (index : ℕ) : Type 0 where
   pub ordinal : s.ordinal ≡ index + 1
 
 -- a fault by its code and its line
-abbrev pub fault_of : SourceCode × ℕ → Fault
+abbrev pub fault_of : SourceCode × ℕ → StatementFault
 fault_of f = record { code = number_of f.0; line = f.1 }
 
 -- the first fault that a refusal names, unless memory ran out

@@ -7,7 +7,7 @@ use Rattle.rv_text_laws.specs.Codes.{limit}
 use Rattle.rv_statement.specs.Limits.{most_statements}
 use Rattle.rv_statement.specs.Statement.{Statement}
 use Rattle.rv_unit_laws.specs.Tables.{at_start, tables}
-use Rattle.rv_unit_laws.specs.Faults.{Fault, past_most, first_fault_from, first_fault}
+use Rattle.rv_unit_laws.specs.Faults.{StatementFault, past_most, first_fault_from, first_fault}
 
 none_past : {X : Type 0} (n : ℕ) (xs : List X) → drop n xs ≡ [] → length xs ≤ n
 none_past zero [] e = omega arith
@@ -15,7 +15,7 @@ none_past zero (x ∷ xs) e = absurd (cc)
 none_past (suc n) [] e = omega arith
 none_past (suc n) (x ∷ xs) e = let l = none_past n xs e in omega (arith, l)
 
-few_within : (n : ℕ) (ss : List Statement) (others : Option Fault) → past_most (drop n ss) others ≡ None → (length ss ≤ n) × (others ≡ None)
+few_within : (n : ℕ) (ss : List Statement) (others : Option StatementFault) → past_most (drop n ss) others ≡ None → (length ss ≤ n) × (others ≡ None)
 few_within n ss others e = go (drop n ss) refl e
   where
     go : (more : List Statement) → drop n ss ≡ more → past_most more others ≡ None → (length ss ≤ n) × (others ≡ None)
@@ -34,11 +34,11 @@ pub first_of_few : (ss : List Statement) → length ss ≤ most_statements → f
 first_of_few ss few = ap (λ more. past_most more (first_fault_from (tables ss) (at_start ss) 1 ss)) (drop_all most_statements ss few)
 
 -- else the first that is too many
-past_at : (n : ℕ) (ss : List Statement) (s : Statement) (others : Option Fault) → slice_get ss n ≡ Some s → past_most (drop n ss) others ≡ Some (record { code = limit; line = s.line })
+past_at : (n : ℕ) (ss : List Statement) (s : Statement) (others : Option StatementFault) → slice_get ss n ≡ Some s → past_most (drop n ss) others ≡ Some (record { code = limit; line = s.line })
 past_at n [] s others e = absurd (cc)
 past_at zero (x ∷ ss) s others e = ap (past_most_of others) e
   where
-    past_most_of : Option Fault → Option Statement → Option Fault
+    past_most_of : Option StatementFault → Option Statement → Option StatementFault
     past_most_of others None = others
     past_most_of others (Some x) = Some (record { code = limit; line = x.line })
 past_at (suc n) (x ∷ ss) s others e = past_at n ss s others e

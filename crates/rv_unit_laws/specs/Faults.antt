@@ -136,27 +136,27 @@ faults all t ordinal (Instruction mnemonic operands) =
 faults all t ordinal (Directs directive) = directive_faults all t ordinal directive
 
 -- a fault: its code and its line
-pub record Fault : Type 0 where
+pub record StatementFault : Type 0 where
   pub code : ℕ
   pub line : ℕ
 
-abbrev pub at_line : ℕ → Option ℕ → Option Fault → Option Fault
+abbrev pub at_line : ℕ → Option ℕ → Option StatementFault → Option StatementFault
 at_line line None others = others
 at_line line (Some code) others = Some (record { code = code; line = line })
 
 -- the first faulty statement, with the lowest code of its faults
-abbrev pub first_fault_from : Tables → Tables → ℕ → List Statement → Option Fault
+abbrev pub first_fault_from : Tables → Tables → ℕ → List Statement → Option StatementFault
 first_fault_from all t ordinal [] = None
 first_fault_from all t ordinal (s ∷ ss) =
     at_line s.line (lowest (faults all t ordinal s.kind))
     (first_fault_from all (after t ordinal s.kind) (suc ordinal) ss)
 
 -- statements that are too many: the first of them has the fault of the source
-abbrev pub past_most : List Statement → Option Fault → Option Fault
+abbrev pub past_most : List Statement → Option StatementFault → Option StatementFault
 past_most [] others = others
 past_most (s ∷ ss) others = Some (record { code = limit; line = s.line })
 
 -- the first fault of a source's labels and directives; before them all, that it has too many
 -- statements
-abbrev pub first_fault : List Statement → Option Fault
+abbrev pub first_fault : List Statement → Option StatementFault
 first_fault ss = past_most (drop most_statements ss) (first_fault_from (tables ss) (at_start ss) 1 ss)

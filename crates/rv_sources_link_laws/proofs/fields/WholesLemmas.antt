@@ -7,7 +7,7 @@ use Rattle.rv_text_laws.specs.Expression.{Primary}
 use Rattle.rv_statement.specs.Statement.{Statement}
 use Rattle.rv_unit_laws.specs.Tables.{Tables, Definition, definition, tables, at_start}
 use Rattle.rv_text_laws.specs.Codes.{lowest}
-use Rattle.rv_unit_laws.specs.Faults.{Fault, first_fault}
+use Rattle.rv_unit_laws.specs.Faults.{StatementFault, first_fault}
 use Rattle.rv_source_laws.specs.Located.{Located, located_from}
 use Rattle.rv_source_laws.specs.Program.{Program, tables_in}
 use Rattle.rv_source_laws.specs.Lines.{section_of}
@@ -113,7 +113,7 @@ sound_from t (l ∷ ls) e =
     let parts = no_fault l.line (lowest (code_faults_at t l)) (code_fault_from t ls) e in
     (no_lowest (code_faults_at t l) parts.0, sound_from t ls parts.1)
 
-no_second : (f other : Option Fault) → else_fault f other ≡ None → other ≡ None
+no_second : (f other : Option StatementFault) → else_fault f other ≡ None → other ≡ None
 no_second None other e = e
 no_second (Some f) other e = absurd (cc)
 
