@@ -43,6 +43,7 @@ fn exit7(alloc: Global) -> Result<Linked, AllocError> {
         entry: 0x10000,
         gaps: Vec::new(alloc),
         globals: Vec::new(alloc),
+        drops: Vec::new(alloc),
         rows: vec![in alloc; row; 1]?,
     };
     let text = Vec::from_slice(alloc, &EXIT7)?;

@@ -7,12 +7,13 @@ use Rattle.std.proofs.lemmas.Bool.{and_parts, leb-true}
 use Rattle.std.proofs.lemmas.List.Sums.{AllPass-from_list_all}
 use Rattle.rv_map.specs.declared.map.Region.{Region}
 use Rattle.rv_map.specs.declared.map.Row.{Row}
+use Rattle.rv_map.specs.declared.map.SectionId.{SectionId}
 use Rattle.rv_map.specs.Map.{Map, Global}
 use Rattle.rv_map.specs.Name.{is_name, is_name_byte}
-use Rattle.rv_map.specs.Limits.{IsNumber, IsRegion, IsGlobal, IsRow, IsMap}
-use Rattle.rv_map.specs.Text.{hexadecimal, line_text, gap_line, global_line, row_line, head_lines}
+use Rattle.rv_map.specs.Limits.{IsNumber, IsRegion, IsGlobal, IsDrop, IsRow, IsMap}
+use Rattle.rv_map.specs.Text.{hexadecimal, line_text, gap_line, global_line, drop_line, row_line, head_lines}
 use Rattle.rv_map.specs.Numeral.{IsBase, is_digit}
-use Rattle.rv_map.specs.Reading.{number_at, region_at, global_at, row_at, head_at}
+use Rattle.rv_map.specs.Reading.{number_at, region_at, global_at, drop_at, row_at, head_at}
 use Rattle.rv_map.proofs.CuttingLemmas.{cut_again, behind_again}
 use Rattle.rv_map.proofs.NumbersLemmas.{number_again, digits_pass_at, digit_above}
 
@@ -20,8 +21,9 @@ use Rattle.rv_map.proofs.NumbersLemmas.{number_again, digits_pass_at, digit_abov
 abbrev then : List ℕ → ℕ → List ℕ → List ℕ
 then word end rest = word ++ end ∷ rest
 
-then_more : (word : List ℕ) (end : ℕ) (more rest : List ℕ) → then word end more ++ rest ≡ then word end (more ++ rest)
-then_more word end more rest = append_assoc word (end ∷ more) rest
+-- the two words that end a line
+pair_spelt : (a b rest : List ℕ) → then a 32 (then b 10 []) ++ rest ≡ then a 32 (then b 10 rest)
+pair_spelt a b rest = append_assoc a (32 ∷ then b 10 []) rest ∙ ap (then a 32) (append_assoc b (10 ∷ []) rest)
 
 digits_high : (base n : ℕ) → IsBase base → (k : ℕ) → k < length (digits base false n) → 48 ≤ get_or (digits base false n) k 0
 digits_high base n is k l = digit_above base (get_or (digits base false n) k 0) (AllPass-from_list_all (is_digit base) (digits base false n) (digits_pass_at base n is) k 0 l)
@@ -40,10 +42,9 @@ hexadecimal_at end n rest low small = number_at_again 16 end n rest (inr refl) l
 pub region_again : (front : List ℕ) (r : Region) (rest : List ℕ) → IsRegion r → region_at front (front ++ (line_text (hexadecimal r.start ∷ hexadecimal r.end ∷ []) ++ rest)) ≡ Some (r, rest)
 unfolding region_at line_text
 region_again front r rest is =
-    let spelt = then_more (hexadecimal r.start) 32 (then (hexadecimal r.end) 10 []) rest ∙ ap (then (hexadecimal r.start) 32) (then_more (hexadecimal r.end) 10 [] rest) in
     rw (
       behind_again front (line_text (hexadecimal r.start ∷ hexadecimal r.end ∷ []) ++ rest),
-      spelt,
+      pair_spelt (hexadecimal r.start) (hexadecimal r.end) rest,
       hexadecimal_at 32 r.start (then (hexadecimal r.end) 10 rest) (omega arith) is.0,
       hexadecimal_at 10 r.end rest (omega arith) is.1,
     ) refl
@@ -61,13 +62,24 @@ name_high name is k l =
 pub global_again : (g : Global) (rest : List ℕ) → IsGlobal g → global_at (line_text (global_line g) ++ rest) ≡ Some (g, rest)
 unfolding global_at line_text
 global_again g rest is =
-    let spelt = then_more g.name 32 (then (hexadecimal g.address) 10 []) rest ∙ ap (then g.name 32) (then_more (hexadecimal g.address) 10 [] rest) in
     rw (
       behind_again (codes "global ") (then g.name 32 (then (hexadecimal g.address) 10 []) ++ rest),
-      spelt,
+      pair_spelt g.name (hexadecimal g.address) rest,
       cut_again 32 g.name (then (hexadecimal g.address) 10 rest) (λ k l e. omega (arith, name_high g.name is.0 k l)),
       hexadecimal_at 10 g.address rest (omega arith) is.1,
       is.0,
+    ) refl
+
+pub drop_again : (d : SectionId) (rest : List ℕ) → IsDrop d → drop_at (line_text (drop_line d) ++ rest) ≡ Some (d, rest)
+unfolding drop_at line_text
+drop_again d rest is =
+    let file = digits 10 false d.file in
+    let section = digits 10 false d.section in
+    rw (
+      behind_again (codes "drop ") (then file 32 (then section 10 []) ++ rest),
+      pair_spelt file section rest,
+      decimal_at 32 d.file (then section 10 rest) (omega arith) is.0,
+      decimal_at 10 d.section rest (omega arith) is.1,
     ) refl
 
 row_spelt : (a b c d e f rest : List ℕ) → then a 32 (then b 32 (then c 32 (then d 32 (then e 32 (then f 10 []))))) ++ rest ≡ then a 32 (then b 32 (then c 32 (then d 32 (then e 32 (then f 10 rest)))))
@@ -107,7 +119,7 @@ unfolding head_lines line_text
 head_spelt m rest = simp append_assoc
 
 abbrev pub only_head : Map → Map
-only_head m = record m { gaps = []; globals = []; rows = [] }
+only_head m = record m { gaps = []; globals = []; drops = []; rows = [] }
 
 head_read : (m : Map) (rest : List ℕ) → IsMap m → head_at (head_text m rest) ≡ Some (only_head m, rest)
 unfolding head_at
@@ -146,6 +158,11 @@ pub global_taken : (name : List ℕ) (address : ℕ) (r0 r1 r2 r3 : List ℕ) �
     → r0 ≡ line_text (global_line (record { name = name; address = address })) ++ r3
 unfolding line_text
 global_taken name address r0 r1 r2 r3 e0 e1 e2 = simp (e0, e1, e2, append_assoc) refl
+
+pub drop_taken : (d : SectionId) (r0 r1 r2 r3 : List ℕ) → r0 ≡ codes "drop " ++ r1 → r1 ≡ then (digits 10 false d.file) 32 r2 → r2 ≡ then (digits 10 false d.section) 10 r3
+    → r0 ≡ line_text (drop_line d) ++ r3
+unfolding line_text
+drop_taken d r0 r1 r2 r3 e0 e1 e2 = simp (e0, e1, e2, append_assoc) refl
 
 pub row_taken : (r : Row) (r0 r1 r2 r3 r4 r5 r6 r7 : List ℕ) → r0 ≡ codes "row " ++ r1 → r1 ≡ then (digits 10 false r.file) 32 r2 → r2 ≡ then (digits 10 false r.line) 32 r3
     → r3 ≡ then (digits 10 false r.ordinal) 32 r4 → r4 ≡ then (hexadecimal r.address) 32 r5 → r5 ≡ then (digits 10 false r.bytes) 32 r6

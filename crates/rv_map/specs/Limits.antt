@@ -4,6 +4,7 @@ use Rattle.std.specs.Prelude.{ℕ, ◌<◌, ◌^◌, IsTrue}
 use Rattle.std.specs.List.{AllByRecursion}
 use Rattle.rv_map.specs.declared.map.Region.{Region}
 use Rattle.rv_map.specs.declared.map.Row.{Row}
+use Rattle.rv_map.specs.declared.map.SectionId.{SectionId}
 use Rattle.rv_map.specs.Map.{Map, Global}
 use Rattle.rv_map.specs.Name.{is_name}
 
@@ -15,6 +16,9 @@ IsRegion r = IsNumber r.start × IsNumber r.end
 
 abbrev pub IsGlobal : Global → Type 0
 IsGlobal g = IsTrue (is_name g.name) × IsNumber g.address
+
+abbrev pub IsDrop : SectionId → Type 0
+IsDrop d = IsNumber d.file × IsNumber d.section
 
 abbrev pub IsRow : Row → Type 0
 IsRow r =
@@ -33,4 +37,5 @@ pub record IsMap (m : Map) : Type 0 where
   pub entry : IsNumber m.entry
   pub gaps : AllByRecursion IsRegion m.gaps
   pub globals : AllByRecursion IsGlobal m.globals
+  pub drops : AllByRecursion IsDrop m.drops
   pub rows : AllByRecursion IsRow m.rows

@@ -3,6 +3,7 @@
 use Rattle.std.specs.Prelude.{ℕ, List, map}
 use Rattle.rv_map.specs.declared.map.Region.{Region}
 use Rattle.rv_map.specs.declared.map.Row.{Row}
+use Rattle.rv_map.specs.declared.map.SectionId.{SectionId}
 use Rattle.rv_map.specs.declared.map.Global.{Global as DeclaredGlobal}
 use Rattle.rv_map.specs.declared.map.Map.{Map as DeclaredMap}
 
@@ -11,7 +12,8 @@ pub record Global : Type 0 where
   pub name : List ℕ
   pub address : ℕ
 
--- regions and gaps from their start on and below their end; the rows by file and ordinal
+-- regions and gaps from their start on and below their end; the sections that collection dropped, by
+-- file and number; the rows by file and ordinal
 pub record Map : Type 0 where
   pub text : Region
   pub rodata : Region
@@ -20,6 +22,7 @@ pub record Map : Type 0 where
   pub entry : ℕ
   pub gaps : List Region
   pub globals : List Global
+  pub drops : List SectionId
   pub rows : List Row
 
 abbrev pub global_of : DeclaredGlobal → Global
@@ -35,5 +38,6 @@ map_of m = record {
   entry = m.entry;
   gaps = m.gaps.items;
   globals = map global_of m.globals.items;
+  drops = m.drops.items;
   rows = m.rows.items;
 }

@@ -5,6 +5,7 @@ use Rattle.std.specs.List.{before_first, after_first, position_or_len}
 use Rattle.std.specs.Str.{bytes_eq}
 use Rattle.rv_map.specs.declared.map.Region.{Region}
 use Rattle.rv_map.specs.declared.map.Row.{Row}
+use Rattle.rv_map.specs.declared.map.SectionId.{SectionId}
 use Rattle.rv_map.specs.Map.{Map, Global}
 use Rattle.rv_map.specs.Name.{is_name}
 use Rattle.rv_map.specs.Numeral.{number_of}
@@ -52,6 +53,13 @@ global_at bytes = do
   address ← number_at 16 10 name.1
   if is_name name.0 then Some (record { name = name.0; address = address.0 }, address.1) else None
 
+unfoldable pub drop_at : List ℕ → Option (SectionId × List ℕ)
+drop_at bytes = do
+  rest ← behind (codes "drop ") bytes
+  file ← number_at 10 32 rest
+  section ← number_at 10 10 file.1
+  Some (record { file = file.0; section = section.0 }, section.1)
+
 unfoldable pub row_at : List ℕ → Option (Row × List ℕ)
 row_at bytes = do
   rest ← behind (codes "row ") bytes
@@ -73,7 +81,7 @@ row_at bytes = do
     instructions.1,
   )
 
--- the lines that every map has, as a map without gaps, globals and rows
+-- the lines that every map has, as a map with nothing else
 unfoldable pub head_at : List ℕ → Option (Map × List ℕ)
 head_at bytes = do
   rest ← behind (codes "rvmap 1" ++ 10 ∷ []) bytes
@@ -92,6 +100,7 @@ head_at bytes = do
       entry = entry.0;
       gaps = [];
       globals = [];
+      drops = [];
       rows = [];
     },
     entry.1,

@@ -4,6 +4,7 @@ use Rattle.std.specs.Prelude.{ℕ, ◌-◌, false, List, [], ◌∷◌, ◌++◌
 use Rattle.std.specs.Fmt.{digits}
 use Rattle.rv_map.specs.declared.map.Region.{Region}
 use Rattle.rv_map.specs.declared.map.Row.{Row}
+use Rattle.rv_map.specs.declared.map.SectionId.{SectionId}
 use Rattle.rv_map.specs.Map.{Map, Global}
 
 -- lower case, without leading zeros
@@ -29,6 +30,9 @@ gap_line gap = region_line (codes "gap") gap
 abbrev pub global_line : Global → List (List ℕ)
 global_line g = codes "global" ∷ g.name ∷ hexadecimal g.address ∷ []
 
+abbrev pub drop_line : SectionId → List (List ℕ)
+drop_line d = codes "drop" ∷ decimal d.file ∷ decimal d.section ∷ []
+
 abbrev pub row_line : Row → List (List ℕ)
 row_line r =
     codes "row" ∷ decimal r.file ∷ decimal r.line ∷ decimal r.ordinal ∷ hexadecimal r.address ∷
@@ -51,7 +55,8 @@ head_lines m =
 -- the lines of a map, kind after kind
 abbrev pub map_lines : Map → List (List (List ℕ))
 map_lines m =
-    head_lines m ++ map gap_line m.gaps ++ map global_line m.globals ++ map row_line m.rows
+    head_lines m ++ map gap_line m.gaps ++ map global_line m.globals ++ map drop_line m.drops
+    ++ map row_line m.rows
 
 abbrev pub map_text : Map → List ℕ
 map_text m = flat_map line_text (map_lines m)

@@ -1,4 +1,5 @@
-//! The map of an executable: where its regions, globals and statements stand, and the map's text.
+//! The map of an executable: where its regions, globals and statements stand, which sections collection dropped, and
+//! the map's text.
 //!
 //! It takes a [`Map`] and gives its text, and takes a text and gives the map of which it is one, or none. Each map
 //! has one text and each text one map: a number has one spelling, and lines stand in one order.
@@ -27,6 +28,6 @@ mod writing;
 pub use digits::{put_hexadecimal, put_padded};
 pub use law::{one_map, reread};
 pub use lookup::row_at;
-pub use map::{Global, Map, Region, Row};
+pub use map::{Global, Map, Region, Row, SectionId};
 pub use reading::read;
 pub use writing::write;

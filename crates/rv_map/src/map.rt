@@ -23,6 +23,15 @@ pub struct Global {
     pub ghost named: { IsTrue (is_name name.items) },
 }
 
+/// A section of a file.
+#[derive(Clone, Copy, Debug, PartialEq, Eq, Drop)]
+pub struct SectionId {
+    /// Its file, from 1.
+    pub file: u64,
+    /// Its number among the sections of the file, from 1.
+    pub section: u64,
+}
+
 /// Where a statement stands, and what it became there.
 #[derive(Clone, Copy, Debug, PartialEq, Eq, Drop)]
 pub struct Row {
@@ -57,6 +66,8 @@ pub struct Map {
     pub gaps: Vec<Region>,
     /// The global names, in the order of the map's text.
     pub globals: Vec<Global>,
+    /// The sections with an address that collection dropped, by file and number.
+    pub drops: Vec<SectionId>,
     /// The statements that have an address, by file and ordinal.
     pub rows: Vec<Row>,
 }

@@ -4,11 +4,11 @@ ghost use Rattle.std.specs.Prelude.{◌≡◌, ◌++◌, ◌∷◌, [], Some, No
 ghost use Rattle.rv_map.specs.Map.{Map as PlainMap, map_of, global_of};
 ghost use Rattle.std.specs.List.{AllByRecursion, list_all};
 ghost use Rattle.rv_map.specs.Name.{is_name, is_name_byte};
-ghost use Rattle.rv_map.specs.Limits.{IsNumber, IsRegion, IsGlobal, IsRow, IsMap};
-ghost use Rattle.rv_map.specs.Text.{hexadecimal, line_text, gap_line, global_line, row_line, head_lines, map_text};
-ghost use Rattle.rv_map.specs.Reading.{Gives, behind, region_at, global_at, row_at, head_at};
+ghost use Rattle.rv_map.specs.Limits.{IsNumber, IsRegion, IsGlobal, IsDrop, IsRow, IsMap};
+ghost use Rattle.rv_map.specs.Text.{hexadecimal, line_text, gap_line, global_line, drop_line, row_line, head_lines, map_text};
+ghost use Rattle.rv_map.specs.Reading.{Gives, behind, region_at, global_at, drop_at, row_at, head_at};
 
-use crate::map::{Global, Map, Region, Row};
+use crate::map::{Global, Map, Region, Row, SectionId};
 use crate::numeral::{cut, number_before};
 use std::alloc::{AllocError, Global as Allocator};
 
@@ -29,12 +29,14 @@ pub fn read(alloc: Allocator, bytes: &[u8]) -> Result<Option<Map>, AllocError>
     };
     let (gaps, rest) = gaps_of(alloc, rest)?;
     let (globals, rest) = globals_of(alloc, rest)?;
+    let (drops, rest) = drops_of(alloc, rest)?;
     let (rows, rest) = rows_of(alloc, rest)?;
     if !rest.is_empty() {
         return Ok(None);
     }
     map.gaps = gaps;
     map.globals = globals;
+    map.drops = drops;
     map.rows = rows;
     Ok(Some(map))
 }
@@ -61,6 +63,7 @@ fn head_of(alloc: Allocator, bytes: &[u8]) -> Option<(Map, &[u8])>
         entry,
         gaps: Vec::new(alloc),
         globals: Vec::new(alloc),
+        drops: Vec::new(alloc),
         rows: Vec::new(alloc),
     };
     Some((map, rest))
@@ -98,6 +101,22 @@ fn globals_of(alloc: Allocator, bytes: &[u8]) -> Result<(Vec<Global>, &[u8]), Al
         rest = after;
     }
     Ok((globals, rest))
+}
+
+/// The dropped sections whose lines stand at the front, up to the first other line.
+fn drops_of(alloc: Allocator, bytes: &[u8]) -> Result<(Vec<SectionId>, &[u8]), AllocError>
+    ensures found { IfOk result
+        (λ found. bytes.now ≡ flat_map line_text (map drop_line found.0.items) ++ found.1.now) }
+    ensures all { IfOk result (λ found. drop_at found.1.now ≡ None) }
+    ensures fit { IfOk result (λ found. AllByRecursion IsDrop found.0.items) }
+{
+    let mut drops = Vec::new(alloc);
+    let mut rest = bytes;
+    while let Some((section, after)) = drop_of(rest) {
+        drops.push(section)?;
+        rest = after;
+    }
+    Ok((drops, rest))
 }
 
 /// The rows whose lines stand at the front, up to the first other line.
@@ -152,6 +171,20 @@ fn global_of(bytes: &[u8]) -> Option<(&[u8], u64, &[u8])>
     } else {
         None
     }
+}
+
+/// The dropped section whose line stands at the front.
+#[tactic(auto, unfolding(crate::specs::Reading::drop_at))]
+fn drop_of(bytes: &[u8]) -> Option<(SectionId, &[u8])>
+    ensures exact { Gives (λ found. (found.0, found.1.now)) result (drop_at bytes.now) }
+    ensures found { IfSome result
+        (λ found. bytes.now ≡ line_text (drop_line found.0) ++ found.1.now) }
+    ensures fits { IfSome result (λ found. IsDrop found.0) }
+{
+    let rest = behind(b"drop ", bytes)?;
+    let (file, rest) = number_before(DECIMAL, b' ', rest)?;
+    let (section, rest) = number_before(DECIMAL, b'\n', rest)?;
+    Some((SectionId { file, section }, rest))
 }
 
 /// The row whose line stands at the front.

@@ -3,15 +3,15 @@
 ghost use Rattle.std.specs.Prelude.{◌≡◌, ◌++◌, ◌∷◌, [], IfOk, OnOk, map, flat_map, codes, decimal};
 ghost use Rattle.rv_map.specs.Map.{map_of, global_of};
 ghost use Rattle.std.specs.List.{AllByRecursion};
-ghost use Rattle.rv_map.specs.Limits.{IsNumber, IsRegion, IsGlobal, IsRow, IsMap, AreRegions};
-ghost use Rattle.rv_map.specs.Text.{hexadecimal, line_text, region_line, gap_line, global_line, row_line, region_lines, head_lines, map_text};
+ghost use Rattle.rv_map.specs.Limits.{IsNumber, IsRegion, IsGlobal, IsDrop, IsRow, IsMap, AreRegions};
+ghost use Rattle.rv_map.specs.Text.{hexadecimal, line_text, region_line, gap_line, global_line, drop_line, row_line, region_lines, head_lines, map_text};
 
 use crate::digits::put_hexadecimal;
-use crate::map::{Global, Map, Region, Row};
+use crate::map::{Global, Map, Region, Row, SectionId};
 use itoa::Buffer;
 use std::alloc::{AllocError, Global as Allocator};
 
-/// The text of a map: a line for each region, gap, global and row.
+/// The text of a map: a line for each region, gap, global, dropped section and row.
 pub fn write(alloc: Allocator, map: &Map) -> Result<Vec<u8>, AllocError>
     ensures text { IfOk result (λ text. text.items ≡ map_text (map_of map.now)) }
     // Its numbers and names are those that a text can show: reading the text gives this map.
@@ -21,6 +21,7 @@ pub fn write(alloc: Allocator, map: &Map) -> Result<Vec<u8>, AllocError>
     put_head(&mut text, map)?;
     put_gaps(&mut text, &map.gaps)?;
     put_globals(&mut text, &map.globals)?;
+    put_drops(&mut text, &map.drops)?;
     put_rows(&mut text, &map.rows)?;
     Ok(text)
 }
@@ -84,6 +85,17 @@ fn put_globals(text: &mut Vec<u8>, globals: &[Global]) -> Result<(), AllocError>
     Ok(())
 }
 
+fn put_drops(text: &mut Vec<u8>, drops: &[SectionId]) -> Result<(), AllocError>
+    ensures written { OnOk result
+        (text.new.items ≡ text.old.items ++ flat_map line_text (map drop_line drops.now)) }
+    ensures known { OnOk result (AllByRecursion IsDrop drops.now) }
+{
+    for section in drops {
+        put_drop(text, *section)?;
+    }
+    Ok(())
+}
+
 fn put_rows(text: &mut Vec<u8>, rows: &[Row]) -> Result<(), AllocError>
     ensures written { OnOk result
         (text.new.items ≡ text.old.items ++ flat_map line_text (map row_line rows.now)) }
@@ -118,6 +130,18 @@ fn put_global(text: &mut Vec<u8>, global: &Global) -> Result<(), AllocError>
     text.extend_from_slice(&global.name)?;
     text.push(b' ')?;
     put_address(text, global.address, b'\n')?;
+    Ok(())
+}
+
+#[tactic(auto, unfolding(crate::specs::Text::line_text))]
+fn put_drop(text: &mut Vec<u8>, section: SectionId) -> Result<(), AllocError>
+    ensures written { OnOk result
+        (text.new.items ≡ text.old.items ++ line_text (drop_line section)) }
+    ensures known { IsDrop section }
+{
+    text.extend_from_slice(b"drop ")?;
+    put_decimal(text, section.file, b' ')?;
+    put_decimal(text, section.section, b'\n')?;
     Ok(())
 }
 
