@@ -1,0 +1,2 @@
+pub mod SectionsLemmas
+pub mod MarksLemmas
