@@ -41,4 +41,15 @@ impl Contents<'_> {
             Contents::Nobits(_) => &[],
         }
     }
+
+    /// The same, lent.
+    pub fn lent(&self) -> Contents<'_>
+        ensures { contents_of result ≡ contents_of self.now }
+    {
+        match self {
+            Contents::Progbits(bytes) => Contents::Progbits(CowSlice::Borrowed(bytes.as_slice())),
+            Contents::Note(bytes) => Contents::Note(CowSlice::Borrowed(bytes.as_slice())),
+            Contents::Nobits(size) => Contents::Nobits(*size),
+        }
+    }
 }

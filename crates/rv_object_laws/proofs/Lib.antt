@@ -3,3 +3,9 @@ pub mod ChangesLemmas
 pub mod TextInputsLemmas
 pub mod TextPlacesLemmas
 pub mod TextLineLemmas
+pub mod WithoutLemmas
+pub mod WholeLemmas
+pub mod NamesLeftLemmas
+pub mod InputsLeftLemmas
+pub mod EntryLeftLemmas
+pub mod DanglingLemmas

@@ -19,10 +19,12 @@ use Rattle.rv_object_laws.specs.Moves.{full_padding, has_padding, alignment_of}
 use Rattle.rv_object_laws.specs.Inputs.{InputSection, goes_to_text, inputs_from, inputs_of, inputs}
 use Rattle.rv_object_laws.specs.Names.{Place, no_object, object_at}
 use Rattle.rv_object_laws.specs.CallSites.{is_in_section, is_text_place, target_place, is_entered, may_change, changes, start_padding, base_in, base, text_offset, call_site, site_of, sites_from, sites_of, length_of}
+use Rattle.rv_object_laws.specs.Whole.{IsWhole}
 use Rattle.rv_object_laws.specs.Within.{LeadsWithin, IsWithin}
 use Rattle.rv_object_laws.proofs.ChangesLemmas.{IsPermitted, IsChange, Stand, held_full, held_call, change, all_ordered, all_filtered, changes_stand}
-use Rattle.rv_object_laws.proofs.TextInputsLemmas.{IsTextInput, all_append, text_inputs}
+use Rattle.rv_object_laws.proofs.TextInputsLemmas.{IsTextInput, all_append, whole_inputs}
 use Rattle.rv_object_laws.proofs.TextPlacesLemmas.{is_named, IsNamed, target_named, not_inside}
+use Rattle.rv_object_laws.proofs.WholeLemmas.{are_whole}
 
 -- ---- sites one behind the other, from an offset to another
 
@@ -364,8 +366,17 @@ module _ (os : List Object) (h : AllByRecursion (IsTextInput os) (inputs goes_to
     leads = within_of os (length_of (inputs goes_to_text os)) (site_at (sites_of os) i).kind (leads_at i) (λ p place. place_within os p h place);
   }
 
+-- the sites of whole objects make a text
+pub whole_text : (os : List Object) → AllByRecursion IsWhole os → IsText (sites_of os)
+whole_text os h = text os (whole_inputs os h)
+
+-- all of it within the line of the text
+pub whole_within : (os : List Object) → AllByRecursion IsWhole os → (i : ℕ) → IsWithin (length_of (inputs goes_to_text os)) (site_at (sites_of os) i)
+whole_within os h i = within os (whole_inputs os h) i
+
+-- so do those of objects of the code
 pub sites_text : (ds : List DeclaredObject) → IsText (sites_of (map object_of ds))
-sites_text ds = text (map object_of ds) (text_inputs ds)
+sites_text ds = whole_text (map object_of ds) (are_whole ds)
 
 pub sites_within : (ds : List DeclaredObject) (i : ℕ) → IsWithin (length_of (inputs goes_to_text (map object_of ds))) (site_at (sites_of (map object_of ds)) i)
-sites_within ds i = within (map object_of ds) (text_inputs ds) i
+sites_within ds i = whole_within (map object_of ds) (are_whole ds) i

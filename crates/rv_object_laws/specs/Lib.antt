@@ -7,3 +7,8 @@ pub mod Rising
 pub mod CallSites
 pub mod Shortened
 pub mod Within
+pub mod Whole
+pub mod Without
+pub mod Collects
+pub mod IsProgramOf
+pub mod Left

@@ -12,7 +12,6 @@ use Rattle.rv_encode.specs.Word.{form, word}
 use Rattle.rv_compress.specs.declared.form.Compressed.TheVariants as compressed
 use Rattle.rv_compress.specs.Parcel.{parcel}
 use Rattle.rv_layout_laws.specs.Calls.{IsGreatestClosed}
-use Rattle.rv_image.specs.Linked.{Linked}
 use Rattle.rv_object.specs.declared.symbol.Definition.{Definition}
 use Rattle.rv_object.specs.declared.symbol.Definition.TheVariants as definitions
 use Rattle.rv_object.specs.declared.row.Row.{Row}
@@ -20,7 +19,6 @@ use Rattle.rv_object.specs.Object.{Contents, Progbits, Note, Nobits, Relocation,
 use Rattle.rv_object_laws.specs.Moves.{Move, new_offset, kept, lost}
 use Rattle.rv_object_laws.specs.Inputs.{goes_to_text}
 use Rattle.rv_object_laws.specs.CallSites.{is_call, link_register, in_order, base, sites_of, is_short_text}
-use Rattle.rv_object_laws.specs.IsLinkOf.{IsLinkOf}
 
 -- the bytes of the call at each place of a section
 abbrev pub Sizes : Type 0
@@ -144,7 +142,7 @@ shortened_from sizes file (o ∷ os) =
 abbrev pub shortened : List ℕ → List Object → List Object
 shortened kept os = shortened_from (sizes_by os kept) 1 os
 
--- ---- the link
+-- ---- relaxation
 
 -- the calls are those of the greatest family in which no call has a shorter form that reaches; a
 -- text that is too long for memory stays as it is
@@ -157,9 +155,3 @@ IsRelaxed true os left =
 abbrev pub Relaxes : (relax : Bool) → List Object → List Object → Type 0
 Relaxes false os left = left ≡ os
 Relaxes true os left = IsRelaxed (is_short_text os) os left
-
--- the program of objects: the link of what relaxation leaves of them
-pub record IsProgramOf (os : List Object) (text_start : ℕ) (relax : Bool) (l : Linked) : Type 0 where
-  pub left : List Object
-  pub relaxed : Relaxes relax os left
-  pub linked : IsLinkOf left text_start l
