@@ -27,11 +27,13 @@ use Rattle.rv_unit_laws.specs.Tables.{Tables, tables, alignments_of}
 use Rattle.rv_map.specs.Map.{Map}
 use Rattle.rv_map.specs.declared.map.Row.{Row}
 use Rattle.rv_map.specs.declared.map.Region.{Region}
+use Rattle.rv_map.specs.declared.map.SectionId.{SectionId}
+use Rattle.rv_collect_laws.specs.Graph.{is_dropped}
 use Rattle.rv_image.specs.Linked.{Linked}
 use Rattle.rv_image.specs.Executable.{linked_image}
 use Rattle.rv_isa_laws.specs.Platform.{stack_start, stack_end}
 use Rattle.rv_image.specs.Memory.{mem_of}
-use Rattle.rv_source_laws.specs.Located.{located}
+use Rattle.rv_source_laws.specs.Located.{located, left, without_address}
 use Rattle.rv_source_laws.specs.Exports.{names_where}
 use Rattle.rv_source_laws.specs.Program.{MaybeMapped, Mapped, Program, Export, export, exports_at, exports_where, candidates, chosen, program, number, seated, mapped_of, address_of, tables_in}
 use Rattle.rv_source_laws.specs.Resolves.{is_label, run_start}
@@ -41,6 +43,7 @@ use Rattle.rv_source_laws.specs.Start.{is_within, is_in, right_at, first_byte, b
 use Rattle.rv_source_laws.specs.SourceRun.{Starts, Gap, Outside, starts_or_inside, place, found}
 use Rattle.rv_source_laws.proofs.HeldLemmas.{ContributionHeld, DirectiveHeld, IsHeld, Held}
 use Rattle.rv_source_laws.proofs.HomesLemmas.{all_join, all_map}
+use Rattle.rv_source_laws.proofs.LeftLemmas.{held_left, all_left}
 use Rattle.rv_chain_laws.specs.Realizes.{StandsIn, HoldsLines, Realizes}
 use Rattle.rv_chain_laws.specs.Contents.{IsEncoded, AreEncoded, IsWritten, contents, IsLinked}
 use Rattle.rv_chain_laws.specs.Headline.{RunsAgree}
@@ -211,20 +214,20 @@ one_or_more : (b : Bool) (g : ℕ) → 1 ≤ max (if b then 2 else 1) g
 one_or_more true g = omega arith
 one_or_more false g = omega arith
 
-aligned_file : (goes : Section → Bool) (t : Tables) (mapped : List Mapped) (file index : ℕ) (sections : List Section) → AllByRecursion IsAligned (input_sections_of_file goes t mapped file index sections)
-aligned_file goes t mapped file index [] = tt
-aligned_file goes t mapped file index (section ∷ sections) = go (goes section) (aligned_file goes t mapped file (suc index) sections)
+aligned_file : (goes : Section → Bool) (drops : List SectionId) (t : Tables) (mapped : List Mapped) (file index : ℕ) (sections : List Section) → AllByRecursion IsAligned (input_sections_of_file goes drops t mapped file index sections)
+aligned_file goes drops t mapped file index [] = tt
+aligned_file goes drops t mapped file index (section ∷ sections) = go (goes (without_address (is_dropped drops file index) section)) (aligned_file goes drops t mapped file (suc index) sections)
   where
-    go : (b : Bool) → AllByRecursion IsAligned (input_sections_of_file goes t mapped file (suc index) sections)
-        → AllByRecursion IsAligned (if b then input_section t section mapped file index ∷ input_sections_of_file goes t mapped file (suc index) sections else input_sections_of_file goes t mapped file (suc index) sections)
+    go : (b : Bool) → AllByRecursion IsAligned (input_sections_of_file goes drops t mapped file (suc index) sections)
+        → AllByRecursion IsAligned (if b then input_section t section mapped file index ∷ input_sections_of_file goes drops t mapped file (suc index) sections else input_sections_of_file goes drops t mapped file (suc index) sections)
     go true rest = (one_or_more (goes_to_text section) (slice_index_or (alignments_of t) index 1), rest)
     go false rest = rest
 
-aligned_files : (goes : Section → Bool) (mapped : List Mapped) (file : ℕ) (files : List (List Statement)) → AllByRecursion IsAligned (input_sections_of goes mapped file files)
-aligned_files goes mapped file [] = tt
-aligned_files goes mapped file (ss ∷ files) =
-    all_join IsAligned (input_sections_of_file goes (tables ss) mapped file 0 (sections_of ss)) (input_sections_of goes mapped (suc file) files)
-    (aligned_file goes (tables ss) mapped file 0 (sections_of ss)) (aligned_files goes mapped (suc file) files)
+aligned_files : (goes : Section → Bool) (drops : List SectionId) (mapped : List Mapped) (file : ℕ) (files : List (List Statement)) → AllByRecursion IsAligned (input_sections_of goes drops mapped file files)
+aligned_files goes drops mapped file [] = tt
+aligned_files goes drops mapped file (ss ∷ files) =
+    all_join IsAligned (input_sections_of_file goes drops (tables ss) mapped file 0 (sections_of ss)) (input_sections_of goes drops mapped (suc file) files)
+    (aligned_file goes drops (tables ss) mapped file 0 (sections_of ss)) (aligned_files goes drops mapped (suc file) files)
 
 some_alignment : (bs : List InputSection) → 1 ≤ greatest bs
 some_alignment [] = omega arith
@@ -316,7 +319,7 @@ all_candidates P p h =
 
 -- ---- a linked program
 
-module _ (sources : List (List Statement)) (a : ℕ) (relax : Bool) (l : Linked) (h : IsLinked sources a relax l) where
+module _ (sources : List (List Statement)) (a : ℕ) (relax gc : Bool) (l : Linked) (h : IsLinked sources a relax gc l) where
   abbrev p : Program
   p = program sources l.map
 
@@ -332,8 +335,8 @@ module _ (sources : List (List Statement)) (a : ℕ) (relax : Bool) (l : Linked)
   abbrev region : (Section → Bool) → List InputSection
   region goes = input_sections goes sources map_of
 
-  at_home : AllByRecursion (IsAtHome sections) p.mapped
-  at_home = homes sources map_of.rows
+  at_home : AllByRecursion (IsAtHome map_of.drops sections) p.mapped
+  at_home = homes map_of.drops sources map_of.rows
 
   -- each statement fits its row, and stands in a section that can hold it
   abbrev Fitting : Mapped → Type 0
@@ -342,13 +345,13 @@ module _ (sources : List (List Statement)) (a : ℕ) (relax : Bool) (l : Linked)
   fitting : AllByRecursion Fitting p.mapped
   fitting =
       all_pair (SizeFits p) (λ s. Held s.located) p.mapped h.fits.sizes
-      (all_map (IsSeated Held) (λ s. Held s.located) p.mapped (λ s seat. seat.0) (seats Held (located sources) map_of.rows (held_of 1 sources h.fits.good)))
+      (all_map (IsSeated Held) (λ s. Held s.located) p.mapped (λ s seat. seat.0) (seats Held (left map_of.drops sources) map_of.rows (all_left Held Held map_of.drops (located sources) (held_left map_of.drops) (held_of 1 sources h.fits.good))))
 
   is_aligned : (goes : Section → Bool) → AllByRecursion IsAligned (region goes)
-  is_aligned goes = aligned_files goes p.mapped 1 sources
+  is_aligned goes = aligned_files goes map_of.drops p.mapped 1 sources
 
   data_sized : (goes : Section → Bool) → ((s : Section) → goes s ≡ true → s.executable ≡ false) → AllIn (Sized (spelled p)) (region goes)
-  data_sized goes none = to_blocks p.mapped sources goes (Sized (spelled p)) at_home
+  data_sized goes none = to_blocks map_of.drops p.mapped sources goes (Sized (spelled p)) at_home
       (all_map Fitting (λ s. goes s.located.home ≡ true → Sized (spelled p) s) p.mapped
       (λ s fits good. statement_data p s.located.file s.located.ordinal s.located.section s.located.offset s.located.line s.located.home s.located.options s.located.placed s.row s.located.kind fits.0 fits.1 (none s.located.home good)) fitting)
 
@@ -367,7 +370,7 @@ module _ (sources : List (List Statement)) (a : ℕ) (relax : Bool) (l : Linked)
       omega arith
 
   code_sized : AllIn (Sized code) (region goes_to_text)
-  code_sized = to_blocks p.mapped sources goes_to_text (Sized code) at_home
+  code_sized = to_blocks map_of.drops p.mapped sources goes_to_text (Sized code) at_home
       (all_map (λ s. IsTrue s.located.home.executable → IsWritten p s (code s)) (λ s. goes_to_text s.located.home ≡ true → Sized code s) p.mapped
       (λ s w good. written_sized s (w (and_parts s.located.home.loaded s.located.home.executable good).1)) h.written)
 
@@ -419,18 +422,18 @@ module _ (sources : List (List Statement)) (a : ℕ) (relax : Bool) (l : Linked)
 
     lies : (goes : Section → Bool) (start place stop : ℕ) → start ≡ place → Stand place (region goes) → stop ≡ layout_end place (region goes) → AllByRecursion (In goes (LiesIn start stop)) p.mapped
     lies goes start place stop at stand ends =
-        from_blocks p.mapped sources goes (LiesIn start stop) at_home
+        from_blocks map_of.drops p.mapped sources goes (LiesIn start stop) at_home
         (lie_blocks (region goes) place start stop (is_aligned goes) stand (same_end place start (sym at)) (same_end stop (layout_end place (region goes)) ends))
 
     held : (goes : Section → Bool) (bytes : Mapped → List ℕ) (start place : ℕ) (stored : List ℕ) → start ≡ place → Stand place (region goes) → stored ≡ contents bytes start (region goes) → AllIn (Sized bytes) (region goes) → HasBytes m start stored
         → AllByRecursion (In goes (λ s. HasBytes m s.row.address (bytes s))) p.mapped
     held goes bytes start place stored at stand is sized has =
-        from_blocks p.mapped sources goes (λ s. HasBytes m s.row.address (bytes s)) at_home
+        from_blocks map_of.drops p.mapped sources goes (λ s. HasBytes m s.row.address (bytes s)) at_home
         (held_blocks bytes m (region goes) start sized (is_aligned goes) (subst (λ x. Stand x (region goes)) (sym at) stand) (subst (HasBytes m start) is has))
 
     abbrev Whole : Mapped → Type 0
     Whole s =
-        IsAtHome sections s × (Fitting s × ((IsTrue s.located.home.executable → IsWritten p s (code s))
+        IsAtHome map_of.drops sections s × (Fitting s × ((IsTrue s.located.home.executable → IsWritten p s (code s))
         × (In goes_to_text (LiesIn map_of.text.start map_of.text.end) s × (In goes_to_text (λ s. HasBytes m s.row.address (code s)) s
         × (In goes_to_rodata (LiesIn map_of.rodata.start map_of.rodata.end) s × (In goes_to_rodata (λ s. HasBytes m s.row.address (spelled p s)) s
         × (In goes_to_data (LiesIn map_of.data.start map_of.data.end) s × (In goes_to_data (λ s. HasBytes m s.row.address (spelled p s)) s
@@ -438,7 +441,7 @@ module _ (sources : List (List Statement)) (a : ℕ) (relax : Bool) (l : Linked)
 
     whole : AllByRecursion Whole p.mapped
     whole =
-        all_pair (IsAtHome sections) _ p.mapped at_home
+        all_pair (IsAtHome map_of.drops sections) _ p.mapped at_home
         (all_pair Fitting _ p.mapped fitting
         (all_pair (λ s. IsTrue s.located.home.executable → IsWritten p s (code s)) _ p.mapped h.written
         (all_pair (In goes_to_text (LiesIn map_of.text.start map_of.text.end)) _ p.mapped (lies goes_to_text map_of.text.start a map_of.text.end text_holds.0 text_holds.1 text_holds.2)
@@ -605,7 +608,7 @@ module _ (sources : List (List Statement)) (a : ℕ) (relax : Bool) (l : Linked)
         ]
 
     missed : (goes : Section → Bool) (x : ℕ) → AllByRecursion (Misses x) p.mapped → AllIn (Misses x) (region goes)
-    missed goes x none = to_blocks p.mapped sources goes (Misses x) at_home (all_map (Misses x) (In goes (Misses x)) p.mapped (λ s e good. e) none)
+    missed goes x none = to_blocks map_of.drops p.mapped sources goes (Misses x) at_home (all_map (Misses x) (In goes (Misses x)) p.mapped (λ s e good. e) none)
 
     -- no row lies over a byte that can be read: it is zero
     region_zero : (goes : Section → Bool) (start place stop x : ℕ) (stored : List ℕ) → start ≡ place → Stand place (region goes) → stop ≡ layout_end place (region goes) → stored ≡ contents (spelled p) start (region goes) → AllIn (Sized (spelled p)) (region goes) → HasBytes m start stored
@@ -654,7 +657,7 @@ module _ (sources : List (List Statement)) (a : ℕ) (relax : Bool) (l : Linked)
         let inside : list_any (λ (gap : Region). is_in gap pc) map_of.gaps ≡ true = (gap_when (is_in map_of.text pc) (list_any (λ gap. is_in gap pc) map_of.gaps) (found p.mapped pc) e).1 in
         let bs = region goes_to_text in
         let there : IsBlank m a (layout_end a bs) pc =
-        gap_blank code m bs a pc code_sized (is_aligned goes_to_text) (even_files p.mapped 1 sources) text_holds.1
+        gap_blank code m bs a pc code_sized (is_aligned goes_to_text) (even_files map_of.drops p.mapped 1 sources) text_holds.1
         (subst (λ x. HasBytes m x (contents code x bs)) text_holds.0 (subst (HasBytes m map_of.text.start) text_is (text_held l are_regions))) even
         (subst (λ gaps. list_any (λ (gap : Region). is_in gap pc) gaps ≡ true) h.fits.gaps inside) in
         subst (λ x. IsBlank m x map_of.text.end pc) (sym text_holds.0) (subst (λ x. IsBlank m a x pc) (sym text_holds.2) there)
@@ -709,6 +712,6 @@ module _ (sources : List (List Statement)) (a : ℕ) (relax : Bool) (l : Linked)
         omega arith
 
 -- a linked program runs as its sources do, for every input and every limit
-pub linked_agrees : (a : ℕ) (sources : List (List Statement)) (relax : Bool) (l : Linked) → IsLinked sources a relax l → RunsAgree sources l.map (linked_image l)
-linked_agrees a sources relax l h reader input bytes n =
-    agreement_of_image sources l.map (mem_of (linked_image l)) l.map.entry (λ r. realizes_linked sources a relax l h r) refl (entry_low sources a relax l h reader) h.resolves.even reader input n
+pub linked_agrees : (a : ℕ) (sources : List (List Statement)) (relax gc : Bool) (l : Linked) → IsLinked sources a relax gc l → RunsAgree sources l.map (linked_image l)
+linked_agrees a sources relax gc l h reader input bytes n =
+    agreement_of_image sources l.map (mem_of (linked_image l)) l.map.entry (λ r. realizes_linked sources a relax gc l h r) refl (entry_low sources a relax gc l h reader) h.resolves.even reader input n

@@ -18,7 +18,7 @@ use Rattle.rv_map.specs.declared.map.Row.{Row}
 use Rattle.rv_image.specs.Linked.{Linked}
 use Rattle.rv_image.specs.Executable.{linked_image}
 use Rattle.rv_image.specs.Memory.{mem_of}
-use Rattle.rv_source_laws.specs.Located.{located, has_row}
+use Rattle.rv_source_laws.specs.Located.{left, has_row}
 use Rattle.rv_source_laws.specs.Program.{Mapped, Program, program}
 use Rattle.rv_source_laws.specs.Fits.{IsRowOf, identity_of, identity_of_row}
 use Rattle.rv_source_laws.proofs.HomesLemmas.{all_map}
@@ -58,7 +58,7 @@ not_both false b e one = absurd (cc)
 none_below : (n : ℕ) → nat_lt 0 n ≡ false → n ≡ 0
 none_below n e = grind (arith, nat_tests)
 
-module _ (sources : List (List Statement)) (start : ℕ) (relax : Bool) (l : Linked) (h : IsLinked sources start relax l) (reader : Reader Spells StandsFor) where
+module _ (sources : List (List Statement)) (start : ℕ) (relax gc : Bool) (l : Linked) (h : IsLinked sources start relax gc l) (reader : Reader Spells StandsFor) where
   abbrev p : Program
   p = program sources l.map
 
@@ -70,19 +70,19 @@ module _ (sources : List (List Statement)) (start : ℕ) (relax : Bool) (l : Lin
 
   rows_are : map row_of p.mapped ≡ l.map.rows
   rows_are =
-      rows_by (located sources) l.map.rows
-      (sym (length-map l.map.rows identity_of_row) ∙ ap length h.fits.rows ∙ length-map (filter has_row (located sources)) identity_of)
+      rows_by (left l.map.drops sources) l.map.rows
+      (sym (length-map l.map.rows identity_of_row) ∙ ap length h.fits.rows ∙ length-map (filter has_row (left l.map.drops sources)) identity_of)
 
   -- ---- what is shown of a statement
 
-  code_shown : (s : Mapped) → StandsInText sources start relax l h reader s → 0 < s.row.bytes → IsEntry p s (shown s)
+  code_shown : (s : Mapped) → StandsInText sources start relax gc l h reader s → 0 < s.row.bytes → IsEntry p s (shown s)
   code_shown s (lie, (has, (written, row))) some =
       let a = s.row.address in
       let stop = a + s.row.bytes in
       let long = lines_length written.lines a stop (h.code s) written.are_lines.1 written.encoded in
-      let fills = (are_regions sources start relax l h).text in
+      let fills = (are_regions sources start relax gc l h).text in
       let same : row_bytes (linked_image l).segments s.row ≡ h.code s =
-      bytes_in_text l s.row m (h.code s) (text_held l (are_regions sources start relax l h)) has (omega (arith, long)) lie.0 (omega (arith, lie.1, fills)) some in
+      bytes_in_text l s.row m (h.code s) (text_held l (are_regions sources start relax gc l h)) has (omega (arith, long)) lie.0 (omega (arith, lie.1, fills)) some in
       let valid = (subst (λ o. IsRowOf o s.row) written.are_lines.0 row).0 in
       record {
         ps = written.ps;
@@ -96,14 +96,14 @@ module _ (sources : List (List Statement)) (start : ℕ) (relax : Bool) (l : Lin
             ∙ ap (λ t. statement s.row ++ t) (lines_shown reader written.lines a stop (h.code s) written.are_lines.1 written.encoded valid);
       }
 
-  listed_shown : (s : Mapped) → (s.located.home.executable ≡ true → StandsInText sources start relax l h reader s) → is_listed s ≡ true → IsEntry p s (shown s)
+  listed_shown : (s : Mapped) → (s.located.home.executable ≡ true → StandsInText sources start relax gc l h reader s) → is_listed s ≡ true → IsEntry p s (shown s)
   listed_shown s stands listed =
       let parts = and_parts s.located.home.executable (nat_lt 0 s.row.bytes) listed in
       code_shown s (stands parts.0) (ltb-true 0 s.row.bytes parts.1)
 
   others_shown : (s : Mapped) → (s.located.home.executable ≡ false → l.map.text.end ≤ s.row.address) → is_listed s ≡ false → shown s ≡ []
   others_shown s behind other =
-      let fills = (are_regions sources start relax l h).text in
+      let fills = (are_regions sources start relax gc l h).text in
       elim (cases_lt 0 s.row.bytes) [
         | inl some ↦ elim (cases_Bool s.located.home.executable) [
           | inl code ↦ (let none = none_below s.row.bytes (not_both s.located.home.executable (nat_lt 0 s.row.bytes) other code) in absurd (omega (arith, none, some)))
@@ -120,9 +120,9 @@ module _ (sources : List (List Statement)) (start : ℕ) (relax : Bool) (l : Lin
   pub source_listing : IsSourceListing p (flat_map shown in_order)
   source_listing =
       let showing : AllByRecursion (λ s. is_listed s ≡ true → IsEntry p s (shown s)) p.mapped =
-      all_map (λ s. s.located.home.executable ≡ true → StandsInText sources start relax l h reader s) (λ s. is_listed s ≡ true → IsEntry p s (shown s)) p.mapped listed_shown (code_stands sources start relax l h reader) in
+      all_map (λ s. s.located.home.executable ≡ true → StandsInText sources start relax gc l h reader s) (λ s. is_listed s ≡ true → IsEntry p s (shown s)) p.mapped listed_shown (code_stands sources start relax gc l h reader) in
       let blank : AllByRecursion (λ s. is_listed s ≡ false → shown s ≡ []) p.mapped =
-      all_map (λ s. s.located.home.executable ≡ false → l.map.text.end ≤ s.row.address) (λ s. is_listed s ≡ false → shown s ≡ []) p.mapped others_shown (data_stands sources start relax l h reader) in
+      all_map (λ s. s.located.home.executable ≡ false → l.map.text.end ≤ s.row.address) (λ s. is_listed s ≡ false → shown s ≡ []) p.mapped others_shown (data_stands sources start relax gc l h reader) in
       let kept = all_kept (λ s. is_listed s ≡ true → IsEntry p s (shown s)) is_listed in_order (all_ordered before _ p.mapped showing) in
       let all : AllByRecursion (λ s. IsEntry p s (shown s)) (filter is_listed in_order) = all_map _ (λ s. IsEntry p s (shown s)) (filter is_listed in_order) (λ s both. both.0 both.1) kept in
       record {
@@ -153,11 +153,11 @@ module _ (sources : List (List Statement)) (start : ℕ) (relax : Bool) (l : Lin
     shows = sym (flat_map_map (row_text reader (linked_image l).segments) row_of in_order);
   }
 
-pub listed_is : (start : ℕ) (sources : List (List Statement)) (relax : Bool) (l : Linked) → IsLinked sources start relax l → (reader : Reader Spells StandsFor) (text : List ℕ)
+pub listed_is : (start : ℕ) (sources : List (List Statement)) (relax gc : Bool) (l : Linked) → IsLinked sources start relax gc l → (reader : Reader Spells StandsFor) (text : List ℕ)
     → IsListing reader (linked_image l) l.map text ↔ IsSourceListing (program sources l.map) text
-listed_is start sources relax l h reader text =
-    let of_image = image_listing sources start relax l h reader in
-    let of_sources = source_listing sources start relax l h reader in (
+listed_is start sources relax gc l h reader text =
+    let of_image = image_listing sources start relax gc l h reader in
+    let of_sources = source_listing sources start relax gc l h reader in (
       λ listing. subst (IsSourceListing (program sources l.map)) (one_listing reader (linked_image l) l.map _ text of_image listing) of_sources,
       λ listing. subst (IsListing reader (linked_image l) l.map) (one_source_listing (program sources l.map) _ text of_sources listing) of_image,
     )

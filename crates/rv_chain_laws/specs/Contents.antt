@@ -16,6 +16,8 @@ use Rattle.rv_unit_laws.specs.Sections.{goes_to_text, goes_to_rodata, goes_to_da
 use Rattle.rv_source_laws.specs.Program.{Mapped, Program, program}
 use Rattle.rv_source_laws.specs.Lines.{parts, Line, AreLines}
 use Rattle.rv_source_laws.specs.Fits.{Fits, InputSection, rows_of, input_sections, size}
+use Rattle.rv_collect_laws.specs.Graph.{AreDrops}
+use Rattle.rv_source_laws.specs.Collected.{graph_of}
 use Rattle.rv_source_laws.specs.Resolves.{Resolves}
 use Rattle.rv_source_laws.specs.Start.{spelled}
 use Rattle.rv_source_laws.specs.Sized.{Sized}
@@ -82,10 +84,12 @@ contents bytes stop (b ∷ bs) =
     zeros (start - stop)
     ++ (flat_map bytes b.mapped ++ contents bytes (start + size (rows_of b)) bs)
 
--- the linked program of sources, relaxed or not: its map fits them with the least sizes, calls as
--- short as they can be where it is relaxed, and each region has the bytes of its sections, bss zeros
-pub record IsLinked (sources : List (List Statement)) (text_start : ℕ) (relax : Bool)
+-- the linked program of sources, relaxed or not, with all sections or with those to which something
+-- leads: its map fits them with the least sizes, calls as short as they can be where it is relaxed,
+-- and each region has the bytes of its sections, bss zeros
+pub record IsLinked (sources : List (List Statement)) (text_start : ℕ) (relax gc : Bool)
     (l : Linked) : Type 0 where
+  pub collected : AreDrops gc (graph_of sources) l.map.drops
   pub fits : Fits sources l.map text_start
   pub sized : Sized sources l.map
   pub shortened : Shortened relax sources l.map

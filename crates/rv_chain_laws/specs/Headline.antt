@@ -21,6 +21,8 @@ use Rattle.rv_source_laws.specs.Compressed.{is_compressed}
 use Rattle.rv_source_laws.specs.Program.{Mapped, program}
 use Rattle.rv_source_laws.specs.SourceRun.{source_run}
 use Rattle.rv_source_laws.specs.Fits.{Fits}
+use Rattle.rv_collect_laws.specs.Graph.{AreDrops}
+use Rattle.rv_source_laws.specs.Collected.{graph_of}
 use Rattle.rv_source_laws.specs.Resolves.{Resolves}
 use Rattle.rv_chain_laws.specs.Agrees.{Agrees}
 use Rattle.rv_source_laws.specs.Sized.{Sized}
@@ -50,9 +52,9 @@ RunsAgree sources map image =
 abbrev pub rvc_flag : Bool → ℕ
 rvc_flag is_set = if is_set then 1 else 0
 
--- what the texts of the sources, the text's start, whether calls are shortened, the bytes of the
--- executable and those of the map have to do with one another
-pub record TheHeadline (texts : List (List ℕ)) (text_start : ℕ) (relax : Bool)
+-- what the texts of the sources, the text's start, whether calls are shortened, whether sections are
+-- collected, the bytes of the executable and those of the map have to do with one another
+pub record TheHeadline (texts : List (List ℕ)) (text_start : ℕ) (relax gc : Bool)
     (executable map_bytes : List ℕ) : Type 0 where
   pub sources : List (List Statement)
   pub read : AllRead texts sources
@@ -61,6 +63,8 @@ pub record TheHeadline (texts : List (List ℕ)) (text_start : ℕ) (relax : Boo
   pub shown : map_bytes ≡ map_text map
   -- reading those bytes gives this map: its numbers and names are such as a text can show
   pub readable : IsMap map
+  -- where sections are collected, it drops exactly those to which nothing leads from the entry's
+  pub collected : AreDrops gc (graph_of sources) map.drops
   pub fits : Fits sources map text_start
   pub sized : Sized sources map
   -- its calls are as short as they can be where they are shortened, and else whole

@@ -45,6 +45,6 @@ pub fn runs_agree()
 /// Where the regions of a linked program hold the sections of its sources, code and data, the image
 /// of the program runs as their statements do, for every input and every limit.
 pub fn linked_runs_agree()
-    ensures { (start : ℕ) (sources : List (List Statement)) (relax : Bool) (l : Linked)
-        → IsLinked sources start relax l → RunsAgree sources l.map (linked_image l) }
+    ensures { (start : ℕ) (sources : List (List Statement)) (relax gc : Bool) (l : Linked)
+        → IsLinked sources start relax gc l → RunsAgree sources l.map (linked_image l) }
 {}

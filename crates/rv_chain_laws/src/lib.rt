@@ -18,7 +18,7 @@
 //! ghost use Rattle.rv_chain_laws.specs.Headline.{TheHeadline};
 //!
 //! pub fn build(alloc: Global, sources: &[&[u8]], options: LinkOptions) -> Result<Built, Fault>
-//!     ensures { IfOk result (λ built. TheHeadline (map now_of sources.now) options.text_start options.relax built.exe.items built.map.items) }
+//!     ensures { IfOk result (λ built. TheHeadline (map now_of sources.now) options.text_start options.relax options.gc built.exe.items built.map.items) }
 //! ```
 //!
 //! Source: RISC-V Unprivileged ISA 20191213; RISC-V Assembly Programmer's Manual.

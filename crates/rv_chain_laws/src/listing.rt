@@ -17,8 +17,8 @@ ghost use Rattle.rv_chain_laws.specs.SourceListing.{IsSourceListing};
 /// Where a linked program is that of sources, the listing of its image with its map, by whatever reading of words and
 /// parcels, is the sources' own listing at that map: a text is the one where it is the other.
 pub fn listing_is_the_sources()
-    ensures { (start : ℕ) (sources : List (List Statement)) (relax : Bool) (l : Linked)
-        → IsLinked sources start relax l → (reader : Reader Spells StandsFor) (text : List ℕ)
+    ensures { (start : ℕ) (sources : List (List Statement)) (relax gc : Bool) (l : Linked)
+        → IsLinked sources start relax gc l → (reader : Reader Spells StandsFor) (text : List ℕ)
         → IsListing reader (linked_image l) l.map text
         ↔ IsSourceListing (program sources l.map) text }
 {}

@@ -17,6 +17,7 @@ use Rattle.rv_isa_laws.specs.Run.{machine_run}
 use Rattle.rv_examples.specs.Exit7.{exit7, exit7_map, exits}
 use Rattle.rv_examples.specs.Exit7Executable.{exit7_image, exit7_linked}
 use Rattle.rv_examples.specs.Regions.{code_words}
+use Rattle.rv_examples.proofs.Exit7CollectedLemmas.{collected}
 use Rattle.rv_pseudo_laws.specs.Li.{addi}
 use Rattle.rv_pseudo_laws.specs.Code.{Closed}
 use Rattle.rv_source_laws.specs.Fits.{Fits}
@@ -113,8 +114,9 @@ shortened true = (
   bytes (size_at (sites_of (exit7 ∷ []) exit7_map) (0 ∷ [])),
 )
 
-pub links : (relax : Bool) → IsLinked (exit7 ∷ []) 0x10000 relax exit7_linked
-links relax = record {
+pub links : (relax gc : Bool) → IsLinked (exit7 ∷ []) 0x10000 relax gc exit7_linked
+links relax gc = record {
+  collected = collected gc;
   fits = fits;
   sized = sized;
   shortened = shortened relax;
@@ -163,7 +165,7 @@ links relax = record {
 pub executes : (reader : Reader Spells StandsFor) → machine_run reader (mem_of exit7_image) 0x10000 [] 1000000 ≡ exits 7
 executes reader =
     let run : source_run (exit7 ∷ []) exit7_map [] 1000000 ≡ exits 7 = refl in
-    elim (linked_agrees 0x10000 (exit7 ∷ []) true exit7_linked (links true) reader [] tt 1000000) [
+    elim (linked_agrees 0x10000 (exit7 ∷ []) true true exit7_linked (links true true) reader [] tt 1000000) [
       | inl same ↦ sym same ∙ run
       | inr (astray, front) ↦ absurd (let bad : Exited 7 ≡ Astray = astray in cc)
     ]

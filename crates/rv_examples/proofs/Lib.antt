@@ -4,3 +4,4 @@ pub mod FiguresProgramLemmas
 pub mod KnownCodesLemmas
 pub mod OpenCodesLemmas
 pub mod LeastSizesLemmas
+pub mod Exit7CollectedLemmas

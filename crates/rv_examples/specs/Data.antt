@@ -68,6 +68,7 @@ hello_map = record {
       ∷ global (codes "_end") 0x12000
       ∷ global (codes "__global_pointer$") 0x12800
       ∷ [];
+  drops = [];
   rows = row 1 3 3 0x10000 0 0
       ∷ row 1 4 4 0x10000 4 1
       ∷ row 1 5 5 0x10004 4 1
@@ -162,6 +163,7 @@ figures_map = record {
       ∷ global (codes "_end") 0x11029
       ∷ global (codes "__global_pointer$") 0x11800
       ∷ [];
+  drops = [];
   rows = row 1 2 2 0x10000 0 0
       ∷ row 1 3 3 0x10000 4 1
       ∷ row 1 6 6 0x11000 0 0
@@ -233,6 +235,7 @@ differences_map = record {
       ∷ global (codes "_end") 0x1100c
       ∷ global (codes "__global_pointer$") 0x11800
       ∷ [];
+  drops = [];
   rows = row 1 3 3 0x10000 0 0
       ∷ row 1 4 4 0x10000 4 1
       ∷ row 1 6 6 0x11000 0 0

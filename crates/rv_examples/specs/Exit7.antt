@@ -79,6 +79,7 @@ exit7_map = record {
       ∷ global (codes "_end") 0x11000
       ∷ global (codes "__global_pointer$") 0x11800
       ∷ [];
+  drops = [];
   rows = row 1 3 3 0x10000 0 0
       ∷ row 1 3 4 0x10000 4 1
       ∷ row 1 4 5 0x10004 4 1

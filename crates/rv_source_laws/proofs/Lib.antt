@@ -1,3 +1,4 @@
 pub mod SettlingLemmas
 pub mod HomesLemmas
 pub mod HeldLemmas
+pub mod LeftLemmas

@@ -16,7 +16,9 @@ use Rattle.rv_unit_laws.specs.Faults.{first_fault}
 use Rattle.rv_map.specs.Map.{Map}
 use Rattle.rv_map.specs.declared.map.Row.{Row}
 use Rattle.rv_map.specs.declared.map.Region.{Region}
-use Rattle.rv_source_laws.specs.Located.{Located, located, has_row}
+use Rattle.rv_map.specs.declared.map.SectionId.{SectionId}
+use Rattle.rv_collect_laws.specs.Graph.{is_dropped}
+use Rattle.rv_source_laws.specs.Located.{Located, left, has_row, without_address}
 use Rattle.rv_source_laws.specs.Program.{Mapped, Program, program, form, has_values}
 use Rattle.rv_source_laws.specs.Lines.{expansion, parts, operand_of, field_value, pair_of}
 use Rattle.rv_source_laws.specs.Start.{spelled}
@@ -131,24 +133,26 @@ abbrev pub input_section : Tables → Section → List Mapped → ℕ → ℕ �
 input_section t section mapped file place =
     record { alignment = begins_at t place section; mapped = mapped_in mapped file place }
 
--- the sections of a file that go to a region, from a place on in the file's order
-abbrev pub input_sections_of_file : (Section → Bool) → Tables → List Mapped → ℕ → ℕ →
-    List Section → List InputSection
-input_sections_of_file goes t mapped file place [] = []
-input_sections_of_file goes t mapped file place (section ∷ sections) =
-    let rest = input_sections_of_file goes t mapped file (suc place) sections in
-    if goes section then input_section t section mapped file place ∷ rest else rest
+-- the sections of a file that are kept and go to a region, from a place on in the file's order
+abbrev pub input_sections_of_file : (Section → Bool) → List SectionId → Tables → List Mapped → ℕ →
+    ℕ → List Section → List InputSection
+input_sections_of_file goes drops t mapped file place [] = []
+input_sections_of_file goes drops t mapped file place (section ∷ sections) =
+    let rest = input_sections_of_file goes drops t mapped file (suc place) sections in
+    if goes (without_address (is_dropped drops file place) section)
+    then input_section t section mapped file place ∷ rest else rest
 
 -- the sections that go to a region, in file order and then in the order of the file
-abbrev pub input_sections_of : (Section → Bool) → List Mapped → ℕ → List (List Statement) →
-    List InputSection
-input_sections_of goes mapped file [] = []
-input_sections_of goes mapped file (ss ∷ files) =
-    input_sections_of_file goes (tables ss) mapped file 0 (opened_of (tables ss)).sections
-    ++ input_sections_of goes mapped (suc file) files
+abbrev pub input_sections_of : (Section → Bool) → List SectionId → List Mapped → ℕ →
+    List (List Statement) → List InputSection
+input_sections_of goes drops mapped file [] = []
+input_sections_of goes drops mapped file (ss ∷ files) =
+    input_sections_of_file goes drops (tables ss) mapped file 0 (opened_of (tables ss)).sections
+    ++ input_sections_of goes drops mapped (suc file) files
 
 abbrev pub input_sections : (Section → Bool) → List (List Statement) → Map → List InputSection
-input_sections goes sources m = input_sections_of goes (program sources m).mapped 1 sources
+input_sections goes sources m =
+    input_sections_of goes m.drops (program sources m).mapped 1 sources
 
 -- each row starts where the one before ends
 abbrev pub Follow : ℕ → List Row → Type 0
@@ -188,7 +192,8 @@ greatest (b ∷ bs) = max b.alignment (greatest bs)
 
 -- each statement that has a place has one row, by file and ordinal, and there are no others
 abbrev pub HasRows : List (List Statement) → Map → Type 0
-HasRows sources m = map identity_of_row m.rows ≡ map identity_of (filter has_row (located sources))
+HasRows sources m =
+    map identity_of_row m.rows ≡ map identity_of (filter has_row (left m.drops sources))
 
 -- the map fits the sources, from a text start on
 pub record Fits (sources : List (List Statement)) (m : Map) (text_start : ℕ) : Type 0 where

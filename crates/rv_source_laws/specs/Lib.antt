@@ -9,6 +9,7 @@ pub mod Meaning
 pub mod Fits
 pub mod Sized
 pub mod Shortened
+pub mod Collected
 pub mod Resolves
 pub mod Start
 pub mod SourceRun

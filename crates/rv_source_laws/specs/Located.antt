@@ -1,7 +1,9 @@
 -- The statements of the sources where they stand, and which of them have a row in the map (gABI,
--- "Sections"; GNU as, "Pseudo Ops").
+-- "Sections"; GNU as, "Pseudo Ops"; GNU ld, "--gc-sections").
 
-use Rattle.std.specs.Prelude.{ℕ, suc, Bool, true, false, ◌&&◌, List, [], ◌∷◌, ◌++◌}
+use Rattle.std.specs.Prelude.{ℕ, suc, Bool, true, false, ◌&&◌, List, [], ◌∷◌, ◌++◌, map, if◌then◌else◌}
+use Rattle.rv_map.specs.declared.map.SectionId.{SectionId}
+use Rattle.rv_collect_laws.specs.Graph.{is_dropped}
 use Rattle.rv_statement.specs.Statement.{StatementKind, Label, Numbered, Instruction, Directs, Statement, Directive, Sets}
 use Rattle.rv_unit_laws.specs.Contributions.{Contribution, Nothing, contribution}
 use Rattle.rv_unit_laws.specs.Options.{Options}
@@ -69,6 +71,23 @@ located_of file (ss ∷ files) = located_from file 1 (at_start ss) ss ++ located
 
 abbrev pub located : List (List Statement) → List Located
 located sources = located_of 1 sources
+
+-- ---- without the sections that collection dropped
+
+-- a dropped section has no address
+abbrev pub without_address : Bool → Section → Section
+without_address dropped s = if dropped then record s { loaded = false } else s
+
+-- a statement of a file of which these sections are dropped, by their indices
+abbrev pub masked : (dropped : ℕ → Bool) → Located → Located
+masked dropped s = record s { home = without_address (dropped s.section) s.home }
+
+abbrev pub left_of : List SectionId → Located → Located
+left_of drops s = masked (is_dropped drops s.file) s
+
+-- the statements, and which of them still stand in a section with an address
+abbrev pub left : List SectionId → List (List Statement) → List Located
+left drops sources = map (left_of drops) (located sources)
 
 -- whether the map has a row for the statement
 abbrev pub has_row : Located → Bool

@@ -16,7 +16,7 @@ use Rattle.rv_unit_laws.specs.Contributions.{Numbers, Contribution, Bytes, Zero_
 use Rattle.rv_unit_laws.specs.Tables.{Tables, SectionOffset, Definition, tables, at_start, definition, sure_definition, value as value_in_file}
 use Rattle.rv_map.specs.Map.{Map}
 use Rattle.rv_map.specs.declared.map.Row.{Row}
-use Rattle.rv_source_laws.specs.Located.{Located, located, has_row}
+use Rattle.rv_source_laws.specs.Located.{Located, left, has_row}
 use Rattle.rv_source_laws.specs.Exports.{names_where}
 
 -- a statement with its row, if it has one
@@ -61,7 +61,8 @@ program_at ts statements m =
     record { tables = ts; statements = statements; mapped = mapped_of statements; map = m }
 
 abbrev pub program : List (List Statement) → Map → Program
-program sources m = program_at (map tables sources) (statements_of (located sources) m.rows) m
+program sources m =
+    program_at (map tables sources) (statements_of (left m.drops sources) m.rows) m
 
 -- the tables of a file, which are numbered from 1
 abbrev pub tables_in : Program → ℕ → Tables

@@ -5,7 +5,8 @@
 //! row and the values of its expressions (`Program`), what it does in one step (`Holes`, `Meaning`), the instructions that
 //! stand for it (`Lines`), memory at the start (`Start`), when a map fits the sources (`Fits`), gives their branches the least
 //! sizes (`Sized`, over `Sizes`), shows the calls as short as they can be (`Shortened`) and resolves their names
-//! (`Resolves`), their run (`SourceRun`), and whether they have compressed code (`Compressed`).
+//! (`Resolves`), which sections nothing leads to (`Collected`), their run (`SourceRun`), and whether they have compressed code
+//! (`Compressed`).
 //!
 //! Nothing here runs, and nothing here knows of executables, of the machine's run or of how a linker works.
 //!
