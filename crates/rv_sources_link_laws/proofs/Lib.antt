@@ -4,8 +4,10 @@ pub mod moves
 pub mod sections
 pub mod fields
 pub mod names
+pub mod collected
 pub mod two_files
 pub mod RelaxedLemmas
 pub mod SizedLemmas
 pub mod LinkedLemmas
 pub mod ShortensLemmas
+pub mod JoinsLemmas

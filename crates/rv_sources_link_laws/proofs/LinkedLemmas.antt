@@ -13,8 +13,11 @@ use Rattle.rv_unit_laws.specs.Sections.{Section as SourceSection, is_nobits_type
 use Rattle.rv_unit_laws.specs.Tables.{Tables, tables, at_start, opened_of}
 use Rattle.rv_unit_laws.specs.Faults.{first_fault}
 use Rattle.rv_map.specs.declared.map.Row.{Row as MapRow}
+use Rattle.rv_map.specs.declared.map.SectionId.{SectionId}
 use Rattle.rv_map.specs.Limits.{IsRow}
-use Rattle.rv_source_laws.specs.Located.{Located, has_row, located_of}
+use Rattle.rv_collect_laws.specs.Graph.{AreDrops}
+use Rattle.rv_source_laws.specs.Collected.{graph_of}
+use Rattle.rv_source_laws.specs.Located.{Located, has_row, left_of, located_of}
 use Rattle.rv_source_laws.specs.Program.{Mapped, Program, program}
 use Rattle.rv_source_laws.specs.Fits as source
 use Rattle.rv_source_laws.specs.Fits.{SizeFits}
@@ -36,14 +39,15 @@ use Rattle.rv_assemble_laws.specs.Templates.{Open}
 use Rattle.rv_assemble_laws.specs.Sites.{Site, part_bytes, sites_in, end_of as sites_end}
 use Rattle.rv_assemble_laws.specs.Symbols.{site_at}
 use Rattle.rv_assemble_laws.specs.IsObjectOf.{Numbering, contents_of}
+use Rattle.rv_sources_link_laws.proofs.sections.MaskedLemmas.{masked_sections, source_sections}
 use Rattle.rv_sources_link_laws.proofs.statements.OrderedLemmas.{filled}
 use Rattle.rv_sources_link_laws.proofs.fields.WholesLemmas.{numbers_by, worths_of, AreObjectsAt, objects_at, worths_are, IsSound, sound, StandsAlone, labels, IsWhole, relocated_at}
 use Rattle.rv_sources_link_laws.proofs.names.GlobalsLemmas.{low_rows}
 use Rattle.rv_sources_link_laws.proofs.names.PairLemmas.{AreGiven}
-use Rattle.rv_sources_link_laws.proofs.statements.StatementsLemmas.{AreObjectsOf, renumbered, renumbers, row_in, rows_from, mapped_at, all_rows}
-use Rattle.rv_sources_link_laws.proofs.statements.SettledLemmas.{settled}
+use Rattle.rv_sources_link_laws.proofs.statements.StatementsLemmas.{AreObjectsOf, AreMasked, renumbered, left_file, row_in, rows_from, mapped_at, all_rows}
+use Rattle.rv_sources_link_laws.proofs.statements.SettledLemmas.{settled_left}
 use Rattle.rv_sources_link_laws.proofs.sections.SectionsLemmas.{said, split}
-use Rattle.rv_sources_link_laws.proofs.statements.CodeOfLemmas.{IsFound, found_from, AreCodesOf, code_of, codes}
+use Rattle.rv_sources_link_laws.proofs.statements.CodeOfLemmas.{IsFound, found_left, AreCodesOf, code_of, codes}
 use Rattle.rv_sources_link_laws.proofs.sections.PlacedLemmas.{IsFit}
 use Rattle.rv_sources_link_laws.proofs.sections.RegionsLemmas.{AreGood, IsRegion, region, greatest_same, good_join, good_file}
 use Rattle.rv_sources_link_laws.proofs.sections.FilesLemmas.{plain_of, AreFiles, files, rows_ours}
@@ -143,15 +147,14 @@ mark_own starts file (s ∷ ss) more others e = go (has_row s.located) (mark_own
     go true ih = ap (λ (l : List source.Identity). source.identity_of (renumbered file s.located) ∷ l) ih
     go false ih = ih
 
-marks : (starts : Starts) (file : ℕ) (sources : List (List Statement)) (os : List Object) (h : AreObjectsOf sources os)
-    → map source.identity_of_row (all_rows starts file sources os h) ≡ map source.identity_of (filter has_row (located_of file sources))
-marks starts file [] [] h = refl
-marks starts file [] (o ∷ os) h = absurd h
-marks starts file (ss ∷ sources) [] h = absurd h
-marks starts file (ss ∷ sources) (o ∷ os) (is, h) =
-    mark_own starts file is.sites (all_rows starts (suc file) sources os h) (located_of (suc file) sources) (marks starts (suc file) sources os h)
-    ∙ ap (λ l. map source.identity_of (filter has_row (l ++ located_of (suc file) sources)))
-    (ap (map (renumbered file)) is.located ∙ sym (renumbers file 1 (at_start ss) ss))
+marks : (starts : Starts) (drops : List SectionId) (file : ℕ) (sources : List (List Statement)) (os : List Object) (h : AreObjectsOf sources os) → AreMasked drops file sources os h
+    → map source.identity_of_row (all_rows starts file sources os h) ≡ map source.identity_of (filter has_row (map (left_of drops) (located_of file sources)))
+marks starts drops file [] [] h masks = refl
+marks starts drops file [] (o ∷ os) h masks = absurd h
+marks starts drops file (ss ∷ sources) [] h masks = absurd h
+marks starts drops file (ss ∷ sources) (o ∷ os) (is, h) (own, masks) =
+    mark_own starts file is.sites (all_rows starts (suc file) sources os h) (map (left_of drops) (located_of (suc file) sources)) (marks starts drops (suc file) sources os h masks)
+    ∙ ap (λ l. map source.identity_of (filter has_row l)) (sym (left_file drops file ss sources is.dropped own is.sites is.located))
 
 good_all : (sources : List (List Statement)) (os : List Object) → AreObjectsOf sources os → AllByRecursion (λ ss. first_fault ss ≡ None) sources
 good_all [] [] h = tt
@@ -161,7 +164,7 @@ good_all (ss ∷ sources) (o ∷ os) (is, h) = (no_first_fault ss is.good, good_
 
 -- ---- all regions
 
-module _ (sources : List (List Statement)) (os : List Object) (text_start : ℕ) (l : Linked) (h : AreObjectsOf sources os) (link : IsLinkOf os text_start l)
+module _ (sources : List (List Statement)) (os : List Object) (text_start : ℕ) (l : Linked) (h : AreObjectsOf sources os) (masks : AreMasked l.map.drops 1 sources os h) (link : IsLinkOf os text_start l)
     (given : AreGiven (program sources l.map) os) where
   abbrev p : Program
   p = program sources l.map
@@ -194,14 +197,15 @@ module _ (sources : List (List Statement)) (os : List Object) (text_start : ℕ)
       (spell : (file : ℕ) (s : SourceSection) (z : Site) → goes_source s ≡ true → z.located.home ≡ s → IsFit p starts bytes_of worths file z
       → spells (mapped_at starts file z) ≡ said p file (worths file) z)
       (fitted : (file : ℕ) (s : SourceSection) (z : Site) → goes_source s ≡ true → z.located.home ≡ s → IsFit p starts bytes_of worths file z → P (mapped_at starts file z)) where
-    good_files : (file : ℕ) (srcs : List (List Statement)) (us : List Object) (k : AreObjectsOf srcs us) → AreFiles p starts file srcs us k → AreObjectsAt os numbers file srcs us k → AllByRecursion IsRow (all_rows starts file srcs us k)
+    good_files : (file : ℕ) (srcs : List (List Statement)) (us : List Object) (k : AreObjectsOf srcs us) → AreMasked l.map.drops file srcs us k → AreFiles p starts file srcs us k → AreObjectsAt os numbers file srcs us k → AllByRecursion IsRow (all_rows starts file srcs us k)
         → AreCodesOf starts says bytes_of file srcs us k → AllByRecursion Q (inputs_of is_loaded file us)
-        → AreGood p os starts spells stores P (inputs_of goes file us) (source.input_sections_of goes_source p.mapped file srcs)
-    good_files file [] [] k f g rows c r = tt
-    good_files file [] (o ∷ us) k f g rows c r = absurd k
-    good_files file (ss ∷ srcs) [] k f g rows c r = absurd k
-    good_files file (ss ∷ srcs) (o ∷ us) (is, k) (f, fs) (g, gs) rows (c, cs) r =
-        let sections = (opened_of (tables ss)).sections in
+        → AreGood p os starts spells stores P (inputs_of goes file us) (source.input_sections_of goes_source l.map.drops p.mapped file srcs)
+    good_files file [] [] k m f g rows c r = tt
+    good_files file [] (o ∷ us) k m f g rows c r = absurd k
+    good_files file (ss ∷ srcs) [] k m f g rows c r = absurd k
+    good_files file (ss ∷ srcs) (o ∷ us) (is, k) (m, ms) (f, fs) (g, gs) rows (c, cs) r =
+        let opened = (opened_of (tables ss)).sections in
+        let sections = source_sections is.dropped ss in
         let both = split Q (inputs_from is_loaded file o 0 o.sections) (inputs_of is_loaded (suc file) us) r in
         let are = subst (λ t. AreSectionsOf t is.sites is.number o.symbols 0 sections o.sections) (sym f.tables) is.sections in
         let two = split IsRow (rows_from starts file is.sites) (all_rows starts (suc file) srcs us k) rows in
@@ -209,26 +213,26 @@ module _ (sources : List (List Statement)) (os : List Object) (text_start : ℕ)
           object = g.object;
           mapped = f.mapped;
           low = low_rows starts file is.sites two.0;
-          sound = subst (λ t. AllByRecursion (λ z. IsSound t z.located) is.sites) (sym f.tables) (sound ss is.sites is.good is.located);
+          sound = subst (λ t. AllByRecursion (λ z. IsSound t z.located) is.sites) (sym f.tables) (sound ss is.sites is.dropped is.good is.located);
           labels = subst StandsAlone (sym f.tables) (labels ss);
           given = given;
           worth = worths_are p os starts numbers file o is.number g;
           stands = f.stands;
-          itself = all_map (IsFound 1 is.sites) (λ z. site_at is.sites z.located.ordinal ≡ Some z) is.sites (λ z k. k.1) (found_from 1 (at_start ss) ss is.sites is.located);
+          itself = all_map (IsFound 1 is.sites) (λ z. site_at is.sites z.located.ordinal ≡ Some z) is.sites (λ z k. k.1) (found_left 1 (at_start ss) ss is.dropped is.sites is.located);
           relocated = λ j x at loaded.
               subst (λ n. Q (record { file = file; object = o; index = n; section = x })) (let e : 0 + j ≡ j = omega arith in e)
               (relocated_at is_loaded Q file o 0 o.sections both.0 j x at loaded);
         } in
-        let own = good_file p os starts spells stores P bytes_of worths goes goes_source loads same_by holds spell fitted file is.sites is.number o sections
-        link.readable.globals are (settled ss is.sites is.good is.located) whole c (plain_of ss o is) f.address both.0 in
+        let own = good_file p os starts spells stores P bytes_of worths goes goes_source loads same_by holds spell fitted l.map.drops file is.sites is.number o opened sections
+        (ap (λ (d : ℕ → Bool). masked_sections d 0 opened) m) link.readable.globals are (settled_left ss is.sites is.dropped is.good is.located) whole c (plain_of ss o is) f.address both.0 in
         good_join p os starts spells stores P (inputs_from goes file o 0 o.sections) (inputs_of goes (suc file) us)
-        (source.input_sections_of_file goes_source (tables ss) p.mapped file 0 sections) (source.input_sections_of goes_source p.mapped (suc file) srcs)
-        (subst (λ t. AreGood p os starts spells stores P (inputs_from goes file o 0 o.sections) (source.input_sections_of_file goes_source t p.mapped file 0 sections)) f.tables own)
-        (good_files (suc file) srcs us k fs gs two.1 cs both.1)
+        (source.input_sections_of_file goes_source l.map.drops (tables ss) p.mapped file 0 opened) (source.input_sections_of goes_source l.map.drops p.mapped (suc file) srcs)
+        (subst (λ t. AreGood p os starts spells stores P (inputs_from goes file o 0 o.sections) (source.input_sections_of_file goes_source l.map.drops t p.mapped file 0 opened)) f.tables own)
+        (good_files (suc file) srcs us k ms fs gs two.1 cs both.1)
 
     pub good_region : AreGood p os starts spells stores P (inputs goes os) (source.input_sections goes_source sources l.map)
-    good_region = good_files 1 sources os h (files sources os l.map starts h link.rows) (objects_at sources os h)
-        (subst (λ rows. AllByRecursion IsRow rows) (rows_ours sources os l.map starts h link.rows) link.readable.rows) (codes starts says sources os h) link.relocated
+    good_region = good_files 1 sources os h masks (files sources os l.map starts h masks link.rows) (objects_at sources os h)
+        (subst (λ rows. AllByRecursion IsRow rows) (rows_ours sources os l.map starts h masks link.rows) link.readable.rows) (codes starts says sources os h) link.relocated
 
   -- ---- each of them
 
@@ -279,8 +283,8 @@ module _ (sources : List (List Statement)) (os : List Object) (text_start : ℕ)
 
   -- ---- sizes, by the regions
 
-  at_home : AllByRecursion (IsAtHome (sections_in sources)) p.mapped
-  at_home = homes sources l.map.rows
+  at_home : AllByRecursion (IsAtHome l.map.drops (sections_in sources)) p.mapped
+  at_home = homes l.map.drops sources l.map.rows
 
   abbrev In : (SourceSection → Bool) → (Mapped → Type 0) → Mapped → Type 0
   In goes P s = goes s.located.home ≡ true → P s
@@ -298,20 +302,20 @@ module _ (sources : List (List Statement)) (os : List Object) (text_start : ℕ)
       go false false true x y z = d (whole false false true x y z (λ a b c d. a && not b && not c && d))
       go false false false x y z = g (whole false false false x y z (λ a b c d. a && not b && not c && not d))
 
-  sizes_by : (ms : List Mapped) → AllByRecursion (IsAtHome (sections_in sources)) ms → AllByRecursion (In goes_to_text Written) ms → AllByRecursion (In goes_to_rodata Fit) ms
+  sizes_by : (ms : List Mapped) → AllByRecursion (IsAtHome l.map.drops (sections_in sources)) ms → AllByRecursion (In goes_to_text Written) ms → AllByRecursion (In goes_to_rodata Fit) ms
       → AllByRecursion (In goes_to_data Fit) ms → AllByRecursion (In goes_to_bss Fit) ms → AllByRecursion (SizeFits p) ms
   sizes_by [] h f g d b = tt
   sizes_by (m ∷ ms) (h, hs) (f, fs) (g, gs) (d, ds) (b, bs) =
       (one_of_four m.located.home h.1 (SizeFits p m) (λ e. (f e).0) g d b, sizes_by ms hs fs gs ds bs)
 
   in_text : AllByRecursion (In goes_to_text Written) p.mapped
-  in_text = from_blocks p.mapped sources goes_to_text Written at_home text_region.each
+  in_text = from_blocks l.map.drops p.mapped sources goes_to_text Written at_home text_region.each
 
   sizes : AllByRecursion (SizeFits p) p.mapped
-  sizes = sizes_by p.mapped at_home in_text (from_blocks p.mapped sources goes_to_rodata Fit at_home rodata_region.each)
-      (from_blocks p.mapped sources goes_to_data Fit at_home data_region.each) (from_blocks p.mapped sources goes_to_bss Fit at_home bss_region.each)
+  sizes = sizes_by p.mapped at_home in_text (from_blocks l.map.drops p.mapped sources goes_to_rodata Fit at_home rodata_region.each)
+      (from_blocks l.map.drops p.mapped sources goes_to_data Fit at_home data_region.each) (from_blocks l.map.drops p.mapped sources goes_to_bss Fit at_home bss_region.each)
 
-  written_by : (ms : List Mapped) → AllByRecursion (IsAtHome (sections_in sources)) ms → AllByRecursion (In goes_to_text Written) ms
+  written_by : (ms : List Mapped) → AllByRecursion (IsAtHome l.map.drops (sections_in sources)) ms → AllByRecursion (In goes_to_text Written) ms
       → AllByRecursion (λ s. IsTrue s.located.home.executable → IsWritten p s (bytes_of s)) ms
   written_by [] h f = tt
   written_by (m ∷ ms) (h, hs) (f, fs) =
@@ -323,7 +327,7 @@ module _ (sources : List (List Statement)) (os : List Object) (text_start : ℕ)
   fits : source.Fits sources l.map text_start
   fits = record {
     good = good_all sources os h;
-    rows = ap (map source.identity_of_row) (rows_ours sources os l.map starts h link.rows) ∙ marks starts 1 sources os h;
+    rows = ap (map source.identity_of_row) (rows_ours sources os l.map starts h masks link.rows) ∙ marks starts l.map.drops 1 sources os h masks;
     sizes = sizes;
     text = (link.text.0, text_region.stand, link.text.2 ∙ text_region.end);
     gaps = link.gaps ∙ text_region.gaps;
@@ -333,8 +337,9 @@ module _ (sources : List (List Statement)) (os : List Object) (text_start : ℕ)
   }
 
   -- where the names resolve
-  pub linked : (relax : Bool) → Sized sources l.map → Shortened relax sources l.map → Resolves sources l.map → IsLinked sources text_start relax l
-  linked relax sized shortened resolves = record {
+  pub linked : (relax gc : Bool) → AreDrops gc (graph_of sources) l.map.drops → Sized sources l.map → Shortened relax sources l.map → Resolves sources l.map → IsLinked sources text_start relax gc l
+  linked relax gc collected sized shortened resolves = record {
+    collected = collected;
     fits = fits;
     sized = sized;
     shortened = shortened;

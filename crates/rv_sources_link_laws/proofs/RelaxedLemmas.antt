@@ -9,6 +9,8 @@ use Rattle.rv_unit_laws.specs.Tables.{tables, at_start}
 use Rattle.rv_source_laws.specs.Program.{Program, program}
 use Rattle.rv_source_laws.specs.Fits as source
 use Rattle.rv_image.specs.Linked.{Linked}
+use Rattle.rv_collect_laws.specs.Graph.{AreDrops}
+use Rattle.rv_source_laws.specs.Collected.{graph_of}
 use Rattle.rv_source_laws.specs.Sized.{Sized}
 use Rattle.rv_source_laws.specs.Shortened.{Shortened, HaveBytes, text_of}
 use Rattle.rv_chain_laws.specs.Contents.{IsLinked}
@@ -18,10 +20,10 @@ use Rattle.rv_object_laws.specs.Inputs.{Starts, InputSection, goes_to_text, inpu
 use Rattle.rv_object_laws.specs.IsLinkOf.{IsLinkOf}
 use Rattle.rv_object_laws.specs.Shortened.{Sizes}
 use Rattle.rv_assemble_laws.specs.Sites.{Site}
-use Rattle.rv_sources_link_laws.specs.Joins.{AreObjectsOf}
+use Rattle.rv_sources_link_laws.proofs.sections.KeptLemmas.{AreKept, AreMasked}
 use Rattle.rv_sources_link_laws.proofs.sections.AssembledLemmas.{AreAssembled}
 use Rattle.rv_sources_link_laws.proofs.sections.FilesLemmas.{AreFiles, files, statements_ours}
-use Rattle.rv_sources_link_laws.proofs.calls.FinalsLemmas.{IsResized, AreCut, AreFinal, all_final}
+use Rattle.rv_sources_link_laws.proofs.calls.FinalsLemmas.{IsResized, AreCut, AreFinal, all_final, all_masked}
 use Rattle.rv_sources_link_laws.proofs.names.JoinedLemmas.{given, resolves}
 use Rattle.rv_sources_link_laws.proofs.LinkedLemmas.{linked}
 use Rattle.rv_sources_link_laws.proofs.moves.MovedLemmas.{all_map}
@@ -32,14 +34,14 @@ use Rattle.rv_sources_link_laws.proofs.moves.ShrunkLinkLemmas.{shrunk_link}
 use Rattle.rv_sources_link_laws.proofs.moves.ShrinksLemmas.{Begun, begun_all, objects_shrink, all_begin, all_tidy}
 use Rattle.rv_sources_link_laws.proofs.moves.ShrunkLemmas as shrunk
 use Rattle.rv_sources_link_laws.proofs.SizedLemmas.{sized_from}
-use Rattle.rv_sources_link_laws.proofs.calls.UncutLemmas.{IsUncut, uncut, assembled_sites, all_assembled}
+use Rattle.rv_sources_link_laws.proofs.calls.UncutLemmas.{IsUncut, all_uncut, assembled_sites, assembled_dropped, all_assembled}
 
 tables_by : (sources : List (List Statement)) (i : ℕ) → slice_index_or (map tables sources) i (at_start []) ≡ tables (slice_index_or sources i [])
 tables_by [] i = refl
 tables_by (ss ∷ sources) zero = refl
 tables_by (ss ∷ sources) (suc i) = tables_by sources i
 
-module _ (sources : List (List Statement)) (os : List Object) (text_start : ℕ) (l : Linked) (h : AreObjectsOf sources os) (us : List Object) (k : AreAssembled sources us)
+module _ (sources : List (List Statement)) (os : List Object) (text_start : ℕ) (l : Linked) (h : AreKept sources os) (masks : AreMasked l.map.drops 1 sources os h) (us : List Object) (k : AreAssembled sources us)
     (sizes : ℕ → ℕ → Sizes) (c : AreCut sizes 1 sources os h us k) (link : IsLinkOf us text_start l) where
   abbrev pub p : Program
   p = program sources l.map
@@ -63,8 +65,11 @@ module _ (sources : List (List Statement)) (os : List Object) (text_start : ℕ)
   abbrev pub starts : Starts
   starts = made.starts
 
+  pub left_masks : shrunk.AreMasked l.map.drops 1 sources ws are
+  left_masks = all_masked l.map.drops link.starts sizes 1 sources os h us k c masks begun
+
   pub are_files : AreFiles p starts 1 sources ws are
-  are_files = files sources ws l.map starts are made.rows
+  are_files = files sources ws l.map starts are left_masks made.rows
 
   -- the statements of each file
   abbrev pub at : ℕ → List Site
@@ -72,12 +77,12 @@ module _ (sources : List (List Statement)) (os : List Object) (text_start : ℕ)
 
   pub are_pieces : ArePieces p starts at sizes (inputs goes_to_text os) (source.input_sections source_text sources l.map)
   are_pieces =
-      pieces p starts at sizes 1 sources os h ws are finals are_files (λ i. ap (sites_by sources os h) (let e : 1 + i - 1 ≡ i = omega arith in e))
+      pieces p starts at sizes l.map.drops 1 sources os h masks ws are finals are_files (λ i. ap (sites_by sources os h) (let e : 1 + i - 1 ≡ i = omega arith in e))
 
   sized : Sized sources l.map
   sized =
       sized_from starts p sizes 1 sources os h ws are finals
-      (λ f low. ap (λ es. filter (λ e. e.located.file == f) es) (statements_ours sources ws l.map starts are made.rows))
+      (λ f low. ap (λ es. filter (λ e. e.located.file == f) es) (statements_ours sources ws l.map starts are left_masks made.rows))
       (λ i. ap (λ n. slice_index_or (map tables sources) n (at_start [])) (let e : 1 + i - 1 ≡ i = omega arith in e) ∙ tables_by sources i)
 
   -- the rows of calls
@@ -87,22 +92,24 @@ module _ (sources : List (List Statement)) (os : List Object) (text_start : ℕ)
       subst (HaveBytes size) (sym (text_is p starts at sizes 0 (inputs goes_to_text os) (source.input_sections source_text sources l.map) are_pieces))
       (have_bytes p starts at sizes size 0 (inputs goes_to_text os) (source.input_sections source_text sources l.map) are_pieces (apart p starts at sizes 1 os) by)
 
-  pub joined : (relax : Bool) → Shortened relax sources l.map → IsLinked sources text_start relax l
-  joined relax shortened = linked sources ws text_start l are made (given sources ws text_start l are made) relax sized shortened (resolves sources ws text_start l are made)
+  pub joined : (relax gc : Bool) → AreDrops gc (graph_of sources) l.map.drops → Shortened relax sources l.map → IsLinked sources text_start relax gc l
+  joined relax gc collected shortened =
+      linked sources ws text_start l are left_masks made (given sources ws text_start l are left_masks made) relax gc collected sized shortened (resolves sources ws text_start l are left_masks made)
 
 -- ---- without relaxation
 
-whole_from : (file : ℕ) (sources : List (List Statement)) (os : List Object) (h : AreObjectsOf sources os) → AreCut (λ f j n. 8) file sources os h os (all_assembled sources os h)
+whole_from : (file : ℕ) (sources : List (List Statement)) (os : List Object) (h : AreKept sources os) → AreCut (λ f j n. 8) file sources os h os (all_assembled sources os h)
 unfolding all_assembled
 whole_from file [] [] h = tt
 whole_from file [] (o ∷ os) h = absurd h
 whole_from file (ss ∷ sources) [] h = absurd h
 whole_from file (ss ∷ sources) (o ∷ os) (is, h) = (
   record {
+    dropped = assembled_dropped ss o is;
     mv = λ z. z;
     sites = assembled_sites ss o is ∙ sym (map_same is.sites);
     stays = λ z. refl;
-    resized = all_map IsUncut (λ z. IsResized (λ j n. 8) z z) is.sites (λ z e. ((λ text call. e call), (λ call. refl))) (uncut ss o is);
+    resized = all_map IsUncut (λ z. IsResized (λ j n. 8) z z) is.sites (λ z e. ((λ text call. e call), (λ call. refl))) (all_uncut ss o is);
   },
   whole_from (suc file) sources os h,
 )
@@ -115,10 +122,11 @@ eight_all : (size : ℕ → ℕ) → ((n : ℕ) → size n ≡ 8) → (offset : 
 eight_all size e offset [] = tt
 eight_all size e offset (i ∷ is) = ((λ n. sym (e (offset i n))), eight_all size e offset is)
 
-pub unrelaxed : (sources : List (List Statement)) (os : List Object) (text_start : ℕ) (l : Linked) → AreObjectsOf sources os → IsLinkOf os text_start l → IsLinked sources text_start false l
-unrelaxed sources os text_start l h link =
+pub unrelaxed : (sources : List (List Statement)) (os : List Object) (text_start : ℕ) (gc : Bool) (l : Linked) (h : AreKept sources os) → AreMasked l.map.drops 1 sources os h → AreDrops gc (graph_of sources) l.map.drops
+    → IsLinkOf os text_start l → IsLinked sources text_start false gc l
+unrelaxed sources os text_start gc l h masks collected link =
     let k = all_assembled sources os h in
     let c = whole_from 1 sources os h in
-    joined sources os text_start l h os k (λ f j n. 8) c link false
-    (bytes_of_calls sources os text_start l h os k (λ f j n. 8) c link (λ n. 8)
+    joined sources os text_start l h masks os k (λ f j n. 8) c link false gc collected
+    (bytes_of_calls sources os text_start l h masks os k (λ f j n. 8) c link (λ n. 8)
     (eight_all (λ n. 8) (λ n. refl) (λ i n. 0 + base_in (inputs goes_to_text os) i.file i.index + n) (inputs goes_to_text os)))

@@ -9,9 +9,11 @@ use Rattle.rv_layout_laws.specs.Sites.{padding_site, size_at}
 use Rattle.rv_text_laws.specs.Expression.{Primary}
 use Rattle.rv_statement.specs.Statement.{Statement}
 use Rattle.rv_unit_laws.specs.Sections.{Section as SourceSection, goes_to_text as source_text}
-use Rattle.rv_unit_laws.specs.Tables.{tables, opened_of}
+use Rattle.rv_unit_laws.specs.Tables.{tables}
 use Rattle.rv_layout_laws.specs.declared.site.Site.{Site as Spot}
 use Rattle.rv_layout_laws.specs.Calls.{IsGreatestClosed, is_call as is_call_spot}
+use Rattle.rv_collect_laws.specs.Graph.{AreDrops}
+use Rattle.rv_source_laws.specs.Collected.{graph_of}
 use Rattle.rv_source_laws.specs.Located.{Located, has_row}
 use Rattle.rv_source_laws.specs.Compressed.{is_compressed_code}
 use Rattle.rv_source_laws.specs.Program.{MaybeMapped, Program, program}
@@ -29,13 +31,14 @@ use Rattle.rv_object_laws.specs.Names.{symbol_place}
 use Rattle.rv_object_laws.specs.Shortened.{Sizes, sizes_by, shortened_object, shortened_from, shortened, IsRelaxed, Relaxes}
 use Rattle.rv_assemble_laws.specs.Sites.{Site, part_bytes, sites_in}
 use Rattle.rv_assemble_laws.specs.Symbols.{site_at, StandsFor}
-use Rattle.rv_assemble_laws.specs.IsObjectOf.{IsObjectOf, relocations_from}
-use Rattle.rv_sources_link_laws.specs.Joins.{AreObjectsOf}
+use Rattle.rv_assemble_laws.specs.IsObjectOf.{relocations_from}
+use Rattle.rv_sources_link_laws.proofs.sections.KeptLemmas.{IsKept, AreKept, AreMasked}
+use Rattle.rv_sources_link_laws.proofs.sections.MaskedLemmas.{source_sections}
 use Rattle.rv_sources_link_laws.proofs.sections.AssembledLemmas.{IsAssembled, AreAssembled, AreSectionsOf, IsSectionOf, parts}
 use Rattle.rv_sources_link_laws.proofs.sections.BoundedLemmas.{text_short}
 use Rattle.rv_sources_link_laws.proofs.calls.ChangesOfLemmas as changed
 use Rattle.rv_sources_link_laws.proofs.calls.CutObjectsLemmas as cut
-use Rattle.rv_sources_link_laws.proofs.calls.CutObjectsLemmas.{Fitting, cut_is, cut_sites}
+use Rattle.rv_sources_link_laws.proofs.calls.CutObjectsLemmas.{Fitting, cut_is, cut_sites, cut_dropped}
 use Rattle.rv_sources_link_laws.proofs.calls.CutSectionsLemmas.{stored_is}
 use Rattle.rv_sources_link_laws.proofs.sections.FilesLemmas.{AreFiles, statements_ours}
 use Rattle.rv_sources_link_laws.proofs.calls.FinalsLemmas.{IsResized, AreCut, AreFinal}
@@ -49,25 +52,25 @@ use Rattle.rv_sources_link_laws.proofs.statements.SettledLemmas.{IsSettled, site
 use Rattle.rv_sources_link_laws.proofs.moves.ShrinkingLemmas.{AreAt, all_at}
 use Rattle.rv_sources_link_laws.proofs.moves.ShrunkLemmas as shrunk
 use Rattle.rv_sources_link_laws.proofs.statements.StatementsLemmas.{renumbered, statement_at, all_statements}
-use Rattle.rv_sources_link_laws.proofs.sections.StoodLemmas.{IsAside, not_entered, stood}
+use Rattle.rv_sources_link_laws.proofs.sections.StoodLemmas.{IsAside, not_entered}
 use Rattle.rv_sources_link_laws.proofs.fields.TargetsLemmas as targets
 use Rattle.rv_sources_link_laws.proofs.fields.TargetsLemmas.{section_of, all_settled}
-use Rattle.rv_sources_link_laws.proofs.calls.UncutLemmas.{IsUncut, uncut, sections_same, assembled, assembled_sites}
+use Rattle.rv_sources_link_laws.proofs.calls.UncutLemmas.{IsUncut, all_uncut, sections_same, assembled, assembled_sites, assembled_dropped}
 use Rattle.rv_sources_link_laws.proofs.fields.WholesLemmas.{IsSound, sound}
 
 -- ---- the objects with their calls shortened
 
 module _ (sizes : ℕ → ℕ → Sizes) where
   -- each call has a form
-  abbrev AreFitting : ℕ → (sources : List (List Statement)) (us : List Object) → AreObjectsOf sources us → Type 0
+  abbrev AreFitting : ℕ → (sources : List (List Statement)) (us : List Object) → AreKept sources us → Type 0
   AreFitting file [] [] h = ⊤
   AreFitting file [] (o ∷ us) h = absurd h
   AreFitting file (ss ∷ sources) [] h = absurd h
   AreFitting file (ss ∷ sources) (o ∷ us) (is, h) = AllByRecursion (Fitting (sizes file)) is.sites × AreFitting (suc file) sources us h
 
-  module _ (ss : List Statement) (o : Object) (is : IsObjectOf ss o) (its : ℕ → Sizes) (fit : AllByRecursion (Fitting its) is.sites) where
+  module _ (ss : List Statement) (o : Object) (is : IsKept ss o) (its : ℕ → Sizes) (fit : AllByRecursion (Fitting its) is.sites) where
     whole_uncut : AllByRecursion IsUncut (assembled ss o is).sites
-    whole_uncut = subst (λ l. AllByRecursion IsUncut l) (sym (assembled_sites ss o is)) (uncut ss o is)
+    whole_uncut = subst (λ l. AllByRecursion IsUncut l) (sym (assembled_sites ss o is)) (all_uncut ss o is)
 
     whole_fit : AllByRecursion (Fitting its) (assembled ss o is).sites
     whole_fit = subst (λ l. AllByRecursion (Fitting its) l) (sym (assembled_sites ss o is)) fit
@@ -78,22 +81,25 @@ module _ (sizes : ℕ → ℕ → Sizes) where
     one_sites : one.sites ≡ map (cut.mv its o) is.sites
     one_sites = cut_sites ss o (assembled ss o is) whole_uncut its whole_fit ∙ ap (map (cut.mv its o)) (assembled_sites ss o is)
 
+    one_dropped : one.dropped ≡ is.dropped
+    one_dropped = cut_dropped ss o (assembled ss o is) whole_uncut its whole_fit ∙ assembled_dropped ss o is
+
     one_resized : AllByRecursion (λ z. IsResized its z (cut.mv its o z)) is.sites
     one_resized = subst (λ l. AllByRecursion (λ z. IsResized its z (cut.mv its o z)) l) (assembled_sites ss o is) (cut.all_resized ss o (assembled ss o is) whole_uncut its whole_fit)
 
-  unfoldable cut_all : (file : ℕ) (sources : List (List Statement)) (us : List Object) (h : AreObjectsOf sources us) → AreFitting file sources us h → AreAssembled sources (shortened_from sizes file us)
+  unfoldable cut_all : (file : ℕ) (sources : List (List Statement)) (us : List Object) (h : AreKept sources us) → AreFitting file sources us h → AreAssembled sources (shortened_from sizes file us)
   cut_all file [] [] h f = tt
   cut_all file [] (o ∷ us) h f = absurd h
   cut_all file (ss ∷ sources) [] h f = absurd h
   cut_all file (ss ∷ sources) (o ∷ us) (is, h) (f, fs) = (one ss o is (sizes file) f, cut_all (suc file) sources us h fs)
 
-  are_cut : (file : ℕ) (sources : List (List Statement)) (us : List Object) (h : AreObjectsOf sources us) (f : AreFitting file sources us h) → AreCut sizes file sources us h (shortened_from sizes file us) (cut_all file sources us h f)
+  are_cut : (file : ℕ) (sources : List (List Statement)) (us : List Object) (h : AreKept sources us) (f : AreFitting file sources us h) → AreCut sizes file sources us h (shortened_from sizes file us) (cut_all file sources us h f)
   unfolding cut_all
   are_cut file [] [] h f = tt
   are_cut file [] (o ∷ us) h f = absurd h
   are_cut file (ss ∷ sources) [] h f = absurd h
   are_cut file (ss ∷ sources) (o ∷ us) (is, h) (f, fs) = (
-    record { mv = cut.mv (sizes file) o; sites = one_sites ss o is (sizes file) f; stays = λ z. refl; resized = one_resized ss o is (sizes file) f },
+    record { dropped = one_dropped ss o is (sizes file) f; mv = cut.mv (sizes file) o; sites = one_sites ss o is (sizes file) f; stays = λ z. refl; resized = one_resized ss o is (sizes file) f },
     are_cut (suc file) sources us h fs,
   )
 
@@ -125,7 +131,7 @@ module _ (starts : Starts) (sizes : ℕ → ℕ → Sizes) where
       ∙ no_flags (suc k) f (omega (arith, l)) sources ws q
 
   -- the flag of the file after so many others
-  flags_by : (k i : ℕ) (sources : List (List Statement)) (os : List Object) (h : AreObjectsOf sources os) (ws : List Object) (q : shrunk.AreObjectsOf sources ws) → AreFinal sizes k sources os h ws q
+  flags_by : (k i : ℕ) (sources : List (List Statement)) (os : List Object) (h : AreKept sources os) (ws : List Object) (q : shrunk.AreObjectsOf sources ws) → AreFinal sizes k sources os h ws q
       → list_any (is_flagged (k + i)) (all_statements starts k sources ws q) ≡ list_any (λ z. is_compressed_code z.located) (sites_by sources os h i)
   flags_by k i [] [] h [] q c = refl
   flags_by k i [] [] h (w ∷ ws) q c = absurd q
@@ -183,22 +189,22 @@ module _ (p : Program) (starts : Starts) (at : ℕ → List Site) (sizes : ℕ �
 
 -- ---- the sites of sources are those of their objects
 
-module _ (sources : List (List Statement)) (os : List Object) (text_start : ℕ) (l : Linked) (h : AreObjectsOf sources os) (us : List Object) (k : AreAssembled sources us)
+module _ (sources : List (List Statement)) (os : List Object) (text_start : ℕ) (l : Linked) (h : AreKept sources os) (masks : AreMasked l.map.drops 1 sources os h) (us : List Object) (k : AreAssembled sources us)
     (sizes : ℕ → ℕ → Sizes) (c : AreCut sizes 1 sources os h us k) (link : IsLinkOf us text_start l) where
   abbrev p : Program
   p = program sources l.map
 
   abbrev starts : Starts
-  starts = relaxed.starts sources os text_start l h us k sizes c link
+  starts = relaxed.starts sources os text_start l h masks us k sizes c link
 
   abbrev at : ℕ → List Site
-  at = relaxed.at sources os text_start l h us k sizes c link
+  at = relaxed.at sources os text_start l h masks us k sizes c link
 
   abbrev ws : List Object
-  ws = relaxed.ws sources os text_start l h us k sizes c link
+  ws = relaxed.ws sources os text_start l h masks us k sizes c link
 
   are : shrunk.AreObjectsOf sources ws
-  are = relaxed.are sources os text_start l h us k sizes c link
+  are = relaxed.are sources os text_start l h masks us k sizes c link
 
   abbrev bs : List source.InputSection
   bs = source.input_sections source_text sources l.map
@@ -207,22 +213,22 @@ module _ (sources : List (List Statement)) (os : List Object) (text_start : ℕ)
   text = text_of sources l.map
 
   pieces_are : ArePieces p starts at sizes (inputs goes_to_text os) bs
-  pieces_are = relaxed.are_pieces sources os text_start l h us k sizes c link
+  pieces_are = relaxed.are_pieces sources os text_start l h masks us k sizes c link
 
   text_line : text ≡ lines p starts at sizes 0 (inputs goes_to_text os) bs pieces_are
   text_line = text_is p starts at sizes 0 (inputs goes_to_text os) bs pieces_are
 
-  finals : AreFinal sizes 1 sources os h ws (relaxed.are sources os text_start l h us k sizes c link)
-  finals = relaxed.finals sources os text_start l h us k sizes c link
+  finals : AreFinal sizes 1 sources os h ws (relaxed.are sources os text_start l h masks us k sizes c link)
+  finals = relaxed.finals sources os text_start l h masks us k sizes c link
 
-  statements : p.statements ≡ all_statements starts 1 sources ws (relaxed.are sources os text_start l h us k sizes c link)
-  statements = statements_ours sources ws l.map starts (relaxed.are sources os text_start l h us k sizes c link) (relaxed.made sources os text_start l h us k sizes c link).rows
+  statements : p.statements ≡ all_statements starts 1 sources ws (relaxed.are sources os text_start l h masks us k sizes c link)
+  statements = statements_ours sources ws l.map starts (relaxed.are sources os text_start l h masks us k sizes c link) (relaxed.left_masks sources os text_start l h masks us k sizes c link) (relaxed.made sources os text_start l h masks us k sizes c link).rows
 
   -- what is known of each file
-  abbrev AreHere : ℕ → (ts : List (List Statement)) (vs : List Object) → AreObjectsOf ts vs → Type 0
+  abbrev AreHere : ℕ → (ts : List (List Statement)) (vs : List Object) → AreKept ts vs → Type 0
   AreHere = targets.AreHere p starts at sizes os bs pieces_are
 
-  heres : (f : ℕ) (ts : List (List Statement)) (vs : List Object) (q : AreObjectsOf ts vs) (xs : List Object) (r : shrunk.AreObjectsOf ts xs) → 1 ≤ f → AreAt os f vs → AreFiles p starts f ts xs r
+  heres : (f : ℕ) (ts : List (List Statement)) (vs : List Object) (q : AreKept ts vs) (xs : List Object) (r : shrunk.AreObjectsOf ts xs) → 1 ≤ f → AreAt os f vs → AreFiles p starts f ts xs r
       → ((i : ℕ) → at (f + i) ≡ sites_by ts vs q i) → AreHere f ts vs q
   heres f [] [] q xs r low e files own = tt
   heres f [] (v ∷ vs) q xs r low e files own = absurd q
@@ -235,27 +241,27 @@ module _ (sources : List (List Statement)) (os : List Object) (text_start : ℕ)
 
   all_here : AreHere 1 sources os h
   all_here =
-      heres 1 sources os h ws (relaxed.are sources os text_start l h us k sizes c link) (omega arith) (all_at os) (relaxed.are_files sources os text_start l h us k sizes c link)
+      heres 1 sources os h ws (relaxed.are sources os text_start l h masks us k sizes c link) (omega arith) (all_at os) (relaxed.are_files sources os text_start l h masks us k sizes c link)
       (λ i. ap (sites_by sources os h) (let e : 1 + i - 1 ≡ i = omega arith in e))
 
   -- ---- a file
 
-  module _ (f : ℕ) (ss : List Statement) (o : Object) (is : IsObjectOf ss o) (here : targets.IsHere p starts at sizes os bs pieces_are f ss o is) where
+  module _ (f : ℕ) (ss : List Statement) (o : Object) (is : IsKept ss o) (here : targets.IsHere p starts at sizes os bs pieces_are f ss o is) where
     abbrev sections : List SourceSection
-    sections = (opened_of (tables ss)).sections
+    sections = source_sections is.dropped ss
 
     flag : o.rvc ≡ has_compressed p f
     flag =
         is.rvc ∙ ap (list_any (λ (z : Site). is_compressed_code z.located)) (sym here.sites)
-        ∙ sym (flags_by starts sizes 1 (f - 1) sources os h ws (relaxed.are sources os text_start l h us k sizes c link) finals)
-        ∙ ap (λ n. list_any (λ (e : MaybeMapped). (e.located.file == n) && is_compressed_code e.located) (all_statements starts 1 sources ws (relaxed.are sources os text_start l h us k sizes c link)))
+        ∙ sym (flags_by starts sizes 1 (f - 1) sources os h ws (relaxed.are sources os text_start l h masks us k sizes c link) finals)
+        ∙ ap (λ n. list_any (λ (e : MaybeMapped). (e.located.file == n) && is_compressed_code e.located) (all_statements starts 1 sources ws (relaxed.are sources os text_start l h masks us k sizes c link)))
         (let low = here.low in let e : 1 + (f - 1) ≡ f = omega (arith, low) in e)
         ∙ ap (list_any (λ (e : MaybeMapped). (e.located.file == f) && is_compressed_code e.located)) (sym statements)
 
     meant : (z : Located) (name : Primary) (y : Option Symbol) → StandsFor (tables ss) is.sites z.ordinal name y
         → (if is_text_place os (option_and_then (symbol_place os f) y) then Some (text_offset os (option_and_then (symbol_place os f) y)) else None) ≡ option_and_then (aim_offset text) (aim_of p (renumbered f z) name)
     meant z name y s =
-        targets.meant p starts at sizes os bs pieces_are sources h ws (relaxed.are sources os text_start l h us k sizes c link) finals all_here statements f ss o is here z name y s
+        targets.meant p starts at sizes os bs pieces_are sources h ws (relaxed.are sources os text_start l h masks us k sizes c link) finals all_here statements f ss o is here z name y s
         ∙ ap (λ t. option_and_then (aim_offset t) (aim_of p (renumbered f z) name)) (sym text_line)
 
     abbrev input : ℕ → Section → InputSection
@@ -277,7 +283,7 @@ module _ (sources : List (List Statement)) (os : List Object) (text_start : ℕ)
           ap source_text same ∙ text_s
 
       none_inside : (q : ℕ) → AllByRecursion (IsAside q) zs → is_entered o index q ≡ false
-      none_inside q aside = not_entered is.sites index q at_home aside o (stood ss o is)
+      none_inside q aside = not_entered is.sites index q at_home aside o is.stood
 
       whole : x.relocations ≡ relocations_from is.number 0 (parts (tables ss) zs)
       whole = hx.relocations ∙ ap (λ b. if b then relocations_from is.number 0 (parts (tables ss) zs) else []) loaded
@@ -288,8 +294,8 @@ module _ (sources : List (List Statement)) (os : List Object) (text_start : ℕ)
       make_one : Makes p starts at sizes os text (input index x)
       make_one b piece first =
           changed.sites_made p starts os text f (tables ss) here.tables o index x s text_s is.number is.sites zs x.alignment flag meant piece.final piece.stays none_inside whole bytes_are
-          hx.tile (sites_are_in sections index s is.sites at_s (all_settled ss o is)) (all_filter IsUncut (λ z. z.located.section == index) is.sites (uncut ss o is))
-          (all_filter (λ z. IsSound (tables ss) z.located) (λ z. z.located.section == index) is.sites (sound ss is.sites is.good is.located)) hx.sizes (hx.numbered loaded) first
+          hx.tile (sites_are_in sections index s is.sites at_s (all_settled ss o is)) (all_filter IsUncut (λ z. z.located.section == index) is.sites (all_uncut ss o is))
+          (all_filter (λ z. IsSound (tables ss) z.located) (λ z. z.located.section == index) is.sites (sound ss is.sites is.dropped is.good is.located)) hx.sizes (hx.numbered loaded) first
           ∙ ap (flat_map (sites_at p text)) (lined_same zs ∙ ap (λ S. line_of p starts at sizes f piece.t piece.tables piece.final piece.stays first (sites_in index S)) (sym here.sites))
         where
           lined_same : (ys : List Site)
@@ -317,10 +323,10 @@ module _ (sources : List (List Statement)) (os : List Object) (text_start : ℕ)
 
     file_makes : AllByRecursion (Makes p starts at sizes os text) (inputs_from goes_to_text f o 0 o.sections)
     file_makes =
-        makes_from 0 sections o.sections (sections_same (tables ss) is.sites (uncut ss o is) is.number o.symbols 0 sections o.sections is.sections)
+        makes_from 0 sections o.sections (sections_same (tables ss) is.sites (all_uncut ss o is) is.number o.symbols 0 sections o.sections is.sections)
         (λ j. ap (slice_get sections) (let e : 0 + j ≡ j = omega arith in e))
 
-  makes : (f : ℕ) (ts : List (List Statement)) (vs : List Object) (q : AreObjectsOf ts vs) → AreHere f ts vs q → AllByRecursion (Makes p starts at sizes os text) (inputs_of goes_to_text f vs)
+  makes : (f : ℕ) (ts : List (List Statement)) (vs : List Object) (q : AreKept ts vs) → AreHere f ts vs q → AllByRecursion (Makes p starts at sizes os text) (inputs_of goes_to_text f vs)
   makes f [] [] q a = tt
   makes f [] (v ∷ vs) q a = absurd q
   makes f (ss ∷ ts) [] q a = absurd q
@@ -332,12 +338,13 @@ module _ (sources : List (List Statement)) (os : List Object) (text_start : ℕ)
 
 -- ---- the whole
 
-module _ (sources : List (List Statement)) (os : List Object) (text_start : ℕ) (l : Linked) (h : AreObjectsOf sources os) (kept : List ℕ) (greatest : IsGreatestClosed (sites_of os) kept)
+module _ (sources : List (List Statement)) (os : List Object) (text_start : ℕ) (gc : Bool) (l : Linked) (h : AreKept sources os) (masks : AreMasked l.map.drops 1 sources os h)
+    (collected : AreDrops gc (graph_of sources) l.map.drops) (kept : List ℕ) (greatest : IsGreatestClosed (sites_of os) kept)
     (link : IsLinkOf (shortened kept os) text_start l) where
   abbrev sizes : ℕ → ℕ → Sizes
   sizes = sizes_by os kept
 
-  fit_all : (file : ℕ) (ts : List (List Statement)) (vs : List Object) (q : AreObjectsOf ts vs) → 1 ≤ file → AreAt os file vs → AreFitting sizes file ts vs q
+  fit_all : (file : ℕ) (ts : List (List Statement)) (vs : List Object) (q : AreKept ts vs) → 1 ≤ file → AreAt os file vs → AreFitting sizes file ts vs q
   fit_all file [] [] q low e = tt
   fit_all file [] (v ∷ vs) q low e = absurd q
   fit_all file (ss ∷ ts) [] q low e = absurd q
@@ -353,7 +360,7 @@ module _ (sources : List (List Statement)) (os : List Object) (text_start : ℕ)
   c = are_cut sizes 1 sources os h fits
 
   same : line.sites_of sources l.map ≡ sites_of os
-  same = sites_equal sources os text_start l h (shortened kept os) k sizes c link
+  same = sites_equal sources os text_start l h masks (shortened kept os) k sizes c link
 
   by_line : (is : List InputSection) → AllByRecursion (λ (i : InputSection). (n : ℕ) → sizes i.file i.index n ≡ size_at (sites_of os) kept (0 + base_in (inputs goes_to_text os) i.file i.index + n)) is
   by_line [] = tt
@@ -362,23 +369,27 @@ module _ (sources : List (List Statement)) (os : List Object) (text_start : ℕ)
   bytes : HaveBytes (size_at (sites_of os) kept) (text_of sources l.map)
   bytes =
       bytes_same (size_at (sites_of os) kept) (size_at (sites_of os) kept) (size_same (sites_of os) kept) (text_of sources l.map)
-      (relaxed.bytes_of_calls sources os text_start l h (shortened kept os) k sizes c link (size_at (sites_of os) kept) (by_line (inputs goes_to_text os)))
+      (relaxed.bytes_of_calls sources os text_start l h masks (shortened kept os) k sizes c link (size_at (sites_of os) kept) (by_line (inputs goes_to_text os)))
 
-  pub shortens : IsLinked sources text_start true l
+  pub shortens : IsLinked sources text_start true gc l
   shortens =
-      relaxed.joined sources os text_start l h (shortened kept os) k sizes c link true
+      relaxed.joined sources os text_start l h masks (shortened kept os) k sizes c link true gc collected
       (kept, subst (λ ss. IsGreatestClosed ss kept) (sym same) greatest, subst (λ ss. HaveBytes (size_at ss kept) (text_of sources l.map)) (sym same) bytes)
 
 -- ---- with relaxation, of a text that is short and of one that is not
 
-relaxed_link : (sources : List (List Statement)) (os : List Object) (text_start : ℕ) (l : Linked) → AreObjectsOf sources os → (left : List Object) (short : Bool) → is_short_text os ≡ short → IsRelaxed short os left
-    → IsLinkOf left text_start l → IsLinked sources text_start true l
-relaxed_link sources os text_start l h left true e (kept, greatest, same) link = shortens sources os text_start l h kept greatest (subst (λ us. IsLinkOf us text_start l) same link)
-relaxed_link sources os text_start l h left false e same link =
+relaxed_link : (sources : List (List Statement)) (os : List Object) (text_start : ℕ) (gc : Bool) (l : Linked) (h : AreKept sources os) → AreMasked l.map.drops 1 sources os h → AreDrops gc (graph_of sources) l.map.drops
+    → (left : List Object) (short : Bool) → is_short_text os ≡ short → IsRelaxed short os left → IsLinkOf left text_start l → IsLinked sources text_start true gc l
+relaxed_link sources os text_start gc l h masks collected left true e (kept, greatest, same) link =
+    shortens sources os text_start gc l h masks collected kept greatest (subst (λ us. IsLinkOf us text_start l) same link)
+relaxed_link sources os text_start gc l h masks collected left false e same link =
     let here = subst (λ us. IsLinkOf us text_start l) same link in
     let both : true ≡ false = sym (text_short sources os h here.few) ∙ e in absurd (cc)
 
-pub joins : (sources : List (List Statement)) (os : List Object) (text_start : ℕ) (relax : Bool) (l : Linked) → AreObjectsOf sources os → (left : List Object) → Relaxes relax os left → IsLinkOf left text_start l
-    → IsLinked sources text_start relax l
-joins sources os text_start false l h left same link = relaxed.unrelaxed sources os text_start l h (subst (λ us. IsLinkOf us text_start l) same link)
-joins sources os text_start true l h left shorter link = relaxed_link sources os text_start l h left (is_short_text os) refl shorter link
+-- of objects without the sections that collection dropped
+pub kept_link : (sources : List (List Statement)) (os : List Object) (text_start : ℕ) (relax gc : Bool) (l : Linked) (h : AreKept sources os) → AreMasked l.map.drops 1 sources os h
+    → AreDrops gc (graph_of sources) l.map.drops → (left : List Object) → Relaxes relax os left → IsLinkOf left text_start l → IsLinked sources text_start relax gc l
+kept_link sources os text_start false gc l h masks collected left same link =
+    relaxed.unrelaxed sources os text_start gc l h masks collected (subst (λ us. IsLinkOf us text_start l) same link)
+kept_link sources os text_start true gc l h masks collected left shorter link =
+    relaxed_link sources os text_start gc l h masks collected left (is_short_text os) refl shorter link

@@ -15,7 +15,7 @@ use Rattle.rv_object.specs.Object.{Object}
 use Rattle.rv_object_laws.specs.Inputs.{Starts}
 use Rattle.rv_object_laws.specs.Shortened.{Sizes}
 use Rattle.rv_assemble_laws.specs.Sites.{Site, form}
-use Rattle.rv_sources_link_laws.specs.Joins.{AreObjectsOf}
+use Rattle.rv_sources_link_laws.proofs.sections.KeptLemmas.{AreKept}
 use Rattle.rv_sources_link_laws.proofs.calls.FinalsLemmas.{IsFinal, AreFinal}
 use Rattle.rv_sources_link_laws.proofs.moves.ShrunkLemmas as shrunk
 use Rattle.rv_sources_link_laws.proofs.statements.StatementsLemmas.{renumbered, row_in, statement_at, all_statements}
@@ -66,7 +66,7 @@ module _ (starts : Starts) where
             ∙ ap (λ u. statement_size z.located.home.executable (λ x. form u z.located x) z.located.kind (final z).bytes) (sym same)
         go false e = h.unplaced
 
-    pub sized_from : (sizes : ℕ → ℕ → Sizes) (file : ℕ) (sources : List (List Statement)) (os : List Object) (h : AreObjectsOf sources os) (ws : List Object) (k : shrunk.AreObjectsOf sources ws)
+    pub sized_from : (sizes : ℕ → ℕ → Sizes) (file : ℕ) (sources : List (List Statement)) (os : List Object) (h : AreKept sources os) (ws : List Object) (k : shrunk.AreObjectsOf sources ws)
         → AreFinal sizes file sources os h ws k
         → ((f : ℕ) → file ≤ f → statements_in p f ≡ in_file f (all_statements starts file sources ws k))
         → ((i : ℕ) → tables_in p (file + i) ≡ tables (slice_index_or sources i [])) → AreFilesSized p file sources

@@ -7,7 +7,7 @@ use Rattle.rv_image.specs.Linked.{Linked}
 use Rattle.rv_chain_laws.specs.Contents.{IsLinked}
 use Rattle.rv_object.specs.Object.{Object}
 use Rattle.rv_assemble_laws.specs.IsObjectOf.{IsObjectOf}
-use Rattle.rv_object_laws.specs.Shortened.{IsProgramOf}
+use Rattle.rv_object_laws.specs.IsProgramOf.{IsProgramOf}
 
 -- each object is that of its source
 abbrev pub AreObjectsOf : List (List Statement) → List Object → Type 0
@@ -16,17 +16,19 @@ AreObjectsOf [] (o ∷ os) = ⊥
 AreObjectsOf (ss ∷ sources) [] = ⊥
 AreObjectsOf (ss ∷ sources) (o ∷ os) = IsObjectOf ss o × AreObjectsOf sources os
 
--- the program of the objects of sources, relaxed or not, is the linked program of the sources
+-- the program of the objects of sources, relaxed or not, collected or not, is the linked program of
+-- the sources
 abbrev pub Joins : Type 0
 Joins =
-    (sources : List (List Statement)) (os : List Object) (text_start : ℕ) (relax : Bool)
-    (l : Linked)
-    → AreObjectsOf sources os → IsProgramOf os text_start relax l
-    → IsLinked sources text_start relax l
+    (sources : List (List Statement)) (os : List Object) (text_start : ℕ)
+    (relax gc : Bool) (l : Linked)
+    → AreObjectsOf sources os → IsProgramOf os text_start relax gc l
+    → IsLinked sources text_start relax gc l
 
 -- and it is flagged as compressed code where the sources have some
 abbrev pub IsFlagged : Type 0
 IsFlagged =
-    (sources : List (List Statement)) (os : List Object) (text_start : ℕ) (relax : Bool)
-    (l : Linked)
-    → AreObjectsOf sources os → IsProgramOf os text_start relax l → l.rvc ≡ is_compressed sources
+    (sources : List (List Statement)) (os : List Object) (text_start : ℕ)
+    (relax gc : Bool) (l : Linked)
+    → AreObjectsOf sources os → IsProgramOf os text_start relax gc l
+    → l.rvc ≡ is_compressed sources

@@ -211,6 +211,7 @@ two_files_map = record {
       ∷ global (codes "_etext") 0x10010 ∷ global (codes "__bss_start") 0x1101e ∷
       global (codes "_edata") 0x1101e
       ∷ global (codes "_end") 0x1101e ∷ global (codes "__global_pointer$") 0x11800 ∷ [];
+  drops = [];
   rows = map_row 1 3 3 0x10000 0 0 ∷ map_row 1 3 4 0x10000 4 1 ∷ map_row 1 5 6 0x11000 0 0 ∷
       map_row 1 5 7 0x11000 4 0
       ∷ map_row 1 6 8 0x11004 8 0 ∷ map_row 1 7 9 0x1100c 4 0 ∷ map_row 1 8 10 0x11010 8 0

@@ -10,5 +10,5 @@
 mod law;
 mod worked;
 
-pub use law::{linked_objects_are_flagged, objects_of_sources_link};
+pub use law::{linked_objects_are_flagged, objects_of_sources_link, sources_are_collected_alike};
 pub use worked::{two_files_are_objects, two_files_link};

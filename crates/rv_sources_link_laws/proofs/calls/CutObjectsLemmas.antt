@@ -6,7 +6,7 @@ use Rattle.std.specs.Prelude.{⊤, ◌&&◌, ◌||◌, ◌==◌, if◌then◌els
 use Rattle.std.specs.List.{AllByRecursion, list_any, slice_get}
 use Rattle.rv_statement.specs.Statement.{Statement}
 use Rattle.rv_unit_laws.specs.Sections.{Section as SourceSection, goes_to_text as source_text}
-use Rattle.rv_unit_laws.specs.Tables.{Tables, tables, opened_of}
+use Rattle.rv_unit_laws.specs.Tables.{Tables, tables}
 use Rattle.rv_source_laws.specs.Located.{has_row}
 use Rattle.rv_source_laws.specs.Compressed.{is_compressed_code}
 use Rattle.rv_object.specs.declared.row.Row.{Row}
@@ -19,6 +19,7 @@ use Rattle.rv_source_laws.proofs.HomesLemmas.{all_filter}
 use Rattle.rv_assemble_laws.specs.Sites.{Site, Part, form, sites_in, HasSize}
 use Rattle.rv_assemble_laws.specs.Symbols.{references_in, exports}
 use Rattle.rv_assemble_laws.specs.IsObjectOf.{IsNumbered, ArePartsNumbered, row_of, rows_at}
+use Rattle.rv_sources_link_laws.proofs.sections.MaskedLemmas.{source_sections}
 use Rattle.rv_sources_link_laws.proofs.sections.AssembledLemmas.{parts, IsSectionOf, AreSectionsOf, IsAssembled}
 use Rattle.rv_sources_link_laws.proofs.calls.CalledLemmas.{IsForm}
 use Rattle.rv_sources_link_laws.proofs.calls.CutsLemmas.{link_of, sort_of}
@@ -60,7 +61,7 @@ module _ (ss : List Statement) (o : Object) (is : IsAssembled ss o) (uncut : All
   t = tables ss
 
   abbrev sections : List SourceSection
-  sections = (opened_of (tables ss)).sections
+  sections = source_sections is.dropped ss
 
   abbrev o' : Object
   o' = shortened_object sizes o
@@ -141,7 +142,7 @@ module _ (ss : List Statement) (o : Object) (is : IsAssembled ss o) (uncut : All
       code = (and_parts s.loaded s.executable text).1
 
       sorted : AllByRecursion (λ z. walk.Sorted t is.number (sizes j) x.alignment z) zs
-      sorted = go zs inside (all_filter IsUncut (λ z. z.located.section == j) is.sites uncut) (all_filter (λ z. IsSound t z.located) (λ z. z.located.section == j) is.sites (sound ss is.sites is.good is.located))
+      sorted = go zs inside (all_filter IsUncut (λ z. z.located.section == j) is.sites uncut) (all_filter (λ z. IsSound t z.located) (λ z. z.located.section == j) is.sites (sound ss is.sites is.dropped is.good is.located))
           (all_filter (Fitting sizes) (λ z. z.located.section == j) is.sites fitting) h.sizes
         where
           go : (ys : List Site) → AllByRecursion (IsSiteIn j s) ys → AllByRecursion IsUncut ys → AllByRecursion (λ z. IsSound t z.located) ys → AllByRecursion (Fitting sizes) ys
@@ -280,6 +281,7 @@ module _ (ss : List Statement) (o : Object) (is : IsAssembled ss o) (uncut : All
 
   pub cut_is : IsAssembled ss o'
   cut_is = record {
+    dropped = is.dropped;
     good = is.good;
     sites = sites';
     located = moved.located_same t is.sites is.places (filed.bounds ss o is) (cuts_in sizes o) still (mv sizes o) (λ z. refl) (λ z. refl) (shortened_definition sizes o) refl (λ n. refl) (λ n. refl) (λ j n. refl) is.sites
@@ -297,3 +299,7 @@ module _ (ss : List Statement) (o : Object) (is : IsAssembled ss o) (uncut : All
   pub cut_sites : cut_is.sites ≡ map (mv sizes o) is.sites
   unfolding cut_is
   cut_sites = refl
+
+  pub cut_dropped : cut_is.dropped ≡ is.dropped
+  unfolding cut_is
+  cut_dropped = refl

@@ -7,8 +7,9 @@ use Rattle.rv_statement.specs.declared.mnemonic.Mnemonic.{Mnemonic}
 use Rattle.rv_statement.specs.Statement.{StatementKind, Label, Numbered, Instruction, Directs, Statement, Operand, Expression}
 use Rattle.rv_text_laws.specs.Values.{Value}
 use Rattle.rv_unit_laws.specs.Sections.{Section as SourceSection, goes_to_text as source_text}
-use Rattle.rv_unit_laws.specs.Tables.{Tables, tables, opened_of}
+use Rattle.rv_unit_laws.specs.Tables.{Tables, tables}
 use Rattle.rv_source_laws.specs.Located.{Located}
+use Rattle.rv_map.specs.declared.map.SectionId.{SectionId}
 use Rattle.rv_object.specs.Object.{Object}
 use Rattle.rv_object_laws.specs.Inputs.{Starts, inputs_from, inputs_of, goes_to_text}
 use Rattle.rv_object_laws.specs.Moves.{Move}
@@ -16,17 +17,17 @@ use Rattle.rv_object_laws.specs.Shortened.{Sizes}
 use Rattle.rv_source_laws.specs.Sized.{statement_size}
 use Rattle.rv_source_laws.specs.Shortened.{calls}
 use Rattle.rv_assemble_laws.specs.Sites.{Site, form}
-use Rattle.rv_assemble_laws.specs.IsObjectOf.{IsObjectOf}
-use Rattle.rv_sources_link_laws.specs.Joins.{AreObjectsOf}
+use Rattle.rv_sources_link_laws.proofs.sections.KeptLemmas.{IsKept, AreKept, AreMasked}
+use Rattle.rv_sources_link_laws.proofs.sections.MaskedLemmas.{source_sections}
 use Rattle.rv_sources_link_laws.proofs.sections.AssembledLemmas.{IsAssembled, AreAssembled}
 use Rattle.rv_sources_link_laws.proofs.statements.CountedLemmas.{bytes_with, size_before, IsCounted}
 use Rattle.rv_sources_link_laws.proofs.sections.SectionsLemmas.{split}
-use Rattle.rv_sources_link_laws.proofs.statements.SettledLemmas.{IsSettled, settled}
+use Rattle.rv_sources_link_laws.proofs.statements.SettledLemmas.{IsSettled, settled_left}
 use Rattle.rv_sources_link_laws.proofs.moves.ShrinkingLemmas.{shrunk_objects, moves_in}
-use Rattle.rv_sources_link_laws.proofs.moves.ShrinksLemmas.{Begun, begun_in, counted, objects_shrink, shrunk_is, shrunk_sites}
+use Rattle.rv_sources_link_laws.proofs.moves.ShrinksLemmas.{Begun, begun_in, counted, objects_shrink, shrunk_is, shrunk_sites, shrunk_dropped}
 use Rattle.rv_sources_link_laws.proofs.moves.ShrunkLemmas as shrunk
 use Rattle.rv_sources_link_laws.proofs.moves.ShrunkSectionsLemmas.{site_with}
-use Rattle.rv_sources_link_laws.proofs.calls.UncutLemmas.{IsUncut, uncut}
+use Rattle.rv_sources_link_laws.proofs.calls.UncutLemmas.{IsUncut, all_uncut}
 
 -- ---- what relaxation leaves of a statement
 
@@ -35,14 +36,15 @@ abbrev pub IsResized : (ℕ → Sizes) → Site → Site → Type 0
 IsResized sizes z y = (source_text z.located.home ≡ true → calls z.located.kind ≡ true → y.bytes ≡ sizes z.located.section z.offset) × (calls z.located.kind ≡ false → y.bytes ≡ z.bytes)
 
 -- of an object
-pub record IsCut (sizes : ℕ → Sizes) (ss : List Statement) (o : Object) (is : IsObjectOf ss o) (u : Object) (js : IsAssembled ss u) : Type 0 where
+pub record IsCut (sizes : ℕ → Sizes) (ss : List Statement) (o : Object) (is : IsKept ss o) (u : Object) (js : IsAssembled ss u) : Type 0 where
+  pub dropped : js.dropped ≡ is.dropped
   pub mv : Site → Site
   pub sites : js.sites ≡ map mv is.sites
   pub stays : (z : Site) → (mv z).located ≡ z.located
   pub resized : AllByRecursion (λ z. IsResized sizes z (mv z)) is.sites
 
 -- of all, files numbered from one on
-abbrev pub AreCut : (ℕ → ℕ → Sizes) → ℕ → (sources : List (List Statement)) (os : List Object) → AreObjectsOf sources os → (us : List Object) → AreAssembled sources us → Type 0
+abbrev pub AreCut : (ℕ → ℕ → Sizes) → ℕ → (sources : List (List Statement)) (os : List Object) → AreKept sources os → (us : List Object) → AreAssembled sources us → Type 0
 AreCut sizes file [] [] h us k = ⊤
 AreCut sizes file [] (o ∷ os) h us k = absurd h
 AreCut sizes file (ss ∷ sources) [] h us k = absurd h
@@ -57,13 +59,13 @@ pub record IsFinal (t : Tables) (sizes : ℕ → Sizes) (z y : Site) : Type 0 wh
   pub unplaced : z.located.placed ≡ false → z.bytes ≡ 0
   pub call : source_text z.located.home ≡ true → calls z.located.kind ≡ true → y.bytes ≡ sizes z.located.section z.offset
 
-pub record IsFinalFile (sizes : ℕ → Sizes) (ss : List Statement) (o : Object) (is : IsObjectOf ss o) (ys : List Site) : Type 0 where
+pub record IsFinalFile (sizes : ℕ → Sizes) (ss : List Statement) (o : Object) (is : IsKept ss o) (ys : List Site) : Type 0 where
   pub final : Site → Site
   pub sites : ys ≡ map final is.sites
   pub stays : (z : Site) → (final z).located ≡ z.located
   pub finals : AllByRecursion (λ z. IsFinal (tables ss) sizes z (final z)) is.sites
 
-abbrev pub AreFinal : (ℕ → ℕ → Sizes) → ℕ → (sources : List (List Statement)) (os : List Object) → AreObjectsOf sources os → (ws : List Object) → shrunk.AreObjectsOf sources ws → Type 0
+abbrev pub AreFinal : (ℕ → ℕ → Sizes) → ℕ → (sources : List (List Statement)) (os : List Object) → AreKept sources os → (ws : List Object) → shrunk.AreObjectsOf sources ws → Type 0
 AreFinal sizes file [] [] h ws k = ⊤
 AreFinal sizes file [] (o ∷ os) h ws k = absurd h
 AreFinal sizes file (ss ∷ sources) [] h ws k = absurd h
@@ -135,28 +137,28 @@ map_map : (f g : Site → Site) (zs : List Site) → map f (map g zs) ≡ map (�
 map_map f g [] = refl
 map_map f g (z ∷ zs) = ap (λ l. f (g z) ∷ l) (map_map f g zs)
 
-final_file : (sizes : ℕ → Sizes) (ss : List Statement) (o : Object) (is : IsObjectOf ss o) (u : Object) (js : IsAssembled ss u) (c : IsCut sizes ss o is u js) (f : ℕ → ℕ)
+final_file : (sizes : ℕ → Sizes) (ss : List Statement) (o : Object) (is : IsKept ss o) (u : Object) (js : IsAssembled ss u) (c : IsCut sizes ss o is u js) (f : ℕ → ℕ)
     (counts : AllByRecursion (λ z. IsCounted (tables ss) (moves_in f u z.located.section) z) js.sites) (ys : List Site)
     → ys ≡ map (λ z. site_with (moves_in f u z.located.section) z) js.sites → IsFinalFile sizes ss o is ys
 final_file sizes ss o is u js c f counts ys e = record {
   final = λ z. G (c.mv z);
   sites = e ∙ ap (map G) c.sites ∙ map_map G c.mv is.sites;
   stays = c.stays;
-  finals = go is.sites (settled ss is.sites is.good is.located) (uncut ss o is) c.resized (subst (λ l. AllByRecursion (λ z. IsCounted (tables ss) (moves_in f u z.located.section) z) l) c.sites counts);
+  finals = go is.sites (settled_left ss is.sites is.dropped is.good is.located) (all_uncut ss o is) c.resized (subst (λ l. AllByRecursion (λ z. IsCounted (tables ss) (moves_in f u z.located.section) z) l) c.sites counts);
 }
   where
     G : Site → Site
     G z = site_with (moves_in f u z.located.section) z
 
-    go : (zs : List Site) → AllByRecursion (IsSettled (opened_of (tables ss)).sections) zs → AllByRecursion IsUncut zs → AllByRecursion (λ z. IsResized sizes z (c.mv z)) zs
+    go : (zs : List Site) → AllByRecursion (IsSettled (source_sections is.dropped ss)) zs → AllByRecursion IsUncut zs → AllByRecursion (λ z. IsResized sizes z (c.mv z)) zs
         → AllByRecursion (λ z. IsCounted (tables ss) (moves_in f u z.located.section) z) (map c.mv zs) → AllByRecursion (λ z. IsFinal (tables ss) sizes z (G (c.mv z))) zs
     go [] a b r d = tt
     go (z ∷ zs) (a, as') (b, bs) (r, rs) (d, ds) = (
-      final_site (tables ss) sizes (opened_of (tables ss)).sections z (c.mv z) (moves_in f u (c.mv z).located.section) (c.stays z) a b r d,
+      final_site (tables ss) sizes (source_sections is.dropped ss) z (c.mv z) (moves_in f u (c.mv z).located.section) (c.stays z) a b r d,
       go zs as' bs rs ds,
     )
 
-pub all_final : (starts : Starts) (sizes : ℕ → ℕ → Sizes) (file : ℕ) (sources : List (List Statement)) (os : List Object) (h : AreObjectsOf sources os) (us : List Object) (k : AreAssembled sources us)
+pub all_final : (starts : Starts) (sizes : ℕ → ℕ → Sizes) (file : ℕ) (sources : List (List Statement)) (os : List Object) (h : AreKept sources os) (us : List Object) (k : AreAssembled sources us)
     → AreCut sizes file sources os h us k → (b : AllByRecursion (Begun starts) (inputs_of goes_to_text file us))
     → AreFinal sizes file sources os h (shrunk_objects starts file us) (objects_shrink starts file sources us k b)
 unfolding objects_shrink
@@ -171,3 +173,17 @@ all_final starts sizes file (ss ∷ sources) (o ∷ os) (is, h) (u ∷ us) (js, 
       final_file (sizes file) ss o is u js c (starts file) (counted ss u js (starts file) begun) (shrunk_is ss u js (starts file) begun).sites (shrunk_sites ss u js (starts file) begun),
       all_final starts sizes (suc file) sources os h us k cs both.1,
     )
+
+-- what is dropped stays so
+pub all_masked : (drops : List SectionId) (starts : Starts) (sizes : ℕ → ℕ → Sizes) (file : ℕ) (sources : List (List Statement)) (os : List Object) (h : AreKept sources os) (us : List Object) (k : AreAssembled sources us)
+    → AreCut sizes file sources os h us k → AreMasked drops file sources os h → (b : AllByRecursion (Begun starts) (inputs_of goes_to_text file us))
+    → shrunk.AreMasked drops file sources (shrunk_objects starts file us) (objects_shrink starts file sources us k b)
+unfolding objects_shrink
+all_masked drops starts sizes file [] [] h [] k c masks b = tt
+all_masked drops starts sizes file [] [] h (u ∷ us) k c masks b = absurd k
+all_masked drops starts sizes file [] (o ∷ os) h us k c masks b = absurd h
+all_masked drops starts sizes file (ss ∷ sources) [] h us k c masks b = absurd h
+all_masked drops starts sizes file (ss ∷ sources) (o ∷ os) (is, h) [] k c masks b = absurd k
+all_masked drops starts sizes file (ss ∷ sources) (o ∷ os) (is, h) (u ∷ us) (js, k) (c, cs) (own, masks) b =
+    let both = split (Begun starts) (inputs_from goes_to_text file u 0 u.sections) (inputs_of goes_to_text (suc file) us) b in
+    (shrunk_dropped ss u js (starts file) (begun_in starts file u both.0) ∙ c.dropped ∙ own, all_masked drops starts sizes (suc file) sources os h us k cs masks both.1)

@@ -8,7 +8,7 @@ use Rattle.std.specs.List.{AllByRecursion, slice_get, list_any}
 use Rattle.rv_layout_laws.specs.Sites.{padding_site, size_at}
 use Rattle.rv_statement.specs.Statement.{StatementKind, Label, Numbered, Instruction, Directs, Statement}
 use Rattle.rv_unit_laws.specs.Sections.{Section as SourceSection, goes_to_text as source_text}
-use Rattle.rv_unit_laws.specs.Tables.{Tables, tables, opened_of}
+use Rattle.rv_unit_laws.specs.Tables.{Tables, tables}
 use Rattle.rv_layout_laws.specs.declared.site.Site.{Site as Spot}
 use Rattle.rv_layout_laws.specs.declared.site.SiteKind.{SiteKind}
 use Rattle.rv_layout_laws.specs.declared.site.SiteKind.TheVariants as spots
@@ -25,9 +25,10 @@ use Rattle.rv_object_laws.specs.Moves.{full_padding, has_padding, alignment_of}
 use Rattle.rv_object_laws.specs.Names.{object_at}
 use Rattle.rv_object_laws.specs.Shortened.{sizes_by}
 use Rattle.rv_assemble_laws.specs.Sites.{Site, form, part_of, part_bytes, sites_in, end_of, HasSize}
-use Rattle.rv_assemble_laws.specs.IsObjectOf.{Numbering, relocations_from, IsObjectOf}
+use Rattle.rv_assemble_laws.specs.IsObjectOf.{Numbering, relocations_from}
 use Rattle.rv_assemble_laws.proofs.FilledLemmas.{bytes_append}
-use Rattle.rv_sources_link_laws.specs.Joins.{AreObjectsOf}
+use Rattle.rv_sources_link_laws.proofs.sections.KeptLemmas.{IsKept, AreKept}
+use Rattle.rv_sources_link_laws.proofs.sections.MaskedLemmas.{source_sections}
 use Rattle.rv_sources_link_laws.proofs.sections.AssembledLemmas.{Tile, parts, parts_of, assembled_templates, IsSectionOf, AreSectionsOf}
 use Rattle.rv_sources_link_laws.proofs.calls.CalledLemmas.{IsForm}
 use Rattle.rv_sources_link_laws.proofs.calls.CutObjectsLemmas.{Fitting}
@@ -41,7 +42,7 @@ use Rattle.rv_sources_link_laws.proofs.sections.SectionsLemmas.{join}
 use Rattle.rv_sources_link_laws.proofs.statements.SettledLemmas.{of_sections, IsSiteIn, sites_are_in}
 use Rattle.rv_sources_link_laws.proofs.moves.ShrinkingLemmas.{AreAt, all_at}
 use Rattle.rv_sources_link_laws.proofs.fields.TargetsLemmas.{section_of, all_settled, present_of}
-use Rattle.rv_sources_link_laws.proofs.calls.UncutLemmas.{IsUncut, uncut, sections_same}
+use Rattle.rv_sources_link_laws.proofs.calls.UncutLemmas.{IsUncut, all_uncut, sections_same}
 use Rattle.rv_sources_link_laws.proofs.moves.WalkLemmas.{relocations_join}
 use Rattle.rv_sources_link_laws.proofs.fields.WholesLemmas.{IsSound, sound}
 
@@ -268,23 +269,23 @@ module _ (t : Tables) (number : Numbering) (j : ℕ) (s : SourceSection) (code :
 -- ---- all of them
 
 module _ (os : List Object) where
-  module _ (file : ℕ) (ss : List Statement) (o : Object) (is : IsObjectOf ss o) (here : object_at os file ≡ o) where
+  module _ (file : ℕ) (ss : List Statement) (o : Object) (is : IsKept ss o) (here : object_at os file ≡ o) where
     texts_from : (index : ℕ) (sss : List SourceSection) (xs : List Section) → AreSectionsOf (tables ss) is.sites is.number o.symbols index sss xs
-        → ((j : ℕ) → slice_get (opened_of (tables ss)).sections (index + j) ≡ slice_get sss j) → ((j : ℕ) → slice_get o.sections (index + j) ≡ slice_get xs j)
+        → ((j : ℕ) → slice_get (source_sections is.dropped ss) (index + j) ≡ slice_get sss j) → ((j : ℕ) → slice_get o.sections (index + j) ≡ slice_get xs j)
         → AllByRecursion (IsText os) (inputs_from goes_to_text file o index xs)
     texts_from index [] [] h at_s at_x = tt
     texts_from index [] (x ∷ xs) h at_s at_x = absurd h
     texts_from index (s ∷ sss) [] h at_s at_x = absurd h
     texts_from index (s ∷ sss) (x ∷ xs) (h, hs) at_s at_x =
-        let here_s : slice_get (opened_of (tables ss)).sections index ≡ Some s = ap (slice_get (opened_of (tables ss)).sections) (let e : index ≡ index + 0 = omega arith in e) ∙ at_s 0 in
+        let here_s : slice_get (source_sections is.dropped ss) index ≡ Some s = ap (slice_get (source_sections is.dropped ss)) (let e : index ≡ index + 0 = omega arith in e) ∙ at_s 0 in
         let there : slice_get o.sections index ≡ Some x = ap (slice_get o.sections) (let e : index ≡ index + 0 = omega arith in e) ∙ at_x 0 in
         let next : (j : ℕ) → suc index + j ≡ index + suc j = λ j. omega arith in
-        go (goes_to_text x) refl here_s there (texts_from (suc index) sss xs hs (λ j. ap (slice_get (opened_of (tables ss)).sections) (next j) ∙ at_s (suc j)) (λ j. ap (slice_get o.sections) (next j) ∙ at_x (suc j)))
+        go (goes_to_text x) refl here_s there (texts_from (suc index) sss xs hs (λ j. ap (slice_get (source_sections is.dropped ss)) (next j) ∙ at_s (suc j)) (λ j. ap (slice_get o.sections) (next j) ∙ at_x (suc j)))
       where
         input : InputSection
         input = record { file = file; object = o; index = index; section = x }
 
-        go : (b : Bool) → goes_to_text x ≡ b → slice_get (opened_of (tables ss)).sections index ≡ Some s → slice_get o.sections index ≡ Some x → AllByRecursion (IsText os) (inputs_from goes_to_text file o (suc index) xs)
+        go : (b : Bool) → goes_to_text x ≡ b → slice_get (source_sections is.dropped ss) index ≡ Some s → slice_get o.sections index ≡ Some x → AllByRecursion (IsText os) (inputs_from goes_to_text file o (suc index) xs)
             → AllByRecursion (IsText os) (if b then input ∷ inputs_from goes_to_text file o (suc index) xs else inputs_from goes_to_text file o (suc index) xs)
         go false text at_s there ih = ih
         go true text at_s there ih =
@@ -297,29 +298,29 @@ module _ (os : List Object) where
                 there = ap (λ (u : Object). slice_get u.sections index) here ∙ there;
                 low = subst (λ n. AllByRecursion (λ (r : Relocation). r.place < n) x.relocations) (sym size)
                     (subst (λ l. AllByRecursion (λ (r : Relocation). r.place < end_of 0 zs) l) (sym rels)
-                    (places_low (tables ss) is.number index s both.1 x.alignment 0 zs h.tile (sites_are_in (opened_of (tables ss)).sections index s is.sites at_s (all_settled ss o is)) h.sizes));
+                    (places_low (tables ss) is.number index s both.1 x.alignment 0 zs h.tile (sites_are_in (source_sections is.dropped ss) index s is.sites at_s (all_settled ss o is)) h.sizes));
               },
               ih,
             )
 
     file_texts : AllByRecursion (IsText os) (inputs_from goes_to_text file o 0 o.sections)
     file_texts =
-        texts_from 0 (opened_of (tables ss)).sections o.sections (sections_same (tables ss) is.sites (uncut ss o is) is.number o.symbols 0 (opened_of (tables ss)).sections o.sections is.sections)
-        (λ j. ap (slice_get (opened_of (tables ss)).sections) (let e : 0 + j ≡ j = omega arith in e)) (λ j. ap (slice_get o.sections) (let e : 0 + j ≡ j = omega arith in e))
+        texts_from 0 (source_sections is.dropped ss) o.sections (sections_same (tables ss) is.sites (all_uncut ss o is) is.number o.symbols 0 (source_sections is.dropped ss) o.sections is.sections)
+        (λ j. ap (slice_get (source_sections is.dropped ss)) (let e : 0 + j ≡ j = omega arith in e)) (λ j. ap (slice_get o.sections) (let e : 0 + j ≡ j = omega arith in e))
 
-  texts : (file : ℕ) (sources : List (List Statement)) (us : List Object) → AreObjectsOf sources us → AreAt os file us → AllByRecursion (IsText os) (inputs_of goes_to_text file us)
+  texts : (file : ℕ) (sources : List (List Statement)) (us : List Object) → AreKept sources us → AreAt os file us → AllByRecursion (IsText os) (inputs_of goes_to_text file us)
   texts file [] [] h e = tt
   texts file [] (o ∷ us) h e = absurd h
   texts file (ss ∷ sources) [] h e = absurd h
   texts file (ss ∷ sources) (o ∷ us) (is, h) (e, es) =
       join (IsText os) (inputs_from goes_to_text file o 0 o.sections) (inputs_of goes_to_text (suc file) us) (file_texts file ss o is e) (texts (suc file) sources us h es)
 
-  module _ (sources : List (List Statement)) (h : AreObjectsOf sources os) (kept : List ℕ) (offered : (i : ℕ) → Offers (spot_at (sites_of os) i).kind (slice_index kept i)) where
-    pub fitting : (file : ℕ) (ss : List Statement) (o : Object) (is : IsObjectOf ss o) → 1 ≤ file → object_at os file ≡ o → AllByRecursion (Fitting (sizes_by os kept file)) is.sites
+  module _ (sources : List (List Statement)) (h : AreKept sources os) (kept : List ℕ) (offered : (i : ℕ) → Offers (spot_at (sites_of os) i).kind (slice_index kept i)) where
+    pub fitting : (file : ℕ) (ss : List Statement) (o : Object) (is : IsKept ss o) → 1 ≤ file → object_at os file ≡ o → AllByRecursion (Fitting (sizes_by os kept file)) is.sites
     fitting file ss o is least here = of_sections sections (Fitting (sizes_by os kept file)) is.sites (all_settled ss o is) by
       where
         sections : List SourceSection
-        sections = (opened_of (tables ss)).sections
+        sections = source_sections is.dropped ss
 
         t : Tables
         t = tables ss
@@ -362,6 +363,6 @@ module _ (os : List Object) where
                 let text : goes_to_text x ≡ true = ap (λ b. b && x.executable) k.loaded ∙ ap (λ b. s.loaded && b) k.executable ∙ e in
                 let linked = linking t is.number j s (and_parts s.loaded s.executable e).1 x.alignment (stored x.contents) [] 0 (sites_in j is.sites) refl
                 (stored_is t is.sites is.number o.symbols j s x (sites_in j is.sites) k e) k.tile inside
-                (all_filter IsUncut (λ z. z.located.section == j) is.sites (uncut ss o is)) (all_filter (λ z. IsSound t z.located) (λ z. z.located.section == j) is.sites (sound ss is.sites is.good is.located)) k.sizes in
+                (all_filter IsUncut (λ z. z.located.section == j) is.sites (all_uncut ss o is)) (all_filter (λ z. IsSound t z.located) (λ z. z.located.section == j) is.sites (sound ss is.sites is.dropped is.good is.located)) k.sizes in
                 text_all x there text (sites_in j is.sites) inside
                 (subst (λ n. AllByRecursion (λ z. calls z.located.kind ≡ true → (linked_by (stored x.contents) z.offset ≡ link_of z.located.kind) × (z.offset < n)) (sites_in j is.sites)) (sym (size_is t is.sites is.number o j s (sites_in j is.sites) x k)) linked)

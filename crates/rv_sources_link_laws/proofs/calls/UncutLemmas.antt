@@ -10,8 +10,8 @@ use Rattle.rv_text_laws.specs.Values.{Value}
 use Rattle.rv_layout_laws.specs.declared.item.Forms.TheVariants.{Settled}
 use Rattle.rv_layout_laws.specs.Branches.{Offers, item_at}
 use Rattle.rv_unit_laws.specs.Sections.{Section as SourceSection}
-use Rattle.rv_unit_laws.specs.Tables.{Tables, tables, opened_of}
-use Rattle.rv_source_laws.specs.Located.{Located}
+use Rattle.rv_unit_laws.specs.Tables.{Tables, tables, at_start}
+use Rattle.rv_source_laws.specs.Located.{Located, located_from, masked}
 use Rattle.rv_source_laws.specs.Sizes.{item_by_kind, items_of}
 use Rattle.rv_object.specs.Object.{Section, Symbol, Object}
 use Rattle.rv_pseudo_laws.specs.Code.{Part as CodePart, Closed, Open as Open_part, Joined, code, far}
@@ -22,8 +22,8 @@ use Rattle.rv_assemble_laws.specs.Coded.{constants}
 use Rattle.rv_assemble_laws.specs.Templates.{Open, Coded, IsTemplate}
 use Rattle.rv_assemble_laws.specs.Sites.{Site, form, part_of, part_bytes, coded_templates, sites_in, end_of, templates as plain_templates, parts_of as plain_parts_of, parts as plain_parts, Tile as PlainTile}
 use Rattle.rv_assemble_laws.specs.IsObjectOf.{Numbering, relocations_from, contents_of, ArePartsNumbered, IsSectionOf as IsPlainSectionOf, AreSectionsOf as ArePlainSectionsOf, IsObjectOf}
-use Rattle.rv_sources_link_laws.specs.Joins.{AreObjectsOf}
-use Rattle.rv_sources_link_laws.proofs.names.ExportedLemmas.{exported_are}
+use Rattle.rv_sources_link_laws.proofs.sections.KeptLemmas.{IsKept, AreKept}
+use Rattle.rv_sources_link_laws.proofs.sections.MaskedLemmas.{source_sections, none_masked}
 use Rattle.rv_sources_link_laws.proofs.statements.MarkedLemmas.{is_jump, marked, part_fields}
 use Rattle.rv_sources_link_laws.proofs.calls.CalledLemmas.{called}
 use Rattle.rv_sources_link_laws.proofs.sections.AssembledLemmas.{assembled_templates, parts_of, parts, Tile, IsSectionOf, AreSectionsOf, IsAssembled, AreAssembled}
@@ -42,20 +42,27 @@ settled_eight t all s bytes (Label name) e = absurd (cc)
 settled_eight t all s bytes (Numbered number) e = absurd (cc)
 settled_eight t all s bytes (Directs d) e = absurd (cc)
 
-uncut_from : (t : Tables) (all : List Located) (zs : List Site)
-    → ((i : ℕ) → Offers (item_at (items_of t all (map (λ (z : Site). z.located) zs) (map (λ (z : Site). z.bytes) zs)) i).forms (slice_index (map (λ (z : Site). z.bytes) zs) i))
+uncut_from : (t : Tables) (all : List Located) (dropped : ℕ → Bool) (ls : List Located) (zs : List Site) → map (λ (z : Site). z.located) zs ≡ map (masked dropped) ls
+    → ((i : ℕ) → Offers (item_at (items_of t all ls (map (λ (z : Site). z.bytes) zs)) i).forms (slice_index (map (λ (z : Site). z.bytes) zs) i))
     → AllByRecursion IsUncut zs
-uncut_from t all [] h = tt
-uncut_from t all (z ∷ zs) h = (
-  (λ e. subst (λ f. Offers f z.bytes) (settled_eight t all z.located z.bytes z.located.kind e) (h 0)),
-  uncut_from t all zs (λ i. h (suc i)),
-)
+uncut_from t all dropped ls [] e h = tt
+uncut_from t all dropped [] (z ∷ zs) e h = absurd (cc)
+uncut_from t all dropped (l ∷ ls) (z ∷ zs) e h =
+    let same : z.located ≡ masked dropped l = cc in
+    let kind : l.kind ≡ z.located.kind = sym (ap (λ (q : Located). q.kind) same) in
+    let rest : map (λ (z : Site). z.located) zs ≡ map (masked dropped) ls = cc in (
+      (λ call. subst (λ f. Offers f z.bytes) (settled_eight t all l z.bytes l.kind (ap calls kind ∙ call)) (h 0)),
+      uncut_from t all dropped ls zs rest (λ i. h (suc i)),
+    )
 
 pub uncut : (ss : List Statement) (o : Object) (is : IsObjectOf ss o) → AllByRecursion IsUncut is.sites
 uncut ss o is =
-    uncut_from (tables ss) (map (λ (z : Site). z.located) is.sites) is.sites
-    (subst (λ ls. (i : ℕ) → Offers (item_at (items_of (tables ss) ls ls (map (λ (z : Site). z.bytes) is.sites)) i).forms (slice_index (map (λ (z : Site). z.bytes) is.sites) i))
-    (sym is.located) is.least.good.family.offered)
+    let ls = located_from 1 1 (at_start ss) ss in uncut_from (tables ss) ls (λ index. false) ls is.sites (is.located ∙ sym (none_masked ls)) is.least.good.family.offered
+
+-- those that are kept too
+pub all_uncut : (ss : List Statement) (o : Object) (is : IsKept ss o) → AllByRecursion IsUncut is.sites
+all_uncut ss o is =
+    let ls = located_from 1 1 (at_start ss) ss in uncut_from (tables ss) ls is.dropped ls is.sites is.located is.least.good.family.offered
 
 -- ---- so no field of theirs is marked
 
@@ -161,24 +168,29 @@ module _ (t : Tables) where
 
 -- ---- objects
 
-pub assembled : (ss : List Statement) (o : Object) → IsObjectOf ss o → IsAssembled ss o
+pub assembled : (ss : List Statement) (o : Object) → IsKept ss o → IsAssembled ss o
 assembled ss o is = record {
+  dropped = is.dropped;
   good = is.good;
   sites = is.sites;
   located = is.located;
   places = is.places;
   number = is.number;
-  sections = sections_same (tables ss) is.sites (uncut ss o is) is.number o.symbols 0 (opened_of (tables ss)).sections o.sections is.sections;
-  exported_are = exported_are ss o is;
+  sections = sections_same (tables ss) is.sites (all_uncut ss o is) is.number o.symbols 0 (source_sections is.dropped ss) o.sections is.sections;
+  exported_are = is.exported_are;
   rows = is.rows;
   rvc = is.rvc;
 }
 
-pub assembled_sites : (ss : List Statement) (o : Object) (is : IsObjectOf ss o) → (assembled ss o is).sites ≡ is.sites
+pub assembled_sites : (ss : List Statement) (o : Object) (is : IsKept ss o) → (assembled ss o is).sites ≡ is.sites
 unfolding assembled
 assembled_sites ss o is = refl
 
-unfoldable pub all_assembled : (sources : List (List Statement)) (os : List Object) → AreObjectsOf sources os → AreAssembled sources os
+pub assembled_dropped : (ss : List Statement) (o : Object) (is : IsKept ss o) → (assembled ss o is).dropped ≡ is.dropped
+unfolding assembled
+assembled_dropped ss o is = refl
+
+unfoldable pub all_assembled : (sources : List (List Statement)) (os : List Object) → AreKept sources os → AreAssembled sources os
 all_assembled [] [] h = tt
 all_assembled [] (o ∷ os) h = absurd h
 all_assembled (ss ∷ sources) [] h = absurd h

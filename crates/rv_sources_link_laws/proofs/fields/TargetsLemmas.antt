@@ -9,7 +9,7 @@ use Rattle.rv_text_laws.specs.Expression.{Primary, Symbol as Named, Literal, Her
 use Rattle.rv_text_laws.specs.Values.{Meaning, Known, InSection as InData, Open as OpenAddress, Refused, add}
 use Rattle.rv_statement.specs.Statement.{StatementKind, Label, Numbered, Instruction, Directs, Statement, Enters, Sets}
 use Rattle.rv_unit_laws.specs.Sections.{Section as SourceSection, goes_to_text as source_text}
-use Rattle.rv_unit_laws.specs.Tables.{Tables, Assignment, Definition, tables, at_start, definition, gives_way, sure_definition, opened_of, assigned_ever, longest_section}
+use Rattle.rv_unit_laws.specs.Tables.{Tables, Assignment, Definition, tables, at_start, definition, gives_way, sure_definition, assigned_ever, longest_section}
 use Rattle.rv_source_laws.specs.Located.{Located, has_row}
 use Rattle.rv_source_laws.specs.Program as source
 use Rattle.rv_source_laws.specs.Program.{MaybeMapped, Program, tables_in, chosen}
@@ -25,13 +25,13 @@ use Rattle.rv_object_laws.specs.Names.{Place, is_sure, is_sure_by, place_in, sha
 use Rattle.rv_object_laws.specs.Shortened.{Sizes}
 use Rattle.rv_assemble_laws.specs.Sites.{Site, sites_in, end_of}
 use Rattle.rv_assemble_laws.specs.Symbols.{site_at, after_found, assigned_definition, site_definition, IsNamed, IsOwn, IsOuter, IsDefinedBy, StandsFor}
-use Rattle.rv_assemble_laws.specs.IsObjectOf.{IsInData, StandsInData, IsObjectOf}
-use Rattle.rv_sources_link_laws.specs.Joins.{AreObjectsOf}
+use Rattle.rv_assemble_laws.specs.IsObjectOf.{IsInData, StandsInData}
+use Rattle.rv_sources_link_laws.proofs.sections.KeptLemmas.{IsKept, AreKept}
+use Rattle.rv_sources_link_laws.proofs.sections.MaskedLemmas.{source_sections}
 use Rattle.rv_sources_link_laws.proofs.fields.AimsLemmas as aims
 use Rattle.rv_sources_link_laws.proofs.fields.AimsLemmas.{IsFirst}
 use Rattle.rv_sources_link_laws.proofs.sections.AssembledLemmas.{IsSectionOf}
-use Rattle.rv_sources_link_laws.proofs.statements.CodeOfLemmas.{found_from}
-use Rattle.rv_sources_link_laws.proofs.names.ExportedLemmas.{exported_are}
+use Rattle.rv_sources_link_laws.proofs.statements.CodeOfLemmas.{found_left}
 use Rattle.rv_sources_link_laws.proofs.names.PairLemmas.{IsAlike, IsPair, IsMade, AreMade}
 use Rattle.rv_sources_link_laws.proofs.names.AlikeLemmas.{chosen_alike}
 use Rattle.rv_sources_link_laws.proofs.names.MadeLemmas.{rises}
@@ -43,10 +43,10 @@ use Rattle.rv_sources_link_laws.proofs.moves.MovedLemmas.{all_map, IsBound, Adds
 use Rattle.rv_sources_link_laws.proofs.statements.OrderedLemmas.{its_section}
 use Rattle.rv_sources_link_laws.proofs.moves.PiecesLemmas.{ArePieces, lines}
 use Rattle.rv_sources_link_laws.proofs.moves.PiecesOfLemmas.{size_is}
-use Rattle.rv_sources_link_laws.proofs.statements.SettledLemmas.{IsSettled, settled, of_sections, IsSiteIn, sites_are_in}
+use Rattle.rv_sources_link_laws.proofs.statements.SettledLemmas.{IsSettled, settled_left, of_sections, IsSiteIn, sites_are_in}
 use Rattle.rv_sources_link_laws.proofs.moves.ShrunkLemmas as shrunk
 use Rattle.rv_sources_link_laws.proofs.statements.StatementsLemmas.{renumbered, statement_at, all_statements}
-use Rattle.rv_sources_link_laws.proofs.calls.UncutLemmas.{uncut, sections_same, assembled, assembled_sites}
+use Rattle.rv_sources_link_laws.proofs.calls.UncutLemmas.{all_uncut, sections_same, assembled, assembled_sites}
 
 -- ---- the sections of text are there
 
@@ -111,27 +111,27 @@ present_of k (suc i) j (u ∷ us) x e text =
 -- ---- an object of a source
 
 -- the sections of an object by their source's
-pub section_of : (ss : List Statement) (o : Object) (is : IsObjectOf ss o) (j : ℕ) (s : SourceSection) → slice_get (opened_of (tables ss)).sections j ≡ Some s
+pub section_of : (ss : List Statement) (o : Object) (is : IsKept ss o) (j : ℕ) (s : SourceSection) → slice_get (source_sections is.dropped ss) j ≡ Some s
     → (x : Section) × (slice_get o.sections j ≡ Some x) × IsSectionOf (tables ss) is.sites is.number o.symbols j s (sites_in j is.sites) x
 section_of ss o is j s at =
-    its_section (IsSectionOf (tables ss) is.sites is.number o.symbols) is.sites j (opened_of (tables ss)).sections o.sections s
-    (sections_same (tables ss) is.sites (uncut ss o is) is.number o.symbols 0 (opened_of (tables ss)).sections o.sections is.sections) at
+    its_section (IsSectionOf (tables ss) is.sites is.number o.symbols) is.sites j (source_sections is.dropped ss) o.sections s
+    (sections_same (tables ss) is.sites (all_uncut ss o is) is.number o.symbols 0 (source_sections is.dropped ss) o.sections is.sections) at
 
-pub all_settled : (ss : List Statement) (o : Object) (is : IsObjectOf ss o) → AllByRecursion (IsSettled (opened_of (tables ss)).sections) is.sites
-all_settled ss o is = settled ss is.sites is.good is.located
+pub all_settled : (ss : List Statement) (o : Object) (is : IsKept ss o) → AllByRecursion (IsSettled (source_sections is.dropped ss)) is.sites
+all_settled ss o is = settled_left ss is.sites is.dropped is.good is.located
 
-pub firsts : (ss : List Statement) (o : Object) (is : IsObjectOf ss o) → AllByRecursion (IsFirst is.sites) is.sites
-firsts ss o is = all_map (λ z. (1 ≤ z.located.ordinal) × IsFirst is.sites z) (IsFirst is.sites) is.sites (λ z k. k.1) (found_from 1 (at_start ss) ss is.sites is.located)
+pub firsts : (ss : List Statement) (o : Object) (is : IsKept ss o) → AllByRecursion (IsFirst is.sites) is.sites
+firsts ss o is = all_map (λ z. (1 ≤ z.located.ordinal) × IsFirst is.sites z) (IsFirst is.sites) is.sites (λ z k. k.1) (found_left 1 (at_start ss) ss is.dropped is.sites is.located)
 
 -- no statement stands beyond its section
 abbrev IsLow : Object → Site → Type 0
 IsLow o z = (x : Section) → slice_get o.sections z.located.section ≡ Some x → z.offset ≤ size_of x.contents
 
-lows : (ss : List Statement) (o : Object) (is : IsObjectOf ss o) → AllByRecursion (IsLow o) is.sites
-lows ss o is = of_sections (opened_of (tables ss)).sections (IsLow o) is.sites (all_settled ss o is) by
+lows : (ss : List Statement) (o : Object) (is : IsKept ss o) → AllByRecursion (IsLow o) is.sites
+lows ss o is = of_sections (source_sections is.dropped ss) (IsLow o) is.sites (all_settled ss o is) by
   where
-    by : (j : ℕ) (s : SourceSection) → slice_get (opened_of (tables ss)).sections j ≡ Some s → AllByRecursion (IsLow o) (sites_in j is.sites)
-    by j s at = go (sites_in j is.sites) (sites_are_in (opened_of (tables ss)).sections j s is.sites at (all_settled ss o is)) (offsets_low (tables ss) 0 (sites_in j is.sites) h.tile).1
+    by : (j : ℕ) (s : SourceSection) → slice_get (source_sections is.dropped ss) j ≡ Some s → AllByRecursion (IsLow o) (sites_in j is.sites)
+    by j s at = go (sites_in j is.sites) (sites_are_in (source_sections is.dropped ss) j s is.sites at (all_settled ss o is)) (offsets_low (tables ss) 0 (sites_in j is.sites) h.tile).1
       where
         found : (x : Section) × (slice_get o.sections j ≡ Some x) × IsSectionOf (tables ss) is.sites is.number o.symbols j s (sites_in j is.sites) x
         found = section_of ss o is j s at
@@ -149,7 +149,7 @@ lows ss o is = of_sections (opened_of (tables ss)).sections (IsLow o) is.sites (
           go zs is' ks,
         )
 
-short_bounds : (ss : List Statement) (o : Object) (is : IsObjectOf ss o) → AllByRecursion IsBound is.sites
+short_bounds : (ss : List Statement) (o : Object) (is : IsKept ss o) → AllByRecursion IsBound is.sites
 short_bounds ss o is = subst (λ S. AllByRecursion IsBound S) (assembled_sites ss o is) (filed.bounds ss o (assembled ss o is))
 
 module _ (p : Program) (starts : Starts) (at : ℕ → List Site) (sizes : ℕ → ℕ → Sizes) (os : List Object) (bs : List fits.InputSection) (h : ArePieces p starts at sizes (inputs goes_to_text os) bs) where
@@ -164,19 +164,19 @@ module _ (p : Program) (starts : Starts) (at : ℕ → List Site) (sizes : ℕ �
   put file section offset = record { file = file; section = section; offset = offset }
 
   -- what is known of a file
-  pub record IsHere (f : ℕ) (ss : List Statement) (o : Object) (is : IsObjectOf ss o) : Type 0 where
+  pub record IsHere (f : ℕ) (ss : List Statement) (o : Object) (is : IsKept ss o) : Type 0 where
     pub low : 1 ≤ f
     pub sites : at f ≡ is.sites
     pub object : object_at os f ≡ o
     pub tables : tables_in p f ≡ tables ss
 
-  abbrev pub AreHere : ℕ → (sources : List (List Statement)) (us : List Object) → AreObjectsOf sources us → Type 0
+  abbrev pub AreHere : ℕ → (sources : List (List Statement)) (us : List Object) → AreKept sources us → Type 0
   AreHere f [] [] k = ⊤
   AreHere f [] (o ∷ us) k = absurd k
   AreHere f (ss ∷ sources) [] k = absurd k
   AreHere f (ss ∷ sources) (o ∷ us) (is, k) = IsHere f ss o is × AreHere (suc f) sources us k
 
-  module _ (f : ℕ) (ss : List Statement) (o : Object) (is : IsObjectOf ss o) (here : IsHere f ss o is) where
+  module _ (f : ℕ) (ss : List Statement) (o : Object) (is : IsKept ss o) (here : IsHere f ss o is) where
     abbrev t : Tables
     t = tables ss
 
@@ -188,8 +188,8 @@ module _ (p : Program) (starts : Starts) (at : ℕ → List Site) (sizes : ℕ �
         → text_to (Some (put f z.located.section offset)) ≡ aim_offset line (aim f n)
     place_at n z offset found placed same = go (source_text z.located.home) refl
       where
-        k : IsSettled (opened_of (tables ss)).sections z
-        k = all_found (IsSettled (opened_of (tables ss)).sections) (λ z. z.located.ordinal == n) is.sites (all_settled ss o is) z found
+        k : IsSettled (source_sections is.dropped ss) z
+        k = all_found (IsSettled (source_sections is.dropped ss)) (λ z. z.located.ordinal == n) is.sites (all_settled ss o is) z found
 
         found_x : (x : Section) × (slice_get o.sections z.located.section ≡ Some x) × IsSectionOf (tables ss) is.sites is.number o.symbols z.located.section z.located.home (sites_in z.located.section is.sites) x
         found_x = section_of ss o is z.located.section z.located.home k.home
@@ -278,14 +278,14 @@ module _ (p : Program) (starts : Starts) (at : ℕ → List Site) (sizes : ℕ �
       go (Some x) None h = absurd h
       go (Some x) (Some e) h = sym h
 
-  module _ (f : ℕ) (ss : List Statement) (o : Object) (is : IsObjectOf ss o) (here : IsHere f ss o is) (ys : List Site) (c : IsFinalFile (sizes f) ss o is ys) where
+  module _ (f : ℕ) (ss : List Statement) (o : Object) (is : IsKept ss o) (here : IsHere f ss o is) (ys : List Site) (c : IsFinalFile (sizes f) ss o is ys) where
     abbrev seen : Site → MaybeMapped
     seen z = statement_at starts f (c.final z)
 
     abbrev Alike : Site → Type 0
     Alike z = IsPair AimsAlike (tables ss) is.sites seen f o z
 
-    alike_from : (zs : List Site) → AllByRecursion (IsSettled (opened_of (tables ss)).sections) zs → AllByRecursion (IsFirst is.sites) zs → AllByRecursion Alike zs
+    alike_from : (zs : List Site) → AllByRecursion (IsSettled (source_sections is.dropped ss)) zs → AllByRecursion (IsFirst is.sites) zs → AllByRecursion Alike zs
     alike_from [] k u = tt
     alike_from (z ∷ zs) (k, ks) (u, us) = ((λ name index e shared. aimed name e), alike_from zs ks us)
       where
@@ -305,8 +305,8 @@ module _ (p : Program) (starts : Starts) (at : ℕ → List Site) (sizes : ℕ �
       tables = here.tables;
       own_are = ap (map (statement_at starts f)) c.sites ∙ map_twice is.sites;
       located = λ z. ap (renumbered f) (c.stays z);
-      rise = rises 1 (at_start ss) ss is.sites is.located;
-      exported_are = exported_are ss o is;
+      rise = rises 1 (at_start ss) ss is.dropped is.sites is.located;
+      exported_are = is.exported_are;
       pairs = alike_from is.sites (all_settled ss o is) (firsts ss o is);
     }
       where
@@ -314,7 +314,7 @@ module _ (p : Program) (starts : Starts) (at : ℕ → List Site) (sizes : ℕ �
         map_twice [] = refl
         map_twice (z ∷ zs) = ap (λ l. seen z ∷ l) (map_twice zs)
 
-  made : (f : ℕ) (sources : List (List Statement)) (us : List Object) (k : AreObjectsOf sources us) (ws : List Object) (q : shrunk.AreObjectsOf sources ws)
+  made : (f : ℕ) (sources : List (List Statement)) (us : List Object) (k : AreKept sources us) (ws : List Object) (q : shrunk.AreObjectsOf sources ws)
       → AreFinal sizes f sources us k ws q → AreHere f sources us k → AreMade AimsAlike p f us (all_statements starts f sources ws q)
   made f [] [] k [] q c a = refl
   made f [] [] k (w ∷ ws) q c a = absurd q
@@ -331,12 +331,12 @@ module _ (p : Program) (starts : Starts) (at : ℕ → List Site) (sizes : ℕ �
 
   -- ---- what a statement means by a name
 
-  module _ (sources : List (List Statement)) (k : AreObjectsOf sources os) (ws : List Object) (q : shrunk.AreObjectsOf sources ws) (c : AreFinal sizes 1 sources os k ws q) (a : AreHere 1 sources os k)
+  module _ (sources : List (List Statement)) (k : AreKept sources os) (ws : List Object) (q : shrunk.AreObjectsOf sources ws) (c : AreFinal sizes 1 sources os k ws q) (a : AreHere 1 sources os k)
       (statements : p.statements ≡ all_statements starts 1 sources ws q) where
     shared_is : (name : List ℕ) → text_to (shared_place os name) ≡ option_and_then (aim_offset line) (shared_aim p (Named name))
     shared_is name = shared_alike name ((chosen_alike AimsAlike p os (subst (λ l. AreMade AimsAlike p 1 os l) (sym statements) (made 1 sources os k ws q c a))).chosen name)
 
-    module _ (f : ℕ) (ss : List Statement) (o : Object) (is : IsObjectOf ss o) (here : IsHere f ss o is) where
+    module _ (f : ℕ) (ss : List Statement) (o : Object) (is : IsKept ss o) (here : IsHere f ss o is) where
       abbrev stands_at : Symbol → Option ℕ
       stands_at x = text_to (symbol_place os f x)
 

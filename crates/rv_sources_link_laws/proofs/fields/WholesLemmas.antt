@@ -8,7 +8,7 @@ use Rattle.rv_statement.specs.Statement.{Statement}
 use Rattle.rv_unit_laws.specs.Tables.{Tables, Definition, definition, tables, at_start}
 use Rattle.rv_text_laws.specs.Codes.{lowest}
 use Rattle.rv_unit_laws.specs.Faults.{StatementFault, first_fault}
-use Rattle.rv_source_laws.specs.Located.{Located, located_from}
+use Rattle.rv_source_laws.specs.Located.{Located, masked, located_from}
 use Rattle.rv_source_laws.specs.Program.{Program, tables_in}
 use Rattle.rv_source_laws.specs.Lines.{section_of}
 use Rattle.rv_source_laws.specs.Fits.{mapped_in}
@@ -24,6 +24,7 @@ use Rattle.rv_assemble_laws.specs.InstructionFaults.{is_label}
 use Rattle.rv_assemble_laws.specs.Refusals.{code_fault, code_fault_from, code_faults_at, else_fault, statements_fault}
 use Rattle.rv_assemble_laws.specs.IsObjectOf.{Numbering, relocation_at}
 use Rattle.rv_sources_link_laws.proofs.statements.StatementsLemmas.{mapped_from, site_section}
+use Rattle.rv_sources_link_laws.proofs.sections.MaskedLemmas.{all_masked}
 use Rattle.rv_sources_link_laws.proofs.statements.SettledLemmas.{of_located}
 use Rattle.rv_sources_link_laws.proofs.names.LabelsLemmas.{labels_stand}
 use Rattle.rv_sources_link_laws.proofs.names.KnownLemmas.{outer_in}
@@ -121,13 +122,14 @@ front_of : (P : Located → Type 0) (xs ys : List Located) → AllByRecursion P 
 front_of P [] ys h = tt
 front_of P (x ∷ xs) ys (h, hs) = (h, front_of P xs ys hs)
 
-pub sound : (ss : List Statement) (sites : List Site) → statements_fault ss ≡ None → map (λ s. s.located) sites ≡ located_from 1 1 (at_start ss) ss
+pub sound : (ss : List Statement) (sites : List Site) (dropped : ℕ → Bool) → statements_fault ss ≡ None → map (λ s. s.located) sites ≡ map (masked dropped) (located_from 1 1 (at_start ss) ss)
     → AllByRecursion (λ z. IsSound (tables ss) z.located) sites
-sound ss sites good is =
+sound ss sites dropped good is =
     of_located (IsSound (tables ss)) sites
     (subst (λ l. AllByRecursion (IsSound (tables ss)) l) (sym is)
+    (all_masked (IsSound (tables ss)) (IsSound (tables ss)) dropped (λ l h. h) (located_from 1 1 (at_start ss) ss)
     (front_of (IsSound (tables ss)) (located_from 1 1 (at_start ss) ss) []
-    (sound_from (tables ss) (located_from 1 1 (at_start ss) ss ++ []) (no_second (first_fault ss) (code_fault ss) good))))
+    (sound_from (tables ss) (located_from 1 1 (at_start ss) ss ++ []) (no_second (first_fault ss) (code_fault ss) good)))))
 
 -- a label stands where its statement stands
 abbrev pub StandsAlone : Tables → Type 0

@@ -1,7 +1,7 @@
 -- The sections of text of the objects of sources are those of the sources.
 
 use Rattle.std.proofs.Common.{◌≡◌, ℕ, zero, suc, ◌+◌, ◌≤◌, Bool, true, false, List, [], ◌∷◌, ◌++◌, length, map, refl, sym, ap, ◌∙◌, subst, arith, max, Option, Some, None}
-use Rattle.std.proofs.lemmas.Bool.{ne_eqb}
+use Rattle.std.proofs.lemmas.Bool.{and_parts, ne_eqb}
 use Rattle.std.specs.Prelude.{◌&&◌, ◌==◌, if◌then◌else◌, flat_map}
 use Rattle.std.specs.List.{AllByRecursion, slice_get}
 use Rattle.rv_layout_laws.specs.Alignment.{aligned}
@@ -10,32 +10,35 @@ use Rattle.rv_unit_laws.specs.declared.section_type.SectionType.{SectionType}
 use Rattle.rv_unit_laws.specs.declared.section_type.SectionType.TheVariants as types
 use Rattle.rv_unit_laws.specs.Sections.{Section as SourceSection, goes_to_text as source_text}
 use Rattle.rv_unit_laws.specs.Tables.{Tables, tables, opened_of}
-use Rattle.rv_source_laws.specs.Located.{Located}
+use Rattle.rv_source_laws.specs.Located.{Located, without_address}
 use Rattle.rv_source_laws.specs.Program.{Program}
 use Rattle.rv_source_laws.specs.Fits as source
 use Rattle.rv_source_laws.proofs.HomesLemmas.{all_filter}
+use Rattle.rv_map.specs.declared.map.SectionId.{SectionId}
+use Rattle.rv_collect_laws.specs.Graph.{is_dropped}
 use Rattle.rv_object.specs.Object.{Section, Object, size_of}
 use Rattle.rv_object_laws.specs.Inputs.{Starts, InputSection, goes_to_text, inputs_from, inputs_of, begins_at}
 use Rattle.rv_object_laws.specs.Shortened.{Sizes}
 use Rattle.rv_assemble_laws.specs.Sites.{Site, part_bytes, sites_in, end_of}
-use Rattle.rv_assemble_laws.specs.IsObjectOf.{Numbering, contents_of, IsObjectOf}
+use Rattle.rv_assemble_laws.specs.IsObjectOf.{Numbering, contents_of}
+use Rattle.rv_sources_link_laws.proofs.sections.MaskedLemmas.{masked_sections, source_sections, stays}
 use Rattle.rv_sources_link_laws.proofs.statements.OrderedLemmas.{filled}
-use Rattle.rv_sources_link_laws.specs.Joins.{AreObjectsOf}
+use Rattle.rv_sources_link_laws.proofs.sections.KeptLemmas.{IsKept, AreKept, AreMasked}
 use Rattle.rv_sources_link_laws.proofs.sections.AssembledLemmas.{Tile, parts, IsSectionOf, AreSectionsOf, parts_of}
 use Rattle.rv_sources_link_laws.proofs.sections.FilesLemmas.{IsFile, AreFiles}
 use Rattle.rv_sources_link_laws.proofs.calls.FinalsLemmas.{IsFinal, IsFinalFile, AreFinal}
 use Rattle.rv_sources_link_laws.proofs.moves.PiecesLemmas.{IsPiece, ArePieces, pieces_join, is_same, Apart}
 use Rattle.rv_sources_link_laws.proofs.sections.SectionsLemmas.{join}
-use Rattle.rv_sources_link_laws.proofs.statements.SettledLemmas.{settled, IsSiteIn, sites_are_in}
+use Rattle.rv_sources_link_laws.proofs.statements.SettledLemmas.{settled_left, IsSiteIn, sites_are_in}
 use Rattle.rv_sources_link_laws.proofs.moves.ShrinksLemmas.{tidy_at}
 use Rattle.rv_sources_link_laws.proofs.moves.ShrunkLemmas as shrunk
 use Rattle.rv_sources_link_laws.proofs.statements.StatementsLemmas.{mapped_from}
-use Rattle.rv_sources_link_laws.proofs.calls.UncutLemmas.{uncut, sections_same, assembled}
+use Rattle.rv_sources_link_laws.proofs.calls.UncutLemmas.{all_uncut, sections_same, assembled}
 
 -- ---- the statements of a file
 
 -- of the file after so many others
-abbrev pub sites_by : (sources : List (List Statement)) (os : List Object) → AreObjectsOf sources os → ℕ → List Site
+abbrev pub sites_by : (sources : List (List Statement)) (os : List Object) → AreKept sources os → ℕ → List Site
 sites_by [] [] h i = []
 sites_by [] (o ∷ os) h i = absurd h
 sites_by (ss ∷ sources) [] h i = absurd h
@@ -61,7 +64,7 @@ begin_of None = 0
 begin_of (Some x) = aligned (begins_at x) 0
 
 -- the multiple at which a section of a source begins
-pub begins_as : (ss : List Statement) (o : Object) (is : IsObjectOf ss o) (j : ℕ) (x : Section) → slice_get o.sections j ≡ Some x → begins_at x ≡ max (if goes_to_text x then 2 else 1) x.alignment
+pub begins_as : (ss : List Statement) (o : Object) (is : IsKept ss o) (j : ℕ) (x : Section) → slice_get o.sections j ≡ Some x → begins_at x ≡ max (if goes_to_text x then 2 else 1) x.alignment
 begins_as ss o is j x there = (tidy_at ss o (assembled ss o is) (λ j. begin_of (slice_get o.sections j)) (λ j y at text. (0, ap begin_of at)) j x there).begins
 
 final_in : (final : Site → Site) → ((z : Site) → (final z).located ≡ z.located) → (j : ℕ) (zs : List Site) → sites_in j (map final zs) ≡ map final (sites_in j zs)
@@ -73,15 +76,15 @@ final_in final stays j (z ∷ zs) =
     go true ih = ap (λ l. final z ∷ l) ih
     go false ih = ih
 
-module _ (p : Program) (starts : Starts) (at : ℕ → List Site) (sizes : ℕ → ℕ → Sizes) where
+module _ (p : Program) (starts : Starts) (at : ℕ → List Site) (sizes : ℕ → ℕ → Sizes) (drops : List SectionId) where
   -- ---- a file
 
-  module _ (file : ℕ) (ss : List Statement) (o : Object) (is : IsObjectOf ss o) (here : at file ≡ is.sites) (ys : List Site) (c : IsFinalFile (sizes file) ss o is ys) (f : IsFile p starts file ss ys) where
+  module _ (file : ℕ) (ss : List Statement) (o : Object) (is : IsKept ss o) (mask : is.dropped ≡ is_dropped drops file) (here : at file ≡ is.sites) (ys : List Site) (c : IsFinalFile (sizes file) ss o is ys) (f : IsFile p starts file ss ys) where
     abbrev t : Tables
     t = tables ss
 
     abbrev sections : List SourceSection
-    sections = (opened_of (tables ss)).sections
+    sections = source_sections is.dropped ss
 
     abbrev input : ℕ → Section → InputSection
     input index x = record { file = file; object = o; index = index; section = x }
@@ -102,58 +105,74 @@ module _ (p : Program) (starts : Starts) (at : ℕ → List Site) (sizes : ℕ �
               ∙ ap (λ S. mapped_from starts file (map c.final (sites_in index S))) (sym here);
           tile = subst (λ S. Tile t 0 (sites_in index S)) (sym here) h.tile;
           size = size_is t is.sites is.number o index s (sites_in index is.sites) x h ∙ ap (λ S. end_of 0 (sites_in index S)) (sym here);
-          inside = subst (λ S. AllByRecursion (λ z. IsSiteIn index s z) (sites_in index S)) (sym here) (sites_are_in sections index s is.sites at_s (settled ss is.sites is.good is.located));
+          inside = subst (λ S. AllByRecursion (λ z. IsSiteIn index s z) (sites_in index S)) (sym here) (sites_are_in sections index s is.sites at_s (settled_left ss is.sites is.dropped is.good is.located));
           finals = subst (λ S. AllByRecursion (λ z. IsFinal t (sizes file) z (c.final z)) (sites_in index S)) (sym here)
               (all_filter (λ z. IsFinal t (sizes file) z (c.final z)) (λ z. z.located.section == index) is.sites c.finals);
         }
 
-    pieces_from : (index : ℕ) (sss : List SourceSection) (xs : List Section) → AreSectionsOf t is.sites is.number o.symbols index sss xs
-        → ((j : ℕ) → slice_get sections (index + j) ≡ slice_get sss j) → ((j : ℕ) → slice_get o.sections (index + j) ≡ slice_get xs j)
-        → ArePieces p starts at sizes (inputs_from goes_to_text file o index xs) (source.input_sections_of_file source_text t p.mapped file index sss)
+    pieces_from : (index : ℕ) (sss : List SourceSection) (xs : List Section) → AreSectionsOf t is.sites is.number o.symbols index (masked_sections is.dropped index sss) xs
+        → ((j : ℕ) → slice_get sections (index + j) ≡ slice_get (masked_sections is.dropped index sss) j) → ((j : ℕ) → slice_get o.sections (index + j) ≡ slice_get xs j)
+        → ArePieces p starts at sizes (inputs_from goes_to_text file o index xs) (source.input_sections_of_file source_text drops t p.mapped file index sss)
     pieces_from index [] [] h at_s at_x = tt
     pieces_from index [] (x ∷ xs) h at_s at_x = absurd h
     pieces_from index (s ∷ sss) [] h at_s at_x = absurd h
     pieces_from index (s ∷ sss) (x ∷ xs) (h, hs) at_s at_x =
-        let here_s : slice_get sections index ≡ Some s = ap (slice_get sections) (let e : index ≡ index + 0 = omega arith in e) ∙ at_s 0 in
+        let here_s : slice_get sections index ≡ Some kept = ap (slice_get sections) (let e : index ≡ index + 0 = omega arith in e) ∙ at_s 0 in
         let there : slice_get o.sections index ≡ Some x = ap (slice_get o.sections) (let e : index ≡ index + 0 = omega arith in e) ∙ at_x 0 in
         let next : (j : ℕ) → suc index + j ≡ index + suc j = λ j. omega arith in
-        go (goes_to_text x) (source_text s) refl (ap (λ b. b && x.executable) h.loaded ∙ ap (λ b. s.loaded && b) h.executable) (λ text. piece_one index s x h here_s there text)
+        go (goes_to_text x) (source_text (without_address (is_dropped drops file index) s)) (ap (λ b. b && x.executable) h.loaded ∙ ap (λ b. kept.loaded && b) h.executable ∙ ap source_text same)
+        (λ text. piece_left (is_dropped drops file index) same text here_s there)
         (pieces_from (suc index) sss xs hs (λ j. ap (slice_get sections) (next j) ∙ at_s (suc j)) (λ j. ap (slice_get o.sections) (next j) ∙ at_x (suc j)))
       where
         b : source.InputSection
         b = source.input_section t s p.mapped file index
 
-        go : (a c : Bool) → source_text s ≡ c → a ≡ c → (c ≡ true → IsPiece p starts at sizes (input index x) b)
-            → ArePieces p starts at sizes (inputs_from goes_to_text file o (suc index) xs) (source.input_sections_of_file source_text t p.mapped file (suc index) sss)
-            → ArePieces p starts at sizes (if a then input index x ∷ inputs_from goes_to_text file o (suc index) xs else inputs_from goes_to_text file o (suc index) xs)
-            (if c then b ∷ source.input_sections_of_file source_text t p.mapped file (suc index) sss else source.input_sections_of_file source_text t p.mapped file (suc index) sss)
-        go true true e same one ih = (one refl, ih)
-        go false false e same one ih = ih
-        go true false e same one ih = absurd (cc)
-        go false true e same one ih = absurd (cc)
+        -- the source's section as the object has it
+        kept : SourceSection
+        kept = without_address (is.dropped index) s
 
-    pub file_pieces : ArePieces p starts at sizes (inputs_from goes_to_text file o 0 o.sections) (source.input_sections_of_file source_text (tables ss) p.mapped file 0 sections)
+        same : kept ≡ without_address (is_dropped drops file index) s
+        same = ap (λ (d : ℕ → Bool). without_address (d index) s) mask
+
+        -- one that is text has its address
+        piece_left : (d : Bool) → kept ≡ without_address d s → source_text (without_address d s) ≡ true → slice_get sections index ≡ Some kept → slice_get o.sections index ≡ Some x
+            → IsPiece p starts at sizes (input index x) b
+        piece_left d e text at_s there =
+            let left : kept ≡ s = e ∙ stays d s (and_parts (without_address d s).loaded (without_address d s).executable text).0 in
+            subst (λ y. IsPiece p starts at sizes (input index x) (source.input_section t y p.mapped file index)) left (piece_one index kept x h at_s there (ap source_text e ∙ text))
+
+        go : (a c : Bool) → a ≡ c → (c ≡ true → IsPiece p starts at sizes (input index x) b)
+            → ArePieces p starts at sizes (inputs_from goes_to_text file o (suc index) xs) (source.input_sections_of_file source_text drops t p.mapped file (suc index) sss)
+            → ArePieces p starts at sizes (if a then input index x ∷ inputs_from goes_to_text file o (suc index) xs else inputs_from goes_to_text file o (suc index) xs)
+            (if c then b ∷ source.input_sections_of_file source_text drops t p.mapped file (suc index) sss else source.input_sections_of_file source_text drops t p.mapped file (suc index) sss)
+        go true true same one ih = (one refl, ih)
+        go false false same one ih = ih
+        go true false same one ih = absurd (cc)
+        go false true same one ih = absurd (cc)
+
+    pub file_pieces : ArePieces p starts at sizes (inputs_from goes_to_text file o 0 o.sections) (source.input_sections_of_file source_text drops (tables ss) p.mapped file 0 (opened_of (tables ss)).sections)
     file_pieces =
-        pieces_from 0 sections o.sections (sections_same (tables ss) is.sites (uncut ss o is) is.number o.symbols 0 sections o.sections is.sections)
+        pieces_from 0 (opened_of (tables ss)).sections o.sections (sections_same (tables ss) is.sites (all_uncut ss o is) is.number o.symbols 0 sections o.sections is.sections)
         (λ j. ap (slice_get sections) (let e : 0 + j ≡ j = omega arith in e)) (λ j. ap (slice_get o.sections) (let e : 0 + j ≡ j = omega arith in e))
 
   -- ---- all files
 
-  pub pieces : (file : ℕ) (sources : List (List Statement)) (os : List Object) (h : AreObjectsOf sources os) (ws : List Object) (k : shrunk.AreObjectsOf sources ws)
+  pub pieces : (file : ℕ) (sources : List (List Statement)) (os : List Object) (h : AreKept sources os) → AreMasked drops file sources os h → (ws : List Object) (k : shrunk.AreObjectsOf sources ws)
       → AreFinal sizes file sources os h ws k → AreFiles p starts file sources ws k → ((i : ℕ) → at (file + i) ≡ sites_by sources os h i)
-      → ArePieces p starts at sizes (inputs_of goes_to_text file os) (source.input_sections_of source_text p.mapped file sources)
-  pieces file [] [] h ws k c f g = tt
-  pieces file [] (o ∷ os) h ws k c f g = absurd h
-  pieces file (ss ∷ sources) [] h ws k c f g = absurd h
-  pieces file (ss ∷ sources) (o ∷ os) (is, h) [] k c f g = absurd k
-  pieces file (ss ∷ sources) (o ∷ os) (is, h) (w ∷ ws) (js, k) (c, cs) (f, fs) g =
+      → ArePieces p starts at sizes (inputs_of goes_to_text file os) (source.input_sections_of source_text drops p.mapped file sources)
+  pieces file [] [] h masks ws k c f g = tt
+  pieces file [] (o ∷ os) h masks ws k c f g = absurd h
+  pieces file (ss ∷ sources) [] h masks ws k c f g = absurd h
+  pieces file (ss ∷ sources) (o ∷ os) (is, h) masks [] k c f g = absurd k
+  pieces file (ss ∷ sources) (o ∷ os) (is, h) (mask, masks) (w ∷ ws) (js, k) (c, cs) (f, fs) g =
       pieces_join p starts at sizes (inputs_from goes_to_text file o 0 o.sections) (inputs_of goes_to_text (suc file) os)
-      (source.input_sections_of_file source_text (tables ss) p.mapped file 0 (opened_of (tables ss)).sections) (source.input_sections_of source_text p.mapped (suc file) sources)
-      (file_pieces file ss o is (ap at (let e : file ≡ file + 0 = omega arith in e) ∙ g 0) js.sites c f)
-      (pieces (suc file) sources os h ws k cs fs (λ i. ap at (let e : suc file + i ≡ file + suc i = omega arith in e) ∙ g (suc i)))
+      (source.input_sections_of_file source_text drops (tables ss) p.mapped file 0 (opened_of (tables ss)).sections) (source.input_sections_of source_text drops p.mapped (suc file) sources)
+      (file_pieces file ss o is mask (ap at (let e : file ≡ file + 0 = omega arith in e) ∙ g 0) js.sites c f)
+      (pieces (suc file) sources os h masks ws k cs fs (λ i. ap at (let e : suc file + i ≡ file + suc i = omega arith in e) ∙ g (suc i)))
 
-  -- ---- they are apart
+-- ---- they are apart
 
+module _ (p : Program) (starts : Starts) (at : ℕ → List Site) (sizes : ℕ → ℕ → Sizes) where
   abbrev From : ℕ → List InputSection → Type 0
   From file is = AllByRecursion (λ (j : InputSection). file ≤ j.file) is
 

@@ -9,7 +9,7 @@ use Rattle.rv_text_laws.specs.Values.{Meaning, Known, InSection as InData, Open 
 use Rattle.rv_statement.specs.Statement.{StatementKind, Label, Numbered, Instruction, Directs, Statement, Enters, Sets}
 use Rattle.rv_unit_laws.specs.Bindings.{is_shared}
 use Rattle.rv_unit_laws.specs.Sections.{Section as SourceSection, goes_to_text as source_text}
-use Rattle.rv_unit_laws.specs.Tables.{Tables, Assignment, tables, is_location, assigned_ever, opened_of}
+use Rattle.rv_unit_laws.specs.Tables.{Tables, Assignment, tables, is_location, assigned_ever}
 use Rattle.rv_source_laws.specs.Located.{has_row}
 use Rattle.rv_source_laws.specs.Exports.{names_where}
 use Rattle.rv_object.specs.declared.symbol.Definition.{Definition as Defined}
@@ -23,6 +23,7 @@ use Rattle.rv_object_laws.specs.IsLinkOf.{moves_at}
 use Rattle.rv_assemble_laws.specs.Sites.{Site, Part, sites_in}
 use Rattle.rv_assemble_laws.specs.Symbols.{references_in, site_at, after_found, assigned_definition, site_definition, shared_symbol, exports_of}
 use Rattle.rv_assemble_laws.specs.IsObjectOf.{IsNumbered, row_of, rows_at, IsInData, StandsInData}
+use Rattle.rv_sources_link_laws.proofs.sections.MaskedLemmas.{source_sections}
 use Rattle.rv_sources_link_laws.proofs.sections.AssembledLemmas.{IsSectionOf, AreSectionsOf, IsAssembled, AreAssembled}
 use Rattle.rv_sources_link_laws.proofs.statements.SettledLemmas.{IsSettled, sites_are_in, of_sections}
 use Rattle.rv_sources_link_laws.proofs.names.ExportedLemmas.{exported}
@@ -47,7 +48,7 @@ module _ (ss : List Statement) (o : Object) (is : IsAssembled ss o) (f : ℕ →
   t = tables ss
 
   abbrev sections : List SourceSection
-  sections = (opened_of (tables ss)).sections
+  sections = source_sections is.dropped ss
 
   abbrev o' : Object
   o' = shrunk_object f o
@@ -247,6 +248,7 @@ module _ (ss : List Statement) (o : Object) (is : IsAssembled ss o) (f : ℕ →
 
   pub shrunk_is : shrunk.IsObjectOf ss o'
   shrunk_is = record {
+    dropped = is.dropped;
     good = is.good;
     sites = sites';
     located = moved.located_same t is.sites is.places (filed.bounds ss o is) (moves_in f o) still mv (λ z. refl) (λ z. refl) (shrunk_definition f o) refl (λ n. refl) (λ n. refl) (λ j n. refl) is.sites ∙ is.located;
@@ -261,6 +263,10 @@ module _ (ss : List Statement) (o : Object) (is : IsAssembled ss o) (f : ℕ →
   pub shrunk_sites : shrunk_is.sites ≡ map mv is.sites
   unfolding shrunk_is
   shrunk_sites = refl
+
+  pub shrunk_dropped : shrunk_is.dropped ≡ is.dropped
+  unfolding shrunk_is
+  shrunk_dropped = refl
 
 -- ---- all files
 

@@ -8,9 +8,9 @@ use Rattle.rv_text_laws.specs.Values.{Value, Constant}
 use Rattle.rv_statement.specs.Statement.{StatementKind, Label, Numbered, Instruction, Directs, Statement, Expression, Directive, Aligns_to_power, Aligns_to_bytes, Values, Strings, Zeros}
 use Rattle.rv_unit_laws.specs.Contributions.{Contribution, Nothing, Bytes, Zero_bytes, Alignment, contribution}
 use Rattle.rv_unit_laws.specs.Sections.{Section as SourceSection, is_nobits, goes_to_text}
-use Rattle.rv_unit_laws.specs.Tables.{Tables, at_start, tables, alignment_of, alignment_at, opened_of, padding, string_bytes}
+use Rattle.rv_unit_laws.specs.Tables.{Tables, at_start, tables, alignment_of, alignment_at, padding, string_bytes}
 use Rattle.rv_pseudo_laws.specs.Code.{code}
-use Rattle.rv_source_laws.specs.Located.{located_from}
+use Rattle.rv_source_laws.specs.Located.{located_from, masked}
 use Rattle.rv_source_laws.specs.Fits.{is_low}
 use Rattle.rv_object.specs.Object.{Section, Symbol, Object}
 use Rattle.rv_object.specs.Padding.{no_operations, operations_in}
@@ -20,6 +20,9 @@ use Rattle.rv_assemble_laws.specs.Coded.{is_constant, constants, IsCode}
 use Rattle.rv_assemble_laws.specs.Refusals.{statements_fault}
 use Rattle.rv_assemble_laws.specs.Symbols.{exports}
 use Rattle.rv_assemble_laws.specs.Templates.{Template, Fixed, IsTemplate, contents_templates}
+use Rattle.rv_map.specs.declared.map.SectionId.{SectionId}
+use Rattle.rv_collect_laws.specs.Graph.{is_dropped}
+use Rattle.rv_sources_link_laws.proofs.sections.MaskedLemmas.{source_sections}
 use Rattle.rv_sources_link_laws.proofs.statements.MarkedLemmas.{part_fields}
 use Rattle.rv_sources_link_laws.proofs.statements.OrderedLemmas.{Follow, AreInOrder}
 pub use Rattle.rv_assemble_laws.specs.Sites.{Site, Part, form, part_of, part_bytes, coded_templates, sites_in, end_of, IsMultiple}
@@ -104,12 +107,14 @@ AreSectionsOf t all number symbols index sections xs = AreInOrder (IsSectionOf t
 -- ---- the whole
 
 pub record IsObjectOf (ss : List Statement) (o : Object) : Type 0 where
+  -- the sections without an address, by their indices
+  pub dropped : ℕ → Bool
   pub good : statements_fault ss ≡ None
   pub sites : List Site
-  pub located : map (λ s. s.located) sites ≡ located_from 1 1 (at_start ss) ss
+  pub located : map (λ s. s.located) sites ≡ map (masked dropped) (located_from 1 1 (at_start ss) ss)
   pub places : AllByRecursion (StandsInData sites) (tables ss).assignments
   pub number : Numbering
-  pub sections : AreSectionsOf (tables ss) sites number o.symbols 0 (opened_of (tables ss)).sections o.sections
+  pub sections : AreSectionsOf (tables ss) sites number o.symbols 0 (source_sections dropped ss) o.sections
   pub exported_are : exported o ≡ exports (tables ss) sites
   pub rows : o.rows ≡ flat_map rows_at sites
 
@@ -118,3 +123,10 @@ AreObjectsOf [] [] = ⊤
 AreObjectsOf [] (o ∷ os) = ⊥
 AreObjectsOf (ss ∷ sources) [] = ⊥
 AreObjectsOf (ss ∷ sources) (o ∷ os) = IsObjectOf ss o × AreObjectsOf sources os
+
+-- what is dropped of each, files numbered from one on
+abbrev pub AreMasked : List SectionId → ℕ → (sources : List (List Statement)) (os : List Object) → AreObjectsOf sources os → Type 0
+AreMasked drops file [] [] h = ⊤
+AreMasked drops file [] (o ∷ os) h = absurd h
+AreMasked drops file (ss ∷ sources) [] h = absurd h
+AreMasked drops file (ss ∷ sources) (o ∷ os) (is, h) = (is.dropped ≡ is_dropped drops file) × AreMasked drops (suc file) sources os h

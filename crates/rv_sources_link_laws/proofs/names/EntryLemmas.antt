@@ -7,7 +7,7 @@ use Rattle.std.specs.List.{AllByRecursion, slice_get}
 use Rattle.rv_text_laws.specs.Values.{Meaning, Known, InSection as InData, Open as OpenAddress, Refused, add}
 use Rattle.rv_statement.specs.Statement.{StatementKind, Label, Numbered, Instruction, Directs, Statement, Enters, Sets}
 use Rattle.rv_unit_laws.specs.Sections.{Section as SourceSection, goes_to_text}
-use Rattle.rv_unit_laws.specs.Tables.{Tables, Assignment, tables, assigned_ever, is_location, opened_of}
+use Rattle.rv_unit_laws.specs.Tables.{Tables, Assignment, tables, assigned_ever, is_location}
 use Rattle.rv_source_laws.specs.Exports.{defined_name}
 use Rattle.rv_source_laws.specs.Program as source
 use Rattle.rv_source_laws.specs.Program.{Program, address_of}
@@ -20,8 +20,9 @@ use Rattle.rv_object_laws.specs.Names.{defined_address, is_in_text, can_begin}
 use Rattle.rv_assemble_laws.specs.Sites.{Site}
 use Rattle.rv_assemble_laws.specs.Symbols.{site_at, after_found, assigned_definition, site_definition}
 use Rattle.rv_assemble_laws.specs.IsObjectOf.{IsInData, StandsInData}
+use Rattle.rv_sources_link_laws.proofs.sections.MaskedLemmas.{source_sections}
 use Rattle.rv_sources_link_laws.proofs.statements.StatementsLemmas.{statement_at}
-use Rattle.rv_sources_link_laws.proofs.statements.SettledLemmas.{IsSettled, settled}
+use Rattle.rv_sources_link_laws.proofs.statements.SettledLemmas.{IsSettled, settled_left}
 use Rattle.rv_sources_link_laws.proofs.names.KnownLemmas.{all_found}
 use Rattle.rv_sources_link_laws.proofs.names.PairLemmas.{IsAlike, IsPair}
 use Rattle.rv_sources_link_laws.proofs.statements.OrderedLemmas.{its_section}
@@ -48,7 +49,7 @@ module _ (p : Program) (starts : Starts) (file : ℕ) (ss : List Statement) (o :
   t = tables ss
 
   abbrev sections : List SourceSection
-  sections = (opened_of (tables ss)).sections
+  sections = source_sections is.dropped ss
 
   text_is : (s : Site) → IsSettled sections s → is_in_text (slice_get o.sections s.located.section) ≡ goes_to_text s.located.home
   text_is s here =
@@ -59,7 +60,7 @@ module _ (p : Program) (starts : Starts) (file : ℕ) (ss : List Statement) (o :
   found_aside : (a : Option Site) (ordinal plus : ℕ) → site_at is.sites ordinal ≡ a → IsInData a → can_begin o (after_found a plus) ≡ false
   found_aside None ordinal plus e h = refl
   found_aside (Some s) ordinal plus e (aside, placed) =
-      let here = all_found (IsSettled sections) (λ s. s.located.ordinal == ordinal) is.sites (settled ss is.sites is.good is.located) s e in
+      let here = all_found (IsSettled sections) (λ s. s.located.ordinal == ordinal) is.sites (settled_left ss is.sites is.dropped is.good is.located) s e in
       ap (λ b. b && (add s.offset plus % 2 == 0)) (text_is s here ∙ ap (λ b. s.located.home.loaded && b) aside ∙ never s.located.home.loaded)
     where
       never : (b : Bool) → (b && false) ≡ false
@@ -113,4 +114,4 @@ module _ (p : Program) (starts : Starts) (file : ℕ) (ss : List Statement) (o :
       ((λ name index e shared. kind_alike s s.located.kind name h l v h.labelled e), alike_from rest hs ls vs)
 
   pub starts_alike : AllByRecursion (IsLow starts file) is.sites → AllByRecursion Alike is.sites
-  starts_alike low = alike_from is.sites (settled ss is.sites is.good is.located) low (evens ss o is)
+  starts_alike low = alike_from is.sites (settled_left ss is.sites is.dropped is.good is.located) low (evens ss o is)

@@ -8,9 +8,11 @@ use Rattle.rv_statement.specs.Statement.{Statement}
 use Rattle.rv_unit_laws.specs.Tables.{at_start}
 use Rattle.rv_source_laws.specs.Located.{located_from, located_of}
 use Rattle.rv_source_laws.specs.Compressed.{is_compressed_code}
+use Rattle.rv_map.specs.declared.map.SectionId.{SectionId}
 use Rattle.rv_object.specs.Object.{Object}
 use Rattle.rv_object_laws.specs.CallSites.{is_short_text}
 use Rattle.rv_object_laws.specs.Shortened.{Sizes, sizes_by, shortened_from, IsRelaxed, Relaxes}
+use Rattle.rv_object_laws.specs.Without.{without, without_from}
 use Rattle.rv_assemble_laws.specs.Sites.{Site}
 use Rattle.rv_sources_link_laws.specs.Joins.{AreObjectsOf}
 use Rattle.rv_sources_link_laws.proofs.statements.StatementsLemmas.{renumbered, renumbers}
@@ -51,7 +53,17 @@ relaxed_flags false os left e = ap (list_any (λ o. o.rvc)) e
 relaxed_flags true os left (kept, greatest, e) =
     ap (list_any (λ o. o.rvc)) e ∙ shortened_flags (sizes_by os kept) 1 os
 
-pub flags_stay : (relax : Bool) (os left : List Object) → Relaxes relax os left
+-- collection changes none either
+left_flags : (drops : List SectionId) (file : ℕ) (os : List Object)
+    → list_any (λ o. o.rvc) (without_from drops file os) ≡ list_any (λ o. o.rvc) os
+left_flags drops file [] = refl
+left_flags drops file (o ∷ os) = ap (λ b. o.rvc || b) (left_flags drops (suc file) os)
+
+relaxes_flags : (relax : Bool) (os left : List Object) → Relaxes relax os left
     → list_any (λ o. o.rvc) left ≡ list_any (λ o. o.rvc) os
-flags_stay false os left e = ap (list_any (λ o. o.rvc)) e
-flags_stay true os left h = relaxed_flags (is_short_text os) os left h
+relaxes_flags false os left e = ap (list_any (λ o. o.rvc)) e
+relaxes_flags true os left h = relaxed_flags (is_short_text os) os left h
+
+pub flags_stay : (relax : Bool) (os : List Object) (drops : List SectionId) (left : List Object)
+    → Relaxes relax (without drops os) left → list_any (λ o. o.rvc) left ≡ list_any (λ o. o.rvc) os
+flags_stay relax os drops left h = relaxes_flags relax (without drops os) left h ∙ left_flags drops 1 os

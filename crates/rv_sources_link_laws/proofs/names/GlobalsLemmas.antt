@@ -6,7 +6,7 @@ use Rattle.std.specs.List.{AllByRecursion}
 use Rattle.rv_text_laws.specs.Values.{Meaning, Known, InSection as InData, Open as OpenAddress, Refused, add}
 use Rattle.rv_statement.specs.Statement.{StatementKind, Label, Numbered, Instruction, Directs, Statement, Enters, Sets}
 use Rattle.rv_unit_laws.specs.Sections.{Section as SourceSection}
-use Rattle.rv_unit_laws.specs.Tables.{Tables, Assignment, tables, assigned_ever, is_location, opened_of}
+use Rattle.rv_unit_laws.specs.Tables.{Tables, Assignment, tables, assigned_ever, is_location}
 use Rattle.rv_map.specs.Limits.{IsRow}
 use Rattle.rv_source_laws.specs.Located.{has_row}
 use Rattle.rv_source_laws.specs.Exports.{defined_name}
@@ -22,8 +22,9 @@ use Rattle.rv_object_laws.specs.Names.{defined_address, offset_address}
 use Rattle.rv_assemble_laws.specs.Sites.{Site}
 use Rattle.rv_assemble_laws.specs.Symbols.{site_at, after_found, assigned_definition, site_definition}
 use Rattle.rv_assemble_laws.specs.IsObjectOf.{IsInData, StandsInData}
+use Rattle.rv_sources_link_laws.proofs.sections.MaskedLemmas.{source_sections}
 use Rattle.rv_sources_link_laws.proofs.statements.StatementsLemmas.{row_in, rows_from, statement_at, row_address}
-use Rattle.rv_sources_link_laws.proofs.statements.SettledLemmas.{IsSettled, settled}
+use Rattle.rv_sources_link_laws.proofs.statements.SettledLemmas.{IsSettled, settled_left}
 use Rattle.rv_sources_link_laws.proofs.names.KnownLemmas.{all_found, still, own_agrees}
 use Rattle.rv_sources_link_laws.proofs.names.PairLemmas.{IsPair}
 use Rattle.rv_sources_link_laws.proofs.statements.OrderedLemmas.{its_section}
@@ -57,10 +58,10 @@ module _ (p : Program) (starts : Starts) (file : ℕ) (ss : List Statement) (o :
   t = tables ss
 
   abbrev sections : List SourceSection
-  sections = (opened_of (tables ss)).sections
+  sections = source_sections is.dropped ss
 
   all_settled : AllByRecursion (IsSettled sections) is.sites
-  all_settled = settled ss is.sites is.good is.located
+  all_settled = settled_left ss is.sites is.dropped is.good is.located
 
   -- a label
   pub label_address : (s : Site) → IsSettled sections s → s.located.placed ≡ true → IsLow starts file s

@@ -20,18 +20,18 @@ use Rattle.rv_sources_link_laws.proofs.names.AlikeLemmas.{chosen_alike, any_give
 use Rattle.rv_sources_link_laws.proofs.names.MadeLemmas.{PairsOf, all_made}
 use Rattle.rv_sources_link_laws.proofs.names.GlobalsLemmas.{AddressAlike, addresses_alike}
 use Rattle.rv_sources_link_laws.proofs.names.EntryLemmas.{StartsAlike, starts_alike, entry_alike}
-use Rattle.rv_sources_link_laws.proofs.moves.ShrunkLemmas.{AreObjectsOf}
+use Rattle.rv_sources_link_laws.proofs.moves.ShrunkLemmas.{AreObjectsOf, AreMasked}
 
-module _ (sources : List (List Statement)) (os : List Object) (text_start : ℕ) (l : Linked) (h : AreObjectsOf sources os) (link : IsLinkOf os text_start l) where
+module _ (sources : List (List Statement)) (os : List Object) (text_start : ℕ) (l : Linked) (h : AreObjectsOf sources os) (masks : AreMasked l.map.drops 1 sources os h) (link : IsLinkOf os text_start l) where
   abbrev p : Program
   p = program sources l.map
 
   alike : (R : source.Export → objects.Export → Type 0) → PairsOf R p link.starts → AreChosenAlike R p os
   alike R pairs =
       chosen_alike R p os
-      (subst (λ es. AreMade R p 1 os es) (sym (statements_ours sources os l.map link.starts h link.rows))
-      (all_made R p link.starts pairs 1 sources os h (files sources os l.map link.starts h link.rows)
-      (subst (λ rs. AllByRecursion IsRow rs) (rows_ours sources os l.map link.starts h link.rows) link.readable.rows)))
+      (subst (λ es. AreMade R p 1 os es) (sym (statements_ours sources os l.map link.starts h masks link.rows))
+      (all_made R p link.starts pairs 1 sources os h (files sources os l.map link.starts h masks link.rows)
+      (subst (λ rs. AllByRecursion IsRow rs) (rows_ours sources os l.map link.starts h masks link.rows) link.readable.rows)))
 
   addresses : AreChosenAlike (AddressAlike p link.starts) p os
   addresses = alike (AddressAlike p link.starts) (λ file ss o is f low. addresses_alike p link.starts file ss o is f low)

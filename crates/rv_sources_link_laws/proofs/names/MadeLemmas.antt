@@ -1,11 +1,11 @@
 -- The objects of sources, none of which moves any more, with their statements: what the law of names takes of them.
 
-use Rattle.std.proofs.Common.{◌≡◌, ℕ, suc, List, [], ◌∷◌, refl, sym, ap, subst, arith, map}
+use Rattle.std.proofs.Common.{◌≡◌, ℕ, suc, Bool, List, [], ◌∷◌, refl, sym, ap, subst, arith, map}
 use Rattle.std.specs.List.{AllByRecursion}
 use Rattle.rv_statement.specs.Statement.{Statement}
 use Rattle.rv_unit_laws.specs.Tables.{Tables, tables, at_start, after}
 use Rattle.rv_map.specs.Limits.{IsRow}
-use Rattle.rv_source_laws.specs.Located.{Located, located_now, located_from}
+use Rattle.rv_source_laws.specs.Located.{Located, masked, located_now, located_from}
 use Rattle.rv_source_laws.specs.Program as source
 use Rattle.rv_source_laws.specs.Program.{Program}
 use Rattle.rv_object.specs.Object.{Object}
@@ -19,14 +19,14 @@ use Rattle.rv_sources_link_laws.proofs.sections.SectionsLemmas.{split}
 use Rattle.rv_sources_link_laws.proofs.statements.StatementsLemmas.{rows_from, statement_at, all_statements, all_rows}
 use Rattle.rv_sources_link_laws.proofs.moves.ShrunkLemmas.{IsObjectOf, AreObjectsOf}
 
-pub rises : (k : ℕ) (t : Tables) (ss : List Statement) (sites : List Site) → map (λ s. s.located) sites ≡ located_from 1 k t ss → Rise k sites
-rises k t ss [] e = tt
-rises k t [] (s ∷ sites) e = absurd (cc)
-rises k t (x ∷ ss) (s ∷ sites) e =
-    let now : s.located ≡ located_now 1 k t x = cc in
+pub rises : (k : ℕ) (t : Tables) (ss : List Statement) (dropped : ℕ → Bool) (sites : List Site) → map (λ s. s.located) sites ≡ map (masked dropped) (located_from 1 k t ss) → Rise k sites
+rises k t ss dropped [] e = tt
+rises k t [] dropped (s ∷ sites) e = absurd (cc)
+rises k t (x ∷ ss) dropped (s ∷ sites) e =
+    let now : s.located ≡ masked dropped (located_now 1 k t x) = cc in
     let own : s.located.ordinal ≡ k = ap (λ (l : Located). l.ordinal) now in
-    let rest : map (λ s. s.located) sites ≡ located_from 1 (suc k) (after t k x.kind) ss = cc in
-    (omega (arith, own), subst (λ n. Rise (suc n) sites) (sym own) (rises (suc k) (after t k x.kind) ss sites rest))
+    let rest : map (λ s. s.located) sites ≡ map (masked dropped) (located_from 1 (suc k) (after t k x.kind) ss) = cc in
+    (omega (arith, own), subst (λ n. Rise (suc n) sites) (sym own) (rises (suc k) (after t k x.kind) ss dropped sites rest))
 
 module _ (R : source.Export → objects.Export → Type 0) (p : Program) (starts : Starts) where
   -- the pairs of a file whose rows stand below 2 ^ 64
@@ -52,7 +52,7 @@ module _ (R : source.Export → objects.Export → Type 0) (p : Program) (starts
           tables = f.tables;
           own_are = refl;
           located = λ z. refl;
-          rise = rises 1 (at_start ss) ss is.sites is.located;
+          rise = rises 1 (at_start ss) ss is.dropped is.sites is.located;
           exported_are = is.exported_are;
           pairs = pairs file ss o is f (low_rows starts file is.sites rows.0);
         },

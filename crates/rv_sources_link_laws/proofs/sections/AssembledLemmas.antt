@@ -1,14 +1,14 @@
 -- The object of a source, whatever the sizes of its branches and calls are: as in rv_assemble_laws, but that a call may be one
 -- instruction, with the mark of relaxation beside its field, and that only the symbols for all files are counted.
 
-use Rattle.std.specs.Prelude.{◌≡◌, ℕ, ◌≤◌, true, ⊤, List, [], ◌∷◌, flat_map, map, None, unwrap_or, if◌then◌else◌}
+use Rattle.std.specs.Prelude.{◌≡◌, ℕ, Bool, ◌≤◌, true, ⊤, List, [], ◌∷◌, flat_map, map, None, unwrap_or, if◌then◌else◌}
 use Rattle.std.specs.List.{AllByRecursion, list_any}
 use Rattle.rv_statement.specs.Statement.{StatementKind, Label, Numbered, Instruction, Directs, Statement}
 use Rattle.rv_unit_laws.specs.Contributions.{contribution}
 use Rattle.rv_unit_laws.specs.Sections.{Section as SourceSection, is_nobits, goes_to_text}
-use Rattle.rv_unit_laws.specs.Tables.{Tables, at_start, tables, opened_of, alignment_at, longest_section}
+use Rattle.rv_unit_laws.specs.Tables.{Tables, at_start, tables, alignment_at, longest_section}
 use Rattle.rv_pseudo_laws.specs.Code.{code}
-use Rattle.rv_source_laws.specs.Located.{located_from}
+use Rattle.rv_source_laws.specs.Located.{located_from, masked}
 use Rattle.rv_source_laws.specs.Compressed.{is_compressed_code}
 use Rattle.rv_object.specs.Object.{Section, Symbol, Object}
 use Rattle.rv_sources_link_laws.proofs.names.ExportedLemmas.{exported}
@@ -18,6 +18,7 @@ use Rattle.rv_assemble_laws.specs.Symbols.{exports}
 use Rattle.rv_assemble_laws.specs.Templates.{Template, IsTemplate, contribution_templates}
 use Rattle.rv_assemble_laws.specs.Sites.{Site, Part, form, part_of, part_bytes, coded_templates, end_of, HasSize}
 use Rattle.rv_assemble_laws.specs.IsObjectOf.{Numbering, rows_at, relocations_from, contents_of, ArePartsNumbered, StandsInData}
+use Rattle.rv_sources_link_laws.proofs.sections.MaskedLemmas.{source_sections}
 use Rattle.rv_sources_link_laws.proofs.statements.MarkedLemmas.{part_fields}
 use Rattle.rv_sources_link_laws.proofs.statements.OrderedLemmas.{Follow, AreInOrder}
 
@@ -63,12 +64,14 @@ AreSectionsOf t all number symbols index sections xs = AreInOrder (IsSectionOf t
 -- ---- the whole
 
 pub record IsAssembled (ss : List Statement) (o : Object) : Type 0 where
+  -- the sections without an address, by their indices
+  pub dropped : ℕ → Bool
   pub good : statements_fault ss ≡ None
   pub sites : List Site
-  pub located : map (λ s. s.located) sites ≡ located_from 1 1 (at_start ss) ss
+  pub located : map (λ s. s.located) sites ≡ map (masked dropped) (located_from 1 1 (at_start ss) ss)
   pub places : AllByRecursion (StandsInData sites) (tables ss).assignments
   pub number : Numbering
-  pub sections : AreSectionsOf (tables ss) sites number o.symbols 0 (opened_of (tables ss)).sections o.sections
+  pub sections : AreSectionsOf (tables ss) sites number o.symbols 0 (source_sections dropped ss) o.sections
   pub exported_are : exported o ≡ exports (tables ss) sites
   pub rows : o.rows ≡ flat_map rows_at sites
   pub rvc : o.rvc ≡ list_any (λ s. is_compressed_code s.located) sites

@@ -14,12 +14,13 @@ use Rattle.rv_object.specs.Object.{Section, Symbol, Object, size_of}
 use Rattle.rv_object_laws.specs.CallSites.{start_padding, length_of, is_short_text}
 use Rattle.rv_object_laws.specs.Inputs.{InputSection, goes_to_text, inputs_from, inputs_of, inputs, begins_at}
 use Rattle.rv_assemble_laws.specs.Sites.{Site, sites_in, end_of}
-use Rattle.rv_assemble_laws.specs.IsObjectOf.{Numbering, IsObjectOf}
-use Rattle.rv_sources_link_laws.specs.Joins.{AreObjectsOf}
+use Rattle.rv_assemble_laws.specs.IsObjectOf.{Numbering}
+use Rattle.rv_sources_link_laws.proofs.sections.KeptLemmas.{IsKept, AreKept}
+use Rattle.rv_sources_link_laws.proofs.sections.MaskedLemmas.{source_sections, masked_length}
 use Rattle.rv_sources_link_laws.proofs.sections.AssembledLemmas.{IsSectionOf, AreSectionsOf}
 use Rattle.rv_sources_link_laws.proofs.statements.PadsLemmas.{IsValidAlignment, by_power, power_valid, byte_valid}
 use Rattle.rv_sources_link_laws.proofs.moves.PiecesOfLemmas.{size_is, begins_as}
-use Rattle.rv_sources_link_laws.proofs.calls.UncutLemmas.{uncut, sections_same}
+use Rattle.rv_sources_link_laws.proofs.calls.UncutLemmas.{all_uncut, sections_same}
 
 -- ---- the sections of a source
 
@@ -157,7 +158,7 @@ length_join (i ∷ is) js =
     let ih = length_join is js in
     ap (λ n. a + b + n) ih ∙ (let e : a + b + (c + d) ≡ a + b + c + d = omega arith in e)
 
-module _ (ss : List Statement) (o : Object) (is : IsObjectOf ss o) (file : ℕ) where
+module _ (ss : List Statement) (o : Object) (is : IsKept ss o) (file : ℕ) where
   section_low : (j : ℕ) (s : SourceSection) (x : Section) → IsSectionOf (tables ss) is.sites is.number o.symbols j s (sites_in j is.sites) x → slice_get o.sections j ≡ Some x → goes_to_text x ≡ true
       → start_padding x + size_of x.contents ≤ 536870912
   section_low j s x h there text =
@@ -204,9 +205,9 @@ module _ (ss : List Statement) (o : Object) (is : IsObjectOf ss o) (file : ℕ) 
 
   file_low : length_of (inputs_from goes_to_text file o 0 o.sections) ≤ 17592186044416
   file_low =
-      let are = sections_same (tables ss) is.sites (uncut ss o is) is.number o.symbols 0 (opened_of (tables ss)).sections o.sections is.sections in
-      let one = from_low 0 (opened_of (tables ss)).sections o.sections are (λ j. ap (slice_get o.sections) (let e : 0 + j ≡ j = omega arith in e)) in
-      let count : length o.sections ≡ length (tables ss).extents = same_length (tables ss) is.sites is.number o.symbols 0 (opened_of (tables ss)).sections o.sections are ∙ map_long (tables ss).extents in
+      let are = sections_same (tables ss) is.sites (all_uncut ss o is) is.number o.symbols 0 (source_sections is.dropped ss) o.sections is.sections in
+      let one = from_low 0 (source_sections is.dropped ss) o.sections are (λ j. ap (slice_get o.sections) (let e : 0 + j ≡ j = omega arith in e)) in
+      let count : length o.sections ≡ length (tables ss).extents = same_length (tables ss) is.sites is.number o.symbols 0 (source_sections is.dropped ss) o.sections are ∙ masked_length is.dropped 0 (opened_of (tables ss)).sections ∙ map_long (tables ss).extents in
       let few = (source_small ss).0 in
       let c = length_of (inputs_from goes_to_text file o 0 o.sections) in
       let n = length o.sections in
@@ -216,7 +217,7 @@ module _ (ss : List Statement) (o : Object) (is : IsObjectOf ss o) (file : ℕ) 
       let r : m ≤ 32000 = few in
       let g : c ≤ 17592186044416 = omega (arith, p, q, r) in g
 
-files_low : (file : ℕ) (sources : List (List Statement)) (os : List Object) → AreObjectsOf sources os → length_of (inputs_of goes_to_text file os) ≤ length os * 17592186044416
+files_low : (file : ℕ) (sources : List (List Statement)) (os : List Object) → AreKept sources os → length_of (inputs_of goes_to_text file os) ≤ length os * 17592186044416
 files_low file [] [] h = omega arith
 files_low file [] (o ∷ os) h = absurd h
 files_low file (ss ∷ sources) [] h = absurd h
@@ -231,7 +232,7 @@ files_low file (ss ∷ sources) (o ∷ os) (is, h) =
     let both' : c ≡ a + b = both in
     let g : c ≤ suc n * 17592186044416 = omega (arith, p, q, both') in g
 
-pub text_short : (sources : List (List Statement)) (os : List Object) → AreObjectsOf sources os → length os ≤ 1024 → is_short_text os ≡ true
+pub text_short : (sources : List (List Statement)) (os : List Object) → AreKept sources os → length os ≤ 1024 → is_short_text os ≡ true
 text_short sources os h few =
     let c = length_of (inputs goes_to_text os) in
     let n = length os in

@@ -5,14 +5,15 @@ use Rattle.std.specs.Prelude.{flat_map}
 use Rattle.std.specs.List.{AllByRecursion, slice_get}
 use Rattle.rv_statement.specs.Statement.{Statement}
 use Rattle.rv_unit_laws.specs.Sections.{Section as SourceSection}
-use Rattle.rv_unit_laws.specs.Tables.{Tables, tables, opened_of, longest_section}
+use Rattle.rv_unit_laws.specs.Tables.{Tables, tables, longest_section}
 use Rattle.rv_object.specs.Object.{Section, Object}
 use Rattle.rv_assemble_laws.specs.Sites.{Site, sites_in, end_of}
+use Rattle.rv_sources_link_laws.proofs.sections.MaskedLemmas.{source_sections}
 use Rattle.rv_sources_link_laws.proofs.sections.AssembledLemmas.{Tile, IsSectionOf, IsAssembled}
 use Rattle.rv_sources_link_laws.proofs.moves.MovedLemmas.{IsBound}
 use Rattle.rv_sources_link_laws.proofs.statements.OrderedLemmas.{its_section}
 use Rattle.rv_sources_link_laws.proofs.sections.SectionsLemmas.{join}
-use Rattle.rv_sources_link_laws.proofs.statements.SettledLemmas.{IsSettled, settled, of_sections, IsSiteIn, sites_are_in}
+use Rattle.rv_sources_link_laws.proofs.statements.SettledLemmas.{IsSettled, settled_left, of_sections, IsSiteIn, sites_are_in}
 
 -- a statement lies in its section
 pub offsets_low : (t : Tables) (o : ℕ) (zs : List Site) → Tile t o zs → (o ≤ end_of o zs) × AllByRecursion (λ (z : Site). z.offset ≤ end_of o zs) zs
@@ -32,10 +33,10 @@ module _ (ss : List Statement) (o : Object) (is : IsAssembled ss o) where
   t = tables ss
 
   abbrev sections : List SourceSection
-  sections = (opened_of (tables ss)).sections
+  sections = source_sections is.dropped ss
 
   pub all_settled : AllByRecursion (IsSettled sections) is.sites
-  all_settled = settled ss is.sites is.good is.located
+  all_settled = settled_left ss is.sites is.dropped is.good is.located
 
   pub section_of : (j : ℕ) (s : SourceSection) → slice_get sections j ≡ Some s → (x : Section) × (slice_get o.sections j ≡ Some x) × IsSectionOf t is.sites is.number o.symbols j s (sites_in j is.sites) x
   section_of j s at = its_section (IsSectionOf t is.sites is.number o.symbols) is.sites j sections o.sections s is.sections at

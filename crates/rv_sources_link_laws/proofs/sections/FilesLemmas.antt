@@ -5,10 +5,10 @@ use Rattle.std.specs.Prelude.{⊤, if◌then◌else◌, flat_map, option_and_the
 use Rattle.std.specs.List.{find, slice_get}
 use Rattle.rv_statement.specs.Statement.{Statement}
 use Rattle.rv_unit_laws.specs.Sections.{Section as SourceSection}
-use Rattle.rv_unit_laws.specs.Tables.{Tables, tables, at_start, after, opened_of}
+use Rattle.rv_unit_laws.specs.Tables.{Tables, tables, at_start, after}
 use Rattle.rv_map.specs.Map.{Map}
 use Rattle.rv_map.specs.declared.map.Row.{Row as MapRow}
-use Rattle.rv_source_laws.specs.Located.{has_row, located, located_now, located_from}
+use Rattle.rv_source_laws.specs.Located.{has_row, left, masked, located_now, located_from}
 use Rattle.rv_source_laws.specs.Program.{Program, program, tables_in, address_at, mapped_of, statements_of}
 use Rattle.rv_source_laws.specs.Lines.{section_of}
 use Rattle.rv_source_laws.specs.Fits.{mapped_in}
@@ -21,7 +21,8 @@ use Rattle.rv_object_laws.specs.IsLinkOf.{by_ordinal, moves_at, map_row, row_in 
 use Rattle.rv_assemble_laws.specs.Sites.{Site, sites_in}
 use Rattle.rv_assemble_laws.specs.Symbols.{site_at}
 use Rattle.rv_assemble_laws.specs.IsObjectOf.{Numbering, row_of, rows_at}
-use Rattle.rv_sources_link_laws.proofs.statements.StatementsLemmas.{AreObjectsOf, row_in, rows_from, mapped_from, row_address, all_statements, all_rows, statements_all, sites_by, mapped_by, address_by, Test, section_in, site_section, section_by}
+use Rattle.rv_sources_link_laws.proofs.statements.StatementsLemmas.{AreObjectsOf, AreMasked, row_in, rows_from, mapped_from, row_address, all_statements, all_rows, statements_all, sites_by, mapped_by, address_by, Test, section_in, site_section, section_by}
+use Rattle.rv_sources_link_laws.proofs.sections.MaskedLemmas.{source_sections}
 use Rattle.rv_sources_link_laws.proofs.moves.ShrunkLemmas.{AreSectionsOf, IsObjectOf}
 
 -- ---- nothing moves
@@ -36,7 +37,7 @@ plain_from t all number symbols index (s ∷ ss) (y ∷ ys) (h, hs) zero x e =
 plain_from t all number symbols index (s ∷ ss) (y ∷ ys) (h, hs) (suc j) x e = plain_from t all number symbols (suc index) ss ys hs j x e
 
 pub plain_of : (ss : List Statement) (o : Object) (is : IsObjectOf ss o) → (j : ℕ) (x : Section) → slice_get o.sections j ≡ Some x → alignments_of x ≡ []
-plain_of ss o is = plain_from (tables ss) is.sites is.number o.symbols 0 (opened_of (tables ss)).sections o.sections is.sections
+plain_of ss o is = plain_from (tables ss) is.sites is.number o.symbols 0 (source_sections is.dropped ss) o.sections is.sections
 
 -- ---- rows
 
@@ -77,21 +78,21 @@ module _ (starts : Starts) where
       go false ih = ih
 
   -- the rows of a source stand by their ordinals
-  pub rise_from : (k : ℕ) (t : Tables) (ss : List Statement) (sites : List Site) → map (λ s. s.located) sites ≡ located_from 1 k t ss → (low : ℕ) → low ≤ k → Rise low (flat_map rows_at sites)
-  rise_from k t ss [] e low h = tt
-  rise_from k t [] (s ∷ sites) e low h = absurd (cc)
-  rise_from k t (x ∷ ss) (s ∷ sites) e low h =
-      go (has_row s.located) (rise_from (suc k) (after t k x.kind) ss sites (let rest : map (λ s. s.located) sites ≡ located_from 1 (suc k) (after t k x.kind) ss = cc in rest))
+  pub rise_from : (k : ℕ) (t : Tables) (ss : List Statement) (dropped : ℕ → Bool) (sites : List Site) → map (λ s. s.located) sites ≡ map (masked dropped) (located_from 1 k t ss) → (low : ℕ) → low ≤ k → Rise low (flat_map rows_at sites)
+  rise_from k t ss dropped [] e low h = tt
+  rise_from k t [] dropped (s ∷ sites) e low h = absurd (cc)
+  rise_from k t (x ∷ ss) dropped (s ∷ sites) e low h =
+      go (has_row s.located) (rise_from (suc k) (after t k x.kind) ss dropped sites (let rest : map (λ s. s.located) sites ≡ map (masked dropped) (located_from 1 (suc k) (after t k x.kind) ss) = cc in rest))
     where
       own : s.located.ordinal ≡ k
-      own = let now : s.located ≡ located_now 1 k t x = cc in ap (λ l. l.ordinal) now
+      own = let now : s.located ≡ masked dropped (located_now 1 k t x) = cc in ap (λ l. l.ordinal) now
 
       go : (b : Bool) → ((low : ℕ) → low ≤ suc k → Rise low (flat_map rows_at sites)) → Rise low ((if b then row_of s ∷ [] else []) ++ flat_map rows_at sites)
       go true more = (omega (arith, own, h), more s.located.ordinal (omega (arith, own)))
       go false more = more low (omega (arith, h))
 
   by_ordinals : (ss : List Statement) (o : Object) (is : IsObjectOf ss o) → by_ordinal o.rows ≡ flat_map rows_at is.sites
-  by_ordinals ss o is = ap by_ordinal is.rows ∙ rows_stay 0 (flat_map rows_at is.sites) (rise_from 1 (at_start ss) ss is.sites is.located 0 (omega arith))
+  by_ordinals ss o is = ap by_ordinal is.rows ∙ rows_stay 0 (flat_map rows_at is.sites) (rise_from 1 (at_start ss) ss is.dropped is.sites is.located 0 (omega arith))
 
   pub rows_all : (file : ℕ) (sources : List (List Statement)) (os : List Object) (h : AreObjectsOf sources os) → linked_rows starts file os ≡ all_rows starts file sources os h
   rows_all file [] [] h = refl
@@ -131,7 +132,8 @@ tables_by [] i = refl
 tables_by (ss ∷ sources) zero = refl
 tables_by (ss ∷ sources) (suc i) = tables_by sources i
 
-module _ (sources : List (List Statement)) (os : List Object) (m : Map) (starts : Starts) (h : AreObjectsOf sources os) (rows : m.rows ≡ linked_rows starts 1 os) where
+module _ (sources : List (List Statement)) (os : List Object) (m : Map) (starts : Starts) (h : AreObjectsOf sources os) (masks : AreMasked m.drops 1 sources os h)
+    (rows : m.rows ≡ linked_rows starts 1 os) where
   abbrev p : Program
   p = program sources m
 
@@ -139,7 +141,7 @@ module _ (sources : List (List Statement)) (os : List Object) (m : Map) (starts 
   rows_ours = rows ∙ rows_all starts 1 sources os h
 
   pub statements_ours : p.statements ≡ all_statements starts 1 sources os h
-  statements_ours = ap (statements_of (located sources)) rows_ours ∙ statements_all starts 1 sources os h
+  statements_ours = ap (statements_of (left m.drops sources)) rows_ours ∙ statements_all starts m.drops 1 sources os h masks
 
   pub files : AreFiles p starts 1 sources os h
   files = files_from p starts 1 sources os h (λ i. record {

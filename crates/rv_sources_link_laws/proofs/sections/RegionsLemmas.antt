@@ -10,8 +10,10 @@ use Rattle.rv_unit_laws.specs.declared.section_type.SectionType.TheVariants as t
 use Rattle.rv_unit_laws.specs.Sections.{Section as SourceSection}
 use Rattle.rv_unit_laws.specs.Tables.{Tables}
 use Rattle.rv_map.specs.declared.map.Region.{Region}
+use Rattle.rv_map.specs.declared.map.SectionId.{SectionId}
 use Rattle.rv_map.specs.Limits.{IsGlobal}
-use Rattle.rv_source_laws.specs.Located.{has_row}
+use Rattle.rv_collect_laws.specs.Graph.{is_dropped}
+use Rattle.rv_source_laws.specs.Located.{without_address, has_row}
 use Rattle.rv_source_laws.specs.Program.{Mapped, Program, tables_in, address_at}
 use Rattle.rv_source_laws.specs.Fits as source
 use Rattle.rv_chain_laws.specs.Contents.{contents as source_contents}
@@ -25,6 +27,7 @@ use Rattle.rv_assemble_laws.specs.Templates.{Open}
 use Rattle.rv_assemble_laws.specs.Sites.{Site, part_bytes, sites_in, end_of as sites_end}
 use Rattle.rv_assemble_laws.specs.Symbols.{site_at}
 use Rattle.rv_assemble_laws.specs.IsObjectOf.{Numbering, contents_of}
+use Rattle.rv_sources_link_laws.proofs.sections.MaskedLemmas.{masked_sections, stays}
 use Rattle.rv_sources_link_laws.proofs.statements.OrderedLemmas.{filled}
 use Rattle.rv_sources_link_laws.proofs.fields.PatchesLemmas.{written, written_from}
 use Rattle.rv_sources_link_laws.proofs.statements.StatementsLemmas.{mapped_at, mapped_from, row_address}
@@ -126,8 +129,8 @@ module _ (p : Program) (all : List Object) (starts : Starts) (spells : Mapped �
       (spell : (file : ℕ) (s : SourceSection) (z : Site) → goes_source s ≡ true → z.located.home ≡ s → IsFit p starts code all_worths file z
       → spells (mapped_at starts file z) ≡ said p file (all_worths file) z)
       (fitted : (file : ℕ) (s : SourceSection) (z : Site) → goes_source s ≡ true → z.located.home ≡ s → IsFit p starts code all_worths file z → P (mapped_at starts file z)) where
-    module _ (file : ℕ) (sites : List Site) (number : Numbering) (o : Object) (sections : List SourceSection)
-        (low : AllByRecursion IsGlobal p.map.globals) (are : AreSectionsOf (tables_in p file) sites number o.symbols 0 sections o.sections)
+    module _ (drops : List SectionId) (file : ℕ) (sites : List Site) (number : Numbering) (o : Object) (opened sections : List SourceSection)
+        (masks : sections ≡ masked_sections (is_dropped drops file) 0 opened) (low : AllByRecursion IsGlobal p.map.globals) (are : AreSectionsOf (tables_in p file) sites number o.symbols 0 sections o.sections)
         (settled : AllByRecursion (IsSettled sections) sites) (whole : IsWhole p all starts file sites number o (all_worths file))
         (codes : AllByRecursion (IsCodeOf starts (λ n z. said p n (all_worths n) z) code file) sites)
         (plain : (j : ℕ) (x : Section) → slice_get o.sections j ≡ Some x → alignments_of x ≡ [])
@@ -177,21 +180,36 @@ module _ (p : Program) (all : List Object) (starts : Starts) (spells : Mapped �
           plus_zero : (n : ℕ) → 0 + n ≡ n
           plus_zero n = omega arith
 
-      good_from : (index : ℕ) (ss : List SourceSection) (xs : List Section) → AreSectionsOf t sites number o.symbols index ss xs
-          → ((j : ℕ) → slice_get sections (index + j) ≡ slice_get ss j) → ((j : ℕ) → slice_get o.sections (index + j) ≡ slice_get xs j)
+      abbrev dropped : ℕ → Bool
+      dropped = is_dropped drops file
+
+      -- one that goes somewhere has its address
+      good_left : (d : Bool) (index : ℕ) (s : SourceSection) (x : Section) → IsSectionOf t sites number o.symbols index (without_address d s) (sites_in index sites) x
+          → slice_get sections index ≡ Some (without_address d s) → slice_get o.sections index ≡ Some x → alignments_of x ≡ []
+          → goes_source (without_address d s) ≡ true → Q (record { file = file; object = o; index = index; section = x })
+          → IsGood (record { file = file; object = o; index = index; section = x }) (source.input_section t s p.mapped file index)
+      good_left d index s x is at there none goes_there relocated =
+          subst (λ y. IsGood (record { file = file; object = o; index = index; section = x }) (source.input_section t y p.mapped file index)) (stays d s (loads (without_address d s) goes_there))
+          (good_one index (without_address d s) x is at there none goes_there relocated)
+
+      good_from : (index : ℕ) (ss : List SourceSection) (xs : List Section) → AreSectionsOf t sites number o.symbols index (masked_sections dropped index ss) xs
+          → ((j : ℕ) → slice_get sections (index + j) ≡ slice_get (masked_sections dropped index ss) j) → ((j : ℕ) → slice_get o.sections (index + j) ≡ slice_get xs j)
           → AllByRecursion Q (inputs_from is_loaded file o index xs)
-          → AreGood (inputs_from goes file o index xs) (source.input_sections_of_file goes_source t p.mapped file index ss)
+          → AreGood (inputs_from goes file o index xs) (source.input_sections_of_file goes_source drops t p.mapped file index ss)
       good_from index [] [] h at at' r = tt
       good_from index [] (x ∷ xs) h at at' r = absurd h
       good_from index (s ∷ ss) [] h at at' r = absurd h
       good_from index (s ∷ ss) (x ∷ xs) (is, h) at at' r =
-          let here : slice_get sections index ≡ Some s = ap (slice_get sections) (let e : index ≡ index + 0 = omega arith in e) ∙ at 0 in
+          let here : slice_get sections index ≡ Some kept = ap (slice_get sections) (let e : index ≡ index + 0 = omega arith in e) ∙ at 0 in
           let there : slice_get o.sections index ≡ Some x = ap (slice_get o.sections) (let e : index ≡ index + 0 = omega arith in e) ∙ at' 0 in
           let next : (j : ℕ) → suc index + j ≡ index + suc j = λ j. omega arith in
-          go (goes x) (goes_source s) refl (same_by t sites number o index s x is)
-          (λ e. good_one index s x is here there (plain index x there) e (first x.loaded (is.loaded ∙ loads s e) r))
+          go (goes x) (goes_source kept) refl (same_by t sites number o index kept x is)
+          (λ e. good_left (dropped index) index s x is here there (plain index x there) e (first x.loaded (is.loaded ∙ loads kept e) r))
           (good_from (suc index) ss xs h (λ j. ap (slice_get sections) (next j) ∙ at (suc j)) (λ j. ap (slice_get o.sections) (next j) ∙ at' (suc j)) (rest x.loaded r))
         where
+          kept : SourceSection
+          kept = without_address (dropped index) s
+
           i : InputSection
           i = record { file = file; object = o; index = index; section = x }
 
@@ -207,15 +225,16 @@ module _ (p : Program) (all : List Object) (starts : Starts) (spells : Mapped �
           rest false qs = qs
 
           go : (b c : Bool) → goes x ≡ b → b ≡ c → (c ≡ true → IsGood i (source.input_section t s p.mapped file index))
-              → AreGood (inputs_from goes file o (suc index) xs) (source.input_sections_of_file goes_source t p.mapped file (suc index) ss)
+              → AreGood (inputs_from goes file o (suc index) xs) (source.input_sections_of_file goes_source drops t p.mapped file (suc index) ss)
               → AreGood (if b then i ∷ inputs_from goes file o (suc index) xs else inputs_from goes file o (suc index) xs)
-              (if c then source.input_section t s p.mapped file index ∷ source.input_sections_of_file goes_source t p.mapped file (suc index) ss else source.input_sections_of_file goes_source t p.mapped file (suc index) ss)
+              (if c then source.input_section t s p.mapped file index ∷ source.input_sections_of_file goes_source drops t p.mapped file (suc index) ss else source.input_sections_of_file goes_source drops t p.mapped file (suc index) ss)
           go true true e f good ih = (good refl, ih)
           go false false e f good ih = ih
           go true false e f good ih = absurd (cc)
           go false true e f good ih = absurd (cc)
 
-      pub good_file : AllByRecursion Q (inputs_from is_loaded file o 0 o.sections) → AreGood (inputs_from goes file o 0 o.sections) (source.input_sections_of_file goes_source t p.mapped file 0 sections)
+      pub good_file : AllByRecursion Q (inputs_from is_loaded file o 0 o.sections) → AreGood (inputs_from goes file o 0 o.sections) (source.input_sections_of_file goes_source drops t p.mapped file 0 opened)
       good_file r =
           let zero_plus : (j : ℕ) → 0 + j ≡ j = λ j. omega arith in
-          good_from 0 sections o.sections are (λ j. ap (slice_get sections) (zero_plus j)) (λ j. ap (slice_get o.sections) (zero_plus j)) r
+          good_from 0 opened o.sections (subst (λ l. AreSectionsOf t sites number o.symbols 0 l o.sections) masks are)
+          (λ j. ap (slice_get sections) (zero_plus j) ∙ ap (λ l. slice_get l j) masks) (λ j. ap (slice_get o.sections) (zero_plus j)) r

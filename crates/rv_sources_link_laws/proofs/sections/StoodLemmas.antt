@@ -8,8 +8,9 @@ use Rattle.rv_text_laws.specs.Values.{Meaning, Known, InSection as InData, Open 
 use Rattle.rv_statement.specs.Statement.{StatementKind, Label, Numbered, Instruction, Directs, Statement, Enters, Sets}
 use Rattle.rv_unit_laws.specs.Bindings.{is_shared}
 use Rattle.rv_unit_laws.specs.Sections.{goes_to_text as source_text}
-use Rattle.rv_unit_laws.specs.Tables.{Tables, Assignment, tables, assigned_ever}
+use Rattle.rv_unit_laws.specs.Tables.{Tables, Assignment, tables, at_start, assigned_ever}
 use Rattle.rv_source_laws.specs.Exports.{names_where}
+use Rattle.rv_source_laws.proofs.HomesLemmas.{all_map}
 use Rattle.rv_object.specs.declared.symbol.Definition.{Definition as Defined}
 use Rattle.rv_object.specs.declared.symbol.Definition.TheVariants.{Undefined, Absolute, InSection, Skipped}
 use Rattle.rv_object.specs.Object.{Symbol, Object}
@@ -17,10 +18,13 @@ use Rattle.rv_object_laws.specs.CallSites.{is_inside, is_entered}
 use Rattle.rv_assemble_laws.specs.Sites.{Site, sites_in}
 use Rattle.rv_assemble_laws.specs.Symbols.{site_at, after_found, assigned_definition, site_definition, local_symbol, shared_symbol, references, unnamed_symbols, named_symbols, local_symbols, exports_of, exports, undefined_symbols, is_absolute, is_meant, are_together, distinct_from, missing_name}
 use Rattle.rv_assemble_laws.specs.IsObjectOf.{IsInData, StandsInData, IsObjectOf}
-use Rattle.rv_sources_link_laws.proofs.fields.AimsLemmas.{IsFirst}
 use Rattle.rv_sources_link_laws.proofs.names.KnownLemmas.{all_found}
 use Rattle.rv_sources_link_laws.proofs.sections.SectionsLemmas.{join}
-use Rattle.rv_sources_link_laws.proofs.fields.TargetsLemmas.{firsts}
+use Rattle.rv_sources_link_laws.proofs.statements.CodeOfLemmas.{IsFound, found_from}
+
+-- a statement is the first of its ordinal
+abbrev IsFirst : List Site → Site → Type 0
+IsFirst S z = site_at S z.located.ordinal ≡ Some z
 
 -- a statement at which a definition stands
 pub record StandsAt (S : List Site) (section offset : ℕ) : Type 0 where
@@ -107,9 +111,13 @@ stood ss o is =
     let t = tables ss in
     subst (λ l. AllByRecursion (λ (x : Symbol). IsStood is.sites x.definition) l) (sym is.symbols)
     (join (λ (x : Symbol). IsStood is.sites x.definition) (local_symbols t is.sites [] is.sites) (exports t is.sites ++ undefined_symbols t is.sites)
-    (all_locals t is.sites is.places [] is.sites (firsts ss o is))
-    (join (λ (x : Symbol). IsStood is.sites x.definition) (exports t is.sites) (undefined_symbols t is.sites) (all_exports t is.sites is.places is.sites (firsts ss o is))
+    (all_locals t is.sites is.places [] is.sites firsts)
+    (join (λ (x : Symbol). IsStood is.sites x.definition) (exports t is.sites) (undefined_symbols t is.sites) (all_exports t is.sites is.places is.sites firsts)
     (shared_stood t is.sites is.places Undefined tt (distinct_from [] (flat_map (λ r. missing_name t r.ordinal r.symbol) (references t is.sites))))))
+  where
+    firsts : AllByRecursion (IsFirst is.sites) is.sites
+    firsts = all_map (IsFound 1 is.sites) (IsFirst is.sites) is.sites (λ z k. k.1)
+        (found_from 1 (at_start ss) ss is.sites is.located)
 
 -- ---- none stands inside a call
 

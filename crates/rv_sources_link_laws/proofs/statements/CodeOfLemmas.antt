@@ -1,18 +1,19 @@
 -- The code of a statement of the sources: the bytes that its site writes.
 
-use Rattle.std.proofs.Common.{◌≡◌, ℕ, zero, suc, ◌+◌, ◌-◌, ◌≤◌, List, [], ◌∷◌, refl, ap, ◌∙◌, subst, arith, map, Option, Some, None}
+use Rattle.std.proofs.Common.{◌≡◌, ℕ, zero, suc, ◌+◌, ◌-◌, ◌≤◌, Bool, false, List, [], ◌∷◌, refl, sym, ap, ◌∙◌, subst, arith, map, Option, Some, None}
 use Rattle.std.proofs.lemmas.Bool.{eq-eqb, ne_eqb}
 use Rattle.std.specs.Prelude.{⊤, if◌then◌else◌}
 use Rattle.std.specs.List.{AllByRecursion}
 use Rattle.rv_statement.specs.Statement.{Statement}
 use Rattle.rv_unit_laws.specs.Tables.{Tables, at_start, after}
-use Rattle.rv_source_laws.specs.Located.{located_now, located_from}
+use Rattle.rv_source_laws.specs.Located.{masked, located_now, located_from}
 use Rattle.rv_source_laws.specs.Program.{Mapped}
 use Rattle.rv_source_laws.proofs.HomesLemmas.{all_map}
 use Rattle.rv_object.specs.Object.{Object}
 use Rattle.rv_object_laws.specs.Inputs.{Starts}
 use Rattle.rv_assemble_laws.specs.Sites.{Site}
 use Rattle.rv_assemble_laws.specs.Symbols.{site_at}
+use Rattle.rv_sources_link_laws.proofs.sections.MaskedLemmas.{none_masked}
 use Rattle.rv_sources_link_laws.proofs.statements.StatementsLemmas.{mapped_at, sites_by}
 use Rattle.rv_sources_link_laws.proofs.moves.ShrunkLemmas.{AreObjectsOf}
 
@@ -21,22 +22,26 @@ use Rattle.rv_sources_link_laws.proofs.moves.ShrunkLemmas.{AreObjectsOf}
 abbrev pub IsFound : ℕ → List Site → Site → Type 0
 IsFound least sites z = (least ≤ z.located.ordinal) × (site_at sites z.located.ordinal ≡ Some z)
 
-pub found_from : (k : ℕ) (t : Tables) (ss : List Statement) (sites : List Site) → map (λ s. s.located) sites ≡ located_from 1 k t ss → AllByRecursion (IsFound k sites) sites
-found_from k t ss [] e = tt
-found_from k t [] (s ∷ sites) e = absurd (cc)
-found_from k t (x ∷ ss) (s ∷ sites) e = (
+pub found_left : (k : ℕ) (t : Tables) (ss : List Statement) (dropped : ℕ → Bool) (sites : List Site) → map (λ s. s.located) sites ≡ map (masked dropped) (located_from 1 k t ss) → AllByRecursion (IsFound k sites) sites
+found_left k t ss dropped [] e = tt
+found_left k t [] dropped (s ∷ sites) e = absurd (cc)
+found_left k t (x ∷ ss) dropped (s ∷ sites) e = (
   (omega (arith, own), ap (λ b. if b then Some s else site_at sites s.located.ordinal) (eq-eqb s.located.ordinal s.located.ordinal refl)),
-  all_map (IsFound (suc k) sites) (IsFound k (s ∷ sites)) sites later (found_from (suc k) (after t k x.kind) ss sites (let rest : map (λ s. s.located) sites ≡ located_from 1 (suc k) (after t k x.kind) ss = cc in rest)),
+  all_map (IsFound (suc k) sites) (IsFound k (s ∷ sites)) sites later (found_left (suc k) (after t k x.kind) ss dropped sites (let rest : map (λ s. s.located) sites ≡ map (masked dropped) (located_from 1 (suc k) (after t k x.kind) ss) = cc in rest)),
 )
   where
     own : s.located.ordinal ≡ k
-    own = let now : s.located ≡ located_now 1 k t x = cc in ap (λ l. l.ordinal) now
+    own = let now : s.located ≡ masked dropped (located_now 1 k t x) = cc in ap (λ l. l.ordinal) now
 
     later : (z : Site) → IsFound (suc k) sites z → IsFound k (s ∷ sites) z
     later z (least, found) = (
       omega (arith, least),
       ap (λ b. if b then Some s else site_at sites z.located.ordinal) (ne_eqb s.located.ordinal z.located.ordinal (λ same. omega (arith, least, own, same))) ∙ found,
     )
+
+-- where nothing is dropped
+pub found_from : (k : ℕ) (t : Tables) (ss : List Statement) (sites : List Site) → map (λ s. s.located) sites ≡ located_from 1 k t ss → AllByRecursion (IsFound k sites) sites
+found_from k t ss sites e = found_left k t ss (λ index. false) sites (e ∙ sym (none_masked (located_from 1 k t ss)))
 
 module _ (starts : Starts) (says : ℕ → Site → List ℕ) where
   found_by : (sources : List (List Statement)) (os : List Object) (h : AreObjectsOf sources os) (i : ℕ)
@@ -45,7 +50,7 @@ module _ (starts : Starts) (says : ℕ → Site → List ℕ) where
   found_by [] (o ∷ os) h i = absurd h
   found_by (ss ∷ sources) [] h i = absurd h
   found_by (ss ∷ sources) (o ∷ os) (is, h) zero =
-      all_map (IsFound 1 is.sites) (IsFound 0 is.sites) is.sites (λ z f. (omega arith, f.1)) (found_from 1 (at_start ss) ss is.sites is.located)
+      all_map (IsFound 1 is.sites) (IsFound 0 is.sites) is.sites (λ z f. (omega arith, f.1)) (found_left 1 (at_start ss) ss is.dropped is.sites is.located)
   found_by (ss ∷ sources) (o ∷ os) (is, h) (suc i) = found_by sources os h i
 
   -- ---- a function that gives each site's code for its statement

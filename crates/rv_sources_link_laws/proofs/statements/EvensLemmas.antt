@@ -8,11 +8,12 @@ use Rattle.rv_text_laws.specs.Values.{Value}
 use Rattle.rv_statement.specs.Statement.{StatementKind, Label, Numbered, Instruction, Directs, Statement, Expression, Enters, Opens, Binds, Sets, Aligns_to_power, Aligns_to_bytes, Values, Strings, Zeros, Chooses, Ignored}
 use Rattle.rv_pseudo_laws.specs.Filled.{are_closed}
 use Rattle.rv_unit_laws.specs.Sections.{Section as SourceSection, goes_to_text}
-use Rattle.rv_unit_laws.specs.Tables.{Tables, tables, alignment_of, opened_of}
+use Rattle.rv_unit_laws.specs.Tables.{Tables, tables, alignment_of}
 use Rattle.rv_source_laws.proofs.HeldLemmas.{IsHeld}
 use Rattle.rv_object.specs.Object.{Object}
 use Rattle.rv_assemble_laws.specs.Sites.{Site, form, part_of, part_bytes, sites_in}
-use Rattle.rv_sources_link_laws.proofs.statements.SettledLemmas.{IsSettled, settled, of_sections, IsSiteIn, sites_are_in}
+use Rattle.rv_sources_link_laws.proofs.sections.MaskedLemmas.{source_sections}
+use Rattle.rv_sources_link_laws.proofs.statements.SettledLemmas.{IsSettled, settled_left, of_sections, IsSiteIn, sites_are_in}
 use Rattle.rv_sources_link_laws.proofs.statements.OrderedLemmas.{its_section}
 use Rattle.rv_sources_link_laws.proofs.statements.CodingLemmas.{all_few}
 use Rattle.rv_sources_link_laws.proofs.moves.ShrunkLemmas.{IsPaddedIn, parts_of, Tile, HasShrunkSize, IsSectionOf, IsObjectOf}
@@ -86,10 +87,10 @@ module _ (t : Tables) (index : ℕ) (section : SourceSection) (multiple : ℕ) w
 
 module _ (ss : List Statement) (o : Object) (is : IsObjectOf ss o) where
   abbrev sections : List SourceSection
-  sections = (opened_of (tables ss)).sections
+  sections = source_sections is.dropped ss
 
   all_settled : AllByRecursion (IsSettled sections) is.sites
-  all_settled = settled ss is.sites is.good is.located
+  all_settled = settled_left ss is.sites is.dropped is.good is.located
 
   section_even : (index : ℕ) (section : SourceSection) → slice_get sections index ≡ Some section → AllByRecursion IsEven (sites_in index is.sites)
   section_even index section at = go (goes_to_text section) refl

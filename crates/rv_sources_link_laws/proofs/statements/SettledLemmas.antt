@@ -10,11 +10,12 @@ use Rattle.rv_statement.specs.declared.mnemonic.Mnemonic.{Mnemonic}
 use Rattle.rv_statement.specs.Statement.{StatementKind, Label, Numbered, Instruction, Directs, Statement, Operand, Enters, Opens, Binds, Sets, Aligns_to_power, Aligns_to_bytes, Values, Strings, Zeros, Chooses, Ignored}
 use Rattle.rv_unit_laws.specs.Sections.{Section, text_section}
 use Rattle.rv_unit_laws.specs.Tables.{Tables, at_start, after, tables, opened_of}
-use Rattle.rv_source_laws.specs.Located.{Located, located_from, is_placed, has_row}
+use Rattle.rv_source_laws.specs.Located.{Located, located_from, is_placed, masked, has_row}
 use Rattle.rv_source_laws.specs.Program.{Mapped}
 use Rattle.rv_source_laws.specs.Fits.{Follow, size}
 use Rattle.rv_source_laws.proofs.HeldLemmas.{IsHeld, Held, all_held}
 use Rattle.rv_source_laws.proofs.HomesLemmas.{IsHomeIn, homes_from}
+use Rattle.rv_source_laws.proofs.LeftLemmas.{is_held_left}
 use Rattle.rv_map.specs.declared.map.Row.{Row as MapRow}
 use Rattle.rv_assemble_laws.specs.Refusals.{statements_fault}
 use Rattle.rv_assemble_laws.specs.Sites.{Site, Part, part_bytes, sites_in, end_of}
@@ -22,6 +23,7 @@ use Rattle.rv_assemble_laws.proofs.FaultlessLemmas.{no_first_fault}
 use Rattle.rv_object_laws.specs.Inputs.{Starts}
 use Rattle.rv_sources_link_laws.proofs.fields.PatchesLemmas.{written_from}
 use Rattle.rv_sources_link_laws.proofs.statements.StatementsLemmas.{row_in, mapped_at, mapped_from}
+use Rattle.rv_sources_link_laws.proofs.sections.MaskedLemmas.{source_sections, no_section_masked, masked_at, all_masked, none_masked}
 use Rattle.rv_sources_link_laws.proofs.moves.ShrunkLemmas.{shrunk_templates, parts_of, parts, Tile}
 
 -- ---- a statement
@@ -116,17 +118,25 @@ settled_by sections [] h k b l q i = tt
 settled_by sections (s ∷ ss) (h, hs) (k, ks) (b, bs) (l, ls) (q, qs) (i, is) =
     (record { home = h; held = k; bare = b; labelled = l; kind = q; instructed = i }, settled_by sections ss hs ks bs ls qs is)
 
+pub settled_left : (ss : List Statement) (sites : List Site) (dropped : ℕ → Bool) → statements_fault ss ≡ None → map (λ s. s.located) sites ≡ map (masked dropped) (located_from 1 1 (at_start ss) ss)
+    → AllByRecursion (IsSettled (source_sections dropped ss)) sites
+settled_left ss sites dropped good is =
+    let whole = (opened_of (tables ss)).sections in
+    let sections = source_sections dropped ss in
+    let all : (P Q : Located → Type 0) → ((l : Located) → P l → Q (masked dropped l)) → AllByRecursion P (located_from 1 1 (at_start ss) ss) → AllByRecursion (λ s. Q s.located) sites =
+    λ P Q f h. of_located Q sites (subst (λ l. AllByRecursion Q l) (sym is) (all_masked P Q dropped f (located_from 1 1 (at_start ss) ss) h)) in
+    settled_by sections sites
+    (all (IsHomeIn (λ f. whole)) (IsHomeIn (λ f. sections)) (λ l h. masked_at dropped l.section whole l.home h) (homes_from (λ f. whole) 1 1 (at_start ss) ss refl (text_section, refl)))
+    (all Held Held (λ l h. is_held_left (dropped l.section) l.home l.kind h) (all_held ss (no_first_fault ss good)))
+    (all IsBare IsBare (λ l h. h) (bare_from 1 1 (at_start ss) ss)) (all IsLabelled IsLabelled (λ l h. h) (labelled_from 1 1 (at_start ss) ss)) (all IsKind IsKind (λ l h. h) (kinds_from 1 1 (at_start ss) ss))
+    (all IsInstructed IsInstructed (λ l h. h) (instructed_from 1 1 (at_start ss) ss))
+
+-- where nothing is dropped
 pub settled : (ss : List Statement) (sites : List Site) → statements_fault ss ≡ None → map (λ s. s.located) sites ≡ located_from 1 1 (at_start ss) ss
     → AllByRecursion (IsSettled (opened_of (tables ss)).sections) sites
 settled ss sites good is =
-    let sections = (opened_of (tables ss)).sections in
-    let all : (P : Located → Type 0) → AllByRecursion P (located_from 1 1 (at_start ss) ss) → AllByRecursion (λ s. P s.located) sites =
-    λ P h. of_located P sites (subst (λ l. AllByRecursion P l) (sym is) h) in
-    settled_by sections sites
-    (all (IsHomeIn (λ f. sections)) (homes_from (λ f. sections) 1 1 (at_start ss) ss refl (text_section, refl)))
-    (all Held (all_held ss (no_first_fault ss good)))
-    (all IsBare (bare_from 1 1 (at_start ss) ss)) (all IsLabelled (labelled_from 1 1 (at_start ss) ss)) (all IsKind (kinds_from 1 1 (at_start ss) ss))
-    (all IsInstructed (instructed_from 1 1 (at_start ss) ss))
+    subst (λ sections. AllByRecursion (IsSettled sections) sites) (no_section_masked 0 (opened_of (tables ss)).sections)
+    (settled_left ss sites (λ index. false) good (is ∙ sym (none_masked (located_from 1 1 (at_start ss) ss))))
 
 -- ---- the statements of a section
 

@@ -1,19 +1,21 @@
 -- The statements of the sources with the rows that linking their objects gives.
 
 use Rattle.std.proofs.Common.{◌≡◌, ℕ, zero, suc, ◌+◌, ◌<◌, Bool, true, false, List, [], ◌∷◌, ◌++◌, refl, sym, ap, ◌∙◌, subst, arith, map, Option, Some, None, drop, ◌⊎◌, inl, inr}
-use Rattle.std.proofs.lemmas.List.{append-nil}
+use Rattle.std.proofs.lemmas.List.{append-nil, map-append}
 use Rattle.std.proofs.lemmas.Bool.{eq-eqb, ne_eqb}
 use Rattle.std.specs.Prelude.{◌&&◌, ◌==◌, if◌then◌else◌, option_map, option_and_then}
 use Rattle.std.specs.List.{find}
 use Rattle.rv_statement.specs.Statement.{Statement}
 use Rattle.rv_map.specs.declared.map.Row.{Row as MapRow}
+use Rattle.rv_map.specs.declared.map.SectionId.{SectionId}
+use Rattle.rv_collect_laws.specs.Graph.{is_dropped}
 use Rattle.rv_unit_laws.specs.Tables.{Tables, at_start, after}
-use Rattle.rv_source_laws.specs.Located.{Located, located_now, located_from, located_of, has_row}
+use Rattle.rv_source_laws.specs.Located.{Located, located_now, located_from, located_of, masked, left_of, has_row}
 use Rattle.rv_source_laws.specs.Program.{MaybeMapped, Mapped, first_of, statements_of, mapped_of, address_of, address_at}
 use Rattle.rv_source_laws.specs.Fits.{mapped_in}
 use Rattle.rv_object.specs.Object.{Object}
 use Rattle.rv_object_laws.specs.Inputs.{Starts}
-pub use Rattle.rv_sources_link_laws.proofs.moves.ShrunkLemmas.{AreObjectsOf}
+pub use Rattle.rv_sources_link_laws.proofs.moves.ShrunkLemmas.{AreObjectsOf, AreMasked}
 use Rattle.rv_assemble_laws.specs.Sites.{Site, sites_in}
 use Rattle.rv_assemble_laws.specs.Symbols.{site_at}
 
@@ -34,6 +36,22 @@ renumbered file s = record {
 pub renumbers : (file k : ℕ) (t : Tables) (ss : List Statement) → located_from file k t ss ≡ map (renumbered file) (located_from 1 k t ss)
 renumbers file k t [] = refl
 renumbers file k t (s ∷ ss) = ap (λ l. located_now file k t s ∷ l) (renumbers file (suc k) (after t k s.kind) ss)
+
+-- so where collection dropped some of its sections
+pub left_renumbers : (drops : List SectionId) (file k : ℕ) (t : Tables) (ss : List Statement)
+    → map (left_of drops) (located_from file k t ss) ≡ map (renumbered file) (map (masked (is_dropped drops file)) (located_from 1 k t ss))
+left_renumbers drops file k t [] = refl
+left_renumbers drops file k t (s ∷ ss) = ap (λ l. left_of drops (located_now file k t s) ∷ l) (left_renumbers drops file (suc k) (after t k s.kind) ss)
+
+-- the statements of a file and of those after it
+pub left_file : (drops : List SectionId) (file : ℕ) (ss : List Statement) (sources : List (List Statement)) (dropped : ℕ → Bool) → dropped ≡ is_dropped drops file
+    → (sites : List Site) → map (λ s. s.located) sites ≡ map (masked dropped) (located_from 1 1 (at_start ss) ss)
+    → map (left_of drops) (located_of file (ss ∷ sources)) ≡ map (renumbered file) (map (λ s. s.located) sites) ++ map (left_of drops) (located_of (suc file) sources)
+left_file drops file ss sources dropped same sites is =
+    let own = located_from 1 1 (at_start ss) ss in
+    map-append (left_of drops) (located_from file 1 (at_start ss) ss) (located_of (suc file) sources)
+    ∙ ap (λ l. l ++ map (left_of drops) (located_of (suc file) sources))
+    (left_renumbers drops file 1 (at_start ss) ss ∙ ap (λ d. map (renumbered file) (map (masked d) own)) (sym same) ∙ ap (map (renumbered file)) (sym is))
 
 module _ (starts : Starts) where
   -- ---- a file's statements
@@ -110,17 +128,15 @@ module _ (starts : Starts) where
   all_rows file (ss ∷ sources) [] h = absurd h
   all_rows file (ss ∷ sources) (o ∷ os) (is, h) = rows_from file is.sites ++ all_rows (suc file) sources os h
 
-  pub statements_all : (file : ℕ) (sources : List (List Statement)) (os : List Object) (h : AreObjectsOf sources os)
-      → statements_of (located_of file sources) (all_rows file sources os h) ≡ all_statements file sources os h
-  statements_all file [] [] h = refl
-  statements_all file [] (o ∷ os) h = absurd h
-  statements_all file (ss ∷ sources) [] h = absurd h
-  statements_all file (ss ∷ sources) (o ∷ os) (is, h) =
-      let own : located_from file 1 (at_start ss) ss ≡ map (renumbered file) (map (λ s. s.located) is.sites) =
-      renumbers file 1 (at_start ss) ss ∙ ap (map (renumbered file)) (sym is.located) in
-      ap (λ l. statements_of (l ++ located_of (suc file) sources) (rows_from file is.sites ++ all_rows (suc file) sources os h)) own
-      ∙ statements_are file is.sites (located_of (suc file) sources) (all_rows (suc file) sources os h)
-      ∙ ap (λ l. map (statement_at file) is.sites ++ l) (statements_all (suc file) sources os h)
+  pub statements_all : (drops : List SectionId) (file : ℕ) (sources : List (List Statement)) (os : List Object) (h : AreObjectsOf sources os) → AreMasked drops file sources os h
+      → statements_of (map (left_of drops) (located_of file sources)) (all_rows file sources os h) ≡ all_statements file sources os h
+  statements_all drops file [] [] h masks = refl
+  statements_all drops file [] (o ∷ os) h masks = absurd h
+  statements_all drops file (ss ∷ sources) [] h masks = absurd h
+  statements_all drops file (ss ∷ sources) (o ∷ os) (is, h) (own, masks) =
+      ap (λ l. statements_of l (rows_from file is.sites ++ all_rows (suc file) sources os h)) (left_file drops file ss sources is.dropped own is.sites is.located)
+      ∙ statements_are file is.sites (map (left_of drops) (located_of (suc file) sources)) (all_rows (suc file) sources os h)
+      ∙ ap (λ l. map (statement_at file) is.sites ++ l) (statements_all drops (suc file) sources os h masks)
 
   -- the statements of the file after so many others
   abbrev pub sites_by : (sources : List (List Statement)) (os : List Object) → AreObjectsOf sources os → ℕ → List Site

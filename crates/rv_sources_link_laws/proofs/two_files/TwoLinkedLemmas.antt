@@ -33,6 +33,7 @@ linked = record {
     entry = omega arith;
     gaps = ((omega arith, omega arith), tt);
     globals = ((refl, omega arith), ((refl, omega arith), ((refl, omega arith), ((refl, omega arith), ((refl, omega arith), ((refl, omega arith), ((refl, omega arith), ((refl, omega arith), ((refl, omega arith), tt)))))))));
+    drops = tt;
     rows = ((omega arith, omega arith, omega arith, omega arith, omega arith, omega arith), ((omega arith, omega arith, omega arith, omega arith, omega arith, omega arith), ((omega arith, omega arith, omega arith, omega arith, omega arith, omega arith), ((omega arith, omega arith, omega arith, omega arith, omega arith, omega arith), ((omega arith, omega arith, omega arith, omega arith, omega arith, omega arith), ((omega arith, omega arith, omega arith, omega arith, omega arith, omega arith), ((omega arith, omega arith, omega arith, omega arith, omega arith, omega arith), ((omega arith, omega arith, omega arith, omega arith, omega arith, omega arith), ((omega arith, omega arith, omega arith, omega arith, omega arith, omega arith), ((omega arith, omega arith, omega arith, omega arith, omega arith, omega arith), ((omega arith, omega arith, omega arith, omega arith, omega arith, omega arith), ((omega arith, omega arith, omega arith, omega arith, omega arith, omega arith), ((omega arith, omega arith, omega arith, omega arith, omega arith, omega arith), ((omega arith, omega arith, omega arith, omega arith, omega arith, omega arith), ((omega arith, omega arith, omega arith, omega arith, omega arith, omega arith), tt)))))))))))))));
   };
   relocated = (tt, ((record { resolved = refl; found = refl; alone = λ e. absurd (cc); takes = record { range = (omega arith, omega arith); even = λ e. absurd (cc) } }, (record { resolved = refl; found = refl; alone = λ e. absurd (cc); takes = record { range = tt; even = λ e. absurd (cc) } }, (record { resolved = refl; found = refl; alone = λ e. absurd (cc); takes = record { range = tt; even = λ e. absurd (cc) } }, (record { resolved = refl; found = refl; alone = λ e. absurd (cc); takes = record { range = tt; even = λ e. absurd (cc) } }, (record { resolved = refl; found = refl; alone = λ e. absurd (cc); takes = record { range = tt; even = λ e. absurd (cc) } }, tt))))), (((record { resolved = refl; found = refl; alone = λ e. absurd (cc); takes = record { range = tt; even = λ e. absurd (cc) } }), tt), ((record { resolved = refl; found = refl; alone = λ e. absurd (cc); takes = record { range = (omega arith, omega arith); even = λ e. absurd (cc) } }, tt), tt))));

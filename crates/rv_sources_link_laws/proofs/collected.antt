@@ -1,0 +1,9 @@
+pub mod LoadedLemmas
+pub mod HereLemmas
+pub mod MeantLemmas
+pub mod BeginsLemmas
+pub mod NamedLemmas
+pub mod EdgesLemmas
+pub mod SectionEdgesLemmas
+pub mod RefersLemmas
+pub mod DropsLemmas
