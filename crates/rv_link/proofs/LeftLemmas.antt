@@ -1,21 +1,32 @@
--- What relaxation leaves of objects: as many, with the same names.
+-- What collection and relaxation leave of objects: as many, with the same names.
 
 use Rattle.std.proofs.Common.{◌≡◌, ℕ, suc, Bool, true, false, List, [], ◌∷◌, length, map, refl, ap, sym, ◌∙◌, subst, arith}
+use Rattle.std.specs.Prelude.{Result, Ok, Err, IfOk}
 use Rattle.std.proofs.lemmas.List.{length-map}
+use Rattle.rv_map.specs.declared.map.SectionId.{SectionId}
+use Rattle.rv_image.specs.Linked.{Linked}
+use Rattle.rv_layout_laws.specs.Calls.{IsText}
 use Rattle.rv_layout_laws.proofs.ShorteningLemmas.{greatest_closed_exists}
+use Rattle.rv_collect_laws.proofs.MarksLemmas.{some_drops}
 use Rattle.rv_object.specs.declared.object.Object.{Object as DeclaredObject}
 use Rattle.rv_object.specs.declared.symbol.Definition.{Definition}
 use Rattle.rv_object.specs.declared.symbol.Definition.TheVariants as definitions
 use Rattle.rv_object.specs.Object.{Symbol, Object}
 use Rattle.rv_object.specs.View.{object_of}
 use Rattle.rv_object_laws.specs.CallSites.{is_short_text, sites_of}
+use Rattle.rv_object_laws.specs.Collects.{Collects, graph_of}
+use Rattle.rv_object_laws.specs.IsProgramOf.{Leaves, IsProgramOf}
+use Rattle.rv_object_laws.specs.Without.{without, without_from}
 use Rattle.rv_object_laws.specs.Shortened.{Sizes, shortened_symbol, shortened_from, shortened, IsRelaxed, Relaxes}
-use Rattle.rv_object_laws.proofs.TextLineLemmas.{sites_text}
+use Rattle.rv_object_laws.proofs.TextLineLemmas.{sites_text, whole_text}
+use Rattle.rv_object_laws.proofs.WholeLemmas.{are_whole, whole_left}
+use Rattle.rv_object_laws.proofs.WithoutLemmas.{without_none}
 use Rattle.rv_resolve.specs.Chosen.{seen, seen_of}
 use Rattle.rv_resolve.specs.Exports.{first_again}
-use Rattle.rv_resolve.proofs.AlikeLemmas.{same_names}
+use Rattle.rv_resolve.proofs.AlikeLemmas.{same_names, seen_left}
 use Rattle.rv_link.specs.declared.fault.LinkFault.{LinkFault}
 use Rattle.rv_link.specs.declared.fault.LinkFault.TheVariants.{Overflow, OddTarget, DanglingPcrel, AlignmentShort, Undefined, Duplicate, EntryMissing, ImageTooLarge, BadTextStart, TooManyFiles, OutOfMemory}
+use Rattle.rv_link.specs.Left.{HasNoLink, IsLinkOfLeft}
 use Rattle.rv_link.specs.Refusals.{ArePast, AreWithin, AreDoubled, IsUnlinked, HasNoProgram}
 
 -- ---- names
@@ -60,17 +71,44 @@ pub alike : (relax : Bool) (os left : List Object) → Relaxes relax os left →
 alike false os left h = same_objects os left h
 alike true os left h = alike_by (is_short_text os) os left h
 
+many_left_from : (drops : List SectionId) (file : ℕ) (os : List Object) → length (without_from drops file os) ≡ length os
+many_left_from drops file [] = refl
+many_left_from drops file (o ∷ os) = ap suc (many_left_from drops (suc file) os)
+
+pub many_left : (drops : List SectionId) (os : List Object) → length (without drops os) ≡ length os
+many_left drops os = many_left_from drops 1 os
+
+alike_leaves : (os : List Object) (relax gc : Bool) (drops : List SectionId) (left : List Object) → Leaves os relax gc drops left → AreAlike os left
+alike_leaves os relax gc drops left h =
+    let same = alike relax (without drops os) left h.relaxed in
+    record { many = same.many ∙ many_left drops os; seen = same.seen ∙ seen_left drops os }
+
 -- ---- there is such
 
-left_by : (short : Bool) (ds : List DeclaredObject) → (left : List Object) × IsRelaxed short (map object_of ds) left
-left_by false ds = (map object_of ds, refl)
-left_by true ds =
-    let found = greatest_closed_exists (sites_of (map object_of ds)) (sites_text ds) in
-    (shortened found.0 (map object_of ds), (found.0, found.1, refl))
+left_by : (short : Bool) (os : List Object) → IsText (sites_of os) → (left : List Object) × IsRelaxed short os left
+left_by false os text = (os, refl)
+left_by true os text =
+    let found = greatest_closed_exists (sites_of os) text in
+    (shortened found.0 os, (found.0, found.1, refl))
 
-pub some_left : (relax : Bool) (ds : List DeclaredObject) → (left : List Object) × Relaxes relax (map object_of ds) left
-some_left false ds = (map object_of ds, refl)
-some_left true ds = left_by (is_short_text (map object_of ds)) ds
+some_left : (relax : Bool) (os : List Object) → IsText (sites_of os) → (left : List Object) × Relaxes relax os left
+some_left false os text = (os, refl)
+some_left true os text = left_by (is_short_text os) os text
+
+-- what collection and relaxation leave
+pub record SomeLeaves (os : List Object) (relax gc : Bool) : Type 0 where
+  pub drops : List SectionId
+  pub left : List Object
+  pub leaves : Leaves os relax gc drops left
+  pub alike : AreAlike os left
+
+pub some_leaves : (relax gc : Bool) (ds : List DeclaredObject) → SomeLeaves (map object_of ds) relax gc
+some_leaves relax gc ds =
+    let os = map object_of ds in
+    let found = some_drops gc (graph_of os) in
+    let left = some_left relax (without found.0 os) (whole_text (without found.0 os) (whole_left found.0 os (are_whole ds))) in
+    let leaves : Leaves os relax gc found.0 left.0 = record { collected = found.1; relaxed = left.1 } in
+    record { drops = found.0; left = left.0; leaves = leaves; alike = alike_leaves os relax gc found.0 left.0 leaves }
 
 -- ---- what is seen of the objects is so of what is left
 
@@ -87,11 +125,11 @@ past_unlinked left start OddTarget h = absurd h
 past_unlinked left start DanglingPcrel h = absurd h
 past_unlinked left start OutOfMemory h = tt
 
-pub past : (ds : List DeclaredObject) (start : ℕ) (relax : Bool) (fault : LinkFault) → ArePast (length ds) start fault → HasNoProgram (map object_of ds) start relax fault
-past ds start relax fault h =
-    let some = some_left relax ds in
-    let same : length some.0 ≡ length ds = (alike relax (map object_of ds) some.0 some.1).many ∙ length-map ds object_of in
-    record { left = some.0; relaxed = some.1; unlinked = past_unlinked some.0 start fault (subst (λ n. ArePast n start fault) (sym same) h) }
+pub past : (ds : List DeclaredObject) (start : ℕ) (relax gc : Bool) (fault : LinkFault) → ArePast (length ds) start fault → HasNoProgram (map object_of ds) start relax gc fault
+past ds start relax gc fault h =
+    let some = some_leaves relax gc ds in
+    let same : length some.left ≡ length ds = some.alike.many ∙ length-map ds object_of in
+    record { drops = some.drops; left = some.left; leaves = some.leaves; unlinked = past_unlinked some.left start fault (subst (λ n. ArePast n start fault) (sym same) h) }
 
 doubled_unlinked : (os left : List Object) (start : ℕ) (fault : LinkFault) → AreAlike os left → AreWithin (length os) start → AreDoubled os fault → IsUnlinked left start fault
 doubled_unlinked os left start (Duplicate name) same w h = (subst (λ n. AreWithin n start) (sym same.many) w, ap (first_again []) (same_names os left same.seen) ∙ h)
@@ -106,11 +144,66 @@ doubled_unlinked os left start Overflow same w h = absurd h
 doubled_unlinked os left start OddTarget same w h = absurd h
 doubled_unlinked os left start DanglingPcrel same w h = absurd h
 
-pub doubled : (ds : List DeclaredObject) (start : ℕ) (relax : Bool) (fault : LinkFault) → AreWithin (length ds) start → AreDoubled (map object_of ds) fault → HasNoProgram (map object_of ds) start relax fault
-doubled ds start relax fault w h =
-    let some = some_left relax ds in
+pub doubled : (ds : List DeclaredObject) (start : ℕ) (relax gc : Bool) (fault : LinkFault) → AreWithin (length ds) start → AreDoubled (map object_of ds) fault → HasNoProgram (map object_of ds) start relax gc fault
+doubled ds start relax gc fault w h =
+    let some = some_leaves relax gc ds in
     record {
-      left = some.0;
-      relaxed = some.1;
-      unlinked = doubled_unlinked (map object_of ds) some.0 start fault (alike relax (map object_of ds) some.0 some.1) (subst (λ n. AreWithin n start) (sym (length-map ds object_of)) w) h;
+      drops = some.drops;
+      left = some.left;
+      leaves = some.leaves;
+      unlinked = doubled_unlinked (map object_of ds) some.left start fault some.alike (subst (λ n. AreWithin n start) (sym (length-map ds object_of)) w) h;
     }
+
+-- ---- the link of what relaxation leaves
+
+-- two things that hold of a program
+pub ok_both : {T E : Type 0} (r : Result T E) (P Q R : T → Type 0) → ((x : T) → P x → Q x → R x) → IfOk r P → IfOk r Q → IfOk r R
+ok_both (Ok x) P Q R f p q = f x p q
+ok_both (Err e) P Q R f p q = tt
+
+-- memory may run out whatever is left
+pub out_of_memory : (ds : List DeclaredObject) (start : ℕ) (relax : Bool) → HasNoLink (map object_of ds) start relax OutOfMemory
+out_of_memory ds start relax =
+    let some = some_left relax (map object_of ds) (sites_text ds) in
+    record { left = some.0; relaxed = some.1; unlinked = tt }
+
+-- what collection drops, where it is off: nothing
+pub none_dropped : (os : List Object) (start : ℕ) (relax : Bool) (drops : List SectionId) (l : Linked) → drops ≡ [] → IsLinkOfLeft os start relax drops l → IsProgramOf os start relax false l
+none_dropped os start relax drops l none h =
+    let none_here : l.map.drops ≡ [] = h.dropped ∙ none in
+    record {
+      left = h.left;
+      leaves = record { collected = none_here; relaxed = subst (λ x. Relaxes relax x h.left) (sym (ap (λ d. without d os) none_here ∙ without_none os)) h.relaxed };
+      linked = h.linked;
+    }
+
+pub none_unlinked : (os : List Object) (start : ℕ) (relax : Bool) (fault : LinkFault) → HasNoLink os start relax fault → HasNoProgram os start relax false fault
+none_unlinked os start relax fault h = record {
+  drops = [];
+  left = h.left;
+  leaves = record { collected = refl; relaxed = subst (λ x. Relaxes relax x h.left) (sym (without_none os)) h.relaxed };
+  unlinked = h.unlinked;
+}
+
+-- and where it is on
+pub some_dropped : (os kept : List Object) (start : ℕ) (relax : Bool) (drops others : List SectionId) (l : Linked) → Collects true os drops → kept ≡ without drops os → others ≡ drops → IsLinkOfLeft kept start relax others l
+    → IsProgramOf os start relax true l
+some_dropped os kept start relax drops others l collects is same h =
+    let here : l.map.drops ≡ drops = h.dropped ∙ same in
+    record {
+      left = h.left;
+      leaves = record {
+        collected = subst (Collects true os) (sym here) collects;
+        relaxed = subst (λ x. Relaxes relax x h.left) (is ∙ ap (λ d. without d os) (sym here)) h.relaxed;
+      };
+      linked = h.linked;
+    }
+
+pub some_unlinked : (os kept : List Object) (start : ℕ) (relax : Bool) (drops : List SectionId) (fault : LinkFault) → Collects true os drops → kept ≡ without drops os → HasNoLink kept start relax fault
+    → HasNoProgram os start relax true fault
+some_unlinked os kept start relax drops fault collects is h = record {
+  drops = drops;
+  left = h.left;
+  leaves = record { collected = collects; relaxed = subst (λ x. Relaxes relax x h.left) is h.relaxed };
+  unlinked = h.unlinked;
+}

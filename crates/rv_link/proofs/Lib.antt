@@ -8,3 +8,4 @@ pub mod TurnsLemmas
 pub mod UnlinkedLemmas
 pub mod LeftLemmas
 pub mod KnownLemmas
+pub mod MissingLemmas

@@ -6,6 +6,7 @@ use Rattle.std.specs.Prelude.{IsTrue}
 use Rattle.std.specs.Global.{Vec}
 use Rattle.std.specs.List.{AllByRecursion, list_all, slice_get}
 use Rattle.std.proofs.lemmas.Option.{slice_get_within}
+use Rattle.rv_map.specs.declared.map.SectionId.{SectionId}
 use Rattle.rv_map.specs.Limits.{IsMap}
 use Rattle.rv_object.specs.Object.{Section, Object}
 use Rattle.rv_object_laws.specs.Moves.{moves, has_room}
@@ -95,9 +96,9 @@ has_its_room os start p placed roomy file o index s at there =
 
 -- ---- the whole
 
-pub is_link : (os : List Object) (start : ℕ) (names : Names) (p : Placement) (entry : ℕ) (r : Regions) → length os ≤ most_files → start % 4096 ≡ 0 → start < stack_start → IsNamed os names → IsPlacement os start p → are_roomy p ≡ true
-    → entry_of (starts_of p) os ≡ Some entry → entry % 2 ≡ 0 → AreGrown os p (λ goes. []) r → IsMap (made os p entry r).map → IsLinkOf os start (made os p entry r)
-is_link os start names p entry r few page low named placed roomy begins even grown readable =
+pub is_link : (drops : List SectionId) (os : List Object) (start : ℕ) (names : Names) (p : Placement) (entry : ℕ) (r : Regions) → length os ≤ most_files → start % 4096 ≡ 0 → start < stack_start → IsNamed os names → IsPlacement os start p → are_roomy p ≡ true
+    → entry_of (starts_of p) os ≡ Some entry → entry % 2 ≡ 0 → AreGrown os p (λ goes. []) r → IsMap (made drops os p entry r).map → IsLinkOf os start (made drops os p entry r)
+is_link drops os start names p entry r few page low named placed roomy begins even grown readable =
     let resolved = named.resolved (starts_of p) (record (regions_of p) { globals = shown_globals os p }) refl in
     record {
       few = few;

@@ -4,3 +4,4 @@ pub mod Untaken
 pub mod Refusals
 pub mod Made
 pub mod Regions
+pub mod Left

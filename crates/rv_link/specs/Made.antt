@@ -3,6 +3,7 @@
 use Rattle.std.specs.Prelude.{ℕ, List}
 use Rattle.std.specs.List.{list_any}
 use Rattle.rv_image.specs.Linked.{Linked}
+use Rattle.rv_map.specs.declared.map.SectionId.{SectionId}
 use Rattle.rv_object.specs.Object.{Object}
 use Rattle.rv_object_laws.specs.IsLinkOf.{rows_of}
 use Rattle.rv_placement.specs.declared.placement.Placement.{Placement}
@@ -11,8 +12,8 @@ use Rattle.rv_resolve.specs.Shown.{shown_globals}
 use Rattle.rv_link.specs.declared.regions.Regions.{Regions}
 
 -- with these regions, the names that they show and the rows of their statements
-abbrev pub made : List Object → Placement → ℕ → Regions → Linked
-made os p entry r = record {
+abbrev pub made : List SectionId → List Object → Placement → ℕ → Regions → Linked
+made drops os p entry r = record {
   text = r.text.items;
   rodata = r.rodata.items;
   «data» = r.data.items;
@@ -24,6 +25,7 @@ made os p entry r = record {
     entry = entry;
     gaps = p.gaps.items;
     globals = shown_globals os p;
+    drops = drops;
     rows = rows_of (starts_of p) 1 os;
   };
   rvc = list_any (λ o. o.rvc) os;

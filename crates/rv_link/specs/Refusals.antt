@@ -4,11 +4,12 @@
 use Rattle.std.specs.Prelude.{◌≡◌, ◌⊎◌, ⊤, ℕ, ◌%◌, ◌<◌, ◌≤◌, Bool, true, false, List, length, Some, None}
 use Rattle.rv_map.specs.Globals.{AreDistinct}
 use Rattle.rv_isa_laws.specs.Platform.{stack_start}
+use Rattle.rv_map.specs.declared.map.SectionId.{SectionId}
 use Rattle.rv_object.specs.Object.{Object}
 use Rattle.rv_object_laws.specs.Inputs.{Starts, goes_to_text, inputs, Stand}
 use Rattle.rv_object_laws.specs.Names.{global_names, entry_of}
 use Rattle.rv_object_laws.specs.IsLinkOf.{most_files, is_loaded}
-use Rattle.rv_object_laws.specs.Shortened.{Relaxes}
+use Rattle.rv_object_laws.specs.IsProgramOf.{Leaves}
 use Rattle.rv_placement.specs.declared.placement.Placement.{Placement}
 use Rattle.rv_placement.specs.Placement.{starts_of, are_roomy, IsPlacement, AreRoomy, IsTooLarge, AreRoomyBelow}
 use Rattle.rv_resolve.specs.Entry.{has_entry}
@@ -109,8 +110,11 @@ IsUnlinked os start OddTarget = IsUnapplied os start OddTarget
 IsUnlinked os start DanglingPcrel = IsUnapplied os start DanglingPcrel
 IsUnlinked os start OutOfMemory = ⊤
 
--- objects have no program, as what relaxation leaves of them cannot be linked
-pub record HasNoProgram (os : List Object) (start : ℕ) (relax : Bool) (fault : LinkFault) : Type 0 where
+-- objects have no program, as what collection and relaxation leave of them cannot be linked; where no
+-- run can begin, collection leaves no reference, and so the missing entry comes first
+pub record HasNoProgram (os : List Object) (start : ℕ) (relax gc : Bool) (fault : LinkFault) :
+    Type 0 where
+  pub drops : List SectionId
   pub left : List Object
-  pub relaxed : Relaxes relax os left
+  pub leaves : Leaves os relax gc drops left
   pub unlinked : IsUnlinked left start fault

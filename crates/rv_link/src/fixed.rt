@@ -49,13 +49,13 @@ pub(crate) struct Input<'p, 'o, 'a> {
 
 /// Objects whose sections and names have their addresses.
 #[derive(Drop)]
-pub(crate) struct Fixed<'p, 'o, 'a> {
+pub(crate) struct Fixed<'p, 'o, 'a, 'n> {
     pub(crate) objects: &'p [ShortObject<'o, 'a>],
     pub(crate) placement: &'p Placement,
-    pub(crate) values: &'p Values<'p, 'o, 'a>,
+    pub(crate) values: &'p Values<'p, 'o, 'a, 'n>,
 }
 
-impl<'p, 'o, 'a> Fixed<'p, 'o, 'a> {
+impl<'p, 'o, 'a, 'n> Fixed<'p, 'o, 'a, 'n> {
     /// The section at an index of an object, both from 0.
     pub(crate) fn input(&self, file: usize, index: usize) -> Input<'p, 'o, 'a>
         requires fixed { IsFixed self.now }

@@ -3,14 +3,18 @@
 //! It takes objects (`rv_object`), whoever made them, and the address at which their text starts, and gives a linked program
 //! (`rv_image`): the bytes of its regions with each relocation applied, and its map. Nothing here knows of statements.
 //!
-//! Main contract: [`link`] answers only a program that `IsProgramOf` the objects (`rv_object_laws`): the link of what relaxation
-//! leaves of them, where it is on. First, names get their meaning, once (`rv_resolve`). Then calls become short: which may
-//! (`rv_link_sites`), which do (`rv_relax`), and what is left of the objects then (`rv_shorten`). No size changes after that, and
-//! the work is that of the crates below, pass by pass: places (`rv_placement`), values (`rv_link_values`), fields (`rv_reloc`). The
-//! objects are lent: each byte moves once, from its object into the program.
+//! Main contract: [`link`] answers only a program that `IsProgramOf` the objects (`rv_object_laws`): the link of what collection
+//! and relaxation leave of them, where these are on. First, names get their meaning, once (`rv_resolve`). Then sections are dropped
+//! to which nothing leads from the entry (`rv_collect`): the passes behind get objects without them. Then calls become short:
+//! which may (`rv_link_sites`), which do (`rv_relax`), and what is left of the objects then (`rv_shorten`). No size changes after
+//! that, and the work is that of the crates below, pass by pass: places (`rv_placement`), values (`rv_link_values`), fields
+//! (`rv_reloc`). The objects are lent: each byte moves once, from its object into the program.
+//!
+//! The faults come in the order of the passes. With collection a missing entry comes before a name without a meaning, by itself:
+//! [`a_missing_entry_comes_first`].
 //!
 //! ```text
-//! let options = LinkOptions { text_start: 0x1_0000, relax: true };
+//! let options = LinkOptions { text_start: 0x1_0000, relax: true, gc: false };
 //! let linked = link(alloc, objects.as_slice(), options)?;
 //! let first = linked.entry();
 //! let file = write_exec(alloc, &linked)?;
@@ -23,6 +27,7 @@
 mod fault;
 mod fields;
 mod fixed;
+mod law;
 mod options;
 mod passes;
 mod programs;
@@ -30,6 +35,7 @@ mod regions;
 mod relaxation;
 
 pub use fault::LinkFault;
+pub use law::a_missing_entry_comes_first;
 pub use options::LinkOptions;
 pub use passes::{MOST_FILES, within_limits};
 pub use programs::link;

@@ -7,4 +7,6 @@ pub struct LinkOptions {
     pub text_start: u64,
     /// Whether calls become short that can be.
     pub relax: bool,
+    /// Whether sections are left out to which nothing leads from the entry.
+    pub gc: bool,
 }

@@ -3,7 +3,7 @@
 //! Each pass fixes one thing: what names mean was first, then come addresses, then bytes. The order of the faults is that of the passes,
 //! so what costs least to see is told first.
 
-ghost use Rattle.std.specs.Prelude.{◌≡◌, ◌%◌, ◌<◌, [], List, Some, length, map, IfOk, IfErr, OnOk};
+ghost use Rattle.std.specs.Prelude.{◌≡◌, ◌%◌, ◌<◌, [], All, List, Some, length, map, IfOk, IfErr, OnOk};
 ghost use Rattle.std.specs.List.{list_any};
 ghost use Rattle.rv_map.specs.Globals.{AreDistinct};
 ghost use Rattle.rv_isa_laws.specs.Platform.{stack_start};
@@ -14,7 +14,7 @@ ghost use Rattle.rv_object_laws.specs.IsLinkOf.{IsLinkOf};
 ghost use Rattle.rv_object_laws.specs.Names.{global_names, entry_of};
 ghost use Rattle.rv_shorten.specs.View.{short_object_of};
 ghost use Rattle.rv_placement.specs.Placement.{IsPlacement, starts_of};
-ghost use Rattle.rv_map.specs.Limits.{IsMap};
+ghost use Rattle.rv_map.specs.Limits.{IsDrop, IsMap};
 ghost use Rattle.rv_link.specs.Made.{made};
 ghost use Rattle.rv_resolve.specs.Names.{IsDuplicate, IsNames};
 ghost use Rattle.rv_resolve.specs.Exports.{first_duplicate};
@@ -29,7 +29,7 @@ use crate::fixed::Fixed;
 use crate::regions::Regions;
 use rv_image::{Linked, STACK_START};
 use rv_link_values::Values;
-use rv_map::Map;
+use rv_map::{Map, SectionId};
 use rv_object::Object;
 use rv_placement::Placement;
 use rv_resolve::{Names, ResolveFault};
@@ -39,17 +39,21 @@ use std::alloc::{AllocError, Global};
 /// The most files that are linked at once.
 pub const MOST_FILES: usize = 1024;
 
-/// Links objects with their calls as they are into a program, whose text starts at an address, and whose names mean this.
-pub(crate) fn link_as_they_are<'a>(
+/// Links objects with their calls as they are into a program, whose text starts at an address, and whose names mean this. Its map
+/// says what was dropped of them before.
+pub(crate) fn link_as_they_are(
     alloc: Global,
-    objects: &[ShortObject<'_, 'a>],
-    names: &Names<'a>,
+    objects: &[ShortObject<'_, '_>],
+    names: &Names<'_>,
+    drops: Vec<SectionId>,
     start: u64,
 ) -> Result<Linked, LinkFault>
     requires within { AreWithin (length objects.now) start }
     requires names { IsNames (map short_object_of objects.now) names.now }
+    requires drops { All (λ d. IsDrop d) drops.items }
     ensures links { IfOk result
         (λ l. IsLinkOf (map short_object_of objects.now) start (linked_of l)) }
+    ensures drops { IfOk result (λ l. (linked_of l).map.drops ≡ drops.items) }
     ensures refuses { IfErr result (IsUnlinked (map short_object_of objects.now) start) }
 {
     resolve(alloc, objects, names)?;
@@ -64,7 +68,7 @@ pub(crate) fn link_as_they_are<'a>(
     // all addresses are fixed: those of sections, of what is kept of them, and of names
     let regions = fill(alloc, objects, &placement, names)?;
     // all bytes are fixed; what is left is to show them
-    let linked = finish(alloc, objects, names, placement, entry, regions)?;
+    let linked = finish(alloc, objects, names, drops, placement, entry, regions)?;
     Ok(linked)
 }
 
@@ -94,10 +98,10 @@ pub(crate) fn named<'a>(alloc: Global, objects: &[Object<'a>]) -> Result<Names<'
 }
 
 /// No reference is to a name without a meaning.
-fn resolve<'a>(
+fn resolve(
     alloc: Global,
-    objects: &[ShortObject<'_, 'a>],
-    names: &Names<'a>,
+    objects: &[ShortObject<'_, '_>],
+    names: &Names<'_>,
 ) -> Result<(), LinkFault>
     requires { IsNames (map short_object_of objects.now) names.now }
     ensures named { OnOk result (IsNamed (map short_object_of objects.now) names.now) }
@@ -169,11 +173,11 @@ fn entry(
 }
 
 /// The bytes of the regions of placed objects.
-fn fill<'a>(
+fn fill(
     alloc: Global,
-    objects: &[ShortObject<'_, 'a>],
+    objects: &[ShortObject<'_, '_>],
     placement: &Placement,
-    names: &Names<'a>,
+    names: &Names<'_>,
 ) -> Result<Regions, LinkFault>
     requires { IsReady (map short_object_of objects.now) names.now placement.now }
     ensures filled { IfOk result
@@ -194,6 +198,7 @@ fn finish(
     alloc: Global,
     objects: &[ShortObject<'_, '_>],
     names: &Names<'_>,
+    drops: Vec<SectionId>,
     placement: Placement,
     entry: u64,
     regions: Regions,
@@ -201,8 +206,10 @@ fn finish(
     requires placed { IsPlaced (map short_object_of objects.now) names.now placement }
     requires grown { AreGrown (map short_object_of objects.now) placement (λ goes. []) regions }
     requires even { entry % 2 ≡ 0 }
+    requires drops { All (λ d. IsDrop d) drops.items }
     ensures made { IfOk result
-        (λ l. linked_of l ≡ made (map short_object_of objects.now) placement entry regions) }
+        (λ l. linked_of l
+        ≡ made drops.items (map short_object_of objects.now) placement entry regions) }
     ensures readable { IfOk result (λ l. IsMap (linked_of l).map) }
     ensures refuses { IfErr result (λ fault. fault ≡ OutOfMemory) }
 {
@@ -216,6 +223,7 @@ fn finish(
         entry,
         gaps: placement.gaps,
         globals,
+        drops,
         rows,
     };
     Ok(Linked {

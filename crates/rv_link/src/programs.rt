@@ -1,41 +1,90 @@
 //! The program that objects become.
 
-ghost use Rattle.std.specs.Prelude.{map, IfOk, IfErr};
+ghost use Rattle.std.specs.Prelude.{All, length, true, map, IfOk, IfErr};
 ghost use Rattle.rv_image.specs.Linked.{linked_of};
+ghost use Rattle.rv_map.specs.Limits.{IsDrop};
 ghost use Rattle.rv_object.specs.View.{object_of};
-ghost use Rattle.rv_object_laws.specs.Shortened.{IsProgramOf};
-ghost use Rattle.rv_link.specs.Refusals.{HasNoProgram};
+ghost use Rattle.rv_object_laws.specs.IsProgramOf.{IsProgramOf};
+ghost use Rattle.rv_resolve.specs.Names.{IsNames};
+ghost use Rattle.rv_link.specs.Left.{HasNoLink, IsLinkOfLeft};
+ghost use Rattle.rv_link.specs.Refusals.{AreWithin, HasNoProgram};
 
 use crate::fault::LinkFault;
 use crate::options::LinkOptions;
 use crate::passes::{link_as_they_are, named, within_limits};
 use crate::relaxation::relaxed;
+use rv_collect::Collection;
 use rv_image::Linked;
+use rv_map::SectionId;
 use rv_object::Object;
+use rv_resolve::Names;
 use std::alloc::Global;
 
 /// Links objects into a program, whose text starts at an address. The objects are lent.
 ///
 /// # Errors
 ///
-/// The first fault of the objects that relaxation leaves, in the order of the passes: too many of them, a bad start of the text,
-/// names that are defined twice or not at all, a missing entry, paddings without room, too much memory, and then fields that
-/// cannot hold their values, by file, section and relocation.
+/// The first fault of the objects that collection and relaxation leave, in the order of the passes: too many of them, a bad start
+/// of the text, names that are defined twice or not at all, a missing entry, paddings without room, too much memory, and then
+/// fields that cannot hold their values, by file, section and relocation.
 pub fn link(
     alloc: Global,
     objects: &[Object<'_>],
     options: LinkOptions,
 ) -> Result<Linked, LinkFault>
     ensures links { IfOk result (λ l. IsProgramOf (map object_of objects.now)
-        options.text_start options.relax (linked_of l)) }
-    ensures refuses { IfErr result
-        (HasNoProgram (map object_of objects.now) options.text_start options.relax) }
+        options.text_start options.relax options.gc (linked_of l)) }
+    ensures refuses { IfErr result (HasNoProgram (map object_of objects.now)
+        options.text_start options.relax options.gc) }
 {
     within_limits(objects.len(), options.text_start)?;
     // the start of the text is fixed from here on
     let names = named(alloc, objects)?;
     // what each name means is fixed: which symbol defines it, though not where that stands
-    let left = relaxed(alloc, objects, &names, options.relax)?;
+    if options.gc {
+        return link_collected(alloc, objects, &names, options);
+    }
+    link_left(alloc, objects, &names, Vec::new(alloc), options)
+}
+
+/// Links what collection leaves of objects, whose names mean this.
+fn link_collected(
+    alloc: Global,
+    objects: &[Object<'_>],
+    names: &Names<'_>,
+    options: LinkOptions,
+) -> Result<Linked, LinkFault>
+    requires within { AreWithin (length objects.now) options.text_start }
+    requires names { IsNames (map object_of objects.now) names.now }
+    ensures links { IfOk result (λ l. IsProgramOf (map object_of objects.now)
+        options.text_start options.relax true (linked_of l)) }
+    ensures refuses { IfErr result (HasNoProgram (map object_of objects.now)
+        options.text_start options.relax true) }
+{
+    let collection = Collection::of(alloc, objects, names)?;
+    let kept = collection.left(alloc, objects)?;
+    let drops = collection.drops(alloc, objects)?;
+    // which sections are linked is fixed
+    link_left(alloc, &kept, names, drops, options)
+}
+
+/// Links the objects that collection leaves, whose names mean this, into a program whose map says what it dropped.
+fn link_left(
+    alloc: Global,
+    objects: &[Object<'_>],
+    names: &Names<'_>,
+    drops: Vec<SectionId>,
+    options: LinkOptions,
+) -> Result<Linked, LinkFault>
+    requires within { AreWithin (length objects.now) options.text_start }
+    requires names { IsNames (map object_of objects.now) names.now }
+    requires drops { All (λ d. IsDrop d) drops.items }
+    ensures links { IfOk result (λ l. IsLinkOfLeft (map object_of objects.now)
+        options.text_start options.relax drops.items (linked_of l)) }
+    ensures refuses { IfErr result
+        (HasNoLink (map object_of objects.now) options.text_start options.relax) }
+{
+    let left = relaxed(alloc, objects, names, options.relax)?;
     // no call changes any more
-    link_as_they_are(alloc, &left, &names, options.text_start)
+    link_as_they_are(alloc, &left, names, drops, options.text_start)
 }

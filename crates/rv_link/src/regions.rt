@@ -22,7 +22,7 @@ pub(crate) struct Regions {
 
 impl Regions {
     /// The bytes of the regions of objects, section by section in their order.
-    pub(crate) fn of(alloc: Global, fixed: &Fixed<'_, '_, '_>) -> Result<Regions, LinkFault>
+    pub(crate) fn of(alloc: Global, fixed: &Fixed<'_, '_, '_, '_>) -> Result<Regions, LinkFault>
         requires { IsFixed fixed.now }
         ensures grown { IfOk result
             (AreGrown (objects_of fixed.now) (fixed.now).placement.now (λ goes. [])) }
@@ -44,7 +44,7 @@ impl Regions {
     fn put_object(
         &mut self,
         alloc: Global,
-        fixed: &Fixed<'_, '_, '_>,
+        fixed: &Fixed<'_, '_, '_, '_>,
         file: usize,
     ) -> Result<(), LinkFault>
         requires fixed { IsFixed fixed.now }
@@ -66,7 +66,7 @@ impl Regions {
     fn put_section(
         &mut self,
         alloc: Global,
-        fixed: &Fixed<'_, '_, '_>,
+        fixed: &Fixed<'_, '_, '_, '_>,
         file: usize,
         index: usize,
     ) -> Result<(), LinkFault>
@@ -87,7 +87,7 @@ impl Regions {
     fn put(
         &mut self,
         alloc: Global,
-        fixed: &Fixed<'_, '_, '_>,
+        fixed: &Fixed<'_, '_, '_, '_>,
         input: &Input<'_, '_, '_>,
     ) -> Result<(), LinkFault>
         requires fixed { IsFixed fixed.now }

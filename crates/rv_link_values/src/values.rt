@@ -24,10 +24,10 @@ use std::alloc::{AllocError, Global};
 
 /// What the relocations of placed objects are worth.
 #[derive(Drop)]
-pub struct Values<'p, 'o, 'a> {
+pub struct Values<'p, 'o, 'a, 'n> {
     pub(crate) objects: &'p [ShortObject<'o, 'a>],
     pub(crate) placement: &'p Placement,
-    pub(crate) names: &'p Names<'a>,
+    pub(crate) names: &'p Names<'n>,
     pub(crate) highs: Highs,
 }
 
@@ -46,14 +46,14 @@ fn placed(placement: &Placement, file: usize, index: usize) -> Option<&PlacedSec
     sections.get(index)
 }
 
-impl<'p, 'o, 'a> Values<'p, 'o, 'a> {
+impl<'p, 'o, 'a, 'n> Values<'p, 'o, 'a, 'n> {
     /// Those of objects, with their sections placed, and of what their names mean.
     pub fn of(
         alloc: Global,
         objects: &'p [ShortObject<'o, 'a>],
         placement: &'p Placement,
-        names: &'p Names<'a>,
-    ) -> Result<Values<'p, 'o, 'a>, AllocError>
+        names: &'p Names<'n>,
+    ) -> Result<Values<'p, 'o, 'a, 'n>, AllocError>
         ensures { (start : ℕ) → IsNames (map short_object_of objects.now) names.now
             → IsPlacement (map short_object_of objects.now) start placement.now
             → IfOk result (IsValues (map short_object_of objects.now) placement.now) }

@@ -20,6 +20,7 @@ regions_of p = record {
   entry = 0;
   gaps = [];
   globals = [];
+  drops = [];
   rows = [];
 }
 

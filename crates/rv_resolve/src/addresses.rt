@@ -10,6 +10,7 @@ ghost use Rattle.rv_map.specs.Globals.{global_address, linker_symbols};
 ghost use Rattle.rv_object.specs.Object.{Object as SaidObject, Symbol as SaidSymbol};
 ghost use Rattle.rv_object.specs.View.{object_of};
 ghost use Rattle.rv_object.specs.Bindings as bindings;
+ghost use Rattle.rv_object_laws.specs.Collects.{entry_place, run_place};
 ghost use Rattle.rv_object_laws.specs.Names as laws;
 ghost use Rattle.rv_placement.specs.Placement.{starts_of, IsPlacement};
 ghost use Rattle.rv_resolve.specs.Entry.{has_entry};
@@ -122,6 +123,45 @@ impl<'o> Names<'o> {
             }
             None => None,
         }
+    }
+
+    /// Where a run begins, in objects of which nothing is cut: a file, from 0, a section of text there, and an even offset there.
+    /// None where `_start` means no such place.
+    pub fn entry_place(&self, objects: &[Object<'_>]) -> Option<(usize, u32, u64)>
+        ensures { IsNames (map object_of objects.now) self.now
+            → option_map place_of result ≡ entry_place (map object_of objects.now) }
+    {
+        match self.definitions.by_name.get(b"_start".as_slice()).copied() {
+            Some(exported) => run_place(objects, exported),
+            None => None,
+        }
+    }
+}
+
+/// Where a definition for all files stands, in objects of which nothing is cut, if a run can begin there.
+fn run_place(objects: &[Object<'_>], exported: Exported) -> Option<(usize, u32, u64)>
+    ensures { (e : laws.Export) → IsAt (map object_of objects.now) exported e
+        → option_map place_of result ≡ run_place e }
+{
+    let (file, section, offset) = place_at(objects, exported)?;
+    if is_text(objects, file, section) && offset % 2 == 0 {
+        Some((file, section, offset))
+    } else {
+        None
+    }
+}
+
+/// Whether a section of a file is one of text, in objects of which nothing is cut.
+fn is_text(objects: &[Object<'_>], file: usize, section: u32) -> bool
+    ensures { (o : SaidObject) → slice_get (map object_of objects.now) file ≡ Some o
+        → result ≡ laws.is_in_text (slice_get o.sections section) }
+{
+    match objects.get(file) {
+        Some(object) => match object.sections.get(section as usize) {
+            Some(section) => section.loaded && section.executable,
+            None => false,
+        },
+        None => false,
     }
 }
 

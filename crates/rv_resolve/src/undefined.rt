@@ -23,9 +23,9 @@ use crate::symbol::{is_sure, is_weak};
 use rv_object::{Definition, Relocation, Symbol};
 use rv_shorten::ShortObject;
 
-impl<'o> Names<'o> {
+impl Names<'_> {
     /// The first reference without a meaning, by object, section and relocation: the name of its symbol.
-    pub fn undefined(&self, objects: &[ShortObject<'_, 'o>]) -> Option<&'o [u8]>
+    pub fn undefined<'n>(&self, objects: &[ShortObject<'_, 'n>]) -> Option<&'n [u8]>
         ensures first { IsNames (map short_object_of objects.now) self.now
             → option_map bytes_of result ≡ laws.first_undefined (map short_object_of objects.now) }
         ensures resolved { IfNone result (IsNames (map short_object_of objects.now) self.now
@@ -45,12 +45,12 @@ impl<'o> Names<'o> {
     }
 
     /// The first in an object.
-    fn undefined_in(
+    fn undefined_in<'n>(
         &self,
         objects: &[ShortObject<'_, '_>],
         file: usize,
-        object: &ShortObject<'_, 'o>,
-    ) -> Option<&'o [u8]>
+        object: &ShortObject<'_, 'n>,
+    ) -> Option<&'n [u8]>
         ensures { IsNames (map short_object_of objects.now) self.now
             → slice_get (map short_object_of objects.now) file ≡ Some (short_object_of object.now)
             → option_map bytes_of result
@@ -72,13 +72,13 @@ impl<'o> Names<'o> {
     }
 
     /// The first of relocations of an object.
-    fn undefined_among(
+    fn undefined_among<'n>(
         &self,
         objects: &[ShortObject<'_, '_>],
         file: usize,
-        object: &ShortObject<'_, 'o>,
+        object: &ShortObject<'_, 'n>,
         relocations: &[Relocation],
-    ) -> Option<&'o [u8]>
+    ) -> Option<&'n [u8]>
         ensures { IsNames (map short_object_of objects.now) self.now
             → slice_get (map short_object_of objects.now) file ≡ Some (short_object_of object.now)
             → option_map bytes_of result
@@ -97,13 +97,13 @@ impl<'o> Names<'o> {
     }
 
     /// The name of a relocation's symbol, if that has no address.
-    fn undefined_name(
+    fn undefined_name<'n>(
         &self,
         objects: &[ShortObject<'_, '_>],
         file: usize,
-        object: &ShortObject<'_, 'o>,
+        object: &ShortObject<'_, 'n>,
         relocation: &Relocation,
-    ) -> Option<&'o [u8]>
+    ) -> Option<&'n [u8]>
         ensures { IsNames (map short_object_of objects.now) self.now
             → slice_get (map short_object_of objects.now) file ≡ Some (short_object_of object.now)
             → option_map bytes_of result

@@ -1,6 +1,6 @@
 use Rattle.std.proofs.Common.{arith, map}
 use Rattle.std.proofs.lemmas.List.Elements.{All-map, recursion_from_All}
-use Rattle.rv_map.specs.Limits.{IsGlobal, IsRow}
+use Rattle.rv_map.specs.Limits.{IsGlobal, IsDrop, IsRow}
 use Rattle.rv_map.specs.Map.{global_of}
 use Rattle.rv_shorten.specs.View.{short_object_of}
 use Rattle.rv_link.proofs.KnownLemmas.{regions_known, gaps_known}
@@ -20,5 +20,6 @@ returns-clause-readable c =
       entry = omega arith;
       gaps = gaps_known os stands.first p stands.placed;
       globals = recursion_from_All IsGlobal (map global_of c.in_ok-globals.globals.items) (All-map IsGlobal global_of c.in_ok-globals.globals.items c.in_ok-globals.ensures.known);
+      drops = recursion_from_All IsDrop c.args.drops.items c.requires.drops;
       rows = recursion_from_All IsRow c.in_ok-rows.rows.items c.in_ok-rows.ensures.known;
     }

@@ -1,4 +1,4 @@
-use Rattle.std.proofs.Common.{◌≡◌, length, map, sym, ◌∙◌, subst, rules, arith, true, inr}
+use Rattle.std.proofs.Common.{◌≡◌, length, map, sym, ◌∙◌, ap, subst, rules, arith, true, inr}
 use Rattle.std.proofs.lemmas.Result.{err_from_is_err_and}
 use Rattle.std.proofs.lemmas.List.{length-map}
 use Rattle.rv_map.specs.Limits.{IsMap}
@@ -22,8 +22,11 @@ returns-clause-links c =
     let n : length (map short_object_of c.args.objects.now) ≡ length c.args.objects.now = length-map c.args.objects.now short_object_of in
     let w = c.requires.within in
     subst (λ x. IsLinkOf os c.args.start x) (sym e)
-    (is_link os c.args.start c.args.names.now p c.in_ok-entry.entry r (omega (arith, w.0, n)) w.1.0 w.1.1 c.in_ok-resolve.ensures.named c.in_ok-placement.ensures.placed (search rules)
+    (is_link c.args.drops.items os c.args.start c.args.names.now p c.in_ok-entry.entry r (omega (arith, w.0, n)) w.1.0 w.1.1 c.in_ok-resolve.ensures.named c.in_ok-placement.ensures.placed (search rules)
     c.in_ok-entry.ensures.entry c.in_ok-entry.ensures.even c.in_ok-regions.ensures.filled (subst (λ x. IsMap x.map) e c.in_ok-linked.ensures.readable))
+
+pub returns-clause-drops : goal.returns-clause-drops
+returns-clause-drops c = ap (λ l. l.map.drops) c.in_ok-linked.ensures.made
 
 pub returns-in_err-entry-clause-refuses : goal.returns-in_err-entry-clause-refuses
 returns-in_err-entry-clause-refuses c =

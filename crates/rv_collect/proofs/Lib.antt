@@ -1,0 +1,5 @@
+pub mod LoadedLemmas
+pub mod WalkLemmas
+pub mod RowsLemmas
+pub mod DropsLemmas
+pub mod LeftLemmas

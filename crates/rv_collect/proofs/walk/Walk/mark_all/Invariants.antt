@@ -1,0 +1,17 @@
+-- All to which the relocations so far lead is marked.
+use Rattle.std.proofs.Common.{◌≡◌, true, map, take}
+use Rattle.rv_map.specs.declared.map.SectionId.{SectionId}
+use Rattle.rv_object.specs.Parts.{relocation_of}
+use Rattle.rv_object.specs.View.{object_of}
+use Rattle.rv_collect.specs.Targets.{leads_in}
+use Rattle.rv_collect.specs.Walk.{IsWalk, Grows, IsMarked}
+use Rattle.rv_collect.proofs.walk.Walk.mark_all.Given as goal
+
+abbrev pub invariant-loop-relocation : goal.invariant-loop-relocation
+invariant-loop-relocation l = record {
+  walk : IsWalk (map object_of l.objects) l.self;
+  grows : Grows l.fn.self l.self;
+  marked : (t : SectionId)
+      → leads_in (map object_of l.objects) l.file (object_of l.object) t (take l.relocation-index (map relocation_of l.relocations)) ≡ true
+      → IsMarked (map object_of l.objects) l.self t;
+}

@@ -1,0 +1,4 @@
+pub mod Drops
+pub mod Marks
+pub mod Walk
+pub mod Targets
