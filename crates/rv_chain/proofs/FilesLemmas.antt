@@ -82,10 +82,10 @@ one_unread files n m f g first other =
     )
 
 -- a file is refused before its objects are linked
-file_first : (files : List (List ℕ)) (start : ℕ) (relax : Bool) (number : ℕ) (fault : FileFault) (other : LinkFault) → AreWithin (length files) start → IsFirstUnread files number fault
-    → ArePast (length files) start other ⊎ AreReadUnlinked files start relax other → ⊥
-file_first files start relax number fault other within first (inl past) = within_past (length files) start other within past
-file_first files start relax number fault other within first (inr (os, inside, un)) = no_unread files os number fault inside first
+file_first : (files : List (List ℕ)) (start : ℕ) (relax gc : Bool) (number : ℕ) (fault : FileFault) (other : LinkFault) → AreWithin (length files) start → IsFirstUnread files number fault
+    → ArePast (length files) start other ⊎ AreReadUnlinked files start relax gc other → ⊥
+file_first files start relax gc number fault other within first (inl past) = within_past (length files) start other within past
+file_first files start relax gc number fault other within first (inr (os, inside, un)) = no_unread files os number fault inside first
 
 -- ---- the laws
 
@@ -93,39 +93,39 @@ module _ (one_held : (file : List ℕ) (o p : Object) → ObjectOf file o → Ob
   pub one_in : (file : List ℕ) (o p : Object) → IsObjectIn file o → IsObjectIn file p → o ≡ p
   one_in file o p (sound, is) (good, was) = one_held file o p is was
 
-  pub refusal_in : (files : List (List ℕ)) (os : List Object) (start : ℕ) (relax : Bool) (fault : LinkFault) → AreObjectsIn files os
-      → ArePast (length files) start fault ⊎ AreReadUnlinked files start relax fault → IsRefusal os start relax fault
-  refusal_in files os start relax fault inside (inl past) = inl (subst (λ n. ArePast n start fault) (count_each IsObjectIn files os inside) past)
-  refusal_in files os start relax fault inside (inr (ps, were, un)) =
-      inr (subst (λ l. HasNoProgram l start relax fault) (same_each IsObjectIn one_in files ps os were inside) un)
+  pub refusal_in : (files : List (List ℕ)) (os : List Object) (start : ℕ) (relax gc : Bool) (fault : LinkFault) → AreObjectsIn files os
+      → ArePast (length files) start fault ⊎ AreReadUnlinked files start relax gc fault → IsRefusal os start relax gc fault
+  refusal_in files os start relax gc fault inside (inl past) = inl (subst (λ n. ArePast n start fault) (count_each IsObjectIn files os inside) past)
+  refusal_in files os start relax gc fault inside (inr (ps, were, un)) =
+      inr (subst (λ l. HasNoProgram l start relax gc fault) (same_each IsObjectIn one_in files ps os were inside) un)
 
   module _ (linking : LinkLaws) where
     for_memory : FilesForMemory
-    for_memory files start relax exe map (Source number fault) linked un = absurd un
-    for_memory files start relax exe map (File number fault) (within, (os, inside, built)) (named, also, first) = absurd (no_unread files os number fault inside first)
-    for_memory files start relax exe map (Link fault) (within, (os, inside, built)) (named, reason) =
-        absurd (no_refusal linking os start relax built.linked fault built.links named (refusal_in files os start relax fault inside reason))
-    for_memory files start relax exe map Memory linked un = refl
+    for_memory files start relax gc exe map (Source number fault) linked un = absurd un
+    for_memory files start relax gc exe map (File number fault) (within, (os, inside, built)) (named, also, first) = absurd (no_unread files os number fault inside first)
+    for_memory files start relax gc exe map (Link fault) (within, (os, inside, built)) (named, reason) =
+        absurd (no_refusal linking os start relax gc built.linked fault built.links named (refusal_in files os start relax gc fault inside reason))
+    for_memory files start relax gc exe map Memory linked un = refl
 
-    both_unlinked : (files : List (List ℕ)) (start : ℕ) (relax : Bool) (fault other : LinkFault) → AreSmallIn files → IsNamed (Link fault) → IsNamed (Link other)
-        → ArePast (length files) start fault ⊎ AreReadUnlinked files start relax fault → ArePast (length files) start other ⊎ AreReadUnlinked files start relax other → IsSameFault fault other
-    both_unlinked files start relax fault other small named called (inl past) (inl again) = past_once (length files) start fault other past again
-    both_unlinked files start relax fault other small named called (inl past) (inr (os, inside, un)) =
-        one_reason linking os start relax fault other (are_sound files os inside) (small os inside) named called (refusal_in files os start relax fault inside (inl past)) (inr un)
-    both_unlinked files start relax fault other small named called (inr (os, inside, un)) again =
-        one_reason linking os start relax fault other (are_sound files os inside) (small os inside) named called (inr un) (refusal_in files os start relax other inside again)
+    both_unlinked : (files : List (List ℕ)) (start : ℕ) (relax gc : Bool) (fault other : LinkFault) → AreSmallIn files → IsNamed (Link fault) → IsNamed (Link other)
+        → ArePast (length files) start fault ⊎ AreReadUnlinked files start relax gc fault → ArePast (length files) start other ⊎ AreReadUnlinked files start relax gc other → IsSameFault fault other
+    both_unlinked files start relax gc fault other small named called (inl past) (inl again) = past_once (length files) start fault other past again
+    both_unlinked files start relax gc fault other small named called (inl past) (inr (os, inside, un)) =
+        one_reason linking os start relax gc fault other (are_sound files os inside) (small os inside) named called (refusal_in files os start relax gc fault inside (inl past)) (inr un)
+    both_unlinked files start relax gc fault other small named called (inr (os, inside, un)) again =
+        one_reason linking os start relax gc fault other (are_sound files os inside) (small os inside) named called (inr un) (refusal_in files os start relax gc other inside again)
 
     for_one : FilesForOne
-    for_one files start relax Memory other small h k = inl refl
-    for_one files start relax (Source number fault) other small h k = absurd h
-    for_one files start relax (File number fault) Memory small h k = inr (inl refl)
-    for_one files start relax (File number fault) (Source place other) small h k = absurd k
-    for_one files start relax (File number fault) (File place other) small (named, within, first) (called, inside, second) = inr (inr (one_unread files number place fault other first second))
-    for_one files start relax (File number fault) (Link other) small (named, within, first) (called, reason) = absurd (file_first files start relax number fault other within first reason)
-    for_one files start relax (Link fault) Memory small h k = inr (inl refl)
-    for_one files start relax (Link fault) (Source place other) small h k = absurd k
-    for_one files start relax (Link fault) (File place other) small (named, reason) (called, within, first) = absurd (file_first files start relax place other fault within first reason)
-    for_one files start relax (Link fault) (Link other) small (named, reason) (called, again) = inr (inr (both_unlinked files start relax fault other small named called reason again))
+    for_one files start relax gc Memory other small h k = inl refl
+    for_one files start relax gc (Source number fault) other small h k = absurd h
+    for_one files start relax gc (File number fault) Memory small h k = inr (inl refl)
+    for_one files start relax gc (File number fault) (Source place other) small h k = absurd k
+    for_one files start relax gc (File number fault) (File place other) small (named, within, first) (called, inside, second) = inr (inr (one_unread files number place fault other first second))
+    for_one files start relax gc (File number fault) (Link other) small (named, within, first) (called, reason) = absurd (file_first files start relax gc number fault other within first reason)
+    for_one files start relax gc (Link fault) Memory small h k = inr (inl refl)
+    for_one files start relax gc (Link fault) (Source place other) small h k = absurd k
+    for_one files start relax gc (Link fault) (File place other) small (named, reason) (called, within, first) = absurd (file_first files start relax gc place other fault within first reason)
+    for_one files start relax gc (Link fault) (Link other) small (named, reason) (called, again) = inr (inr (both_unlinked files start relax gc fault other small named called reason again))
 
     pub have_one_fault : FilesHaveOneFault
     have_one_fault = record { linked = for_memory; refused = for_one }

@@ -5,6 +5,7 @@ use Rattle.std.specs.Prelude.{Result, Ok, Err, IfErr}
 use Rattle.std.proofs.lemmas.Bool.{or_cases}
 use Rattle.std.specs.Result.{IsErrAnd}
 use Rattle.std.specs.Borrow.{Bor}
+use Rattle.rv_map.specs.declared.map.SectionId.{SectionId}
 use Rattle.rv_statement.specs.View.{now_of}
 use Rattle.rv_chain.specs.declared.fault.Fault.{Fault}
 use Rattle.rv_chain.specs.declared.fault.Fault.TheVariants as cases
@@ -14,6 +15,7 @@ use Rattle.rv_object.specs.declared.object.Object.{Object as DeclaredObject}
 use Rattle.rv_object.specs.Object.{Object}
 use Rattle.rv_object.specs.View.{object_of}
 use Rattle.rv_object_laws.specs.Shortened.{Relaxes}
+use Rattle.rv_object_laws.specs.Without.{without}
 use Rattle.rv_chain_laws.specs.Headline.{AllRead}
 use Rattle.rv_sources_link_laws.specs.Joins.{AreObjectsOf}
 use Rattle.rv_assemble.specs.FirstFault.{IsFirstFault}
@@ -85,27 +87,28 @@ refused_there texts i os fault number h good is refused = record {
 }
 
 -- no short form is out of reach in what is left of the objects of sources
-pub short_forms_reach : ShortCallsReach → ShortBranchesReach → (sources : List (List Statement)) (objects : List DeclaredObject) (left : List Object) (start : ℕ) (relax : Bool)
-    → AreObjectsOf sources (map object_of objects) → Relaxes relax (map object_of objects) left → IsTextStart start → ShortFormsReach (map object_of objects) left start
-short_forms_reach calls branches sources objects left start relax of relaxed at p placed section place i j before now ii jj was is short =
+pub short_forms_reach : ShortCallsReach → ShortBranchesReach → (sources : List (List Statement)) (objects : List DeclaredObject) (drops : List SectionId) (left : List Object) (start : ℕ)
+    (relax : Bool) → AreObjectsOf sources (map object_of objects) → Relaxes relax (without drops (map object_of objects)) left → IsTextStart start
+    → ShortFormsReach (without drops (map object_of objects)) left start
+short_forms_reach calls branches sources objects drops left start relax of relaxed at p placed section place i j before now ii jj was is short =
     elim (or_cases (is_short_call before.kind now.kind) (is_short_branch before.kind) short) [
-      | inl call ↦ calls objects left start relax p relaxed at placed section place i j before now ii jj was is call
-      | inr branch ↦ branches sources objects left start relax p of relaxed at placed section place i j before now ii jj was is branch
+      | inl call ↦ calls objects drops left start relax p relaxed at placed section place i j before now ii jj was is call
+      | inr branch ↦ branches sources objects drops left start relax p of relaxed at placed section place i j before now ii jj was is branch
     ]
 
 -- a refused link of assembled sources
-pub link_refused : (texts : List (List ℕ)) (start : ℕ) (relax : Bool) (fault : LinkFault) → AreUnlinked texts start relax fault → IsRefusedFor texts start relax (of_link fault)
-link_refused texts start relax faults.OutOfMemory h = tt
-link_refused texts start relax faults.Overflow h = (tt, inr h)
-link_refused texts start relax faults.OddTarget h = (tt, inr h)
-link_refused texts start relax faults.DanglingPcrel h = (tt, inr h)
-link_refused texts start relax faults.AlignmentShort h = (tt, inr h)
-link_refused texts start relax (faults.Undefined name) h = (tt, inr h)
-link_refused texts start relax (faults.Duplicate name) h = (tt, inr h)
-link_refused texts start relax faults.EntryMissing h = (tt, inr h)
-link_refused texts start relax faults.ImageTooLarge h = (tt, inr h)
-link_refused texts start relax faults.BadTextStart h = (tt, inr h)
-link_refused texts start relax faults.TooManyFiles h = (tt, inr h)
+pub link_refused : (texts : List (List ℕ)) (start : ℕ) (relax gc : Bool) (fault : LinkFault) → AreUnlinked texts start relax gc fault → IsRefusedFor texts start relax gc (of_link fault)
+link_refused texts start relax gc faults.OutOfMemory h = tt
+link_refused texts start relax gc faults.Overflow h = (tt, inr h)
+link_refused texts start relax gc faults.OddTarget h = (tt, inr h)
+link_refused texts start relax gc faults.DanglingPcrel h = (tt, inr h)
+link_refused texts start relax gc faults.AlignmentShort h = (tt, inr h)
+link_refused texts start relax gc (faults.Undefined name) h = (tt, inr h)
+link_refused texts start relax gc (faults.Duplicate name) h = (tt, inr h)
+link_refused texts start relax gc faults.EntryMissing h = (tt, inr h)
+link_refused texts start relax gc faults.ImageTooLarge h = (tt, inr h)
+link_refused texts start relax gc faults.BadTextStart h = (tt, inr h)
+link_refused texts start relax gc faults.TooManyFiles h = (tt, inr h)
 
 -- the text of a source at an index
 pub source_at : (sources : List (Bor (List ℕ))) (i : ℕ) (d : Bor (List ℕ)) → i < length sources → get_or (map now_of sources) i [] ≡ (get_or sources i d).now

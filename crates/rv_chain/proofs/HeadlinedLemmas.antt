@@ -14,9 +14,9 @@ use Rattle.rv_chain_laws.specs.Headline.{TheHeadline, rvc_flag}
 use Rattle.rv_chain_laws.proofs.ContentsLemmas.{linked_agrees}
 use Rattle.rv_chain.specs.Building.{IsProgramFrom}
 
-pub headlined : (texts : List (List ℕ)) (start : ℕ) (relax : Bool) (linked : Linked) (exe : List ℕ) → IsMap (linked_of linked).map → IsProgramFrom texts start relax (linked_of linked)
-    → exe ≡ exe_of (linked_of linked) → TheHeadline texts start relax exe (map_text (linked_of linked).map)
-headlined texts start relax linked exe is_map program written =
+pub headlined : (texts : List (List ℕ)) (start : ℕ) (relax gc : Bool) (linked : Linked) (exe : List ℕ) → IsMap (linked_of linked).map → IsProgramFrom texts start relax gc (linked_of linked)
+    → exe ≡ exe_of (linked_of linked) → TheHeadline texts start relax gc exe (map_text (linked_of linked).map)
+headlined texts start relax gc linked exe is_map program written =
     let l = linked_of linked in
     let laid = laid_out linked is_map.entry in
     record {
@@ -25,6 +25,7 @@ headlined texts start relax linked exe is_map program written =
       map = l.map;
       shown = refl;
       readable = is_map;
+      collected = program.linked.collected;
       fits = program.linked.fits;
       sized = program.linked.sized;
       shortened = program.linked.shortened;
@@ -35,5 +36,5 @@ headlined texts start relax linked exe is_map program written =
       loads = subst (λ file. ImageOf file (linked_image l)) (sym written) (reload_image l laid);
       accepted = ap first_fault written ∙ reload_fault l laid;
       flagged = ap (number_in e_flags 0) written ∙ ap (λ h. h.e_flags) (reads l laid).fields ∙ ap rvc_flag program.flag;
-      agree = linked_agrees start program.sources relax l program.linked;
+      agree = linked_agrees start program.sources relax gc l program.linked;
     }

@@ -2,10 +2,13 @@
 
 use Rattle.std.proofs.Common.{◌≡◌, ℕ, Bool, ◌<◌, ◌≤◌, ◌⊎◌, inl, inr, List, length, refl, sym, ap, subst, ◌∙◌, arith}
 use Rattle.std.specs.List.{AllByRecursion}
+use Rattle.rv_map.specs.declared.map.SectionId.{SectionId}
 use Rattle.rv_image.specs.Linked.{Linked}
 use Rattle.rv_object.specs.Object.{Object}
 use Rattle.rv_object_laws.specs.IsLinkOf.{most_files}
-use Rattle.rv_object_laws.specs.Shortened.{Relaxes, IsProgramOf}
+use Rattle.rv_object_laws.specs.IsProgramOf.{Leaves, IsProgramOf}
+use Rattle.rv_object_laws.specs.Without.{without}
+use Rattle.rv_object_laws.proofs.WithoutLemmas.{as_many_objects}
 use Rattle.rv_link.specs.declared.fault.LinkFault.{LinkFault}
 use Rattle.rv_link.specs.declared.fault.LinkFault.TheVariants as links
 use Rattle.rv_link.specs.Fault.{number_of}
@@ -66,21 +69,25 @@ past_once n start f g h k = one_past n f g (past_by n start f h) (past_by n star
 
 -- ---- objects
 
--- objects past the limits have no program, whatever relaxation leaves of them
-past_is : (os : List Object) (start : ℕ) (relax : Bool) (left : List Object) (fault : LinkFault) → Relaxes relax os left → ArePast (length os) start fault → HasNoProgram os start relax fault
-past_is os start relax left fault relaxed h = record {
-  left = left;
-  relaxed = relaxed;
-  unlinked = past_unlinked left start fault (subst (λ n. ArePast n start fault) (sym (alike relax os left relaxed).many) h);
-}
+-- objects past the limits have no program, whatever collection and relaxation leave of them
+past_is : (os : List Object) (start : ℕ) (relax gc : Bool) (drops : List SectionId) (left : List Object) (fault : LinkFault) → Leaves os relax gc drops left → ArePast (length os) start fault
+    → HasNoProgram os start relax gc fault
+past_is os start relax gc drops left fault leaves h =
+    let many : length left ≡ length os = (alike relax (without drops os) left leaves.relaxed).many ∙ as_many_objects drops os in
+    record {
+      drops = drops;
+      left = left;
+      leaves = leaves;
+      unlinked = past_unlinked left start fault (subst (λ n. ArePast n start fault) (sym many) h);
+    }
 
 -- why objects are refused
-abbrev pub IsRefusal : List Object → ℕ → Bool → LinkFault → Type 0
-IsRefusal os start relax fault = ArePast (length os) start fault ⊎ HasNoProgram os start relax fault
+abbrev pub IsRefusal : List Object → ℕ → Bool → Bool → LinkFault → Type 0
+IsRefusal os start relax gc fault = ArePast (length os) start fault ⊎ HasNoProgram os start relax gc fault
 
-told : (os : List Object) (start : ℕ) (relax : Bool) (left : List Object) (fault : LinkFault) → Relaxes relax os left → IsRefusal os start relax fault → HasNoProgram os start relax fault
-told os start relax left fault relaxed (inl past) = past_is os start relax left fault relaxed past
-told os start relax left fault relaxed (inr h) = h
+told : (os : List Object) (start : ℕ) (relax gc : Bool) (drops : List SectionId) (left : List Object) (fault : LinkFault) → Leaves os relax gc drops left → IsRefusal os start relax gc fault → HasNoProgram os start relax gc fault
+told os start relax gc drops left fault leaves (inl past) = past_is os start relax gc drops left fault leaves past
+told os start relax gc drops left fault leaves (inr h) = h
 
 -- the laws of a link
 pub record LinkLaws : Type 0 where
@@ -93,19 +100,19 @@ pub record LinkLaws : Type 0 where
 
 module _ (laws : LinkLaws) where
   -- objects with a program are not refused
-  pub no_refusal : (os : List Object) (start : ℕ) (relax : Bool) (l : Linked) (fault : LinkFault) → IsProgramOf os start relax l → IsNamed (Link fault) → IsRefusal os start relax fault → ⊥
-  no_refusal os start relax l fault links named h =
-      not_memory fault named (laws.for_memory os start relax l fault links (told os start relax links.left fault links.relaxed h))
+  pub no_refusal : (os : List Object) (start : ℕ) (relax gc : Bool) (l : Linked) (fault : LinkFault) → IsProgramOf os start relax gc l → IsNamed (Link fault) → IsRefusal os start relax gc fault → ⊥
+  no_refusal os start relax gc l fault links named h =
+      not_memory fault named (laws.for_memory os start relax gc l fault links (told os start relax gc l.map.drops links.left fault links.leaves h))
 
-  by_law : (os : List Object) (start : ℕ) (relax : Bool) (fault other : LinkFault) → AllByRecursion IsSound os → AllByRecursion IsSmall os → IsNamed (Link fault) → IsNamed (Link other)
-      → HasNoProgram os start relax fault → HasNoProgram os start relax other → IsSameFault fault other
-  by_law os start relax fault other sound small named called h k =
-      laws.for_one os start relax fault other (laws.even os start relax sound) (laws.below os start relax sound small) h (not_memory fault named) k (not_memory other called)
+  by_law : (os : List Object) (start : ℕ) (relax gc : Bool) (fault other : LinkFault) → AllByRecursion IsSound os → AllByRecursion IsSmall os → IsNamed (Link fault) → IsNamed (Link other)
+      → HasNoProgram os start relax gc fault → HasNoProgram os start relax gc other → IsSameFault fault other
+  by_law os start relax gc fault other sound small named called h k =
+      laws.for_one os start relax gc fault other (laws.even os start relax gc sound) (laws.below os start relax gc sound small) h (not_memory fault named) k (not_memory other called)
 
-  pub one_reason : (os : List Object) (start : ℕ) (relax : Bool) (fault other : LinkFault) → AllByRecursion IsSound os → AllByRecursion IsSmall os → IsNamed (Link fault) → IsNamed (Link other)
-      → IsRefusal os start relax fault → IsRefusal os start relax other → IsSameFault fault other
-  one_reason os start relax fault other sound small named called (inl h) (inl k) = past_once (length os) start fault other h k
-  one_reason os start relax fault other sound small named called (inl h) (inr k) =
-      by_law os start relax fault other sound small named called (past_is os start relax k.left fault k.relaxed h) k
-  one_reason os start relax fault other sound small named called (inr h) k =
-      by_law os start relax fault other sound small named called h (told os start relax h.left other h.relaxed k)
+  pub one_reason : (os : List Object) (start : ℕ) (relax gc : Bool) (fault other : LinkFault) → AllByRecursion IsSound os → AllByRecursion IsSmall os → IsNamed (Link fault) → IsNamed (Link other)
+      → IsRefusal os start relax gc fault → IsRefusal os start relax gc other → IsSameFault fault other
+  one_reason os start relax gc fault other sound small named called (inl h) (inl k) = past_once (length os) start fault other h k
+  one_reason os start relax gc fault other sound small named called (inl h) (inr k) =
+      by_law os start relax gc fault other sound small named called (past_is os start relax gc k.drops k.left fault k.leaves h) k
+  one_reason os start relax gc fault other sound small named called (inr h) k =
+      by_law os start relax gc fault other sound small named called h (told os start relax gc h.drops h.left other h.leaves k)

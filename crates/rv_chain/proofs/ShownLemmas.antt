@@ -29,9 +29,9 @@ one_image file image other a b =
     let segments : image.segments ≡ other.segments = a.segments ∙ sym b.segments in
     λ i. record { entry = entry i; segments = segments i }
 
-pub listed_as : (texts : List (List ℕ)) (start : ℕ) (relax : Bool) (linked : Linked) (exe map_bytes : List ℕ) → IsMap (linked_of linked).map → IsProgramFrom texts start relax (linked_of linked)
+pub listed_as : (texts : List (List ℕ)) (start : ℕ) (relax gc : Bool) (linked : Linked) (exe map_bytes : List ℕ) → IsMap (linked_of linked).map → IsProgramFrom texts start relax gc (linked_of linked)
     → exe ≡ exe_of (linked_of linked) → map_bytes ≡ map_text (linked_of linked).map → IsListedAs texts exe map_bytes
-listed_as texts start relax linked exe map_bytes is_map program_of written shown = record { sources = program_of.sources; read = program_of.read; listed = listed }
+listed_as texts start relax gc linked exe map_bytes is_map program_of written shown = record { sources = program_of.sources; read = program_of.read; listed = listed }
   where
     listed : (image : Image) → ImageOf exe image → (m : Map) → IsMap m → map_bytes ≡ map_text m → (reader : Reader Spells StandsFor) (text : List ℕ)
         → IsListing reader image m text ↔ IsSourceListing (program program_of.sources m) text
@@ -41,4 +41,4 @@ listed_as texts start relax linked exe map_bytes is_map program_of written shown
         let loaded : ImageOf exe (linked_image l) = subst (λ file. ImageOf file (linked_image l)) (sym written) (reload_image l (laid_out linked is_map.entry)) in
         let same_image : linked_image l ≡ image = one_image exe (linked_image l) image loaded loads in
         subst (λ n. IsListing reader image n text ↔ IsSourceListing (program program_of.sources n) text) same_map
-        (subst (λ im. IsListing reader im l.map text ↔ IsSourceListing (program program_of.sources l.map) text) same_image (listed_is start program_of.sources relax l program_of.linked reader text))
+        (subst (λ im. IsListing reader im l.map text ↔ IsSourceListing (program program_of.sources l.map) text) same_image (listed_is start program_of.sources relax gc l program_of.linked reader text))

@@ -40,15 +40,15 @@ unread_in files i os (cases.Link fault) h good refused = refused
 unread_in files i os cases.Memory h good refused = tt
 
 -- a refused link of the objects in files
-pub link_unlinkable : (files : List (List ℕ)) (start : ℕ) (relax : Bool) (fault : LinkFault) → AreReadUnlinked files start relax fault → AreUnlinkable files start relax (of_link fault)
-link_unlinkable files start relax faults.OutOfMemory h = tt
-link_unlinkable files start relax faults.Overflow h = (tt, inr h)
-link_unlinkable files start relax faults.OddTarget h = (tt, inr h)
-link_unlinkable files start relax faults.DanglingPcrel h = (tt, inr h)
-link_unlinkable files start relax faults.AlignmentShort h = (tt, inr h)
-link_unlinkable files start relax (faults.Undefined name) h = (tt, inr h)
-link_unlinkable files start relax (faults.Duplicate name) h = (tt, inr h)
-link_unlinkable files start relax faults.EntryMissing h = (tt, inr h)
-link_unlinkable files start relax faults.ImageTooLarge h = (tt, inr h)
-link_unlinkable files start relax faults.BadTextStart h = (tt, inr h)
-link_unlinkable files start relax faults.TooManyFiles h = (tt, inr h)
+pub link_unlinkable : (files : List (List ℕ)) (start : ℕ) (relax gc : Bool) (fault : LinkFault) → AreReadUnlinked files start relax gc fault → AreUnlinkable files start relax gc (of_link fault)
+link_unlinkable files start relax gc faults.OutOfMemory h = tt
+link_unlinkable files start relax gc faults.Overflow h = (tt, inr h)
+link_unlinkable files start relax gc faults.OddTarget h = (tt, inr h)
+link_unlinkable files start relax gc faults.DanglingPcrel h = (tt, inr h)
+link_unlinkable files start relax gc faults.AlignmentShort h = (tt, inr h)
+link_unlinkable files start relax gc (faults.Undefined name) h = (tt, inr h)
+link_unlinkable files start relax gc (faults.Duplicate name) h = (tt, inr h)
+link_unlinkable files start relax gc faults.EntryMissing h = (tt, inr h)
+link_unlinkable files start relax gc faults.ImageTooLarge h = (tt, inr h)
+link_unlinkable files start relax gc faults.BadTextStart h = (tt, inr h)
+link_unlinkable files start relax gc faults.TooManyFiles h = (tt, inr h)

@@ -9,12 +9,12 @@ use Rattle.rv_image.specs.ImageOf.{ImageOf}
 use Rattle.rv_image.specs.FirstFault.{first_fault}
 use Rattle.rv_image.proofs.LoadedAgainLemmas.{laid_out, reload_image, reload_fault}
 use Rattle.rv_object.specs.Object.{Object}
-use Rattle.rv_object_laws.specs.Shortened.{IsProgramOf}
+use Rattle.rv_object_laws.specs.IsProgramOf.{IsProgramOf}
 use Rattle.rv_chain.specs.Linking.{IsBuiltOf}
 
-pub built_of : (os : List Object) (start : ℕ) (relax : Bool) (linked : Linked) (exe text : List ℕ) → IsProgramOf os start relax (linked_of linked)
-    → exe ≡ exe_of (linked_of linked) → text ≡ map_text (linked_of linked).map → IsBuiltOf os start relax exe text
-built_of os start relax linked exe text links written shown =
+pub built_of : (os : List Object) (start : ℕ) (relax gc : Bool) (linked : Linked) (exe text : List ℕ) → IsProgramOf os start relax gc (linked_of linked)
+    → exe ≡ exe_of (linked_of linked) → text ≡ map_text (linked_of linked).map → IsBuiltOf os start relax gc exe text
+built_of os start relax gc linked exe text links written shown =
     let l = linked_of linked in
     let laid = laid_out linked links.linked.readable.entry in
     record {

@@ -9,14 +9,14 @@ use Rattle.rv_chain_laws.specs.Headline.{AllRead, TheHeadline}
 
 -- the linked program of the statements that the texts read as, relaxed or not, flagged where they
 -- have compressed code
-pub record IsProgramFrom (texts : List (List ℕ)) (start : ℕ) (relax : Bool)
+pub record IsProgramFrom (texts : List (List ℕ)) (start : ℕ) (relax gc : Bool)
     (l : Linked) : Type 0 where
   pub sources : List (List Statement)
   pub read : AllRead texts sources
-  pub linked : IsLinked sources start relax l
+  pub linked : IsLinked sources start relax gc l
   pub flag : l.rvc ≡ is_compressed sources
 
 -- the bytes of an executable with the promise of `build`: some text shows its map
-abbrev pub IsExecutableOf : List (List ℕ) → ℕ → Bool → List ℕ → Type 0
-IsExecutableOf texts start relax executable =
-    (map_bytes : List ℕ) × TheHeadline texts start relax executable map_bytes
+abbrev pub IsExecutableOf : List (List ℕ) → ℕ → Bool → Bool → List ℕ → Type 0
+IsExecutableOf texts start relax gc executable =
+    (map_bytes : List ℕ) × TheHeadline texts start relax gc executable map_bytes

@@ -39,17 +39,17 @@ AreUnread files (Link fault) = ⊥
 AreUnread files Memory = ⊤
 
 -- no file has a fault, and their objects have no program
-abbrev pub AreReadUnlinked : List (List ℕ) → ℕ → Bool → LinkFault → Type 0
-AreReadUnlinked files start relax fault =
-    (os : List Object) × AreObjectsIn files os × HasNoProgram os start relax fault
+abbrev pub AreReadUnlinked : List (List ℕ) → ℕ → Bool → Bool → LinkFault → Type 0
+AreReadUnlinked files start relax gc fault =
+    (os : List Object) × AreObjectsIn files os × HasNoProgram os start relax gc fault
 
 -- first the count of the files, then the text's start, then the files, and then the link
-abbrev pub AreUnlinkable : List (List ℕ) → ℕ → Bool → Fault → Type 0
-AreUnlinkable files start relax (Source number fault) = ⊥
-AreUnlinkable files start relax (File number fault) =
+abbrev pub AreUnlinkable : List (List ℕ) → ℕ → Bool → Bool → Fault → Type 0
+AreUnlinkable files start relax gc (Source number fault) = ⊥
+AreUnlinkable files start relax gc (File number fault) =
     IsNamed (File number fault)
     × AreWithin (length files) start × IsFirstUnread files number fault
-AreUnlinkable files start relax (Link fault) =
+AreUnlinkable files start relax gc (Link fault) =
     IsNamed (Link fault)
-    × (ArePast (length files) start fault ⊎ AreReadUnlinked files start relax fault)
-AreUnlinkable files start relax Memory = ⊤
+    × (ArePast (length files) start fault ⊎ AreReadUnlinked files start relax gc fault)
+AreUnlinkable files start relax gc Memory = ⊤

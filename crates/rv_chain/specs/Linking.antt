@@ -7,16 +7,16 @@ use Rattle.rv_image.specs.Executable.{exe_of, linked_image}
 use Rattle.rv_image.specs.ImageOf.{ImageOf}
 use Rattle.rv_image.specs.FirstFault.{first_fault}
 use Rattle.rv_object.specs.Object.{Object}
-use Rattle.rv_object_laws.specs.Shortened.{IsProgramOf}
+use Rattle.rv_object_laws.specs.IsProgramOf.{IsProgramOf}
 use Rattle.rv_link.specs.Refusals.{AreWithin}
 use Rattle.rv_chain.specs.Objects.{AreObjectsFrom, AreObjectsIn}
 
 -- the bytes of the executable of the program of these objects, relaxed or not, and the text of its
 -- map
-pub record IsBuiltOf (os : List Object) (start : ℕ) (relax : Bool)
+pub record IsBuiltOf (os : List Object) (start : ℕ) (relax gc : Bool)
     (file text : List ℕ) : Type 0 where
   pub linked : Linked
-  pub links : IsProgramOf os start relax linked
+  pub links : IsProgramOf os start relax gc linked
   pub written : file ≡ exe_of linked
   pub shown : text ≡ map_text linked.map
   -- a loader takes the executable, as what was linked
@@ -24,17 +24,17 @@ pub record IsBuiltOf (os : List Object) (start : ℕ) (relax : Bool)
   pub loads : ImageOf file (linked_image linked)
 
 -- those of the program of the objects in files, which have no fault
-abbrev pub AreLinked : List (List ℕ) → ℕ → Bool → List ℕ → List ℕ → Type 0
-AreLinked files start relax executable text =
+abbrev pub AreLinked : List (List ℕ) → ℕ → Bool → Bool → List ℕ → List ℕ → Type 0
+AreLinked files start relax gc executable text =
     AreWithin (length files) start
-    × ((os : List Object) × AreObjectsIn files os × IsBuiltOf os start relax executable text)
+    × ((os : List Object) × AreObjectsIn files os × IsBuiltOf os start relax gc executable text)
 
 -- the program of the objects of texts
-abbrev pub IsProgramOfObjectsFrom : List (List ℕ) → ℕ → Bool → Linked → Type 0
-IsProgramOfObjectsFrom texts start relax l =
-    (os : List Object) × AreObjectsFrom texts os × IsProgramOf os start relax l
+abbrev pub IsProgramOfObjectsFrom : List (List ℕ) → ℕ → Bool → Bool → Linked → Type 0
+IsProgramOfObjectsFrom texts start relax gc l =
+    (os : List Object) × AreObjectsFrom texts os × IsProgramOf os start relax gc l
 
 -- what is written of the program of the objects of texts
-abbrev pub AreBuilt : List (List ℕ) → ℕ → Bool → List ℕ → List ℕ → Type 0
-AreBuilt texts start relax executable text =
-    (os : List Object) × AreObjectsFrom texts os × IsBuiltOf os start relax executable text
+abbrev pub AreBuilt : List (List ℕ) → ℕ → Bool → Bool → List ℕ → List ℕ → Type 0
+AreBuilt texts start relax gc executable text =
+    (os : List Object) × AreObjectsFrom texts os × IsBuiltOf os start relax gc executable text

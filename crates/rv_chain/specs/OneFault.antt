@@ -30,15 +30,15 @@ IsMemoryOrSame fault other = (fault ≡ Memory) ⊎ ((other ≡ Memory) ⊎ IsSa
 -- sources that have a program are refused for want of memory alone
 abbrev pub SourcesForMemory : Type 0
 SourcesForMemory =
-    (texts : List (List ℕ)) (start : ℕ) (relax : Bool) (l : Linked) (fault : Fault)
-    → IsProgramOfObjectsFrom texts start relax l → IsRefusedFor texts start relax fault
+    (texts : List (List ℕ)) (start : ℕ) (relax gc : Bool) (l : Linked) (fault : Fault)
+    → IsProgramOfObjectsFrom texts start relax gc l → IsRefusedFor texts start relax gc fault
     → fault ≡ Memory
 
 -- and others, but for that, for one fault
 abbrev pub SourcesForOne : Type 0
 SourcesForOne =
-    (texts : List (List ℕ)) (start : ℕ) (relax : Bool) (fault other : Fault)
-    → IsRefusedFor texts start relax fault → IsRefusedFor texts start relax other
+    (texts : List (List ℕ)) (start : ℕ) (relax gc : Bool) (fault other : Fault)
+    → IsRefusedFor texts start relax gc fault → IsRefusedFor texts start relax gc other
     → IsMemoryOrSame fault other
 
 pub record SourcesHaveOneFault : Type 0 where
@@ -50,8 +50,8 @@ pub record SourcesHaveOneFault : Type 0 where
 -- files that are linked are refused for want of memory alone
 abbrev pub FilesForMemory : Type 0
 FilesForMemory =
-    (files : List (List ℕ)) (start : ℕ) (relax : Bool) (exe map : List ℕ) (fault : Fault)
-    → AreLinked files start relax exe map → AreUnlinkable files start relax fault
+    (files : List (List ℕ)) (start : ℕ) (relax gc : Bool) (exe map : List ℕ) (fault : Fault)
+    → AreLinked files start relax gc exe map → AreUnlinkable files start relax gc fault
     → fault ≡ Memory
 
 -- the objects in them, if each has one, are small
@@ -61,9 +61,9 @@ AreSmallIn files = (os : List Object) → AreObjectsIn files os → AllByRecursi
 -- and others, where these are small, but for that for one fault
 abbrev pub FilesForOne : Type 0
 FilesForOne =
-    (files : List (List ℕ)) (start : ℕ) (relax : Bool) (fault other : Fault)
-    → AreSmallIn files → AreUnlinkable files start relax fault
-    → AreUnlinkable files start relax other → IsMemoryOrSame fault other
+    (files : List (List ℕ)) (start : ℕ) (relax gc : Bool) (fault other : Fault)
+    → AreSmallIn files → AreUnlinkable files start relax gc fault
+    → AreUnlinkable files start relax gc other → IsMemoryOrSame fault other
 
 pub record FilesHaveOneFault : Type 0 where
   pub linked : FilesForMemory

@@ -6,6 +6,7 @@ use Rattle.rv_lexer.specs.declared.fault.SourceFault.{SourceFault}
 use Rattle.rv_object.specs.declared.object.Object.{Object as DeclaredObject}
 use Rattle.rv_object.specs.Object.{Object}
 use Rattle.rv_object.specs.View.{object_of}
+use Rattle.rv_object_laws.specs.Without.{without}
 use Rattle.rv_assemble.specs.FirstFault.{IsFirstFault}
 use Rattle.rv_link.specs.declared.fault.LinkFault.{LinkFault}
 use Rattle.rv_link.specs.Refusals.{AreWithin, ArePast, HasNoProgram}
@@ -47,24 +48,25 @@ AreAssembled texts = (os : List Object) × AreObjectsFrom texts os
 
 -- and they have no program; a field that does not take its value is none of a form that was chosen
 -- because it reaches
-pub record AreUnlinked (texts : List (List ℕ)) (start : ℕ) (relax : Bool)
+pub record AreUnlinked (texts : List (List ℕ)) (start : ℕ) (relax gc : Bool)
     (fault : LinkFault) : Type 0 where
   pub objects : List DeclaredObject
   pub are : AreObjectsFrom texts (map object_of objects)
-  pub unlinked : HasNoProgram (map object_of objects) start relax fault
-  pub reached : ShortFormsReach (map object_of objects) unlinked.left start
+  pub unlinked : HasNoProgram (map object_of objects) start relax gc fault
+  pub reached :
+      ShortFormsReach (without unlinked.drops (map object_of objects)) unlinked.left start
 
 -- files and a start of the text that can be linked, and sources without a fault
 abbrev pub AreGood : List (List ℕ) → ℕ → Type 0
 AreGood texts start = AreWithin (length texts) start × AreAssembled texts
 
 -- first the count of the files, then the text's start, then the sources, and then the link
-abbrev pub IsRefusedFor : List (List ℕ) → ℕ → Bool → Fault → Type 0
-IsRefusedFor texts start relax (Source number fault) =
+abbrev pub IsRefusedFor : List (List ℕ) → ℕ → Bool → Bool → Fault → Type 0
+IsRefusedFor texts start relax gc (Source number fault) =
     IsNamed (Source number fault)
     × AreWithin (length texts) start × IsFirstRefused texts number fault
-IsRefusedFor texts start relax (File number fault) = ⊥
-IsRefusedFor texts start relax (Link fault) =
+IsRefusedFor texts start relax gc (File number fault) = ⊥
+IsRefusedFor texts start relax gc (Link fault) =
     IsNamed (Link fault)
-    × (ArePast (length texts) start fault ⊎ AreUnlinked texts start relax fault)
-IsRefusedFor texts start relax Memory = ⊤
+    × (ArePast (length texts) start fault ⊎ AreUnlinked texts start relax gc fault)
+IsRefusedFor texts start relax gc Memory = ⊤

@@ -35,17 +35,17 @@ use std::alloc::Global;
 pub fn build(alloc: Global, sources: &[&[u8]], options: LinkOptions) -> Result<Built, Fault>
     ensures headline { IfOk result
         (λ built. TheHeadline (map now_of sources.now)
-        options.text_start options.relax built.exe.items built.map.items) }
+        options.text_start options.relax options.gc built.exe.items built.map.items) }
     ensures listed { IfOk result
         (λ built. IsListedAs (map now_of sources.now) built.exe.items built.map.items) }
     ensures links { IfOk result
         (λ built. AreBuilt (map now_of sources.now)
-        options.text_start options.relax built.exe.items built.map.items) }
+        options.text_start options.relax options.gc built.exe.items built.map.items) }
     ensures good { IfOk result (λ _. AreGood (map now_of sources.now) options.text_start) }
     // The first fault: too many files, the text's start, then the sources one by one, then the link, where no form that
     // was chosen because it reaches is out of reach.
     ensures refuses { IfErr result
-        (IsRefusedFor (map now_of sources.now) options.text_start options.relax) }
+        (IsRefusedFor (map now_of sources.now) options.text_start options.relax options.gc) }
 {
     let linked = linked(alloc, sources, options)?;
     let built = Built::of(alloc, &linked)?;
@@ -56,10 +56,10 @@ pub fn build(alloc: Global, sources: &[&[u8]], options: LinkOptions) -> Result<B
 pub fn build_exe(alloc: Global, sources: &[&[u8]], options: LinkOptions) -> Result<Vec<u8>, Fault>
     ensures headline { IfOk result
         (λ exe. IsExecutableOf
-        (map now_of sources.now) options.text_start options.relax exe.items) }
+        (map now_of sources.now) options.text_start options.relax options.gc exe.items) }
     ensures good { IfOk result (λ _. AreGood (map now_of sources.now) options.text_start) }
     ensures refuses { IfErr result
-        (IsRefusedFor (map now_of sources.now) options.text_start options.relax) }
+        (IsRefusedFor (map now_of sources.now) options.text_start options.relax options.gc) }
 {
     let linked = linked(alloc, sources, options)?;
     let exe = write_exec(alloc, &linked)?;
@@ -70,13 +70,13 @@ pub fn build_exe(alloc: Global, sources: &[&[u8]], options: LinkOptions) -> Resu
 fn linked(alloc: Global, sources: &[&[u8]], options: LinkOptions) -> Result<Linked, Fault>
     ensures program { IfOk result
         (λ l. IsProgramFrom
-        (map now_of sources.now) options.text_start options.relax (linked_of l)) }
+        (map now_of sources.now) options.text_start options.relax options.gc (linked_of l)) }
     ensures links { IfOk result
         (λ l. IsProgramOfObjectsFrom
-        (map now_of sources.now) options.text_start options.relax (linked_of l)) }
+        (map now_of sources.now) options.text_start options.relax options.gc (linked_of l)) }
     ensures good { IfOk result (λ _. AreGood (map now_of sources.now) options.text_start) }
     ensures refuses { IfErr result
-        (IsRefusedFor (map now_of sources.now) options.text_start options.relax) }
+        (IsRefusedFor (map now_of sources.now) options.text_start options.relax options.gc) }
 {
     within_limits(sources.len(), options.text_start)?;
     let objects = objects(alloc, sources)?;

@@ -17,7 +17,7 @@
 //!
 //! It must not know where bytes come from, nor how faults are told. In use:
 //!
-//!     let options = LinkOptions { text_start: 0x1_0000, relax: true };
+//!     let options = LinkOptions { text_start: 0x1_0000, relax: true, gc: false };
 //!     let source = b".option norvc\n.globl _start\n_start: li a0, 7; li a7, 93; ecall\n";
 //!     let built = build(alloc, &[source], options)?;
 //!     let outcome = run_exec(alloc, built.exe.as_slice(), b"", 1_000_000)?;

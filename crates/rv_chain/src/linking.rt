@@ -20,10 +20,10 @@ use std::alloc::Global;
 pub fn link_objects(alloc: Global, objects: &[&[u8]], options: LinkOptions) -> Result<Built, Fault>
     ensures linked { IfOk result
         (λ built. AreLinked (map now_of objects.now)
-        options.text_start options.relax built.exe.items built.map.items) }
+        options.text_start options.relax options.gc built.exe.items built.map.items) }
     // The first fault: too many files, the text's start, then the files one by one, then the link.
     ensures refuses { IfErr result
-        (AreUnlinkable (map now_of objects.now) options.text_start options.relax) }
+        (AreUnlinkable (map now_of objects.now) options.text_start options.relax options.gc) }
 {
     within_limits(objects.len(), options.text_start)?;
     let read = read_objects(alloc, objects)?;

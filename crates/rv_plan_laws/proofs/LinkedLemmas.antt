@@ -4,19 +4,19 @@ use Rattle.std.proofs.Common.{◌≡◌, ℕ, suc, ◌*◌, ◌%◌, ◌^◌, �
 use Rattle.std.specs.Prelude.{◌==◌}
 use Rattle.std.specs.List.{AllByRecursion}
 use Rattle.std.proofs.lemmas.Bool.{leb-true, leb-false, eqb-true, and_parts}
-use Rattle.rv_object.specs.Object.{Object, Relocation, size_of}
+use Rattle.rv_object.specs.Object.{Object, Relocation, Section, size_of}
 use Rattle.rv_object.specs.Valid.{is_alignment, is_even}
 use Rattle.rv_object.specs.View.{object_of}
-use Rattle.rv_object.specs.Sections.{section_of}
-use Rattle.rv_object.specs.declared.object.Object.{Object as DeclaredObject}
-use Rattle.rv_object.specs.declared.section.Section.{Section as DeclaredSection}
 use Rattle.rv_object_laws.specs.Moves.{alignment_of, alignments_of, full_padding}
 use Rattle.rv_object_laws.specs.Inputs.{InputSection, Starts, Stand, goes_to_text, inputs_from, inputs_of, inputs, begins_at, raised}
 use Rattle.rv_object_laws.specs.CallSites.{sites_of, is_short_text}
 use Rattle.rv_object_laws.specs.Shortened.{shortened, IsRelaxed, Relaxes}
-use Rattle.rv_object_laws.proofs.TextInputsLemmas.{all_append, text_inputs}
-use Rattle.rv_object_laws.proofs.TextLineLemmas.{sites_text}
-use Rattle.rv_shorten.proofs.LineLemmas.{sound_objects}
+use Rattle.rv_object_laws.specs.Whole.{IsWholeSection, IsWhole}
+use Rattle.rv_object_laws.specs.Without.{without}
+use Rattle.rv_object_laws.proofs.WholeLemmas.{are_whole, whole_left}
+use Rattle.rv_object_laws.proofs.TextInputsLemmas.{all_append, whole_inputs}
+use Rattle.rv_object_laws.proofs.TextLineLemmas.{whole_text}
+use Rattle.rv_shorten.proofs.LineLemmas.{AreSound, AllSound}
 use Rattle.rv_relax.proofs.AlignedLemmas.{alignments}
 use Rattle.rv_layout_laws.proofs.ShorteningLemmas.{one_greatest_closed, whole_family}
 use Rattle.rv_layout_laws.specs.Calls.{IsFamily, dropped as sites_dropped}
@@ -73,23 +73,24 @@ known i text power even = (record { even_size = size; begins = both.0; some = bo
     size : size_of i.section.contents % 2 ≡ 0
     size = eqb-true (size_of i.section.contents % 2) 0 (sym (ap (λ b. not b || (size_of i.section.contents % 2 == 0)) (and_parts i.section.loaded i.section.executable text).1) ∙ even)
 
-known_from : (f x : ℕ) (o : Object) (ss : List DeclaredSection) → AllByRecursion IsKnown (inputs_from goes_to_text f o x (map section_of ss))
-known_from f x o [] = tt
-known_from f x o (s ∷ ss) = by (goes_to_text (section_of s)) refl (known_from f (suc x) o ss)
+known_from : (f x : ℕ) (o : Object) (ss : List Section) → AllByRecursion IsWholeSection ss → AllByRecursion IsKnown (inputs_from goes_to_text f o x ss)
+known_from f x o [] h = tt
+known_from f x o (s ∷ ss) (own, h) = by (goes_to_text s) refl (known_from f (suc x) o ss h)
   where
     it : InputSection
-    it = record { file = f; object = o; index = x; section = section_of s }
+    it = record { file = f; object = o; index = x; section = s }
 
     rest : List InputSection
-    rest = inputs_from goes_to_text f o (suc x) (map section_of ss)
+    rest = inputs_from goes_to_text f o (suc x) ss
 
-    by : (b : Bool) → goes_to_text (section_of s) ≡ b → AllByRecursion IsKnown rest → AllByRecursion IsKnown (cond b (it ∷ rest) rest)
-    by true e more = (known it e s.aligned s.even, more)
+    by : (b : Bool) → goes_to_text s ≡ b → AllByRecursion IsKnown rest → AllByRecursion IsKnown (cond b (it ∷ rest) rest)
+    by true e more = (known it e own.aligned own.even, more)
     by false e more = more
 
-known_of : (f : ℕ) (ds : List DeclaredObject) → AllByRecursion IsKnown (inputs_of goes_to_text f (map object_of ds))
-known_of f [] = tt
-known_of f (d ∷ ds) = all_append IsKnown (inputs_from goes_to_text f (object_of d) 0 (object_of d).sections) (inputs_of goes_to_text (suc f) (map object_of ds)) (known_from f 0 (object_of d) d.sections.items) (known_of (suc f) ds)
+known_of : (f : ℕ) (os : List Object) → AllByRecursion IsWhole os → AllByRecursion IsKnown (inputs_of goes_to_text f os)
+known_of f [] h = tt
+known_of f (o ∷ os) (own, h) =
+    all_append IsKnown (inputs_from goes_to_text f o 0 o.sections) (inputs_of goes_to_text (suc f) os) (known_from f 0 o o.sections own.sections) (known_of (suc f) os h)
 
 firsts : (is : List InputSection) → AllByRecursion IsKnown is → AllByRecursion IsCode is
 firsts [] h = tt
@@ -98,6 +99,16 @@ firsts (i ∷ is) h = (h.0.0, firsts is h.1)
 seconds : (is : List InputSection) → AllByRecursion IsKnown is → AllByRecursion (λ i. is_alignment i.section.alignment ≡ true) is
 seconds [] h = tt
 seconds (i ∷ is) h = (h.0.1, seconds is h.1)
+
+-- ---- fields and paddings
+
+sound_sections : (ss : List Section) → AllByRecursion IsWholeSection ss → AreSound ss
+sound_sections [] h = tt
+sound_sections (s ∷ ss) (own, h) = (record { fit = own.inside; paddings = own.paddings }, sound_sections ss h)
+
+sound_wholes : (os : List Object) → AllByRecursion IsWhole os → AllSound os
+sound_wholes [] h = tt
+sound_wholes (o ∷ os) (own, h) = (sound_sections o.sections own.sections, sound_wholes os h)
 
 -- ---- the law
 
@@ -119,10 +130,7 @@ padded_is : (p : Plan) → padded_of p ≡ padded 0 (sites_in p) (kept_of p)
 unfolding sites_in kept_of padded_of
 padded_is p = refl
 
-module _ (ds : List DeclaredObject) (p : Plan) (text_start : ℕ) (starts : Starts) (relax : Bool) (of : IsPlanOf (map object_of ds) relax p) where
-  abbrev pub os : List Object
-  os = map object_of ds
-
+module _ (os : List Object) (whole : AllByRecursion IsWhole os) (p : Plan) (text_start : ℕ) (starts : Starts) (relax : Bool) (of : IsPlanOf os relax p) where
   abbrev pub kept : List ℕ
   kept = kept_of p
 
@@ -136,10 +144,10 @@ module _ (ds : List DeclaredObject) (p : Plan) (text_start : ℕ) (starts : Star
   kept_same = ap (λ fs. inner fs (padded_of p)) of.starts ∙ ap (inner (starts_of os)) (padded_is p ∙ ap (λ ss. padded 0 ss kept) of.sites)
 
   here_all : IsFamily (sites_of os) kept → AllHere os kept 0 is kept
-  here_all family = all_here os kept (sound_objects ds) (sites_text ds).in_order family.same_length
+  here_all family = all_here os kept (sound_wholes os whole) (whole_text os whole).in_order family.same_length
 
   facts : AllByRecursion IsKnown is
-  facts = known_of 1 ds
+  facts = known_of 1 os whole
 
   pub as_linked : (left : List Object) → IsKept os kept left → text_start % 4096 ≡ 0 → Stand starts text_start (inputs goes_to_text left) → IsAsLinked os left p starts
   as_linked left found page stand =
@@ -147,7 +155,7 @@ module _ (ds : List DeclaredObject) (p : Plan) (text_start : ℕ) (starts : Star
       let inputs_are : inputs goes_to_text left ≡ lefts os kept is = ap (inputs goes_to_text) found.shortens ∙ inputs_left os kept in
       let all = all_agree os kept starts text_start (multiples text_start page) (joined_sites p) (joined_kept p) 0 0 0 0 0 text_start is kept here
       (sites_even os kept 0 is kept here (firsts is facts) (offered (sites_of os) kept found.family.same_length found.family.offered) refl)
-      (text_inputs ds) refl (omega arith) refl (omega arith) (omega arith)
+      (whole_inputs os whole) refl (omega arith) refl (omega arith) (omega arith)
       (stand_left os kept starts text_start text_start 0 is kept page here (seconds is facts) (subst (Stand starts text_start) inputs_are stand))
       (λ old low. ap (λ ss. sites_dropped ss (joined_kept p) old) sites_same ∙ ap (λ ls. sites_dropped (sites_of_rest os 0 0 is) ls old) kept_same ∙ omega arith) in
       record {
@@ -159,9 +167,10 @@ module _ (ds : List DeclaredObject) (p : Plan) (text_start : ℕ) (starts : Star
       }
 
 pub plans_are_links : PlansAreLinks
-plans_are_links ds left text_start starts relax p of relaxes page stand =
-    as_linked ds p text_start starts relax of left (is_kept relax (map object_of ds) left (kept_of p) of.short of.planned relaxes) page stand
+plans_are_links os left text_start starts relax p whole of relaxes page stand =
+    as_linked os whole p text_start starts relax of left (is_kept relax os left (kept_of p) of.short of.planned relaxes) page stand
 
 pub plans_are_programs : PlansArePrograms
-plans_are_programs ds text_start relax l p of program =
-    plans_are_links ds program.left text_start program.linked.starts relax p of program.relaxed program.linked.page program.linked.text.1
+plans_are_programs ds text_start relax gc l p of program =
+    plans_are_links (without l.map.drops (map object_of ds)) program.left text_start program.linked.starts relax p (whole_left l.map.drops (map object_of ds) (are_whole ds)) of program.leaves.relaxed program.linked.page
+    program.linked.text.1

@@ -3,7 +3,7 @@
 -- Relaxation", function call relaxation and R_RISCV_ALIGN).
 
 use Rattle.std.specs.Prelude.{◌≡◌, ℕ, ◌+◌, ◌%◌, ◌≤◌, ⊤, Bool, true, List, [], ◌∷◌, ◌++◌, length, filter, map}
-use Rattle.std.specs.List.{list_all}
+use Rattle.std.specs.List.{AllByRecursion, list_all}
 use Rattle.rv_layout_laws.specs.Calls.{new_offset as offset_of}
 use Rattle.rv_image.specs.Linked.{Linked}
 use Rattle.rv_object.specs.declared.object.Object.{Object as DeclaredObject}
@@ -12,7 +12,10 @@ use Rattle.rv_object.specs.View.{object_of}
 use Rattle.rv_object_laws.specs.Moves.{Move, moves, has_room, new_offset}
 use Rattle.rv_object_laws.specs.Inputs.{InputSection, Starts, Stand, goes_to_text, inputs, start_of}
 use Rattle.rv_object_laws.specs.CallSites.{in_order, is_permitted, sites_of, is_short_text}
-use Rattle.rv_object_laws.specs.Shortened.{Sizes, sizes_by, cuts, shortened, shortened_section, Relaxes, IsProgramOf}
+use Rattle.rv_object_laws.specs.Shortened.{Sizes, sizes_by, cuts, shortened, shortened_section, Relaxes}
+use Rattle.rv_object_laws.specs.Whole.{IsWhole}
+use Rattle.rv_object_laws.specs.Without.{without}
+use Rattle.rv_object_laws.specs.IsProgramOf.{IsProgramOf}
 use Rattle.rv_relax.specs.declared.calls.Plan.{Plan}
 use Rattle.rv_relax.specs.Padded.{pads, are_roomy}
 use Rattle.rv_relax.specs.Plan.{sites_in, starts_in, kept_of, joined_sites, joined_kept}
@@ -95,16 +98,16 @@ pub record IsAsLinked (os left : List Object) (p : Plan) (starts : Starts) : Typ
 -- so it is at any page where the text begins, whether its paddings have room or not
 abbrev pub PlansAreLinks : Type 0
 PlansAreLinks =
-    (objects : List DeclaredObject) (left : List Object) (text_start : ℕ) (starts : Starts)
-    (relax : Bool) (p : Plan) → IsPlanOf (map object_of objects) relax p →
-    Relaxes relax (map object_of objects) left →
+    (os left : List Object) (text_start : ℕ) (starts : Starts) (relax : Bool) (p : Plan)
+    → AllByRecursion IsWhole os → IsPlanOf os relax p → Relaxes relax os left →
     text_start % 4096 ≡ 0 → Stand starts text_start (inputs goes_to_text left)
-    → IsAsLinked (map object_of objects) left p starts
+    → IsAsLinked os left p starts
 
--- and in each program
+-- and in each program, where the plan is of what collection leaves
 abbrev pub PlansArePrograms : Type 0
 PlansArePrograms =
-    (objects : List DeclaredObject) (text_start : ℕ) (relax : Bool) (l : Linked) (p : Plan)
-    → IsPlanOf (map object_of objects) relax p →
-    (program : IsProgramOf (map object_of objects) text_start relax l)
-    → IsAsLinked (map object_of objects) program.left p program.linked.starts
+    (objects : List DeclaredObject) (text_start : ℕ) (relax gc : Bool) (l : Linked) (p : Plan)
+    → IsPlanOf (without l.map.drops (map object_of objects)) relax p →
+    (program : IsProgramOf (map object_of objects) text_start relax gc l)
+    → IsAsLinked (without l.map.drops (map object_of objects)) program.left p
+    program.linked.starts

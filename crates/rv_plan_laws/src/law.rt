@@ -8,7 +8,7 @@ pub fn plans_are_links()
     ensures { PlansAreLinks }
 {}
 
-/// So it is in the program of objects, whoever made them.
+/// So it is in the program of objects, where the plan is of what collection leaves of them.
 pub fn plans_are_programs()
     ensures { PlansArePrograms }
 {}

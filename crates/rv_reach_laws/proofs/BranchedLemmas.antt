@@ -1,19 +1,19 @@
 -- The fields of the branches and jumps of sources whose form is below its largest take their values where their text is placed.
 
-use Rattle.std.proofs.Common.{◌≡◌, ℕ, suc, ◌+◌, ◌%◌, ◌^◌, ◌≤◌, ◌<◌, ◌⊎◌, inl, inr, Bool, true, false, ◌&&◌, List, [], ◌∷◌, map, pos, ◌-ℤ◌, Option, Some, None, option_map, refl, sym, ap, ◌∙◌, subst, arith}
-use Rattle.std.specs.Prelude.{◌==◌, not, nat_lt, if◌then◌else◌, option_and_then}
+use Rattle.std.proofs.Common.{◌≡◌, ℕ, suc, ◌+◌, ◌%◌, ◌^◌, ◌≤◌, ◌<◌, ◌⊎◌, inl, inr, Bool, true, false, cond, ◌&&◌, List, [], ◌∷◌, map, pos, ◌-ℤ◌, Option, Some, None, option_map, refl, sym, ap, ◌∙◌, subst, arith}
+use Rattle.std.specs.Prelude.{◌==◌, filter, not, nat_lt, if◌then◌else◌, option_and_then}
 use Rattle.std.specs.List.{AllByRecursion, slice_get}
 use Rattle.std.proofs.lemmas.Bool.{and_parts, eq-eqb}
 use Rattle.std.proofs.lemmas.Option.{slice_get-map}
 use Rattle.rv_isa.specs.declared.kind.Kind.{Kind}
 use Rattle.rv_isa.specs.declared.kind.Kind.TheVariants as kinds
+use Rattle.rv_map.specs.declared.map.SectionId.{SectionId}
 use Rattle.rv_statement.specs.Statement.{Statement}
 use Rattle.rv_layout_laws.specs.Offsets.{Reaches}
 use Rattle.rv_layout_laws.specs.Calls.{IsGreatestClosed}
 use Rattle.rv_layout_laws.proofs.ReachingLemmas.{Nearer, reaches_nearer}
 use Rattle.rv_unit_laws.specs.Sections.{Section as SourceSection}
 use Rattle.rv_unit_laws.specs.Tables.{Tables, tables, opened_of, longest_section}
-use Rattle.rv_object.specs.declared.object.Object.{Object as DeclaredObject}
 use Rattle.rv_object.specs.declared.symbol.Definition.TheVariants as definitions
 use Rattle.rv_object.specs.Object.{Relocation, Section, Symbol, Object, size_of}
 use Rattle.rv_object.specs.View.{object_of}
@@ -24,7 +24,12 @@ use Rattle.rv_object_laws.specs.Names.{offset_address, defined_address, symbol_a
 use Rattle.rv_object_laws.specs.Values.{target}
 use Rattle.rv_object_laws.specs.CallSites.{is_call, sites_of, is_short_text}
 use Rattle.rv_object_laws.specs.Shortened.{sizes_by, cuts, shortened_kind, shortened_definition, shortened_symbol, shortened_relocation, shortened_object, shortened, IsRelaxed}
-use Rattle.rv_object_laws.proofs.TextInputsLemmas.{IsTextInput, text_inputs}
+use Rattle.rv_object_laws.specs.Left.{is_left, left_of}
+use Rattle.rv_object_laws.specs.Whole.{IsWhole}
+use Rattle.rv_object_laws.specs.Without.{without}
+use Rattle.rv_object_laws.proofs.TextInputsLemmas.{IsTextInput, whole_inputs}
+use Rattle.rv_object_laws.proofs.InputsLeftLemmas.{text_is, inputs_left}
+use Rattle.rv_object_laws.proofs.WholeLemmas.{are_whole, whole_left}
 use Rattle.rv_placement.specs.declared.placement.Placement.{Placement}
 use Rattle.rv_placement.specs.Placement.{starts_of, IsPlacement}
 use Rattle.rv_resolve.specs.Shown.{outer_in}
@@ -36,12 +41,11 @@ use Rattle.rv_source_laws.proofs.HomesLemmas.{all_filter}
 use Rattle.rv_sources_link_laws.specs.Joins.{AreObjectsOf}
 use Rattle.rv_sources_link_laws.proofs.sections.AssembledLemmas as assembled
 use Rattle.rv_sources_link_laws.proofs.sections.FiledLemmas.{offsets_low}
-use Rattle.rv_sources_link_laws.proofs.statements.OrderedLemmas.{its_source, in_order}
+use Rattle.rv_sources_link_laws.proofs.statements.OrderedLemmas.{its_section, its_source, in_order}
 use Rattle.rv_sources_link_laws.proofs.moves.PiecesOfLemmas.{size_is}
 use Rattle.rv_sources_link_laws.proofs.fields.RangesLemmas.{even_bytes}
-use Rattle.rv_sources_link_laws.proofs.statements.SettledLemmas.{IsSettled, IsSiteIn, sites_are_in}
-use Rattle.rv_sources_link_laws.proofs.fields.TargetsLemmas.{section_of, all_settled}
-use Rattle.rv_sources_link_laws.proofs.calls.UncutLemmas.{IsUncut, uncut}
+use Rattle.rv_sources_link_laws.proofs.statements.SettledLemmas.{IsSettled, settled as settled_all, IsSiteIn, sites_are_in}
+use Rattle.rv_sources_link_laws.proofs.calls.UncutLemmas.{IsUncut, uncut, sections_same}
 use Rattle.rv_shorten.specs.Cutting.{In}
 use Rattle.rv_unique_link_laws.proofs.FoundLemmas.{EachOf, all_of}
 use Rattle.rv_reach_laws.specs.Reach.{is_short_branch, ForEachLeft, ShortBranchesReach}
@@ -149,13 +153,15 @@ module _ (ss : List Statement) (o : Object) (is : IsObjectOf ss o) (index : ℕ)
       code = sym h.executable ∙ (and_parts x.loaded x.executable text).1
 
       settled : AllByRecursion (IsSettled (opened_of (tables ss)).sections) is.sites
-      settled = all_settled ss o is
+      settled = settled_all ss is.sites is.good is.located
 
       inside : AllByRecursion (IsSiteIn index s) (sites_in index is.sites)
       inside = sites_are_in (opened_of (tables ss)).sections index s is.sites at settled
 
       whole : (y : Section) × (slice_get o.sections index ≡ Some y) × assembled.IsSectionOf (tables ss) is.sites is.number o.symbols index s (sites_in index is.sites) y
-      whole = section_of ss o is index s at
+      whole =
+          its_section (assembled.IsSectionOf (tables ss) is.sites is.number o.symbols) is.sites index (opened_of (tables ss)).sections o.sections s
+          (sections_same (tables ss) is.sites (uncut ss o is) is.number o.symbols 0 (opened_of (tables ss)).sections o.sections is.sections) at
 
       same_section : whole.0 ≡ x
       same_section = let both : ◌≡◌ {A = Option Section} (Some whole.0) (Some x) = sym whole.1 ∙ there in let e : whole.0 ≡ x = cc in e
@@ -215,43 +221,73 @@ each_near file (ss ∷ sources) (o ∷ us) (is, h) = ((λ index x at text. branc
 all_near : (sources : List (List Statement)) (us : List Object) → AreObjectsOf sources us → AllByRecursion HasNear (inputs goes_to_text us)
 all_near sources us h = all_of goes_to_text HasNear 1 us (each_near 1 sources us h)
 
+-- ---- of what collection leaves
+
+near_left : (drops : List SectionId) (i : InputSection) → HasNear i → HasNear (left_of drops i)
+near_left drops i h n r at short =
+    let it = h n r at short in
+    record {
+      symbol = it.symbol;
+      symbol_is = it.symbol_is;
+      x = it.x;
+      there = it.there;
+      strong = it.strong;
+      to = it.to;
+      from = it.from;
+      at = it.at;
+      place_is = it.place_is;
+      even_to = it.even_to;
+      even_from = it.even_from;
+      low_to = it.low_to;
+      low_from = it.low_from;
+      reaches = it.reaches;
+    }
+
+nears_left : (drops : List SectionId) (is : List InputSection) → AllByRecursion HasNear is → AllByRecursion HasNear (map (left_of drops) (filter (is_left drops) is))
+nears_left drops [] h = tt
+nears_left drops (i ∷ is) (one, h) = by (is_left drops i) (nears_left drops is h)
+  where
+    by : (b : Bool) → AllByRecursion HasNear (map (left_of drops) (filter (is_left drops) is)) → AllByRecursion HasNear (map (left_of drops) (cond b (i ∷ filter (is_left drops) is) (filter (is_left drops) is)))
+    by true more = (near_left drops i one, more)
+    by false more = more
+
+all_near_left : (sources : List (List Statement)) (drops : List SectionId) (us : List Object) → AreObjectsOf sources us → AllByRecursion HasNear (inputs goes_to_text (without drops us))
+all_near_left sources drops us h = subst (AllByRecursion HasNear) (sym (inputs_left goes_to_text text_is drops us)) (nears_left drops (inputs goes_to_text us) (all_near sources us h))
+
 -- ---- where calls are shortened
 
-relaxed_one : (ds : List DeclaredObject) (kept : List ℕ) (greatest : IsGreatestClosed (sites_of (map object_of ds)) kept) (start : ℕ) (p : Placement) (begins : IsTextStart start)
-    (placed : IsPlacement (shortened kept (map object_of ds)) start p) (k : ℕ) (i : InputSection) → slice_get (inputs goes_to_text (map object_of ds)) k ≡ Some i → (q : Relocation) → IsNearIn i q → is_short_branch q.kind ≡ true
-    → IsTaken (shortened kept (map object_of ds)) p (left_input (map object_of ds) kept i)
-    (shortened_relocation (sizes_by (map object_of ds) kept i.file i.index) (cuts (sizes_by (map object_of ds) kept i.file i.index) i.section) q)
-relaxed_one ds kept greatest start p begins placed k i there q it short =
+relaxed_one : (os : List Object) (whole : AllByRecursion IsWhole os) (kept : List ℕ) (greatest : IsGreatestClosed (sites_of os) kept) (start : ℕ) (p : Placement) (begins : IsTextStart start)
+    (placed : IsPlacement (shortened kept os) start p) (k : ℕ) (i : InputSection) → slice_get (inputs goes_to_text os) k ≡ Some i → (q : Relocation) → IsNearIn i q → is_short_branch q.kind ≡ true
+    → IsTaken (shortened kept os) p (left_input os kept i)
+    (shortened_relocation (sizes_by os kept i.file i.index) (cuts (sizes_by os kept i.file i.index) i.section) q)
+relaxed_one os whole kept greatest start p begins placed k i there q it short =
     subst (λ kind. IsTaken left p (left_input os kept i) (record { place = new_offset ms q.place; kind = kind; symbol = q.symbol; addend = q.addend })) (sym kind_is)
     (taken_by left p (left_input os kept i) (new_offset ms q.place) q.symbol q.addend (address os kept start starts i it.to) (address os kept start starts i it.from)
-    (address_low ds kept greatest start p begins placed k i there it.to it.low_to) target_is (ap (λ n. starts i.file i.index + new_offset (moves (starts i.file i.index) (left_input os kept i).section) (new_offset ms n)) it.place_is)
+    (address_low os whole kept greatest start p begins placed k i there it.to it.low_to) target_is (ap (λ n. starts i.file i.index + new_offset (moves (starts i.file i.index) (left_input os kept i).section) (new_offset ms n)) it.place_is)
     q.kind short
     (reaches_nearer (half_of q.kind) q.addend (pos (address os kept start starts i it.to) -ℤ pos (address os kept start starts i it.from)) (pos it.to -ℤ pos it.from)
     (closer (size_of i.section.contents) ms frame.frame.allowed.order (left_input os kept i).section plain.padded (starts i.file i.index) it.from it.to it.even_from it.even_to) it.reaches))
   where
-    os : List Object
-    os = map object_of ds
-
     left : List Object
-    left = shortened kept (map object_of ds)
+    left = shortened kept os
 
     starts : ℕ → ℕ → ℕ
     starts = starts_of p
 
     ms : List Move
-    ms = cuts (sizes_by (map object_of ds) kept i.file i.index) i.section
+    ms = cuts (sizes_by os kept i.file i.index) i.section
 
-    input : IsTextInput (map object_of ds) i
-    input = all_at (IsTextInput (map object_of ds)) (inputs goes_to_text (map object_of ds)) k i (text_inputs ds) there
+    input : IsTextInput os i
+    input = all_at (IsTextInput os) (inputs goes_to_text os) k i (whole_inputs os whole) there
 
-    frame : HasFrame (map object_of ds) kept i
-    frame = frame_at (map object_of ds) kept 0 0 (inputs goes_to_text (map object_of ds)) (all_frames ds kept greatest start p begins placed) k i there
+    frame : HasFrame os kept i
+    frame = frame_at os kept 0 0 (inputs goes_to_text os) (all_frames os whole kept greatest start p begins placed) k i there
 
-    plain : IsPlain (map object_of ds) kept i
-    plain = all_at (IsPlain (map object_of ds) kept) (inputs goes_to_text (map object_of ds)) k i (plains ds kept greatest start p begins placed) there
+    plain : IsPlain os kept i
+    plain = all_at (IsPlain os kept) (inputs goes_to_text os) k i (plains os whole kept greatest start p begins placed) there
 
-    kind_is : shortened_kind (sizes_by (map object_of ds) kept i.file i.index) q ≡ q.kind
-    kind_is = ap (λ b. if b && nat_lt (sizes_by (map object_of ds) kept i.file i.index q.place) 8 then (if sizes_by (map object_of ds) kept i.file i.index q.place == 2 then kinds.RvcJump else kinds.Jal) else q.kind) (no_call q.kind short)
+    kind_is : shortened_kind (sizes_by os kept i.file i.index) q ≡ q.kind
+    kind_is = ap (λ b. if b && nat_lt (sizes_by os kept i.file i.index q.place) 8 then (if sizes_by os kept i.file i.index q.place == 2 then kinds.RvcJump else kinds.Jal) else q.kind) (no_call q.kind short)
 
     target_is : target (outer_in left p) (starts_of p i.file) (left_input os kept i).object q.symbol ≡ Some (address os kept start starts i it.to % 2 ^ 64)
     target_is =
@@ -272,10 +308,9 @@ relaxed_one ds kept greatest start p begins placed k i there q it short =
 abbrev Reaching : List Object → Placement → (before now : Relocation) → InputSection → Type 0
 Reaching left p before now i = is_short_branch before.kind ≡ true → IsTaken left p i now
 
-short_reach : (sources : List (List Statement)) (ds : List DeclaredObject) → AreObjectsOf sources (map object_of ds) → (kept : List ℕ) → IsGreatestClosed (sites_of (map object_of ds)) kept → (start : ℕ) (p : Placement) → IsTextStart start
-    → IsPlacement (shortened kept (map object_of ds)) start p → ForEachLeft (map object_of ds) (shortened kept (map object_of ds)) (Reaching (shortened kept (map object_of ds)) p)
-short_reach sources ds h kept greatest start p begins placed section place i j before now at_i at_j at_before at_now short =
-    let os = map object_of ds in
+short_reach : (os : List Object) → AllByRecursion IsWhole os → AllByRecursion HasNear (inputs goes_to_text os) → (kept : List ℕ) → IsGreatestClosed (sites_of os) kept → (start : ℕ) (p : Placement) → IsTextStart start
+    → IsPlacement (shortened kept os) start p → ForEachLeft os (shortened kept os) (Reaching (shortened kept os) p)
+short_reach os whole nears kept greatest start p begins placed section place i j before now at_i at_j at_before at_now short =
     let sizes = sizes_by os kept i.file i.index in
     let ms = cuts sizes i.section in
     let left_j : ◌≡◌ {A = Option InputSection} (Some (left_input os kept i)) (Some j) =
@@ -287,34 +322,31 @@ short_reach sources ds h kept greatest start p begins placed section place i j b
     let one : shortened_relocation sizes ms before ≡ now = cc in
     subst (λ x. IsTaken (shortened kept os) p x now) here
     (subst (λ x. IsTaken (shortened kept os) p (left_input os kept i) x) one
-    (relaxed_one ds kept greatest start p begins placed section i at_i before
-    (all_at HasNear (inputs goes_to_text os) section i (all_near sources os h) at_i place before at_before short) short))
+    (relaxed_one os whole kept greatest start p begins placed section i at_i before
+    (all_at HasNear (inputs goes_to_text os) section i nears at_i place before at_before short) short))
 
 -- ---- where they are not
 
-whole_one : (ds : List DeclaredObject) (start : ℕ) (p : Placement) → IsPlacement (map object_of ds) start p → (k : ℕ) (i : InputSection) → slice_get (inputs goes_to_text (map object_of ds)) k ≡ Some i → (q : Relocation) → IsNearIn i q
-    → is_short_branch q.kind ≡ true → IsTaken (map object_of ds) p i q
-whole_one ds start p placed k i there q it short =
+whole_one : (os : List Object) → AllByRecursion IsWhole os → (start : ℕ) (p : Placement) → IsPlacement os start p → (k : ℕ) (i : InputSection) → slice_get (inputs goes_to_text os) k ≡ Some i → (q : Relocation) → IsNearIn i q
+    → is_short_branch q.kind ≡ true → IsTaken os p i q
+whole_one os whole start p placed k i there q it short =
     taken_by os p i q.place q.symbol q.addend (stands it.to) (stands it.from) low_to target_is (ap stands it.place_is) q.kind short
     (reaches_nearer (half_of q.kind) q.addend (pos (stands it.to) -ℤ pos (stands it.from)) (pos it.to -ℤ pos it.from)
     (subst (λ n. Nearer (pos n -ℤ pos (stands it.from)) (pos it.to -ℤ pos it.from)) (plain it.to)
     (subst (λ n. Nearer (pos (s0 + new_offset (moves s0 i.section) (new_offset [] it.to)) -ℤ pos n) (pos it.to -ℤ pos it.from)) (plain it.from)
     (closer (size_of i.section.contents) [] refl i.section padded s0 it.from it.to it.even_from it.even_to))) it.reaches)
   where
-    os : List Object
-    os = map object_of ds
-
     s0 : ℕ
     s0 = starts_of p i.file i.index
 
     stands : ℕ → ℕ
     stands n = starts_of p i.file i.index + new_offset (moves (starts_of p i.file i.index) i.section) n
 
-    input : IsTextInput (map object_of ds) i
-    input = all_at (IsTextInput (map object_of ds)) (inputs goes_to_text (map object_of ds)) k i (text_inputs ds) there
+    input : IsTextInput os i
+    input = all_at (IsTextInput os) (inputs goes_to_text os) k i (whole_inputs os whole) there
 
     room : IsLow p i
-    room = all_at (IsLow p) (inputs goes_to_text (map object_of ds)) k i (lows (map object_of ds) start p placed) there
+    room = all_at (IsLow p) (inputs goes_to_text os) k i (lows os start p placed) there
 
     padded : IsPaddedText i.section
     padded = record { text = input.text; low = room.0; paddings = input.paddings }
@@ -337,14 +369,11 @@ whole_one ds start p placed k i there q it short =
         ∙ ap (offset_address (starts_of p i.file i.index) it.to) input.there
         ∙ ap (λ b. if b then Some (stands it.to % 2 ^ 64) else None) (and_parts i.section.loaded i.section.executable input.text).0
 
-same_reach : (sources : List (List Statement)) (ds : List DeclaredObject) (us : List Object) (start : ℕ) (p : Placement) → AreObjectsOf sources (map object_of ds) → us ≡ map object_of ds → IsPlacement us start p
-    → ForEachLeft (map object_of ds) us (Reaching us p)
-same_reach sources ds us start p h same placed = subst (λ u. IsPlacement u start p → ForEachLeft (map object_of ds) u (Reaching u p)) (sym same) go placed
+same_reach : (os us : List Object) (start : ℕ) (p : Placement) → AllByRecursion IsWhole os → AllByRecursion HasNear (inputs goes_to_text os) → us ≡ os → IsPlacement us start p
+    → ForEachLeft os us (Reaching us p)
+same_reach os us start p whole nears same placed = subst (λ u. IsPlacement u start p → ForEachLeft os u (Reaching u p)) (sym same) go placed
   where
-    os : List Object
-    os = map object_of ds
-
-    go : IsPlacement (map object_of ds) start p → ForEachLeft (map object_of ds) (map object_of ds) (Reaching (map object_of ds) p)
+    go : IsPlacement os start p → ForEachLeft os os (Reaching os p)
     go placed section place i j before now at_i at_j at_before at_now short =
         let both : ◌≡◌ {A = Option InputSection} (Some i) (Some j) = sym at_i ∙ at_j in
         let here : i ≡ j = cc in
@@ -352,14 +381,16 @@ same_reach sources ds us start p h same placed = subst (λ u. IsPlacement u star
         let one : before ≡ now = cc in
         subst (λ x. IsTaken os p x now) here
         (subst (λ x. IsTaken os p i x) one
-        (whole_one ds start p placed section i at_i before (all_at HasNear (inputs goes_to_text os) section i (all_near sources os h) at_i place before at_before short) short))
+        (whole_one os whole start p placed section i at_i before (all_at HasNear (inputs goes_to_text os) section i nears at_i place before at_before short) short))
 
-relaxed_reach : (short : Bool) (sources : List (List Statement)) (ds : List DeclaredObject) (us : List Object) (start : ℕ) (p : Placement) → AreObjectsOf sources (map object_of ds) → IsRelaxed short (map object_of ds) us → IsTextStart start
-    → IsPlacement us start p → ForEachLeft (map object_of ds) us (Reaching us p)
-relaxed_reach false sources ds us start p h same begins placed = same_reach sources ds us start p h same placed
-relaxed_reach true sources ds us start p h (kept, greatest, same) begins placed =
-    subst (λ u. IsPlacement u start p → ForEachLeft (map object_of ds) u (Reaching u p)) (sym same) (short_reach sources ds h kept greatest start p begins) placed
+relaxed_reach : (short : Bool) (os us : List Object) (start : ℕ) (p : Placement) → AllByRecursion IsWhole os → AllByRecursion HasNear (inputs goes_to_text os) → IsRelaxed short os us → IsTextStart start
+    → IsPlacement us start p → ForEachLeft os us (Reaching us p)
+relaxed_reach false os us start p whole nears same begins placed = same_reach os us start p whole nears same placed
+relaxed_reach true os us start p whole nears (kept, greatest, same) begins placed =
+    subst (λ u. IsPlacement u start p → ForEachLeft os u (Reaching u p)) (sym same) (short_reach os whole nears kept greatest start p begins) placed
 
 pub short_branches_reach : ShortBranchesReach
-short_branches_reach sources ds us start false p h same begins placed = same_reach sources ds us start p h same placed
-short_branches_reach sources ds us start true p h relaxed begins placed = relaxed_reach (is_short_text (map object_of ds)) sources ds us start p h relaxed begins placed
+short_branches_reach sources ds drops us start false p h same begins placed =
+    same_reach (without drops (map object_of ds)) us start p (whole_left drops (map object_of ds) (are_whole ds)) (all_near_left sources drops (map object_of ds) h) same placed
+short_branches_reach sources ds drops us start true p h relaxed begins placed =
+    relaxed_reach (is_short_text (without drops (map object_of ds))) (without drops (map object_of ds)) us start p (whole_left drops (map object_of ds) (are_whole ds)) (all_near_left sources drops (map object_of ds) h) relaxed begins placed

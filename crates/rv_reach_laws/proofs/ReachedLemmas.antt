@@ -17,7 +17,6 @@ use Rattle.rv_layout_laws.specs.Calls as layout
 use Rattle.rv_layout_laws.specs.Calls.{Offers, half, site_at, bytes_of, InOrder, IsText, IsFamily, IsGreatestClosed, ReachesFrom, ReachesBy, is_call as is_call_site}
 use Rattle.rv_layout_laws.proofs.ReachingLemmas.{Nearer, reaches_nearer}
 use Rattle.rv_layout_laws.proofs.ShorteningLemmas.{greatest_reaching}
-use Rattle.rv_object.specs.declared.object.Object.{Object as DeclaredObject}
 use Rattle.rv_object.specs.Object.{Relocation, Section, Object, size_of}
 use Rattle.rv_object.specs.Valid.{are_paddings}
 use Rattle.rv_object.specs.View.{object_of}
@@ -27,9 +26,12 @@ use Rattle.rv_object_laws.specs.Names.{Place}
 use Rattle.rv_object_laws.specs.Values.{target}
 use Rattle.rv_object_laws.specs.CallSites.{is_call, start_padding, base, text_offset, target_place, is_text_place, is_permitted, may_change, changes, call_site, site_of, sites_of, is_short_text}
 use Rattle.rv_object_laws.specs.Shortened.{Sizes, sizes_by, is_shortened, cuts, shortened_kind, shortened_relocation, shortened_text, shortened, IsRelaxed}
+use Rattle.rv_object_laws.specs.Whole.{IsWhole}
+use Rattle.rv_object_laws.specs.Without.{without}
 use Rattle.rv_object_laws.proofs.ChangesLemmas as permitted
-use Rattle.rv_object_laws.proofs.TextInputsLemmas.{IsTextInput, text_inputs}
-use Rattle.rv_object_laws.proofs.TextLineLemmas.{site_call, sites_text}
+use Rattle.rv_object_laws.proofs.TextInputsLemmas.{IsTextInput, whole_inputs}
+use Rattle.rv_object_laws.proofs.TextLineLemmas.{site_call, whole_text}
+use Rattle.rv_object_laws.proofs.WholeLemmas.{are_whole, whole_left}
 use Rattle.rv_object_laws.proofs.TextPlacesLemmas.{target_named}
 use Rattle.rv_placement.specs.declared.placement.Placement.{Placement}
 use Rattle.rv_placement.specs.Placement.{starts_of, IsPlacement}
@@ -116,31 +118,28 @@ frame_at os kept at gone (x ∷ is) (one, h) (suc k) i e =
 
 -- ---- what is left of objects
 
-module _ (ds : List DeclaredObject) (kept : List ℕ) (greatest : IsGreatestClosed (sites_of (map object_of ds)) kept) (start : ℕ) (p : Placement) (begins : IsTextStart start)
-    (placed : IsPlacement (shortened kept (map object_of ds)) start p) where
-  abbrev os : List Object
-  os = map object_of ds
-
+module _ (os : List Object) (whole : AllByRecursion IsWhole os) (kept : List ℕ) (greatest : IsGreatestClosed (sites_of os) kept) (start : ℕ) (p : Placement) (begins : IsTextStart start)
+    (placed : IsPlacement (shortened kept os) start p) where
   abbrev left : List Object
-  left = shortened kept (map object_of ds)
+  left = shortened kept os
 
   abbrev starts : Starts
   starts = starts_of p
 
   abbrev is : List InputSection
-  is = inputs goes_to_text (map object_of ds)
+  is = inputs goes_to_text os
 
   abbrev sites : List Site
-  sites = sites_of (map object_of ds)
+  sites = sites_of os
 
   abbrev its : InputSection → Sizes
-  its i = sizes_by (map object_of ds) kept i.file i.index
+  its i = sizes_by os kept i.file i.index
 
   abbrev N : ℕ → ℕ
-  N x = layout.new_offset (sites_of (map object_of ds)) kept x
+  N x = layout.new_offset (sites_of os) kept x
 
   text : IsText sites
-  text = sites_text ds
+  text = whole_text os whole
 
   order : InOrder 0 sites
   order = text.in_order
@@ -149,7 +148,7 @@ module _ (ds : List DeclaredObject) (kept : List ℕ) (greatest : IsGreatestClos
   family = greatest.closed.family
 
   inputs_are : AllByRecursion (IsTextInput os) is
-  inputs_are = text_inputs ds
+  inputs_are = whole_inputs os whole
 
   pub all_frames : Frames os kept 0 0 is
   all_frames = frames os kept 1 0 0 0 is kept inputs_are (ordered_all 1 os) (record {
@@ -163,7 +162,7 @@ module _ (ds : List DeclaredObject) (kept : List ℕ) (greatest : IsGreatestClos
   left_is = lefts os kept 1 os
 
   abbrev IsLeftLow : InputSection → Type 0
-  IsLeftLow i = IsLow p (left_input (map object_of ds) kept i)
+  IsLeftLow i = IsLow p (left_input os kept i)
 
   all_lows : AllByRecursion IsLeftLow is
   all_lows = unmapped (IsLow p) (left_input os kept) is (subst (AllByRecursion (IsLow p)) left_is (lows left start p placed))
@@ -188,7 +187,7 @@ module _ (ds : List DeclaredObject) (kept : List ℕ) (greatest : IsGreatestClos
   )
 
   pub plains : AllByRecursion (IsPlain os kept) is
-  plains = plains_from 0 0 is all_frames inputs_are (all_begin os (sounds ds)) (evens 1 ds) all_lows
+  plains = plains_from 0 0 is all_frames inputs_are (all_begin os (sounds os whole)) (evens 1 os whole) all_lows
 
   stand : Stand starts start (map (left_input os kept) is)
   stand = subst (Stand starts start) left_is placed.text.1
@@ -254,7 +253,7 @@ module _ (ds : List DeclaredObject) (kept : List ℕ) (greatest : IsGreatestClos
     frame = frame_at os kept 0 0 is all_frames k i there
 
     abbrev first : ℕ
-    first = base (map object_of ds) i.file i.index
+    first = base os i.file i.index
 
     in_q : In q i.section.relocations
     in_q = in_at i.section.relocations n q at_q
@@ -281,7 +280,7 @@ module _ (ds : List DeclaredObject) (kept : List ℕ) (greatest : IsGreatestClos
         (subst (λ b. In (site_of os i b q) sites) (sym frame.frame.begins) (frame.frame.there q in_changes))
 
     abbrev number : ℕ
-    number = (index_of (call_site (map object_of ds) i (base (map object_of ds) i.file i.index + q.place) q) (sites_of (map object_of ds)) in_sites).0
+    number = (index_of (call_site os i (base os i.file i.index + q.place) q) (sites_of os) in_sites).0
 
     within : number < length sites
     within = (index_of (call_site os i (first + q.place) q) sites in_sites).1
@@ -371,7 +370,7 @@ module _ (ds : List DeclaredObject) (kept : List ℕ) (greatest : IsGreatestClos
     now kind = record { place = new_offset (cuts (its i) i.section) q.place; kind = kind; symbol = q.symbol; addend = q.addend }
 
     abbrev away : ℤ
-    away = (pos leads.to -ℤ pos (address (map object_of ds) kept start (starts_of p) i q.place)) +ℤ q.addend
+    away = (pos leads.to -ℤ pos (address os kept start (starts_of p) i q.place)) +ℤ q.addend
 
     worth_is : int_wrap w64 ((pos (unwrap_or (target (outer_in left p) (starts i.file) (left_input os kept i).object q.symbol) 0) +ℤ q.addend) -ℤ pos (address os kept start starts i q.place)) ≡ away
     worth_is =
@@ -432,10 +431,9 @@ same_reach os left p same section place i j before now at_i at_j at_before at_no
     never true e = absurd (cc)
     never false e = absurd (cc)
 
-short_reach : (ds : List DeclaredObject) (kept : List ℕ) → IsGreatestClosed (sites_of (map object_of ds)) kept → (start : ℕ) (p : Placement) → IsTextStart start → IsPlacement (shortened kept (map object_of ds)) start p
-    → ForEachLeft (map object_of ds) (shortened kept (map object_of ds)) (Reaches_in (shortened kept (map object_of ds)) p)
-short_reach ds kept greatest start p begins placed section place i j before now at_i at_j at_before at_now short =
-    let os = map object_of ds in
+short_reach : (os : List Object) → AllByRecursion IsWhole os → (kept : List ℕ) → IsGreatestClosed (sites_of os) kept → (start : ℕ) (p : Placement) → IsTextStart start → IsPlacement (shortened kept os) start p
+    → ForEachLeft os (shortened kept os) (Reaches_in (shortened kept os) p)
+short_reach os whole kept greatest start p begins placed section place i j before now at_i at_j at_before at_now short =
     let sizes = sizes_by os kept i.file i.index in
     let ms = cuts sizes i.section in
     let left_j : ◌≡◌ {A = Option InputSection} (Some (left_input os kept i)) (Some j) =
@@ -447,15 +445,16 @@ short_reach ds kept greatest start p begins placed section place i j before now 
     let one : shortened_relocation sizes ms before ≡ now = cc in
     subst (λ x. IsTaken (shortened kept os) p x now) here
     (subst (λ x. IsTaken (shortened kept os) p (left_input os kept i) x) one
-    (is_taken ds kept greatest start p begins placed section i at_i place before at_before
+    (is_taken os whole kept greatest start p begins placed section i at_i place before at_before
     (was_shortened sizes before (ap (λ (x : Relocation). is_short_call before.kind x.kind) one ∙ short))))
 
-relaxed_reach : (short : Bool) (ds : List DeclaredObject) (left : List Object) (start : ℕ) (p : Placement) → IsRelaxed short (map object_of ds) left → IsTextStart start → IsPlacement left start p
-    → ForEachLeft (map object_of ds) left (Reaches_in left p)
-relaxed_reach false ds us start p same begins placed = same_reach (map object_of ds) us p same
-relaxed_reach true ds us start p (kept, greatest, same) begins placed =
-    subst (λ u. IsPlacement u start p → ForEachLeft (map object_of ds) u (Reaches_in u p)) (sym same) (short_reach ds kept greatest start p begins) placed
+relaxed_reach : (short : Bool) (os left : List Object) → AllByRecursion IsWhole os → (start : ℕ) (p : Placement) → IsRelaxed short os left → IsTextStart start → IsPlacement left start p
+    → ForEachLeft os left (Reaches_in left p)
+relaxed_reach false os us whole start p same begins placed = same_reach os us p same
+relaxed_reach true os us whole start p (kept, greatest, same) begins placed =
+    subst (λ u. IsPlacement u start p → ForEachLeft os u (Reaches_in u p)) (sym same) (short_reach os whole kept greatest start p begins) placed
 
 pub short_calls_reach : ShortCallsReach
-short_calls_reach ds us start false p same begins placed = same_reach (map object_of ds) us p same
-short_calls_reach ds us start true p relaxed begins placed = relaxed_reach (is_short_text (map object_of ds)) ds us start p relaxed begins placed
+short_calls_reach ds drops us start false p same begins placed = same_reach (without drops (map object_of ds)) us p same
+short_calls_reach ds drops us start true p relaxed begins placed =
+    relaxed_reach (is_short_text (without drops (map object_of ds))) (without drops (map object_of ds)) us (whole_left drops (map object_of ds) (are_whole ds)) start p relaxed begins placed

@@ -11,14 +11,11 @@ use Rattle.rv_layout_laws.specs.declared.site.SiteKind.{SiteKind}
 use Rattle.rv_layout_laws.specs.declared.site.SiteKind.TheVariants.{Call, Padding}
 use Rattle.rv_layout_laws.specs.Calls.{site_at, bytes_of, InOrder, is_call as is_call_site}
 use Rattle.rv_layout_laws.proofs.ShorteningLemmas.{before_all}
-use Rattle.rv_object.specs.declared.object.Object.{Object as DeclaredObject}
-use Rattle.rv_object.specs.declared.section.Section.{Section as DeclaredSection}
 use Rattle.rv_object.specs.Object.{Section, Object, size_of}
-use Rattle.rv_object.specs.Sections.{section_of}
 use Rattle.rv_object.specs.Valid.{is_even, is_alignment, are_paddings, fit_inside}
-use Rattle.rv_object.specs.View.{object_of}
 use Rattle.rv_object_laws.specs.Inputs.{InputSection, goes_to_text, inputs_from, inputs_of, inputs}
 use Rattle.rv_object_laws.specs.Moves.{moves, new_offset}
+use Rattle.rv_object_laws.specs.Whole.{IsWholeSection, IsWhole}
 use Rattle.rv_placement.specs.declared.placement.PlacedSection.{PlacedSection}
 use Rattle.rv_placement.specs.declared.placement.Placement.{Placement}
 use Rattle.rv_placement.specs.Placement.{placed_in, start_in, starts_of, section_in, section_at, IsPlacement}
@@ -29,54 +26,53 @@ use Rattle.rv_unique_link_laws.specs.Asked.{IsSound}
 use Rattle.rv_unique_link_laws.proofs.FoundLemmas.{EachOf, all_of}
 use Rattle.rv_reach_laws.proofs.LinesLemmas.{Ordered}
 
--- ---- what objects of the code keep
+-- ---- what whole objects keep
 
-sections_all : (P : Section → Type 0) → ((x : DeclaredSection) → P (section_of x)) → (xs : List DeclaredSection) → AllByRecursion P (map section_of xs)
-sections_all P each [] = tt
-sections_all P each (x ∷ xs) = (each x, sections_all P each xs)
+parts_all : (P : Section → Type 0) → ((s : Section) → IsWholeSection s → P s) → (ss : List Section) → AllByRecursion IsWholeSection ss → AllByRecursion P ss
+parts_all P each [] h = tt
+parts_all P each (s ∷ ss) (own, h) = (each s own, parts_all P each ss h)
 
-pub sounds : (ds : List DeclaredObject) → AllByRecursion IsSound (map object_of ds)
-sounds [] = tt
-sounds (d ∷ ds) = (
+pub sounds : (os : List Object) → AllByRecursion IsWhole os → AllByRecursion IsSound os
+sounds [] h = tt
+sounds (o ∷ os) (own, h) = (
   record {
-    alignments = sections_all (λ s. IsTrue (is_alignment s.alignment)) (λ x. x.aligned) d.sections.items;
-    inside = sections_all (λ s. IsTrue (fit_inside s.contents s.relocations)) (λ x. x.inside) d.sections.items;
-    paddings = sections_all (λ s. IsTrue (are_paddings s.executable s.contents s.relocations)) (λ x. x.paddings) d.sections.items;
-    rows = d.lie;
+    alignments = parts_all (λ s. IsTrue (is_alignment s.alignment)) (λ s x. x.aligned) o.sections own.sections;
+    inside = parts_all (λ s. IsTrue (fit_inside s.contents s.relocations)) (λ s x. x.inside) o.sections own.sections;
+    paddings = parts_all (λ s. IsTrue (are_paddings s.executable s.contents s.relocations)) (λ s x. x.paddings) o.sections own.sections;
+    rows = own.lie;
   },
-  sounds ds,
+  sounds os h,
 )
 
 abbrev pub IsEvenCode : InputSection → Type 0
 IsEvenCode i = size_of i.section.contents % 2 ≡ 0
 
-even_code : (x : DeclaredSection) → goes_to_text (section_of x) ≡ true → size_of (section_of x).contents % 2 ≡ 0
-even_code x text = by (section_of x).executable (and_parts (section_of x).loaded (section_of x).executable text).1 x.even
+even_code : (s : Section) → IsTrue (is_even s.executable s.contents) → goes_to_text s ≡ true → size_of s.contents % 2 ≡ 0
+even_code s even text = by s.executable (and_parts s.loaded s.executable text).1 even
   where
-    by : (b : Bool) → b ≡ true → is_even b (section_of x).contents ≡ true → size_of (section_of x).contents % 2 ≡ 0
-    by true e h = eqb-true (size_of (section_of x).contents % 2) 0 h
+    by : (b : Bool) → b ≡ true → is_even b s.contents ≡ true → size_of s.contents % 2 ≡ 0
+    by true e h = eqb-true (size_of s.contents % 2) 0 h
     by false e h = absurd (cc)
 
-evens_from : (file : ℕ) (o : Object) (index : ℕ) (xs : List DeclaredSection) → AllByRecursion IsEvenCode (inputs_from goes_to_text file o index (map section_of xs))
-evens_from file o index [] = tt
-evens_from file o index (x ∷ xs) = go (goes_to_text (section_of x)) refl (evens_from file o (suc index) xs)
+evens_from : (file : ℕ) (o : Object) (index : ℕ) (ss : List Section) → AllByRecursion IsWholeSection ss → AllByRecursion IsEvenCode (inputs_from goes_to_text file o index ss)
+evens_from file o index [] h = tt
+evens_from file o index (s ∷ ss) (own, h) = go (goes_to_text s) refl (evens_from file o (suc index) ss h)
   where
     rest : List InputSection
-    rest = inputs_from goes_to_text file o (suc index) (map section_of xs)
+    rest = inputs_from goes_to_text file o (suc index) ss
 
-    go : (b : Bool) → goes_to_text (section_of x) ≡ b → AllByRecursion IsEvenCode rest → AllByRecursion IsEvenCode (if b then record { file = file; object = o; index = index; section = section_of x } ∷ rest else rest)
-    go true e h = (even_code x e, h)
-    go false e h = h
+    go : (b : Bool) → goes_to_text s ≡ b → AllByRecursion IsEvenCode rest → AllByRecursion IsEvenCode (if b then record { file = file; object = o; index = index; section = s } ∷ rest else rest)
+    go true e more = (even_code s own.even e, more)
+    go false e more = more
 
 all_join : (P : InputSection → Type 0) (xs ys : List InputSection) → AllByRecursion P xs → AllByRecursion P ys → AllByRecursion P (xs ++ ys)
 all_join P [] ys h k = k
 all_join P (x ∷ xs) ys (one, h) k = (one, all_join P xs ys h k)
 
-pub evens : (file : ℕ) (ds : List DeclaredObject) → AllByRecursion IsEvenCode (inputs_of goes_to_text file (map object_of ds))
-evens file [] = tt
-evens file (d ∷ ds) =
-    all_join IsEvenCode (inputs_from goes_to_text file (object_of d) 0 (map section_of d.sections.items)) (inputs_of goes_to_text (suc file) (map object_of ds))
-    (evens_from file (object_of d) 0 d.sections.items) (evens (suc file) ds)
+pub evens : (file : ℕ) (os : List Object) → AllByRecursion IsWhole os → AllByRecursion IsEvenCode (inputs_of goes_to_text file os)
+evens file [] h = tt
+evens file (o ∷ os) (own, h) =
+    all_join IsEvenCode (inputs_from goes_to_text file o 0 o.sections) (inputs_of goes_to_text (suc file) os) (evens_from file o 0 o.sections own.sections) (evens (suc file) os h)
 
 -- ---- the sections stand in the order of their files
 

@@ -7,6 +7,7 @@ use Rattle.std.specs.Prelude.{◌≡◌, ℕ, Bool, true, false, not, ◌&&◌, 
 use Rattle.std.specs.List.{slice_get}
 use Rattle.rv_isa.specs.declared.kind.Kind.{Kind}
 use Rattle.rv_isa.specs.declared.kind.Kind.TheVariants as kinds
+use Rattle.rv_map.specs.declared.map.SectionId.{SectionId}
 use Rattle.rv_statement.specs.Statement.{Statement}
 use Rattle.rv_object.specs.declared.object.Object.{Object as DeclaredObject}
 use Rattle.rv_object.specs.Object.{Relocation, Object}
@@ -14,6 +15,7 @@ use Rattle.rv_object.specs.View.{object_of}
 use Rattle.rv_object_laws.specs.Inputs.{InputSection, goes_to_text, inputs}
 use Rattle.rv_object_laws.specs.CallSites.{is_call}
 use Rattle.rv_object_laws.specs.Shortened.{Relaxes}
+use Rattle.rv_object_laws.specs.Without.{without}
 use Rattle.rv_placement.specs.declared.placement.Placement.{Placement}
 use Rattle.rv_placement.specs.Placement.{IsPlacement}
 use Rattle.rv_link.specs.Refusals.{IsTextStart}
@@ -44,23 +46,26 @@ ForEachLeft os left P =
     → slice_get j.section.relocations place ≡ Some now
     → P before now j
 
--- where what relaxation leaves of objects is placed, the field of each such call takes its value
+-- where what relaxation leaves of objects without some of their sections is placed, the field of
+-- each such call takes its value
 abbrev pub ShortCallsReach : Type 0
 ShortCallsReach =
-    (objects : List DeclaredObject) (left : List Object) (start : ℕ) (relax : Bool) (p : Placement)
-    → Relaxes relax (map object_of objects) left
+    (objects : List DeclaredObject) (drops : List SectionId) (left : List Object) (start : ℕ)
+    (relax : Bool) (p : Placement)
+    → Relaxes relax (without drops (map object_of objects)) left
     → IsTextStart start → IsPlacement left start p
-    → ForEachLeft (map object_of objects) left
+    → ForEachLeft (without drops (map object_of objects)) left
     (λ before now i. is_short_call before.kind now.kind ≡ true → IsTaken left p i now)
 
 -- and so does the field of each branch and jump of sources that has a form below its largest
 abbrev pub ShortBranchesReach : Type 0
 ShortBranchesReach =
-    (sources : List (List Statement)) (objects : List DeclaredObject) (left : List Object)
-    (start : ℕ) (relax : Bool) (p : Placement)
-    → AreObjectsOf sources (map object_of objects) → Relaxes relax (map object_of objects) left
+    (sources : List (List Statement)) (objects : List DeclaredObject) (drops : List SectionId)
+    (left : List Object) (start : ℕ) (relax : Bool) (p : Placement)
+    → AreObjectsOf sources (map object_of objects)
+    → Relaxes relax (without drops (map object_of objects)) left
     → IsTextStart start → IsPlacement left start p
-    → ForEachLeft (map object_of objects) left
+    → ForEachLeft (without drops (map object_of objects)) left
     (λ before now i. is_short_branch before.kind ≡ true → IsTaken left p i now)
 
 -- both, where what relaxation leaves of objects is placed: a build has no fault at such a field

@@ -1,6 +1,6 @@
 -- What relaxation leaves of objects is one list, and keeps of them what the laws ask.
 
-use Rattle.std.proofs.Common.{◌≡◌, ℕ, zero, suc, Bool, true, false, ◌&&◌, List, [], ◌∷◌, length, map, refl, sym, ap, subst, ◌∙◌, Option, Some, None}
+use Rattle.std.proofs.Common.{◌≡◌, ℕ, zero, suc, Bool, true, false, List, [], ◌∷◌, map, refl, sym, ap, subst, ◌∙◌}
 use Rattle.std.specs.Prelude.{if◌then◌else◌}
 use Rattle.std.specs.List.{AllByRecursion, slice_get}
 use Rattle.rv_layout_laws.proofs.ShorteningLemmas.{one_greatest_closed}
@@ -8,9 +8,9 @@ use Rattle.rv_object.specs.declared.row.Row.{Row}
 use Rattle.rv_object.specs.Object.{Section, Object}
 use Rattle.rv_object_laws.specs.Inputs.{goes_to_text}
 use Rattle.rv_object_laws.specs.CallSites.{is_short_text, sites_of}
-use Rattle.rv_object_laws.specs.Shortened.{Sizes, sizes_by, shortened_text, shortened_section, shortened_sections, shortened_row, shortened_object, shortened_from, shortened, IsRelaxed, Relaxes}
+use Rattle.rv_object_laws.specs.Shortened.{Sizes, sizes_by, shortened_text, shortened_section, shortened_sections, shortened_row, shortened_from, shortened, IsRelaxed, Relaxes}
 use Rattle.rv_resolve.specs.Undefined.{is_loaded_at}
-use Rattle.rv_unique_link_laws.specs.Asked.{HasPlacedRows, HavePlacedRows}
+use Rattle.rv_unique_link_laws.specs.Asked.{HavePlacedRows}
 
 -- ---- one list
 

@@ -1,18 +1,19 @@
--- What relaxation leaves of sound and small objects is sound and small.
+-- What collection and relaxation leave of sound and small objects is sound and small.
 
-use Rattle.std.proofs.Common.{◌≡◌, ℕ, zero, suc, ◌+◌, ◌-◌, ◌^◌, ◌≤◌, Bool, true, false, ◌&&◌, List, [], ◌∷◌, length, map, drop, slice_index_or, refl, sym, ap, subst, ◌∙◌, arith, Some}
+use Rattle.std.proofs.Common.{◌≡◌, ℕ, suc, ◌+◌, ◌-◌, ◌^◌, ◌≤◌, Bool, true, false, List, [], ◌∷◌, drop, slice_index_or, refl, sym, ap, subst, ◌∙◌, arith}
 use Rattle.std.specs.Prelude.{IsTrue}
-use Rattle.std.specs.List.{AllByRecursion, list_all, slice_get}
+use Rattle.std.specs.List.{AllByRecursion}
 use Rattle.std.proofs.lemmas.Bool.{and_from}
 use Rattle.rv_layout_laws.specs.declared.site.Site.{Site}
 use Rattle.rv_layout_laws.specs.Calls.{IsText}
 use Rattle.rv_object.specs.Object.{Section, Object, size_of}
-use Rattle.rv_object.specs.Valid.{is_alignment, fit_inside, are_paddings, are_rows}
-use Rattle.rv_object_laws.specs.Moves.{Move, new_offset}
-use Rattle.rv_object_laws.specs.Inputs.{goes_to_text, inputs}
+use Rattle.rv_object.specs.Valid.{is_alignment, fit_inside, are_paddings}
+use Rattle.rv_object_laws.specs.Moves.{Move}
+use Rattle.rv_object_laws.specs.Inputs.{goes_to_text}
 use Rattle.rv_object_laws.specs.Names.{no_object, object_at}
 use Rattle.rv_object_laws.specs.CallSites.{is_short_text, sites_of}
-use Rattle.rv_object_laws.specs.Shortened.{shortened, IsRelaxed, Relaxes}
+use Rattle.rv_object_laws.specs.Shortened.{IsRelaxed, Relaxes}
+use Rattle.rv_object_laws.specs.Without.{without}
 use Rattle.rv_object_laws.proofs.TextInputsLemmas.{IsTextInput}
 use Rattle.rv_object_laws.proofs.TextLineLemmas.{text}
 use Rattle.rv_shorten.specs.Cutting.{AreCuts, AllCut, cut_section, cut_sections, cut_object}
@@ -27,6 +28,7 @@ use Rattle.rv_unique_link_laws.proofs.FoundLemmas.{EachOf, all_of}
 use Rattle.rv_unique_link_laws.proofs.ValuesLemmas.{all_at}
 use Rattle.rv_unique_link_laws.proofs.EvensLemmas.{begins_even}
 use Rattle.rv_unique_link_laws.proofs.BelowLemmas.{starts_below}
+use Rattle.rv_unique_link_laws.proofs.WithoutLemmas.{without_sound, without_small}
 
 -- ---- sections
 
@@ -143,8 +145,12 @@ left_small : (relax : Bool) (os left : List Object) → Relaxes relax os left �
 left_small false os left is h k = subst (AllByRecursion IsSmall) (sym is) k
 left_small true os left is h k = small_by (is_short_text os) os left is h k
 
-pub leaves_even : (os : List Object) (start : ℕ) (relax : Bool) → AllByRecursion IsSound os → LeavesEven os start relax
-leaves_even os start relax h left is = begins_even left start (left_sound relax os left is h)
+-- ---- with collection
 
-pub leaves_below : (os : List Object) (start : ℕ) (relax : Bool) → AllByRecursion IsSound os → AllByRecursion IsSmall os → LeavesBelow os start relax
-leaves_below os start relax h k left is = starts_below left start (left_sound relax os left is h) (left_small relax os left is h k)
+pub leaves_even : (os : List Object) (start : ℕ) (relax gc : Bool) → AllByRecursion IsSound os → LeavesEven os start relax gc
+leaves_even os start relax gc h drops left leaves = begins_even left start (left_sound relax (without drops os) left leaves.relaxed (without_sound drops os h))
+
+pub leaves_below : (os : List Object) (start : ℕ) (relax gc : Bool) → AllByRecursion IsSound os → AllByRecursion IsSmall os → LeavesBelow os start relax gc
+leaves_below os start relax gc h k drops left leaves =
+    starts_below left start (left_sound relax (without drops os) left leaves.relaxed (without_sound drops os h))
+    (left_small relax (without drops os) left leaves.relaxed (without_sound drops os h) (without_small drops os k))

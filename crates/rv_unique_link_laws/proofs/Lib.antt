@@ -16,5 +16,6 @@ pub mod MultiplesLemmas
 pub mod EvensLemmas
 pub mod BelowLemmas
 pub mod LeftLemmas
+pub mod WithoutLemmas
 pub mod LeftSoundLemmas
 pub mod WholeLemmas

@@ -33,6 +33,7 @@ regions text variables bss = record {
   entry = 0;
   gaps = [];
   globals = [];
+  drops = [];
   rows = [];
 }
 
@@ -81,7 +82,7 @@ rodata_loads x e = loads x.loaded (not x.executable) (not (is_nobits x.contents)
 data_loads : (x : Section) → goes_to_data x ≡ true → x.loaded ≡ true
 data_loads x e = loads x.loaded (not x.executable) (not (is_nobits x.contents)) x.writable e
 
-module _ (os : List Object) (start : ℕ) (l m : Linked) (placed : HavePlacedRows os) (h : IsLinkOf os start l) (k : IsLinkOf os start m) where
+module _ (os : List Object) (start : ℕ) (l m : Linked) (placed : HavePlacedRows os) (h : IsLinkOf os start l) (k : IsLinkOf os start m) (drops : l.map.drops ≡ m.map.drops) where
   one : AreOne os h.starts k.starts l.map.text m.map.text l.map.rodata m.map.rodata l.map.data m.map.data l.map.bss m.map.bss
   one = laid_same os start h.starts k.starts l.map.text m.map.text l.map.rodata m.map.rodata l.map.data m.map.data l.map.bss m.map.bss (linked_laid os start l h) (linked_laid os start m k)
 
@@ -118,6 +119,7 @@ module _ (os : List Object) (start : ℕ) (l m : Linked) (placed : HavePlacedRow
     entry = same_entry i;
     gaps = same_gaps i;
     globals = same_globals i;
+    drops = drops i;
     rows = same_rows i;
   }
 

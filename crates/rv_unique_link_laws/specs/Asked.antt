@@ -2,11 +2,12 @@
 
 use Rattle.std.specs.Prelude.{◌≡◌, ℕ, ◌%◌, ◌<◌, ◌≤◌, ◌^◌, Bool, true, IsTrue, List, length, Some}
 use Rattle.std.specs.List.{AllByRecursion, slice_get}
+use Rattle.rv_map.specs.declared.map.SectionId.{SectionId}
 use Rattle.rv_object.specs.Object.{Object, size_of}
 use Rattle.rv_object.specs.Valid.{is_alignment, fit_inside, are_paddings, are_rows}
 use Rattle.rv_object_laws.specs.Inputs.{Starts, goes_to_text, inputs, start_of, Stand}
 use Rattle.rv_object_laws.specs.Names.{entry_of}
-use Rattle.rv_object_laws.specs.Shortened.{Relaxes}
+use Rattle.rv_object_laws.specs.IsProgramOf.{Leaves}
 use Rattle.rv_placement.specs.Placement.{farthest}
 use Rattle.rv_resolve.specs.Undefined.{is_loaded_at}
 use Rattle.rv_link.specs.Refusals.{AreWithin}
@@ -34,13 +35,17 @@ StartBelow os start =
     → (starts : Starts) → Stand starts start (inputs goes_to_text os)
     → AllByRecursion (λ i. start_of starts i < farthest) (inputs goes_to_text os)
 
--- ---- of what relaxation leaves
+-- ---- of what collection and relaxation leave
 
-abbrev pub LeavesEven : List Object → ℕ → Bool → Type 0
-LeavesEven os start relax = (left : List Object) → Relaxes relax os left → BeginsEven left start
+abbrev pub LeavesEven : List Object → ℕ → Bool → Bool → Type 0
+LeavesEven os start relax gc =
+    (drops : List SectionId) (left : List Object) → Leaves os relax gc drops left
+    → BeginsEven left start
 
-abbrev pub LeavesBelow : List Object → ℕ → Bool → Type 0
-LeavesBelow os start relax = (left : List Object) → Relaxes relax os left → StartBelow left start
+abbrev pub LeavesBelow : List Object → ℕ → Bool → Bool → Type 0
+LeavesBelow os start relax gc =
+    (drops : List SectionId) (left : List Object) → Leaves os relax gc drops left
+    → StartBelow left start
 
 -- ---- objects that have it
 

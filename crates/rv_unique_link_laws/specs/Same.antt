@@ -4,7 +4,7 @@ use Rattle.std.specs.Prelude.{◌≡◌, ℕ, Bool, List, []}
 use Rattle.std.specs.List.{AllByRecursion}
 use Rattle.rv_image.specs.Linked.{Linked}
 use Rattle.rv_object.specs.Object.{Object}
-use Rattle.rv_object_laws.specs.Shortened.{IsProgramOf}
+use Rattle.rv_object_laws.specs.IsProgramOf.{IsProgramOf}
 use Rattle.rv_link.specs.declared.fault.LinkFault.{LinkFault}
 use Rattle.rv_link.specs.declared.fault.LinkFault.TheVariants.{Undefined, Duplicate, OutOfMemory}
 use Rattle.rv_link.specs.Fault.{number_of}
@@ -14,14 +14,15 @@ use Rattle.rv_unique_link_laws.specs.Asked.{HavePlacedRows, LeavesEven, LeavesBe
 -- two programs of the same objects are equal
 abbrev pub OneProgram : Type 0
 OneProgram =
-    (os : List Object) (start : ℕ) (relax : Bool) (l m : Linked)
-    → HavePlacedRows os → IsProgramOf os start relax l → IsProgramOf os start relax m → l ≡ m
+    (os : List Object) (start : ℕ) (relax gc : Bool) (l m : Linked)
+    → HavePlacedRows os → IsProgramOf os start relax gc l → IsProgramOf os start relax gc m
+    → l ≡ m
 
 -- objects that have a program are refused for want of memory alone
 abbrev pub RefusedForMemory : Type 0
 RefusedForMemory =
-    (os : List Object) (start : ℕ) (relax : Bool) (l : Linked) (fault : LinkFault)
-    → IsProgramOf os start relax l → HasNoProgram os start relax fault → fault ≡ OutOfMemory
+    (os : List Object) (start : ℕ) (relax gc : Bool) (l : Linked) (fault : LinkFault)
+    → IsProgramOf os start relax gc l → HasNoProgram os start relax gc fault → fault ≡ OutOfMemory
 
 -- the name that a fault tells
 abbrev pub name_in : LinkFault → List ℕ
@@ -36,10 +37,10 @@ IsSameFault f g = (number_of f ≡ number_of g) × (name_in f ≡ name_in g)
 -- but for want of memory, objects are refused for one reason
 abbrev pub RefusedForOne : Type 0
 RefusedForOne =
-    (os : List Object) (start : ℕ) (relax : Bool) (f g : LinkFault)
-    → LeavesEven os start relax → LeavesBelow os start relax
-    → HasNoProgram os start relax f → (f ≡ OutOfMemory → ⊥)
-    → HasNoProgram os start relax g → (g ≡ OutOfMemory → ⊥) → IsSameFault f g
+    (os : List Object) (start : ℕ) (relax gc : Bool) (f g : LinkFault)
+    → LeavesEven os start relax gc → LeavesBelow os start relax gc
+    → HasNoProgram os start relax gc f → (f ≡ OutOfMemory → ⊥)
+    → HasNoProgram os start relax gc g → (g ≡ OutOfMemory → ⊥) → IsSameFault f g
 
 -- what the laws ask is had by the objects of the code, if they are small enough
 abbrev pub RowsArePlaced : Type 0
@@ -47,10 +48,10 @@ RowsArePlaced = (os : List Object) → AllByRecursion IsSound os → HavePlacedR
 
 abbrev pub RunsBeginEven : Type 0
 RunsBeginEven =
-    (os : List Object) (start : ℕ) (relax : Bool)
-    → AllByRecursion IsSound os → LeavesEven os start relax
+    (os : List Object) (start : ℕ) (relax gc : Bool)
+    → AllByRecursion IsSound os → LeavesEven os start relax gc
 
 abbrev pub TextsStartBelow : Type 0
 TextsStartBelow =
-    (os : List Object) (start : ℕ) (relax : Bool)
-    → AllByRecursion IsSound os → AllByRecursion IsSmall os → LeavesBelow os start relax
+    (os : List Object) (start : ℕ) (relax gc : Bool)
+    → AllByRecursion IsSound os → AllByRecursion IsSmall os → LeavesBelow os start relax gc

@@ -2,7 +2,8 @@
 
 ghost use Rattle.rv_unique_link_laws.specs.Same.{OneProgram, RefusedForMemory, RefusedForOne, RowsArePlaced, RunsBeginEven, TextsStartBelow};
 
-/// Objects whose rows have addresses have one program: two that are programs of them are equal, with relaxation and without.
+/// Objects whose rows have addresses have one program: two that are programs of them are equal, with relaxation and collection
+/// and without.
 pub fn one_program()
     ensures { OneProgram }
 {}
@@ -12,8 +13,8 @@ pub fn refused_has_no_program()
     ensures { RefusedForMemory }
 {}
 
-/// But for want of memory, objects are refused for one reason, where a run of what relaxation leaves of them begins at an even
-/// address and each section of its text starts at an address that is looked at.
+/// But for want of memory, objects are refused for one reason, where a run of what collection and relaxation leave of them
+/// begins at an even address and each section of its text starts at an address that is looked at.
 pub fn refused_for_one_reason()
     ensures { RefusedForOne }
 {}

@@ -8,5 +8,5 @@ use Rattle.rv_chain.proofs.building.build_exe.Goals as goal
 pub returns-clause-headline : goal.returns-clause-headline
 returns-clause-headline c = (
   map_text (linked_of c.in_ok-linked.linked).map,
-  headlined (map now_of c.args.sources.now) c.args.options.text_start c.args.options.relax c.in_ok-linked.linked c.in_ok-exe.exe.items c.in_ok-linked.ensures.links.2.linked.readable c.in_ok-linked.ensures.program c.in_ok-exe.ensures,
+  headlined (map now_of c.args.sources.now) c.args.options.text_start c.args.options.relax c.args.options.gc c.in_ok-linked.linked c.in_ok-exe.exe.items c.in_ok-linked.ensures.links.2.linked.readable c.in_ok-linked.ensures.program c.in_ok-exe.ensures,
 )

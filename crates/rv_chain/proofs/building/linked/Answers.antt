@@ -3,7 +3,7 @@ use Rattle.std.proofs.lemmas.List.{length-map}
 use Rattle.rv_statement.specs.View.{now_of}
 use Rattle.rv_image.specs.Linked.{linked_of}
 use Rattle.rv_object.specs.View.{object_of}
-use Rattle.rv_object_laws.specs.Shortened.{IsProgramOf}
+use Rattle.rv_object_laws.specs.IsProgramOf.{IsProgramOf}
 use Rattle.rv_link.specs.Refusals.{AreWithin, HasNoProgram}
 use Rattle.rv_chain.specs.Refusals.{AreUnlinked, IsRefusedFor}
 use Rattle.rv_chain.proofs.GatheredLemmas.{err_given, gathered, link_refused, short_forms_reach}
@@ -14,17 +14,18 @@ returns-in_err-linked-clause-refuses c =
     let texts = map now_of c.args.sources.now in
     let start = c.args.options.text_start in
     let relax = c.args.options.relax in
+    let gc = c.args.options.gc in
     let os = map object_of c.in_ok-objects.objects.items in
-    let refused : HasNoProgram os start relax c.in_err-linked.field-0.0 = subst (λ l. HasNoProgram (map object_of l) start relax c.in_err-linked.field-0.0) c.deref.ensures.value c.in_err-linked.ensures.refuses in
+    let refused : HasNoProgram os start relax gc c.in_err-linked.field-0.0 = subst (λ l. HasNoProgram (map object_of l) start relax gc c.in_err-linked.field-0.0) c.deref.ensures.value c.in_err-linked.ensures.refuses in
     let g = gathered texts os c.in_ok-objects.ensures.objects in
-    let unlinked : AreUnlinked texts start relax c.in_err-linked.field-0.0 = record {
+    let unlinked : AreUnlinked texts start relax gc c.in_err-linked.field-0.0 = record {
       objects = c.in_ok-objects.objects.items;
       are = c.in_ok-objects.ensures.objects;
       unlinked = refused;
-      reached = short_forms_reach c.short_calls_reach.ensures c.short_branches_reach.ensures g.0 c.in_ok-objects.objects.items refused.left start relax g.2 refused.relaxed c.in_ok-within_limits.ensures.within.1;
+      reached = short_forms_reach c.short_calls_reach.ensures c.short_branches_reach.ensures g.0 c.in_ok-objects.objects.items refused.drops refused.left start relax g.2 refused.leaves.relaxed c.in_ok-within_limits.ensures.within.1;
     } in
-    err_given c.from_residual-in_err-linked.result (IsRefusedFor texts start relax) _ c.from_residual-in_err-linked.ensures.1
-    (λ f is. subst (IsRefusedFor texts start relax) (sym is) (link_refused texts start relax c.in_err-linked.field-0.0 unlinked))
+    err_given c.from_residual-in_err-linked.result (IsRefusedFor texts start relax gc) _ c.from_residual-in_err-linked.ensures.1
+    (λ f is. subst (IsRefusedFor texts start relax gc) (sym is) (link_refused texts start relax gc c.in_err-linked.field-0.0 unlinked))
 
 pub returns-clause-program : goal.returns-clause-program
 returns-clause-program c =
@@ -32,24 +33,26 @@ returns-clause-program c =
     let os = map object_of c.in_ok-objects.objects.items in
     let start = c.args.options.text_start in
     let relax = c.args.options.relax in
+    let gc = c.args.options.gc in
     let l = linked_of c.in_ok-linked.linked in
     let g = gathered texts os c.in_ok-objects.ensures.objects in
-    let links : IsProgramOf os start relax l = subst (λ items. IsProgramOf (map object_of items) start relax l) c.deref.ensures.value c.in_ok-linked.ensures.links in
+    let links : IsProgramOf os start relax gc l = subst (λ items. IsProgramOf (map object_of items) start relax gc l) c.deref.ensures.value c.in_ok-linked.ensures.links in
     record {
       sources = g.0;
       read = g.1;
-      linked = c.objects_of_sources_link.ensures g.0 os start relax l g.2 links;
-      flag = c.linked_objects_are_flagged.ensures g.0 os start relax l g.2 links;
+      linked = c.objects_of_sources_link.ensures g.0 os start relax gc l g.2 links;
+      flag = c.linked_objects_are_flagged.ensures g.0 os start relax gc l g.2 links;
     }
 
 pub returns-clause-links : goal.returns-clause-links
 returns-clause-links c =
     let start = c.args.options.text_start in
     let relax = c.args.options.relax in
+    let gc = c.args.options.gc in
     let l = linked_of c.in_ok-linked.linked in (
       map object_of c.in_ok-objects.objects.items,
       c.in_ok-objects.ensures.objects,
-      subst (λ items. IsProgramOf (map object_of items) start relax l) c.deref.ensures.value c.in_ok-linked.ensures.links,
+      subst (λ items. IsProgramOf (map object_of items) start relax gc l) c.deref.ensures.value c.in_ok-linked.ensures.links,
     )
 
 pub returns-clause-good : goal.returns-clause-good
