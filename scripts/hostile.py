@@ -523,7 +523,7 @@ def find_in(words, at):
 def calls(pick, kind, at):
     """The calls for a file of this kind, which is called `file`; `other` belongs to it. What one makes others read."""
     run = ["run", "--limit", str(STEPS)]
-    options = pick.choice([[], [], [], ["--no-relax"], ["--text-start", hex(some_number(pick) % (1 << 64) & ~0xFFF)]])
+    options = pick.choice([[], [], [], ["--no-relax"], ["--gc-sections"], ["--text-start", hex(some_number(pick) % (1 << 64) & ~0xFFF)]])
     twice = ["file"] * pick.choice([1, 1, 1, 1, 2])
     if pick.random() < 0.05:
         yield ["dump", "file"]

@@ -7,7 +7,8 @@ Each list has one to five objects: text with calls, branches, halves of addresse
 are not loaded, code without bytes up to 2^63, symbols of each binding at, before and past the ends of sections, numbers,
 rows. The walk takes what a link is from the manual and the standards alone: which calls become short (passes over all
 calls, and where they are few each family of sizes is tried), paddings, addresses, bytes, the map, or the first fault. Each
-list is linked with and without `--no-relax`; the walk's answer must be that of `rv ld`, byte by byte. List N of a seed is
+list is linked with and without `--no-relax`, and so with `--gc-sections`; the walk's answer must be that of `rv ld`, byte
+by byte. List N of a seed is
 the same in each run; `--only N` takes it alone.
 
 Two known differences are counted apart. A text of 2^62 bytes or more has L4 and L8 otherwise: there no call is shortened,
@@ -28,7 +29,7 @@ import sys
 import tempfile
 import time
 from collections import Counter
-from dataclasses import dataclass, field
+from dataclasses import dataclass, field, replace
 from pathlib import Path
 
 TOP = Path(__file__).resolve().parent.parent
@@ -171,9 +172,13 @@ def alignment_of(addend):
 class Link:
     """A link of objects; `answer` is the executable and the map, or the fault."""
 
-    def __init__(self, objects, start, relax, beyond=True):
+    def __init__(self, objects, start, relax, collects=False, beyond=True):
         """With `beyond` a call to a symbol past its section's end may be shortened."""
-        self.objects, self.start, self.relax, self.beyond = objects, start, relax, beyond
+        self.start, self.relax, self.collects, self.beyond, self.drops = start, relax, collects, beyond, []
+        self.take(objects)
+
+    def take(self, objects):
+        self.objects = objects
         self.loaded = [(f, s) for f, it in enumerate(objects) for s in range(1, len(it.sections) + 1) if self.region(f, s)]
         self.text = [at for at in self.loaded if self.region(*at) == "text"]
 
@@ -202,13 +207,16 @@ class Link:
         if self.start >= STACK or self.start % 4096:
             raise Refused("L9 BadTextStart")
         self.choose()
+        self.begin = self.chosen.get("_start", (0, None))
+        home = self.begin[1].home if self.begin[1] else None
+        begins = (self.begin[0], home) in self.text and self.begin[1].value % 2 == 0
+        if self.collects:
+            self.collect([(self.begin[0], home)] if begins else [])
         for at in self.loaded:
             for _, _, symbol, _ in self.section(*at).relocs:
                 if symbol and self.meaning(at[0], symbol) is None:
                     raise Refused(f"L5 Undefined {self.objects[at[0]].symbols[symbol - 1].name}")
-        self.begin = self.chosen.get("_start", (0, None))
-        home = self.begin[1].home if self.begin[1] else None
-        if (self.begin[0], home) not in self.text or self.begin[1].value % 2:
+        if not begins:
             raise Refused("L7 EntryMissing")
         self.sizes = self.call_sizes()
         self.place()
@@ -239,6 +247,18 @@ class Link:
         if it.home == ABSOLUTE:
             return it.value
         return ((f, it.home), it.value) if it.home != UNLOADED and (f, it.home) in self.loaded else None
+
+    def collect(self, kept):
+        """Leaves the sections to which something leads from these."""
+        for at in kept:
+            for _, _, symbol, _ in self.section(*at).relocs:
+                place = self.meaning(at[0], symbol)
+                if isinstance(place, tuple) and place[0] not in kept:
+                    kept.append(place[0])
+        self.drops = [at for at in self.loaded if at not in kept]
+        off = lambda f, s, it: replace(it, flags=it.flags & ~ALLOC, relocs=[]) if (f, s) in self.drops else it
+        self.take([replace(object, sections=[off(f, s, it) for s, it in enumerate(object.sections, 1)],
+            rows=[row for row in object.rows if (f, row[2]) not in self.drops]) for f, object in enumerate(self.objects)])
 
     # which calls become short
 
@@ -478,6 +498,8 @@ class Link:
                 if where == f and chosen is it and self.meaning(f, n) is not None:
                     lines.append(f"global {it.name} {self.number(f, n) % WHOLE:x}")
         lines += [f"global {it} {self.linker(it):x}" for it in LINKER if it not in self.chosen]
+        kept = lambda f, s: sum(it.kind in (PROGBITS, NOTE, NOBITS) for it in self.objects[f].sections[:s])
+        lines += [f"drop {f + 1} {kept(f, s)}" for f, s in self.drops]
         for f, object in enumerate(self.objects):
             for line, ordinal, s, count, place, size in sorted(object.rows, key=lambda it: it[1]):
                 at = self.at((f, s), place)
@@ -718,11 +740,11 @@ def some_list(pick):
 # --- the comparison
 
 
-def linked(folder, files, start, relax):
+def linked(folder, files, start, options):
     """What the program makes of the files: the executable and the map, or the fault."""
     for name in ("exe", "map"):
         (folder / name).unlink(missing_ok=True)
-    words = ["ld", "-o", "exe", "--map", "map", "--text-start", hex(start), *([] if relax else ["--no-relax"]), *files]
+    words = ["ld", "-o", "exe", "--map", "map", "--text-start", hex(start), *options, *files]
     ran = subprocess.run([PROGRAM, *words], cwd=folder, capture_output=True, timeout=600)
     said = ran.stderr.decode("utf8", "backslashreplace")
     if ran.returncode == 0 and not said:
@@ -758,17 +780,19 @@ def compared(number):
             (folder / f"{n}.o").write_bytes(file_of(it))
         files = ["0.o"] * len(objects) if len(objects) > 6 else [f"{n}.o" for n in range(len(objects))]
         text = sum(it.size for object in objects for it in object.sections if region_of(it) == "text")
-        for relax in (True, False):
-            link = Link(objects, start, relax)
-            wanted, got = link.answer(), linked(folder, files, start, relax)
+        for relax, collects in itertools.product((True, False), (False, True)):
+            options = ["--no-relax"] * (not relax) + ["--gc-sections"] * collects
+            link = Link(objects, start, relax, collects)
+            wanted, got = link.answer(), linked(folder, files, start, options)
             what = difference(wanted, got)
             if what and {wanted, got} == {"L4 AlignmentShort", "L8 ImageTooLarge"} and text >= KNOWN:
                 ends[f"known: 2^62 bytes, {got[:2]} for {wanted[:2]}"] += 1
-            elif what and Link(objects, start, relax, beyond=False).answer() == got:
+            elif what and Link(objects, start, relax, collects, beyond=False).answer() == got:
                 ends["known: long calls past an end"] += 1
             elif what:
-                finds.append(f"list {number}, {'relaxed' if relax else '--no-relax'}, text at {start:#x}: {what}")
+                finds.append(f"list {number}, {' '.join(options) or 'relaxed'}, text at {start:#x}: {what}")
             ends[wanted.split()[0] if isinstance(wanted, str) else "linked"] += 1
+            ends["sections dropped"] += len(link.drops)
             for size in link.sizes.values() if not isinstance(wanted, str) else ():
                 ends[f"calls of {size} bytes"] += 1
         if finds:

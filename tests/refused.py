@@ -28,7 +28,8 @@ EXIT = "li a7, 93; ecall"
 
 @dataclass
 class Source:
-    """A program: its files, of a line each, what its run gives, the end that it comes to, and its input; or its fault."""
+    """A program: its files, of a line each, what its run gives, the end that it comes to, and its input; or its fault.
+    Its links are made with the options."""
 
     files: list
     status: int = 0
@@ -36,6 +37,7 @@ class Source:
     end: str = ""
     given: bytes = b""
     fault: str = ""
+    options: tuple = ()
 
 
 SOURCES = {
@@ -55,6 +57,10 @@ SOURCES = {
     "outside": Source(
         [f"{START}li a0, 1; la a1, b; li a2, 1; li a7, 64; ecall; ld a0, (zero); .data; b: .byte 'b'"],
         console=b"b", status=125, end="LoadOutside 0"),
+    "left_out": Source(
+        [f'{START}call f; {EXIT}; .section .text.g, "ax"; g: la a0, d; ret; .data; d: .dword 9',
+         '.globl f; .section .text.f, "ax"; f: li a0, 4; ret; .bss; .zero 8'],
+        status=4, options=("--gc-sections",)),
     "undefined": Source([f"{START}call f; call _g"], fault="L5 Undefined f"),
     "twice": Source([f"{START}{EXIT}", ".globl _start; _start: nop"], fault="L6 Duplicate _start"),
     "no_operands": Source([f"{START}addi a0, a1; {EXIT}"], fault="1.s:1: E7 BadOperands"),
@@ -137,26 +143,26 @@ def made(at, *words):
     return subprocess.run([RV, *words], cwd=at, check=True, timeout=SECONDS, stdout=subprocess.PIPE).stdout
 
 
-def written(at, texts):
+def written(at, texts, options):
     """What ./rv makes of sources: the file of each object, the executable, its map and its listing."""
     for text in texts:
         made(at, "as", "-o", text.replace(".s", ".o"), text)
-    made(at, "build", "-o", "exe", "--map", "map", *texts)
+    made(at, "build", *options, "-o", "exe", "--map", "map", *texts)
     files = [(at / it).read_bytes() for it in (*[it.replace(".s", ".o") for it in texts], "exe", "map")]
     return *files, made(at, "objdump", "--map", "map", "exe")
 
 
 def commands(name, source, at, texts):
     """The cases of a source's commands, each with files that are wanted of it, and output."""
-    *objects, exe, map_, listing = written(at, texts)
-    paths = [str(at / it) for it in texts]
+    *objects, exe, map_, listing = written(at, texts, source.options)
+    paths = [*source.options, *[str(at / it) for it in texts]]
     said = f"rv: {source.end}\n" if source.end else ""
     ran = Answer(source.status, source.console, said, min(len(source.console), len(source.given)), ())
     wrote = lambda **files: Answer(0, b"", "", 0, tuple(files.items()))
     shown = lambda out: Answer(0, out, "", 0, ())
     dump = made(at, "dump", "exe")
     calls = [(f"as {name}" + f" {text}" * (len(texts) > 1), ["as", "-o", "obj", path], wrote(obj=held))
-        for text, path, held in zip(texts, paths, objects)]
+        for text, path, held in zip(texts, paths[len(source.options):], objects)]
     calls += [
         (f"ld {name}", ["ld", "-o", "exe", "--map", "map", *[it.replace(".s", ".o") for it in paths]], wrote(exe=exe, map=map_)),
         (f"build --map {name}", ["build", "-o", "exe", "--map", "map", *paths], wrote(exe=exe, map=map_)),
@@ -166,7 +172,7 @@ def commands(name, source, at, texts):
         (f"map {name}", ["map", *paths], shown(map_)),
         (f"dump {name}", ["dump", str(at / "exe")], shown(dump)),
     ]
-    calls += [(f"run of a source {name}", ["run", *paths], ran)] if len(paths) == 1 else []
+    calls += [(f"run of a source {name}", ["run", *paths], ran)] if len(texts) == 1 else []
     for called, words, wanted in calls:
         yield Case(called, [RV, *words], at, source.given if wanted is ran else b"", wanted)
 
@@ -195,7 +201,7 @@ def of_bad_files(name, at):
 
 def of_library(name, source, at, texts):
     """The cases of the library's calls: what ./rv_refused is given, and what it writes."""
-    *objects, exe, map_, listing = written(at, texts)
+    *objects, exe, map_, listing = written(at, texts, source.options)
     end = f"{source.end or f'Exited {source.status}'}\n".encode() + source.console
     built = exe.hex().encode() + b"\n" + map_
     left = f"{max(len(source.given) - len(source.console), 0)} bytes of input left\n".encode()
@@ -220,6 +226,8 @@ def cases(name, source, at):
         (at / text).write_text(held + "\n")
     if source.fault:
         return [*faulty(name, source, at, texts)]
+    if source.options:
+        return [*commands(name, source, at, texts)]
     return [*commands(name, source, at, texts), *of_bad_files(name, at), *of_library(name, source, at, texts)]
 
 

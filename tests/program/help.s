@@ -79,6 +79,7 @@ Options:
       --map <F>         Writes the map as well
       --text-start <N>  The address of the text, decimal or 0x and hexadecimal [default: 0x10000]
       --no-relax        Leaves every call its eight bytes
+      --gc-sections     Leaves out sections to which nothing leads from the entry
   -h, --help            Print help
 
 Example:
@@ -110,6 +111,7 @@ Options:
       --map <F>         Writes the map as well
       --text-start <N>  The address of the text, decimal or 0x and hexadecimal [default: 0x10000]
       --no-relax        Leaves every call its eight bytes
+      --gc-sections     Leaves out sections to which nothing leads from the entry
   -h, --help            Print help
 
 Example:
@@ -125,6 +127,7 @@ Arguments:
 Options:
       --text-start <N>  The address of the text, decimal or 0x and hexadecimal [default: 0x10000]
       --no-relax        Leaves every call its eight bytes
+      --gc-sections     Leaves out sections to which nothing leads from the entry
   -h, --help            Print help
 
 Example:

@@ -9,6 +9,7 @@ use std::test::Fail;
 const OPTIONS: LinkOptions = LinkOptions {
     text_start: 0x1_0000,
     relax: true,
+    gc: false,
 };
 
 /// A program that exits with 7.

@@ -11,6 +11,7 @@ use std::test::Fail;
 const OPTIONS: LinkOptions = LinkOptions {
     text_start: 0x1_0000,
     relax: true,
+    gc: false,
 };
 
 /// `call f`, `li a7, 93`, `ecall` and `f: ret`.
@@ -46,6 +47,7 @@ fn fault_of_nothing(alloc: Global, text_start: u64) -> Option<u8> {
     let options = LinkOptions {
         text_start,
         relax: false,
+        gc: false,
     };
     match link(alloc, &objects, options) {
         Ok(_) => None,

@@ -3,7 +3,7 @@
 //! `clap` takes the words apart and writes the help. Numbers are read here, since their bounds and digits are promised
 //! (`decimal`, `text_start`). Each command has a function of its own: one function for all of them takes minutes to prove.
 
-ghost use Rattle.std.specs.Prelude.{◌≡◌, ◌≤◌, ℕ, true, IfSome, IfNone};
+ghost use Rattle.std.specs.Prelude.{◌≡◌, ◌≤◌, ℕ, true, false, IfSome, IfNone};
 ghost use Rattle.rv_program.specs.Numbers.{IsNumber, IsStart};
 
 use crate::error::CliError;
@@ -209,13 +209,17 @@ fn with_files<'a>(alloc: Global, command: Command<'a>, files: Files) -> Result<C
         .long("no-relax")
         .action(ArgAction::SetTrue)
         .help("Leaves every call its eight bytes");
+    let gc = Arg::new(alloc, "gc-sections")
+        .long("gc-sections")
+        .action(ArgAction::SetTrue)
+        .help("Leaves out sections to which nothing leads from the entry");
     let files = Arg::new(alloc, "files")
         .value_name(files.name)
         .required(true)
         .action(ArgAction::Append)
         .num_args(1..)
         .help(files.help);
-    Ok(command.arg(start)?.arg(no_relax)?.arg(files)?)
+    Ok(command.arg(start)?.arg(no_relax)?.arg(gc)?.arg(files)?)
 }
 
 fn parse_run<'a>(command: &mut Command<'a>, found: &ArgMatches<'a>) -> Result<Job<'a>, CliError> {
@@ -313,6 +317,7 @@ fn link_options(
     Ok(LinkOptions {
         text_start,
         relax: !found.get_flag("no-relax"),
+        gc: found.get_flag("gc-sections"),
     })
 }
 
@@ -367,9 +372,11 @@ pub fn text_start(text: &str) -> Option<u64>
 pub fn default_options() -> LinkOptions
     ensures start { result.text_start ≡ 0x1_0000 }
     ensures relax { result.relax ≡ true }
+    ensures gc { result.gc ≡ false }
 {
     LinkOptions {
         text_start: TEXT_START,
         relax: true,
+        gc: false,
     }
 }

@@ -13,10 +13,12 @@ use rv_memory::Paged;
 use rv_object_reader::Object;
 use std::alloc::Global;
 
+/// With collection, which the commands of ./rv are tried without: the sources here have nothing that it drops.
 fn options() -> LinkOptions {
     LinkOptions {
         text_start: 0x1_0000,
         relax: true,
+        gc: true,
     }
 }
 

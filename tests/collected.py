@@ -1,0 +1,164 @@
+#!/usr/bin/env python3
+"""Runs the builds and links of tests/ over ./rv once more, with --gc-sections, and compares with those without.
+
+usage: collected.py [NAME ..]     only cases whose path below tests/ begins so
+
+- The map has a `drop` line for each section with an address that nothing keeps, and no other: what keeps them is found here
+  in the objects (System V gABI, "Symbol Table", "Relocation"), which `rv as` makes of sources.
+- Without such a line the executable and the map are those without the option.
+- Each name of the map is one without the option too.
+- What is refused is so for the same fault; but a section that is left out has none of L1 to L5 and L8, and L7 comes before L5.
+
+Standard library alone; the last line is 'N passed, M failed'.
+"""
+
+import os
+import struct
+import subprocess
+import sys
+import tempfile
+from concurrent.futures import ThreadPoolExecutor
+from pathlib import Path
+
+from run import RV, SECONDS, Failed, calls, cases, same
+
+OPTION = "--gc-sections"
+OF_A_SECTION = ("rv: L1 ", "rv: L2 ", "rv: L3 ", "rv: L4 ", "rv: L5 ", "rv: L8 ")
+PROGBITS, RELA, NOTE, NOBITS, SYMTAB = 1, 4, 7, 8, 2
+ALLOC, EXECINSTR = 2, 4
+GLOBAL, WEAK = 1, 2
+UNDEF, LORESERVE = 0, 0xFF00
+
+
+class Object:
+    """An object's sections with an address, its symbols, and which symbols each section's relocations name."""
+
+    def __init__(self, held):
+        at, count, strings = struct.unpack_from("<Q", held, 40)[0], *struct.unpack_from("<HH", held, 60)
+        headers = [struct.unpack_from("<IIQQQQIIQQ", held, at + 64 * index) for index in range(count)]
+        text = lambda table, index: held[(at := headers[table][4] + index) : held.index(b"\0", at)]
+        parts = [index for index, it in enumerate(headers) if it[1] in (PROGBITS, NOTE, NOBITS)]
+        parts = [it for it in parts if headers[it][1] != PROGBITS or text(strings, headers[it][0]) != b".rv.rows"]
+        self.number = {index: number for number, index in enumerate(parts, 1)}
+        self.loaded = {index for index in parts if headers[index][2] & ALLOC}
+        self.code = {index for index in self.loaded if headers[index][2] & EXECINSTR}
+        self.symbols, self.named = [], {index: set() for index in parts}
+        for it in headers:
+            records = range(it[4], it[4] + it[5], 24)
+            if it[1] == SYMTAB:
+                for record in records:
+                    name, info, _, section, value = struct.unpack_from("<IBBHQ", held, record)
+                    self.symbols.append((text(it[6], name), info >> 4, section, value))
+            elif it[1] == RELA and it[7] in self.loaded:
+                self.named[it[7]] |= {struct.unpack_from("<QQ", held, record)[1] >> 32 for record in records}
+
+
+def chosen(objects):
+    """The place that each name has for all files: its first global definition, else its first weak one."""
+    found = {}
+    for wanted in (GLOBAL, WEAK):
+        for file, it in enumerate(objects):
+            for name, binding, section, value in it.symbols:
+                if binding == wanted and section != UNDEF:
+                    found.setdefault(name, (file, section, value))
+    return found
+
+
+def left_out(objects):
+    """The files and numbers of the sections that nothing keeps."""
+    kept, queue, meant = set(), [], chosen(objects)
+
+    def keep(place):
+        if place and place not in kept and place[1] in objects[place[0]].loaded:
+            kept.add(place)
+            queue.append(place)
+
+    def home(file, symbol):
+        """The section that a symbol of a file means, by its file and its index there."""
+        name, binding, section, _ = objects[file].symbols[symbol]
+        if section == UNDEF or binding == WEAK and section < LORESERVE:
+            return meant.get(name, (file, section))[:2]
+        return file, section
+
+    start = meant.get(b"_start")
+    if start and start[1] in objects[start[0]].code and start[2] % 2 == 0:
+        keep(start[:2])
+    for file, section in queue:
+        for symbol in objects[file].named[section]:
+            keep(home(file, symbol))
+    return {(f + 1, it.number[s]) for f, it in enumerate(objects) for s in it.loaded if (f, s) not in kept}
+
+
+def call(folder, words):
+    """What a call of rv says where it is refused."""
+    ran = subprocess.run([RV, *words], cwd=folder, capture_output=True, timeout=SECONDS)
+    return ran.stderr.decode("utf8", "replace") if ran.returncode else None
+
+
+def lines(folder, name, word):
+    return {tuple(it.split()[1:]) for it in (folder / name).read_text().splitlines() if it.startswith(f"{word} ")}
+
+
+def compare(folder, words):
+    """Compares what one build or link makes without the option and with it."""
+    skipped = ("-o", "--map")
+    said = [it for at, it in enumerate(words) if it not in (*skipped, OPTION) and words[at - 1] not in skipped]
+    made = [call(folder, [said[0], "-o", it, "--map", f"{it}.map", *option, *said[1:]]) for it, option in (("whole", []), ("left", [OPTION]))]
+    if made[0] and made[0].startswith(OF_A_SECTION):
+        if made[1] is not None and not made[1].startswith(("rv: L7 ", *OF_A_SECTION)):
+            raise Failed(f"{made[0].strip()} became {made[1].strip()}")
+    elif not (made[0] or "").startswith("error: "):
+        same("what is refused", *made)
+    if made[1]:
+        return
+    files = [it for it in said[1:] if (folder / it).exists() and not it.startswith("-")]
+    if said[0] == "build":
+        for at, source in enumerate(files):
+            call(folder, ["as", "-o", f"{at}.of.o", source])
+        files = [f"{at}.of.o" for at in range(len(files))]
+    wanted = left_out([Object((folder / it).read_bytes()) for it in files])
+    same("drop lines", wanted, {(int(file), int(section)) for file, section in lines(folder, "left.map", "drop")})
+    if made[0]:
+        return
+    if not wanted:
+        for kind in ("", ".map"):
+            same(f"the bytes of exe{kind}", (folder / f"whole{kind}").read_bytes(), (folder / f"left{kind}").read_bytes())
+    alone = {it[0] for it in lines(folder, "left.map", "global")} - {it[0] for it in lines(folder, "whole.map", "global")}
+    same("names alone with the option", set(), alone)
+
+
+def run(case):
+    """How many builds and links of a case were compared, and what is wrong."""
+    name, files, head = case
+    count = 0
+    with tempfile.TemporaryDirectory() as folder:
+        folder = Path(folder)
+        for file, held in files.items():
+            (folder / file).write_bytes(held)
+        try:
+            for words, _ in calls(files, head):
+                if words[:1] in (["build"], ["ld"]) and "-o" in words:
+                    compare(folder, words)
+                    count += 1
+                call(folder, words)
+        except (Failed, OSError, ValueError, struct.error, subprocess.TimeoutExpired) as why:
+            return count, f"{name}: {why}"
+    return count, None
+
+
+def main(names):
+    if not RV.exists():
+        sys.exit("no ./rv: run make first")
+    with ThreadPoolExecutor(len(os.sched_getaffinity(0))) as pool:
+        ran = list(pool.map(run, cases(names)))
+    for _, wrong in ran:
+        if wrong:
+            print(wrong)
+    failed = sum(wrong is not None for _, wrong in ran)
+    print(f"{sum(count for count, _ in ran)} builds and links with {OPTION} and without")
+    print(f"{len(ran) - failed} passed, {failed} failed")
+    return 1 if failed or not ran else 0
+
+
+if __name__ == "__main__":
+    sys.exit(main(sys.argv[1:]))
