@@ -228,19 +228,23 @@ expansion (Add rd rs2) = isa.Add record { rd = rd; rs1 = rd; rs2 = rs2 }
 expansion (Swsp rs2 u) = isa.Sw record { rs1 = 2; rs2 = rs2; immediate = pos u }
 expansion (Sdsp rs2 u) = isa.Sd record { rs1 = 2; rs2 = rs2; immediate = pos u }
 
--- what is chosen to stand for an instruction: no HINT (section 16.7), and c.addi before c.addi16sp
+-- no HINT (section 16.7)
+abbrev pub IsNoHint : Compressed → Type 0
+IsNoHint (Nop i) = i ≡ pos 0
+IsNoHint (Addi rd i) = i ≢ pos 0
+IsNoHint (Li rd i) = 0 < rd
+IsNoHint (Lui rd u) = 0 < rd
+IsNoHint (Mv rd rs2) = 0 < rd
+IsNoHint (Add rd rs2) = 0 < rd
+IsNoHint (Slli rd u) = (0 < rd) × (0 < u)
+IsNoHint (Srli rd u) = 0 < u
+IsNoHint (Srai rd u) = 0 < u
+IsNoHint _ = Unit {0}
+
+-- what is chosen to stand for an instruction: no HINT, and c.addi before c.addi16sp
 abbrev pub IsChosen : Compressed → Type 0
-IsChosen (Nop i) = i ≡ pos 0
-IsChosen (Addi rd i) = i ≢ pos 0
-IsChosen (Li rd i) = 0 < rd
-IsChosen (Lui rd u) = 0 < rd
-IsChosen (Mv rd rs2) = 0 < rd
-IsChosen (Add rd rs2) = 0 < rd
-IsChosen (Slli rd u) = (0 < rd) × (0 < u)
-IsChosen (Srli rd u) = 0 < u
-IsChosen (Srai rd u) = 0 < u
 IsChosen (Addi16sp i) = IsSixBits i → ⊥
-IsChosen _ = Unit {0}
+IsChosen form = IsNoHint form
 
 -- a parcel spells a form with its operands
 pub record SpellsForm (p : ℕ) (form : Compressed) : Type 0 where

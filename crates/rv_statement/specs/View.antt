@@ -1,11 +1,15 @@
 -- What the statements of the code stand for.
 
-use Rattle.std.specs.Prelude.{ℕ, Bool, true, false, List, [], ◌∷◌, map, Option, option_map, box_value}
+use Rattle.std.specs.Prelude.{ℕ, Bool, true, false, List, [], ◌∷◌, ◌++◌, map, Option, option_map, box_value}
 use Rattle.std.specs.Borrow.{Bor}
 use Rattle.rv_text_laws.specs.Bytes.{value}
 use Rattle.rv_text_laws.specs.Expression.{Tree}
 use Rattle.rv_text.specs.Expr.{tree_of_expr}
 use Rattle.rv_lexer.specs.Token.{string_bytes}
+use Rattle.rv_compress.specs.declared.parcel.ParcelOperation.{ParcelOperation}
+use Rattle.rv_compress.specs.declared.parcel.OperandShape.{OperandShape}
+use Rattle.rv_compress.specs.declared.parcel.OperandShape.TheVariants.{Address, Target as ATarget}
+use Rattle.rv_compress.specs.Mnemonics.{own_registers, shape_of}
 use Rattle.rv_statement.specs.declared.directive.Width.{Width}
 use Rattle.rv_statement.specs.declared.directive.Width.TheVariants as widths
 use Rattle.rv_statement.specs.declared.mnemonic.Mnemonic.TheVariants as mnemonics
@@ -34,6 +38,16 @@ bytes_of widths.Byte = 1
 bytes_of widths.Half = 2
 bytes_of widths.Word = 4
 bytes_of widths.Double = 8
+
+-- the registers that a parcel has, as operands
+abbrev pub parcel_registers : ParcelOperation → ℕ → ℕ → List specs.Operand
+parcel_registers operation a b = map specs.Register (own_registers operation a b)
+
+-- with what stands beside them: an offset before its base, all else behind
+abbrev pub parcel_operands : OperandShape → ParcelOperation → ℕ → ℕ → specs.Operand →
+    List specs.Operand
+parcel_operands Address operation a b o = specs.Register a ∷ o ∷ specs.Register b ∷ []
+parcel_operands shape operation a b o = parcel_registers operation a b ++ o ∷ []
 
 -- an instruction without an expression
 abbrev pub plain_of : Plain → specs.StatementKind
@@ -66,6 +80,8 @@ plain_of (plains.Compare operation rd rs1 rs2) =
     (specs.Register rd ∷ specs.Register rs1 ∷ specs.Register rs2 ∷ [])
 plain_of (plains.Jr rs) = specs.Instruction mnemonics.Jr (specs.Register rs ∷ [])
 plain_of plains.Ret = specs.Instruction mnemonics.Ret []
+plain_of (plains.Parcel operation a b) =
+    specs.Instruction (mnemonics.Parcel operation) (parcel_registers operation a b)
 
 -- an operation with an operand that is no register, where it stands
 abbrev pub with_operand : Operation → specs.Operand → specs.StatementKind
@@ -111,6 +127,14 @@ with_operand (operations.Call rd) o = specs.Instruction mnemonics.Call (specs.Re
 with_operand operations.CallLinked o = specs.Instruction mnemonics.Call (o ∷ [])
 with_operand operations.Tail o = specs.Instruction mnemonics.Tail (o ∷ [])
 with_operand (operations.Jump rt) o = specs.Instruction mnemonics.Jump (o ∷ specs.Register rt ∷ [])
+with_operand (operations.Parcel operation a b) o =
+    specs.Instruction (mnemonics.Parcel operation)
+    (parcel_operands (shape_of operation) operation a b o)
+
+-- an expression beside the registers of a parcel
+abbrev pub shaped : OperandShape → Tree → specs.Operand
+shaped ATarget e = specs.Target e
+shaped shape e = specs.Value e
 
 -- an expression as an operand: a target, or a value
 abbrev pub operand_in : Operation → Tree → specs.Operand
@@ -127,6 +151,7 @@ operand_in (operations.Call rd) e = specs.Target e
 operand_in operations.CallLinked e = specs.Target e
 operand_in operations.Tail e = specs.Target e
 operand_in (operations.Jump rt) e = specs.Target e
+operand_in (operations.Parcel operation a b) e = shaped (shape_of operation) e
 operand_in _ e = specs.Value e
 
 -- an operation with an expression, or with a function of one

@@ -5,12 +5,13 @@
 use crate::pseudo::{
     CompareOperation, SwappedBranchOperation, UnaryOperation, ZeroBranchOperation,
 };
+use rv_compress::ParcelOperation;
 use rv_isa::{
     AtomicForm, AtomicOperation, BranchOperation, ImmediateOperation, LoadOperation,
     RegisterOperation, ShiftOperation, StoreOperation, UpperOperation,
 };
 
-/// A mnemonic: of a base instruction, then of a pseudo-instruction.
+/// A mnemonic: of a base instruction, of a pseudo-instruction, of a parcel.
 #[derive(Clone, Copy, Debug, PartialEq, Eq, Drop)]
 pub enum Mnemonic {
     Registers(RegisterOperation),
@@ -50,4 +51,6 @@ pub enum Mnemonic {
     Tail,
     /// `jump symbol, rt`
     Jump,
+    /// `c.addi` and its kin: one parcel.
+    Parcel(ParcelOperation),
 }

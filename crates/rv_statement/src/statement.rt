@@ -7,6 +7,7 @@ use crate::directive::{Binding, Choice, Standard, Width};
 use crate::pseudo::{
     CompareOperation, Function, SwappedBranchOperation, UnaryOperation, ZeroBranchOperation,
 };
+use rv_compress::ParcelOperation;
 use rv_isa::{
     AccessSet, AtomicForm, AtomicOperation, BranchOperation, ImmediateOperation, LoadOperation,
     Reg, RegisterOperation, ShiftOperation, StoreOperation, UpperOperation,
@@ -48,6 +49,8 @@ pub enum Plain {
     /// `jr rs` or `jr (rs)`
     Jr(Reg),
     Ret,
+    /// `c.add rd, rs2`, `c.jr rs1`, `c.nop` or `c.lw rd, (rs1)`: registers that it does not have are x0.
+    Parcel(ParcelOperation, Reg, Reg),
 }
 
 /// A mnemonic with its registers, and an expression among them.
@@ -101,6 +104,8 @@ pub enum Operation {
     Tail,
     /// `jump .., rt`
     Jump(Reg),
+    /// `c.addi rd, ..`, `c.lw rd, ..(rs1)` or `c.j ..`: registers that it does not have are x0.
+    Parcel(ParcelOperation, Reg, Reg),
 }
 
 /// What `.section` says.
