@@ -4,6 +4,7 @@ pub mod LocatedLemmas
 pub mod ItemsLemmas
 pub mod ListsLemmas
 pub mod JumpsLemmas
+pub mod ParcelsLemmas
 pub mod OpeningsLemmas
 pub mod OpenedLemmas
 pub mod StatementsLemmas

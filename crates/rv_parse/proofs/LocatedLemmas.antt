@@ -4,6 +4,7 @@ use Rattle.std.proofs.Common.{◌≡◌, ℕ, Bool, true, false, cond, List, [],
 use Rattle.rv_text_laws.specs.Lexing.{Token}
 use Rattle.rv_text_laws.specs.Codes.{unsupported_here}
 use Rattle.rv_text_laws.specs.SyntaxError.{SyntaxError, wrong, Read}
+use Rattle.rv_compress.specs.declared.parcel.RegisterSet.TheVariants.{Any}
 use Rattle.rv_statement.specs.declared.pseudo.Function.{Function}
 use Rattle.rv_statement.specs.declared.mnemonic.Mnemonic.{Mnemonic}
 use Rattle.rv_statement.specs.Statement.{Expression, Operand, Register, Value, Target, Instruction}
@@ -20,10 +21,10 @@ use Rattle.rv_lexer.specs.Cursor.{syntax_error_of, Fails}
 use Rattle.rv_parse.specs.Slots.{location_at, placed_at}
 use Rattle.rv_parse.specs.View.{applied}
 
-pub based_err : (ts : List Token) (w : SyntaxError) → base_next ts ≡ true → base_at ts ≡ Err w → location_at ts ≡ Err w
+pub based_err : (ts : List Token) (w : SyntaxError) → base_next ts ≡ true → base_at Any ts ≡ Err w → location_at ts ≡ Err w
 based_err ts w next e = rw (base_no_target ts next, next, e) refl
 
-pub based_ok : (ts : List Token) (os : List Operand) (rest : List Token) → base_next ts ≡ true → base_at ts ≡ Ok (os, rest) → location_at ts ≡ Ok ((false, os), rest)
+pub based_ok : (ts : List Token) (os : List Operand) (rest : List Token) → base_next ts ≡ true → base_at Any ts ≡ Ok (os, rest) → location_at ts ≡ Ok ((false, os), rest)
 based_ok ts os rest next e = rw (base_no_target ts next, next, e) refl
 
 unread_err : (ts : List Token) (w : SyntaxError) → base_next ts ≡ false → value_in roles.Operand ts ≡ Err w → location_at ts ≡ Err w
@@ -34,11 +35,11 @@ unread_fail ts (refusals.At w) next h = unread_err ts (syntax_error_of w) next h
 unread_fail ts refusals.OutOfMemory next h = tt
 
 pub offset_err : (ts : List Token) (o : Operand) (us : List Token) (w : SyntaxError) → base_next ts ≡ false → value_in roles.Operand ts ≡ Ok (o, us) → target_behind o us ≡ false
-    → base_at us ≡ Err w → location_at ts ≡ Err w
+    → base_at Any us ≡ Err w → location_at ts ≡ Err w
 offset_err ts o us w next e none f = rw (target_read ts o us e ∙ none, next, e, f) refl
 
 pub offset_ok : (ts : List Token) (o : Operand) (us : List Token) (os : List Operand) (rest : List Token) → base_next ts ≡ false → value_in roles.Operand ts ≡ Ok (o, us)
-    → target_behind o us ≡ false → base_at us ≡ Ok (os, rest) → location_at ts ≡ Ok ((false, o ∷ os), rest)
+    → target_behind o us ≡ false → base_at Any us ≡ Ok (os, rest) → location_at ts ≡ Ok ((false, o ∷ os), rest)
 offset_ok ts o us os rest next e none f = rw (target_read ts o us e ∙ none, next, e, f) refl
 
 -- a target is an expression that is read

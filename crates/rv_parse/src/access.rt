@@ -14,6 +14,7 @@ ghost use Rattle.rv_parse.specs.Left.{Gives, GivesInstruction, ReadsInstruction}
 use crate::operands::{given, with};
 use crate::value::Argument;
 use crate::{slot, value};
+use rv_compress::RegisterSet;
 use rv_isa::{AtomicForm, AtomicOperation, LoadOperation, Reg, StoreOperation};
 use rv_parse_words::Role;
 use rv_parse_words::fault::Slot;
@@ -39,13 +40,13 @@ fn located<'a>(alloc: Global, cursor: &mut Cursor<'a>) -> Result<Location<'a>, R
         (location_at (left cursor.old)) }
 {
     if slot::begins_base(cursor) {
-        let rs = slot::base(cursor)?;
+        let rs = slot::base(cursor, RegisterSet::Any)?;
         return Ok(Location::Register(rs));
     }
     let first = cursor.next;
     let offset = value::value_or_function(alloc, cursor, Role::Operand)?;
     if !offset.is_target(cursor) {
-        let rs = slot::base(cursor)?;
+        let rs = slot::base(cursor, RegisterSet::Any)?;
         return Ok(Location::Offset(offset, rs));
     }
     if offset.expression.is_number() {
@@ -68,11 +69,11 @@ fn loaded<'a>(
 {
     match located(alloc, cursor)? {
         Location::Register(rs1) => {
-            slot::end(cursor, Slot::Address)?;
+            slot::end(cursor, Slot::ANY_ADDRESS)?;
             Ok(StatementKind::Plain(Plain::Load(operation, rd, rs1)))
         }
         Location::Offset(offset, rs1) => {
-            slot::end(cursor, Slot::Address)?;
+            slot::end(cursor, Slot::ANY_ADDRESS)?;
             Ok(given(Operation::Load(operation, rd, rs1), offset))
         }
         Location::Target(target) => {
@@ -92,7 +93,7 @@ pub fn load<'a>(
     ensures { ReadsInstruction (Load operation) cursor.old cursor.new result }
 {
     let rd = slot::register(cursor)?;
-    slot::comma(cursor, Slot::Register)?;
+    slot::comma(cursor, Slot::ANY_REGISTER)?;
     loaded(alloc, cursor, operation, rd)
 }
 
@@ -110,17 +111,17 @@ fn stored<'a>(
 {
     match located(alloc, cursor)? {
         Location::Register(rs1) => {
-            slot::end(cursor, Slot::Address)?;
+            slot::end(cursor, Slot::ANY_ADDRESS)?;
             Ok(StatementKind::Plain(Plain::Store(operation, rs2, rs1)))
         }
         Location::Offset(offset, rs1) => {
-            slot::end(cursor, Slot::Address)?;
+            slot::end(cursor, Slot::ANY_ADDRESS)?;
             Ok(given(Operation::Store(operation, rs2, rs1), offset))
         }
         Location::Target(target) => {
             slot::comma(cursor, Slot::Value(Role::Target))?;
             let rt = slot::register(cursor)?;
-            slot::end(cursor, Slot::Register)?;
+            slot::end(cursor, Slot::ANY_REGISTER)?;
             Ok(with(Operation::StoreSymbol(operation, rs2, rt), target))
         }
     }
@@ -136,7 +137,7 @@ pub fn store<'a>(
     ensures { ReadsInstruction (Store operation) cursor.old cursor.new result }
 {
     let rs2 = slot::register(cursor)?;
-    slot::comma(cursor, Slot::Register)?;
+    slot::comma(cursor, Slot::ANY_REGISTER)?;
     stored(alloc, cursor, operation, rs2)
 }
 
@@ -148,7 +149,7 @@ fn closed(cursor: &mut Cursor<'_>) -> Result<Reg, SyntaxError>
 {
     let base = slot::register(cursor)?;
     slot::closing(cursor)?;
-    slot::end(cursor, Slot::Register)?;
+    slot::end(cursor, Slot::ANY_REGISTER)?;
     Ok(base)
 }
 
@@ -159,7 +160,7 @@ fn atomic_address(cursor: &mut Cursor<'_>) -> Result<Reg, SyntaxError>
         (operands_at atomic_address (left cursor.old)) }
 {
     if slot::begins_opening(cursor) {
-        slot::opening(cursor, Slot::Register)?;
+        slot::opening(cursor, Slot::ANY_REGISTER)?;
         return closed(cursor);
     }
     slot::zero(cursor)?;
@@ -176,7 +177,7 @@ pub fn load_reserved<'a>(
     ensures { GivesInstruction (LoadReserved form) cursor.old cursor.new result }
 {
     let rd = slot::register(cursor)?;
-    slot::comma(cursor, Slot::Register)?;
+    slot::comma(cursor, Slot::ANY_REGISTER)?;
     let rs1 = atomic_address(cursor)?;
     Ok(StatementKind::Plain(Plain::LoadReserved(form, rd, rs1)))
 }
@@ -191,9 +192,9 @@ pub fn atomic<'a>(
     ensures { GivesInstruction (Atomic operation form) cursor.old cursor.new result }
 {
     let rd = slot::register(cursor)?;
-    slot::comma(cursor, Slot::Register)?;
+    slot::comma(cursor, Slot::ANY_REGISTER)?;
     let rs2 = slot::register(cursor)?;
-    slot::comma(cursor, Slot::Register)?;
+    slot::comma(cursor, Slot::ANY_REGISTER)?;
     let rs1 = atomic_address(cursor)?;
     Ok(StatementKind::Plain(Plain::Atomic(operation, form, rd, rs2, rs1)))
 }
@@ -210,6 +211,6 @@ pub fn fence<'a>(cursor: &mut Cursor<'a>) -> Result<StatementKind<'a>, SyntaxErr
         slot::end(cursor, Slot::Accesses)?;
         return Ok(StatementKind::Plain(Plain::FenceBetween(before, after)));
     }
-    slot::end(cursor, Slot::Register)?;
+    slot::end(cursor, Slot::ANY_REGISTER)?;
     Ok(StatementKind::Plain(Plain::Fence))
 }

@@ -265,7 +265,7 @@ fn section<'a>(alloc: Global, cursor: &mut Cursor<'a>) -> Result<StatementKind<'
 fn enters<'a>(cursor: &mut Cursor<'a>, section: Standard) -> Result<StatementKind<'a>, ReadError>
     ensures { ReadsDirective (Enters section) cursor.old cursor.new result }
 {
-    slot::end(cursor, Slot::Register)?;
+    slot::end(cursor, Slot::ANY_REGISTER)?;
     Ok(StatementKind::Enters(section))
 }
 

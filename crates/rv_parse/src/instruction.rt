@@ -10,6 +10,7 @@ ghost use Rattle.rv_lexer.specs.Cursor.{left, Answers};
 ghost use Rattle.rv_parse.specs.Left.{ReadsInstruction};
 
 use crate::operands::{self, given, with};
+use crate::parcel::parcel;
 use crate::{access, jump, slot, value};
 use rv_isa::{RegisterOperation, UpperOperation};
 use rv_parse_words::Role;
@@ -29,16 +30,16 @@ fn registers<'a>(
     ensures { ReadsInstruction (Registers operation) cursor.old cursor.new result }
 {
     let rd = slot::register(cursor)?;
-    slot::comma(cursor, Slot::Register)?;
+    slot::comma(cursor, Slot::ANY_REGISTER)?;
     let rs1 = slot::register(cursor)?;
-    slot::comma(cursor, Slot::Register)?;
+    slot::comma(cursor, Slot::ANY_REGISTER)?;
     if has_constant(operation) && !slot::begins_register(cursor) {
         let value = value::value_or_function(alloc, cursor, Role::Source)?;
         slot::end(cursor, Slot::Value(Role::Source))?;
         return Ok(given(Operation::Registers(operation, rd, rs1), value));
     }
     let rs2 = slot::register(cursor)?;
-    slot::end(cursor, Slot::Register)?;
+    slot::end(cursor, Slot::ANY_REGISTER)?;
     Ok(StatementKind::Plain(Plain::Registers(operation, rd, rs1, rs2)))
 }
 
@@ -142,5 +143,6 @@ pub fn instruction<'a>(
             Ok(with(Operation::Tail, target))
         }
         Mnemonic::Jump => jump::jump(alloc, cursor),
+        Mnemonic::Parcel(operation) => parcel(alloc, cursor, operation),
     }
 }

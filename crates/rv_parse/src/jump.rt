@@ -11,6 +11,7 @@ ghost use Rattle.rv_parse.specs.Left.{ReadsInstruction};
 
 use crate::operands::{given, with};
 use crate::{slot, value};
+use rv_compress::RegisterSet;
 use rv_isa::Reg;
 use rv_parse_words::Role;
 use rv_parse_words::fault::Slot;
@@ -25,7 +26,7 @@ pub fn jal<'a>(alloc: Global, cursor: &mut Cursor<'a>) -> Result<StatementKind<'
 {
     if slot::begins_register(cursor) {
         let rd = slot::register(cursor)?;
-        slot::comma(cursor, Slot::Register)?;
+        slot::comma(cursor, Slot::ANY_REGISTER)?;
         let target = value::value(alloc, cursor, Role::Target)?;
         slot::end(cursor, Slot::Value(Role::Target))?;
         return Ok(with(Operation::Jal(rd), target));
@@ -42,7 +43,7 @@ pub fn call<'a>(alloc: Global, cursor: &mut Cursor<'a>) -> Result<StatementKind<
 {
     if slot::begins_register(cursor) {
         let rd = slot::register(cursor)?;
-        slot::comma(cursor, Slot::Register)?;
+        slot::comma(cursor, Slot::ANY_REGISTER)?;
         let target = value::callee(alloc, cursor)?;
         slot::end(cursor, Slot::Callee)?;
         return Ok(with(Operation::Call(rd), target));
@@ -60,7 +61,7 @@ pub fn jump<'a>(alloc: Global, cursor: &mut Cursor<'a>) -> Result<StatementKind<
     let target = value::value(alloc, cursor, Role::Target)?;
     slot::comma(cursor, Slot::Value(Role::Target))?;
     let rt = slot::register(cursor)?;
-    slot::end(cursor, Slot::Register)?;
+    slot::end(cursor, Slot::ANY_REGISTER)?;
     Ok(with(Operation::Jump(rt), target))
 }
 
@@ -71,17 +72,17 @@ pub fn jr<'a>(alloc: Global, cursor: &mut Cursor<'a>) -> Result<StatementKind<'a
 {
     if slot::begins_register(cursor) {
         let rs = slot::register(cursor)?;
-        slot::end(cursor, Slot::Register)?;
+        slot::end(cursor, Slot::ANY_REGISTER)?;
         return Ok(StatementKind::Plain(Plain::Jr(rs)));
     }
     if slot::begins_base(cursor) {
-        let rs = slot::base(cursor)?;
-        slot::end(cursor, Slot::Address)?;
+        let rs = slot::base(cursor, RegisterSet::Any)?;
+        slot::end(cursor, Slot::ANY_ADDRESS)?;
         return Ok(StatementKind::Plain(Plain::Jr(rs)));
     }
     let offset = value::value_or_function(alloc, cursor, Role::Operand)?;
-    let rs = slot::base(cursor)?;
-    slot::end(cursor, Slot::Address)?;
+    let rs = slot::base(cursor, RegisterSet::Any)?;
+    slot::end(cursor, Slot::ANY_ADDRESS)?;
     Ok(given(Operation::Jr(rs), offset))
 }
 
@@ -92,21 +93,21 @@ pub fn jalr<'a>(alloc: Global, cursor: &mut Cursor<'a>) -> Result<StatementKind<
 {
     if !slot::begins_register(cursor) {
         if slot::begins_base(cursor) {
-            let rs1 = slot::base(cursor)?;
-            slot::end(cursor, Slot::Address)?;
+            let rs1 = slot::base(cursor, RegisterSet::Any)?;
+            slot::end(cursor, Slot::ANY_ADDRESS)?;
             return Ok(StatementKind::Plain(Plain::JalrLinked(rs1)));
         }
         let offset = value::value_or_function(alloc, cursor, Role::Operand)?;
-        let rs1 = slot::base(cursor)?;
-        slot::end(cursor, Slot::Address)?;
+        let rs1 = slot::base(cursor, RegisterSet::Any)?;
+        slot::end(cursor, Slot::ANY_ADDRESS)?;
         return Ok(given(Operation::JalrLinked(rs1), offset));
     }
     let first = slot::register(cursor)?;
     if slot::begins_comma(cursor) {
-        slot::comma(cursor, Slot::Register)?;
+        slot::comma(cursor, Slot::ANY_REGISTER)?;
         return jump_target(alloc, cursor, first);
     }
-    slot::end(cursor, Slot::Register)?;
+    slot::end(cursor, Slot::ANY_REGISTER)?;
     Ok(StatementKind::Plain(Plain::JalrLinked(first)))
 }
 
@@ -124,22 +125,22 @@ fn jump_target<'a>(
 {
     if !slot::begins_register(cursor) {
         if slot::begins_base(cursor) {
-            let rs1 = slot::base(cursor)?;
-            slot::end(cursor, Slot::Address)?;
+            let rs1 = slot::base(cursor, RegisterSet::Any)?;
+            slot::end(cursor, Slot::ANY_ADDRESS)?;
             return Ok(StatementKind::Plain(Plain::Jalr(rd, rs1)));
         }
         let offset = value::value_or_function(alloc, cursor, Role::Operand)?;
-        let rs1 = slot::base(cursor)?;
-        slot::end(cursor, Slot::Address)?;
+        let rs1 = slot::base(cursor, RegisterSet::Any)?;
+        slot::end(cursor, Slot::ANY_ADDRESS)?;
         return Ok(given(Operation::Jalr(rd, rs1), offset));
     }
     let rs1 = slot::register(cursor)?;
     if slot::begins_comma(cursor) {
-        slot::comma(cursor, Slot::Register)?;
+        slot::comma(cursor, Slot::ANY_REGISTER)?;
         let value = value::value_or_function(alloc, cursor, Role::Operand)?;
         slot::end(cursor, Slot::Value(Role::Operand))?;
         return Ok(given(Operation::JalrThen(rd, rs1), value));
     }
-    slot::end(cursor, Slot::Register)?;
+    slot::end(cursor, Slot::ANY_REGISTER)?;
     Ok(StatementKind::Plain(Plain::Jalr(rd, rs1)))
 }

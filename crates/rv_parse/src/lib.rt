@@ -21,6 +21,7 @@ mod instruction;
 mod jump;
 mod opening;
 mod operands;
+mod parcel;
 mod slot;
 mod source;
 mod statement;

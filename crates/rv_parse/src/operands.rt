@@ -34,7 +34,7 @@ pub fn none(cursor: &Cursor<'_>) -> Result<(), SyntaxError>
     ensures { Gives (λ _. ([], left cursor.now)) result
         (operands_at (Stops A_register) (left cursor.now)) }
 {
-    slot::end(cursor, Slot::Register)
+    slot::end(cursor, Slot::ANY_REGISTER)
 }
 
 /// `rd, rs`
@@ -44,9 +44,9 @@ pub fn two_registers(cursor: &mut Cursor<'_>) -> Result<(Reg, Reg), SyntaxError>
         (operands_at (and_then A_register (last A_register)) (left cursor.old)) }
 {
     let rd = slot::register(cursor)?;
-    slot::comma(cursor, Slot::Register)?;
+    slot::comma(cursor, Slot::ANY_REGISTER)?;
     let rs = slot::register(cursor)?;
-    slot::end(cursor, Slot::Register)?;
+    slot::end(cursor, Slot::ANY_REGISTER)?;
     Ok((rd, rs))
 }
 
@@ -59,11 +59,11 @@ pub fn three_registers(cursor: &mut Cursor<'_>) -> Result<(Reg, Reg, Reg), Synta
         (left cursor.old)) }
 {
     let rd = slot::register(cursor)?;
-    slot::comma(cursor, Slot::Register)?;
+    slot::comma(cursor, Slot::ANY_REGISTER)?;
     let rs1 = slot::register(cursor)?;
-    slot::comma(cursor, Slot::Register)?;
+    slot::comma(cursor, Slot::ANY_REGISTER)?;
     let rs2 = slot::register(cursor)?;
-    slot::end(cursor, Slot::Register)?;
+    slot::end(cursor, Slot::ANY_REGISTER)?;
     Ok((rd, rs1, rs2))
 }
 
@@ -78,6 +78,22 @@ pub fn given<'a>(operation: Operation, argument: Argument<'a>) -> StatementKind<
     }
 }
 
+/// A value alone.
+#[tactic(auto, unfolding(rv_parse_laws::specs::Parsing::operands_at))]
+pub fn one_argument<'a>(
+    alloc: Global,
+    cursor: &mut Cursor<'a>,
+    role: Role,
+) -> Result<Argument<'a>, ReadError>
+    requires { targets role ≡ false }
+    ensures { Answers (λ a. (operand_of a ∷ [], left cursor.new)) result
+        (operands_at (last (A_value role)) (left cursor.old)) }
+{
+    let value = value::value_or_function(alloc, cursor, role)?;
+    slot::end(cursor, Slot::Value(role))?;
+    Ok(value)
+}
+
 /// A register and a value.
 #[tactic(auto, unfolding(rv_parse_laws::specs::Parsing::operands_at))]
 pub fn register_and_argument<'a>(
@@ -90,7 +106,7 @@ pub fn register_and_argument<'a>(
         (operands_at (and_then A_register (last (A_value role))) (left cursor.old)) }
 {
     let register = slot::register(cursor)?;
-    slot::comma(cursor, Slot::Register)?;
+    slot::comma(cursor, Slot::ANY_REGISTER)?;
     let value = value::value_or_function(alloc, cursor, role)?;
     slot::end(cursor, Slot::Value(role))?;
     Ok((register, value))
@@ -110,9 +126,9 @@ pub fn registers_and_argument<'a>(
         (left cursor.old)) }
 {
     let first = slot::register(cursor)?;
-    slot::comma(cursor, Slot::Register)?;
+    slot::comma(cursor, Slot::ANY_REGISTER)?;
     let second = slot::register(cursor)?;
-    slot::comma(cursor, Slot::Register)?;
+    slot::comma(cursor, Slot::ANY_REGISTER)?;
     let value = value::value_or_function(alloc, cursor, role)?;
     slot::end(cursor, Slot::Value(role))?;
     Ok((first, second, value))
@@ -147,7 +163,7 @@ pub fn register_and_value<'a>(
         (operands_at (and_then A_register (last (A_value role))) (left cursor.old)) }
 {
     let register = slot::register(cursor)?;
-    slot::comma(cursor, Slot::Register)?;
+    slot::comma(cursor, Slot::ANY_REGISTER)?;
     let value = value::value(alloc, cursor, role)?;
     slot::end(cursor, Slot::Value(role))?;
     Ok((register, value))
@@ -168,9 +184,9 @@ pub fn registers_and_value<'a>(
         (left cursor.old)) }
 {
     let first = slot::register(cursor)?;
-    slot::comma(cursor, Slot::Register)?;
+    slot::comma(cursor, Slot::ANY_REGISTER)?;
     let second = slot::register(cursor)?;
-    slot::comma(cursor, Slot::Register)?;
+    slot::comma(cursor, Slot::ANY_REGISTER)?;
     let value = value::value(alloc, cursor, role)?;
     slot::end(cursor, Slot::Value(role))?;
     Ok((first, second, value))

@@ -7,29 +7,38 @@
 ghost use Rattle.std.specs.Prelude.{◌≡◌, ◌∷◌, []};
 ghost use Rattle.rv_lexer.specs.Cursor.{left, syntax_error_of};
 ghost use Rattle.rv_statement.specs.Statement.{Register, Accesses};
-ghost use Rattle.rv_parse_laws.specs.Syntax.{A_register, A_zero, Some_accesses, A_symbol, A_string, A_section, Some_flags, At_sign, A_type, A_plt, A_comma, An_opening, A_closing, Slot as AnySlot, front_begins};
+ghost use Rattle.rv_parse_laws.specs.Syntax.{A_register_of, A_register, A_zero, Some_accesses, A_symbol, A_string, A_section, Some_flags, At_sign, A_type, A_plt, A_comma, An_opening, A_closing, Slot as AnySlot, front_begins};
 ghost use Rattle.rv_parse_laws.specs.Parsing.{operand_at, end_at, base_at, base_next, plt_next, too_long};
 ghost use Rattle.rv_parse_words.specs.View.{slot_of, word_of, string_of};
 ghost use Rattle.rv_parse.specs.Left.{Gives};
 
+use rv_compress::RegisterSet;
 use rv_isa::{AccessSet, Reg};
 use rv_parse_words::fault::{self, Slot};
 use rv_parse_words::kinds;
 use rv_text::{Cursor, LONGEST_NAME, SourceCode, SyntaxError};
 
-/// A register.
-#[tactic(auto, using(crate::proofs::TokensLemmas::register_no_last), unfolding(rv_lexer::specs::Cursor::left))]
-pub fn register(cursor: &mut Cursor<'_>) -> Result<Reg, SyntaxError>
+/// A register of a set.
+#[tactic(auto, using(crate::proofs::TokensLemmas::register_in_no_last), unfolding(rv_lexer::specs::Cursor::left))]
+pub fn register_of(cursor: &mut Cursor<'_>, set: RegisterSet) -> Result<Reg, SyntaxError>
     ensures { Gives (λ r. (Register r ∷ [], left cursor.new)) result
-        (operand_at A_register (left cursor.old)) }
+        (operand_at (A_register_of set) (left cursor.old)) }
 {
-    match kinds::register_of(cursor.next.kind) {
+    match kinds::register_in(set, cursor.next.kind) {
         Some(register) => {
             cursor.advance();
             Ok(register)
         }
         None => Err(cursor.wrong(fault::at_other(cursor.next.kind))),
     }
+}
+
+/// A register.
+pub fn register(cursor: &mut Cursor<'_>) -> Result<Reg, SyntaxError>
+    ensures { Gives (λ r. (Register r ∷ [], left cursor.new)) result
+        (operand_at A_register (left cursor.old)) }
+{
+    register_of(cursor, RegisterSet::Any)
 }
 
 /// A register comes next.
@@ -145,12 +154,13 @@ pub fn closing(cursor: &mut Cursor<'_>) -> Result<(), SyntaxError>
     }
 }
 
-/// A register in parentheses.
-pub fn base(cursor: &mut Cursor<'_>) -> Result<Reg, SyntaxError>
-    ensures { Gives (λ r. (Register r ∷ [], left cursor.new)) result (base_at (left cursor.old)) }
+/// A register of a set in parentheses.
+pub fn base(cursor: &mut Cursor<'_>, set: RegisterSet) -> Result<Reg, SyntaxError>
+    ensures { Gives (λ r. (Register r ∷ [], left cursor.new)) result
+        (base_at set (left cursor.old)) }
 {
-    opening(cursor, Slot::Register)?;
-    let register = register(cursor)?;
+    opening(cursor, Slot::ANY_REGISTER)?;
+    let register = register_of(cursor, set)?;
     closing(cursor)?;
     Ok(register)
 }

@@ -141,7 +141,7 @@ fn enclosed<'a>(
         (enclosed_at function (left cursor.old)) }
     ensures number { IfOk result (λ e. function ≡ PcrelHi → TellsNumbers e) }
 {
-    slot::opening(cursor, Slot::Register)?;
+    slot::opening(cursor, Slot::ANY_REGISTER)?;
     let argument = argument_of(alloc, cursor, function)?;
     slot::closing(cursor)?;
     Ok(argument)

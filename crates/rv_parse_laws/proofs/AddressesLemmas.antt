@@ -11,14 +11,15 @@ use Rattle.rv_text_laws.specs.ExpressionAt.{Wants, read_from, expression_at}
 use Rattle.rv_text_laws.specs.declared.operator.Frame.TheVariants.{Parenthesis}
 use Rattle.rv_text_laws.proofs.ExpressionsLemmas.{fails, goes}
 use Rattle.rv_text_laws.proofs.ExpressionWrongLemmas.{ended_more}
+use Rattle.rv_compress.specs.declared.parcel.RegisterSet.{RegisterSet}
 use Rattle.rv_statement.specs.Statement.{Expression, Operand, Register, Value, Applied}
-use Rattle.rv_parse_laws.specs.Syntax.{is_register, register_of, valued, is_refused, is_refused_by, function_in, is_percent, is_opening, is_colon, Slot, A_register, An_address, A_closing, An_opening, single, front_begins, IsValueIn, IsBase, IsOperand}
+use Rattle.rv_parse_laws.specs.Syntax.{is_register, register_of, kept_in, valued, is_refused, is_refused_by, function_in, is_percent, is_opening, is_colon, Slot, A_register_of, A_register, An_address_by, A_closing, An_opening, single, front_begins, IsValueIn, IsBase, IsOperand}
 use Rattle.rv_parse_laws.specs.Faults.{wrong_first}
 use Rattle.rv_parse_laws.specs.Parsing.{◌>>=◌, seen_as, allowed, value_at, enclosed_at, named_at, applied_at, value_in, single_at, base_at, base_next, offset_at, is_target, target_behind, target_next, operand_at}
 use Rattle.rv_parse_laws.proofs.StepsLemmas.{bind_ok, seen_ok, pair_parts, bind_err, seen_err}
-use Rattle.rv_parse_laws.proofs.FailingLemmas.{Failing, at_once, behind, first_of, first_same, same_first, never}
+use Rattle.rv_parse_laws.proofs.FailingLemmas.{Failing, at_once, behind, first_of, first_same, same_first, never, wrongs}
 use Rattle.rv_parse_laws.proofs.LastTokensLemmas.{register_no_last, opening_no_last, closing_no_last}
-use Rattle.rv_parse_laws.proofs.SinglesLemmas.{single_found, single_fault, single_passed, a_register, a_register_is, an_opening, a_closing}
+use Rattle.rv_parse_laws.proofs.SinglesLemmas.{single_found, single_fault, single_passed, kept_is, a_register, a_number, a_register_is, an_opening, a_closing}
 use Rattle.rv_parse_laws.proofs.ValuesLemmas.{Closes, closes, value_is, no_percent}
 use Rattle.rv_parse_laws.proofs.ArgumentsLemmas.{value_in_is, value_in_some, ValueFound, value_found, ValueWrong, value_wrong, closing_single}
 use Rattle.rv_statement.specs.declared.pseudo.Function.{Function}
@@ -30,10 +31,10 @@ opening_is s (Punctuation Open) os h = (refl, cc)
 opening_is s (Punctuation _) os h = absurd (cc)
 opening_is s _ os h = absurd (cc)
 
-pub register_is : (k : Kind) (os : List Operand) → single A_register k ≡ Some os → (number : ℕ) × (register_of k ≡ Some number) × (os ≡ Register number ∷ [])
-register_is k os h = go (register_of k) refl h
+pub register_is : (set : RegisterSet) (k : Kind) (os : List Operand) → single (A_register_of set) k ≡ Some os → (number : ℕ) × (kept_in set (register_of k) ≡ Some number) × (os ≡ Register number ∷ [])
+register_is set k os h = go (kept_in set (register_of k)) refl h
   where
-    go : (o : Option ℕ) → register_of k ≡ o → option_map (λ r. Register r ∷ []) o ≡ Some os → (number : ℕ) × (register_of k ≡ Some number) × (os ≡ Register number ∷ [])
+    go : (o : Option ℕ) → kept_in set (register_of k) ≡ o → option_map (λ r. Register r ∷ []) o ≡ Some os → (number : ℕ) × (kept_in set (register_of k) ≡ Some number) × (os ≡ Register number ∷ [])
     go None e h = absurd (cc)
     go (Some n) e h = (n, e, cc)
 
@@ -41,82 +42,82 @@ is_open_single : (s : Slot) (k : Kind) → is_opening k ≡ true → single (An_
 is_open_single s k h = rw h refl
 
 -- a base, whatever follows it
-pub base_is : (text : List Token) (os : List Operand) → IsBase text os → (rest : List Token) → base_at (text ++ rest) ≡ Ok (os, rest)
-base_is text os (o, r, c, number, w, opens, named, closed, is) rest = rw (w, is) (rw (opens, named, closed) refl)
+pub base_is : (set : RegisterSet) (text : List Token) (os : List Operand) → IsBase set text os → (rest : List Token) → base_at set (text ++ rest) ≡ Ok (os, rest)
+base_is set text os (o, r, c, number, w, opens, named, closed, is) rest = rw (w, is) (rw (opens, named, closed) refl)
 
-pub base_found : (ts : List Token) (os : List Operand) (rest : List Token) → base_at ts ≡ Ok (os, rest) → (text : List Token) × (ts ≡ text ++ rest) × IsBase text os
-base_found ts os rest e =
-    let a = bind_ok (single_at (An_opening A_register) ts) (λ o. single_at A_register o.1 >>= λ r. seen_as (λ none. r.0) (single_at A_closing r.1)) (os, rest) e in
-    let b = bind_ok (single_at A_register a.0.1) (λ r. seen_as (λ none. r.0) (single_at A_closing r.1)) (os, rest) a.2 in
+pub base_found : (set : RegisterSet) (ts : List Token) (os : List Operand) (rest : List Token) → base_at set ts ≡ Ok (os, rest) → (text : List Token) × (ts ≡ text ++ rest) × IsBase set text os
+base_found set ts os rest e =
+    let a = bind_ok (single_at (An_opening A_register) ts) (λ o. single_at (A_register_of set) o.1 >>= λ r. seen_as (λ none. r.0) (single_at A_closing r.1)) (os, rest) e in
+    let b = bind_ok (single_at (A_register_of set) a.0.1) (λ r. seen_as (λ none. r.0) (single_at A_closing r.1)) (os, rest) a.2 in
     let c = seen_ok (λ none. b.0.0) (single_at A_closing b.0.1) os rest b.2 in
     let o = single_found (An_opening A_register) ts a.0.0 a.0.1 a.1 in
-    let r = single_found A_register a.0.1 b.0.0 b.0.1 b.1 in
+    let r = single_found (A_register_of set) a.0.1 b.0.0 b.0.1 b.1 in
     let d = single_found A_closing b.0.1 c.0 rest c.1 in
-    let named = register_is r.0.kind b.0.0 r.2 in (
+    let named = register_is set r.0.kind b.0.0 r.2 in (
       o.0 ∷ r.0 ∷ d.0 ∷ [],
       o.1 ∙ ap (λ us. o.0 ∷ us) r.1 ∙ ap (λ us. o.0 ∷ r.0 ∷ us) d.1,
       (o.0, r.0, d.0, named.0, refl, (opening_is A_register o.0.kind a.0.0 o.2).0, named.1, (closing_single d.0.kind c.0 d.2).0, c.2 ∙ named.2),
     )
 
-abbrev pub base_goes : (text : List Token) × (os : List Operand) × IsBase text os
-base_goes = (an_opening ∷ a_register ∷ a_closing ∷ [], Register 10 ∷ [], (an_opening, a_register, a_closing, 10, refl, refl, a_register_is, refl, refl))
+abbrev pub base_goes : (set : RegisterSet) → (text : List Token) × (os : List Operand) × IsBase set text os
+base_goes set = (an_opening ∷ a_register set ∷ a_closing ∷ [], Register (a_number set) ∷ [], (an_opening, a_register set, a_closing, a_number set, refl, refl, a_register_is set, refl, refl))
 
 -- what goes on behind an opening parenthesis, and behind a register
-register_goes : (o : Token) → is_opening o.kind ≡ true → (text : List Token) × (os : List Operand) × IsBase ((o ∷ []) ++ text) os
-register_goes o opens = (a_register ∷ a_closing ∷ [], Register 10 ∷ [], (o, a_register, a_closing, 10, refl, opens, a_register_is, refl, refl))
+register_goes : (set : RegisterSet) (o : Token) → is_opening o.kind ≡ true → (text : List Token) × (os : List Operand) × IsBase set ((o ∷ []) ++ text) os
+register_goes set o opens = (a_register set ∷ a_closing ∷ [], Register (a_number set) ∷ [], (o, a_register set, a_closing, a_number set, refl, opens, a_register_is set, refl, refl))
 
-closing_goes : (o r : Token) (number : ℕ) → is_opening o.kind ≡ true → register_of r.kind ≡ Some number → (text : List Token) × (os : List Operand) × IsBase ((o ∷ r ∷ []) ++ text) os
-closing_goes o r number opens named = (a_closing ∷ [], Register number ∷ [], (o, r, a_closing, number, refl, opens, named, refl, refl))
+closing_goes : (set : RegisterSet) (o r : Token) (number : ℕ) → is_opening o.kind ≡ true → kept_in set (register_of r.kind) ≡ Some number → (text : List Token) × (os : List Operand) × IsBase set ((o ∷ r ∷ []) ++ text) os
+closing_goes set o r number opens named = (a_closing ∷ [], Register number ∷ [], (o, r, a_closing, number, refl, opens, named, refl, refl))
 
-closing_err : (o r c : Token) (number : ℕ) (text : List Token) (w : SyntaxError) → is_opening o.kind ≡ true → register_of r.kind ≡ Some number → single A_closing c.kind ≡ None
-    → w ≡ wrong c (wrong_first A_closing c.kind) → base_at (o ∷ r ∷ c ∷ text) ≡ Err w
-closing_err o r c number text w opens named none is = rw (opens, named) (rw (none, is) refl)
+closing_err : (set : RegisterSet) (o r c : Token) (number : ℕ) (text : List Token) (w : SyntaxError) → is_opening o.kind ≡ true → kept_in set (register_of r.kind) ≡ Some number → single A_closing c.kind ≡ None
+    → w ≡ wrong c (wrong_first A_closing c.kind) → base_at set (o ∷ r ∷ c ∷ text) ≡ Err w
+closing_err set o r c number text w opens named none is = rw (opens, named) (rw (none, is) refl)
 
-register_err : (o r : Token) (text : List Token) (w : SyntaxError) → is_opening o.kind ≡ true → single A_register r.kind ≡ None
-    → w ≡ wrong r (wrong_first A_register r.kind) → base_at (o ∷ r ∷ text) ≡ Err w
-register_err o r text w opens none is = rw opens (rw (none, is) refl)
+register_err : (set : RegisterSet) (o r : Token) (text : List Token) (w : SyntaxError) → is_opening o.kind ≡ true → single (A_register_of set) r.kind ≡ None
+    → w ≡ wrong r (wrong_first (A_register_of set) r.kind) → base_at set (o ∷ r ∷ text) ≡ Err w
+register_err set o r text w opens none is = rw opens (rw (none, is) refl)
 
-opening_err : (o : Token) (text : List Token) (w : SyntaxError) → single (An_opening A_register) o.kind ≡ None → w ≡ wrong o (wrong_first (An_opening A_register) o.kind) → base_at (o ∷ text) ≡ Err w
-opening_err o text w none is = rw (none, is) refl
+opening_err : (set : RegisterSet) (o : Token) (text : List Token) (w : SyntaxError) → single (An_opening A_register) o.kind ≡ None → w ≡ wrong o (wrong_first (An_opening A_register) o.kind) → base_at set (o ∷ text) ≡ Err w
+opening_err set o text w none is = rw (none, is) refl
 
 -- where a base is wrong
-pub base_wrong : (ts : List Token) (w : SyntaxError) → ended ts ≡ true → base_at ts ≡ Err w → Failing (List Operand) IsBase base_at ts w
-base_wrong ts w end e = elim (bind_err (single_at (An_opening A_register) ts) (λ o. single_at A_register o.1 >>= λ r. seen_as (λ none. r.0) (single_at A_closing r.1)) w e) [
+pub base_wrong : (set : RegisterSet) (ts : List Token) (w : SyntaxError) → ended ts ≡ true → base_at set ts ≡ Err w → Failing (List Operand) (IsBase set) (base_at set) ts w
+base_wrong set ts w end e = elim (bind_err (single_at (An_opening A_register) ts) (λ o. single_at (A_register_of set) o.1 >>= λ r. seen_as (λ none. r.0) (single_at A_closing r.1)) w e) [
   | inl f ↦ (let k = single_fault (An_opening A_register) ts w end f in record {
     before = [];
     at = k.0;
     more = k.1;
     whole = k.2;
     is_wrong = at_once [] k.0 _ w k.4;
-    fails = λ text. opening_err k.0 text w k.3 k.4;
-    goes = base_goes;
+    fails = λ text. opening_err set k.0 text w k.3 k.4;
+    goes = base_goes set;
   })
   | inr a ↦ (let o = single_passed (An_opening A_register) ts a.0.0 a.0.1 end a.1 in
       second o.0 a.0.1 o.1 (opening_is A_register o.0.kind a.0.0 o.2).0 o.3 a.2)
 ]
   where
-    second : (o : Token) (us : List Token) → ts ≡ o ∷ us → is_opening o.kind ≡ true → ended us ≡ true → (single_at A_register us >>= λ r. seen_as (λ none. r.0) (single_at A_closing r.1)) ≡ Err w
-        → Failing (List Operand) IsBase base_at ts w
-    second o us whole opens end e = elim (bind_err (single_at A_register us) (λ r. seen_as (λ none. r.0) (single_at A_closing r.1)) w e) [
-      | inl f ↦ (let k = single_fault A_register us w end f in record {
+    second : (o : Token) (us : List Token) → ts ≡ o ∷ us → is_opening o.kind ≡ true → ended us ≡ true → (single_at (A_register_of set) us >>= λ r. seen_as (λ none. r.0) (single_at A_closing r.1)) ≡ Err w
+        → Failing (List Operand) (IsBase set) (base_at set) ts w
+    second o us whole opens end e = elim (bind_err (single_at (A_register_of set) us) (λ r. seen_as (λ none. r.0) (single_at A_closing r.1)) w e) [
+      | inl f ↦ (let k = single_fault (A_register_of set) us w end f in record {
         before = o ∷ [];
         at = k.0;
         more = k.1;
         whole = whole ∙ ap (λ xs. o ∷ xs) k.2;
         is_wrong = at_once (o ∷ []) k.0 _ w k.4;
-        fails = λ text. register_err o k.0 text w opens k.3 k.4;
-        goes = register_goes o opens;
+        fails = λ text. register_err set o k.0 text w opens k.3 k.4;
+        goes = register_goes set o opens;
       })
-      | inr b ↦ (let r = single_passed A_register us b.0.0 b.0.1 end b.1 in
-          let number = register_is r.0.kind b.0.0 r.2 in
+      | inr b ↦ (let r = single_passed (A_register_of set) us b.0.0 b.0.1 end b.1 in
+          let number = register_is set r.0.kind b.0.0 r.2 in
           let k = single_fault A_closing b.0.1 w r.3 (seen_err (λ none. b.0.0) (single_at A_closing b.0.1) w b.2) in record {
             before = o ∷ r.0 ∷ [];
             at = k.0;
             more = k.1;
             whole = whole ∙ ap (λ xs. o ∷ xs) (r.1 ∙ ap (λ xs. r.0 ∷ xs) k.2);
             is_wrong = at_once (o ∷ r.0 ∷ []) k.0 _ w k.4;
-            fails = λ text. closing_err o r.0 k.0 number.0 text w opens number.1 k.3 k.4;
-            goes = closing_goes o r.0 number.0 opens number.1;
+            fails = λ text. closing_err set o r.0 k.0 number.0 text w opens number.1 k.3 k.4;
+            goes = closing_goes set o r.0 number.0 opens number.1;
           })
     ]
 
@@ -173,16 +174,16 @@ no_base_in : (role : Role) (one rest : List Token) (o : Operand) → IsValueIn r
 no_base_in role one rest o (inl (e, v, good, is)) closes = no_base (one ++ rest) e rest (value_is one rest e v closes)
 no_base_in role one rest o (inr (p, n, q, argument, c, f, e, w, percent, is, opens, arg, close, good, v)) closes = rw w (rw (percent_no_base p.kind percent) refl)
 
-base_closes : (rest : List Token) (os : List Operand) (more : List Token) → IsBase rest os → Closes (rest ++ more)
-base_closes rest os more (o, r, c, number, w, opens, named, closed, is) = (o, r ∷ c ∷ more, ap (λ xs. xs ++ more) w, closes_open o.kind opens)
+base_closes : (set : RegisterSet) (rest : List Token) (os : List Operand) (more : List Token) → IsBase set rest os → Closes (rest ++ more)
+base_closes set rest os more (o, r, c, number, w, opens, named, closed, is) = (o, r ∷ c ∷ more, ap (λ xs. xs ++ more) w, closes_open o.kind opens)
   where
     closes_open : (k : Kind) → is_opening k ≡ true → closes k ≡ true
     closes_open (Punctuation Open) h = refl
     closes_open (Punctuation _) h = absurd (cc)
     closes_open _ h = absurd (cc)
 
-base_begins : (rest : List Token) (os : List Operand) (more : List Token) → IsBase rest os → base_next (rest ++ more) ≡ true
-base_begins rest os more (o, r, c, number, w, opens, named, closed, is) = rw w (rw (opens, named) refl)
+base_begins : (set : RegisterSet) (rest : List Token) (os : List Operand) (more : List Token) → IsBase set rest os → base_next (rest ++ more) ≡ true
+base_begins set rest os more (o, r, c, number, w, opens, named, closed, is) = rw w (rw (opens, kept_is set (register_of r.kind) number named) refl)
 
 -- an expression is a value
 pub value_read : (ts : List Token) (e : Expression) (rest : List Token) → value_at ts ≡ Ok (e, rest) → value_in roles.Operand ts ≡ Ok (Value e, rest)
@@ -244,24 +245,24 @@ behind_opening : (o : Operand) (rest : List Token) → front_begins (An_opening 
 behind_opening (Value e) rest h = rw h refl
 behind_opening _ rest h = refl
 
-base_opens : (text : List Token) (os : List Operand) (rest : List Token) → IsBase text os → front_begins (An_opening A_register) (text ++ rest) ≡ true
-base_opens text os rest (o, r, c, number, w, opens, named, closed, is) = rw w (rw opens refl)
+base_opens : (set : RegisterSet) (text : List Token) (os : List Operand) (rest : List Token) → IsBase set text os → front_begins (An_opening A_register) (text ++ rest) ≡ true
+base_opens set text os rest (o, r, c, number, w, opens, named, closed, is) = rw w (rw opens refl)
 
-pub address_is : (text : List Token) (os : List Operand) → IsOperand An_address text os → (rest : List Token) → operand_at An_address (text ++ rest) ≡ Ok (os, rest)
-address_is text os (inl base) rest = rw (base_begins text os rest base) (base_is text os base rest)
-address_is text os (inr (one, more, e, base, w, v, b, is)) rest =
-    let closed = base_closes more base rest b in
+pub address_is : (set : RegisterSet) (text : List Token) (os : List Operand) → IsOperand (An_address_by set) text os → (rest : List Token) → operand_at (An_address_by set) (text ++ rest) ≡ Ok (os, rest)
+address_is set text os (inl base) rest = rw (base_begins set text os rest base) (base_is set text os base rest)
+address_is set text os (inr (one, more, e, base, w, v, b, is)) rest =
+    let closed = base_closes set more base rest b in
     let value : value_in roles.Operand (one ++ (more ++ rest)) ≡ Ok (e, more ++ rest) = value_in_is roles.Operand one (more ++ rest) e v closed in
     let none : base_next (one ++ (more ++ rest)) ≡ false = no_base_in roles.Operand one (more ++ rest) e v closed in
-    rw (w, is) (rw (append_assoc one more rest, none, value, base_is more base b rest) refl)
+    rw (w, is) (rw (append_assoc one more rest, none, value, base_is set more base b rest) refl)
 
 -- no target stands where an address does
-pub address_no_target : (text : List Token) (os : List Operand) → IsOperand An_address text os → (rest : List Token) → target_next (text ++ rest) ≡ false
-address_no_target text os (inl base) rest = base_no_target (text ++ rest) (base_begins text os rest base)
-address_no_target text os (inr (one, more, e, base, w, v, b, is)) rest =
-    let read : value_in roles.Operand (one ++ (more ++ rest)) ≡ Ok (e, more ++ rest) = value_in_is roles.Operand one (more ++ rest) e v (base_closes more base rest b) in
+pub address_no_target : (set : RegisterSet) (text : List Token) (os : List Operand) → IsOperand (An_address_by set) text os → (rest : List Token) → target_next (text ++ rest) ≡ false
+address_no_target set text os (inl base) rest = base_no_target (text ++ rest) (base_begins set text os rest base)
+address_no_target set text os (inr (one, more, e, base, w, v, b, is)) rest =
+    let read : value_in roles.Operand (one ++ (more ++ rest)) ≡ Ok (e, more ++ rest) = value_in_is roles.Operand one (more ++ rest) e v (base_closes set more base rest b) in
     ap (λ us. target_next (us ++ rest)) w ∙ ap target_next (append_assoc one more rest) ∙ target_read (one ++ (more ++ rest)) e (more ++ rest) read
-    ∙ behind_opening e (more ++ rest) (base_opens more base rest b)
+    ∙ behind_opening e (more ++ rest) (base_opens set more base rest b)
 
 -- the front decides by two tokens
 next_alike : (t : Token) (us vs : List Token) → first_of us ≡ first_of vs → base_next (t ∷ us) ≡ base_next (t ∷ vs)
@@ -274,17 +275,17 @@ next_behind : (text us vs : List Token) → 0 < length text → first_of us ≡ 
 next_behind [] us vs some e = absurd (omega (arith, some))
 next_behind (t ∷ text) us vs some e = next_alike t (text ++ us) (text ++ vs) (first_same text us vs e)
 
-pub address_found : (ts : List Token) (os : List Operand) (rest : List Token) → operand_at An_address ts ≡ Ok (os, rest)
-    → (text : List Token) × (ts ≡ text ++ rest) × IsOperand An_address text os
-address_found ts os rest e = go (base_next ts) e
+pub address_found : (set : RegisterSet) (ts : List Token) (os : List Operand) (rest : List Token) → operand_at (An_address_by set) ts ≡ Ok (os, rest)
+    → (text : List Token) × (ts ≡ text ++ rest) × IsOperand (An_address_by set) text os
+address_found set ts os rest e = go (base_next ts) e
   where
-    go : (b : Bool) → cond b (base_at ts) (offset_at ts) ≡ Ok (os, rest) → (text : List Token) × (ts ≡ text ++ rest) × IsOperand An_address text os
-    go true e = let f = base_found ts os rest e in (f.0, f.1, inl f.2)
+    go : (b : Bool) → cond b (base_at set ts) (offset_at set ts) ≡ Ok (os, rest) → (text : List Token) × (ts ≡ text ++ rest) × IsOperand (An_address_by set) text os
+    go true e = let f = base_found set ts os rest e in (f.0, f.1, inl f.2)
     go false e =
-        let a = bind_ok (value_in roles.Operand ts) (λ v. seen_as (λ os. v.0 ∷ os) (base_at v.1)) (os, rest) e in
-        let b = seen_ok (λ os. a.0.0 ∷ os) (base_at a.0.1) os rest a.2 in
+        let a = bind_ok (value_in roles.Operand ts) (λ v. seen_as (λ os. v.0 ∷ os) (base_at set v.1)) (os, rest) e in
+        let b = seen_ok (λ os. a.0.0 ∷ os) (base_at set a.0.1) os rest a.2 in
         let v = value_found roles.Operand ts a.0.0 a.0.1 a.1 in
-        let f = base_found a.0.1 b.0 rest b.1 in
+        let f = base_found set a.0.1 b.0 rest b.1 in
         (v.text ++ f.0, v.whole ∙ ap (λ us. v.text ++ us) f.1 ∙ sym (append_assoc v.text f.0 rest), inr (v.text, f.0, a.0.0, b.0, refl, v.is, f.2, b.2))
 
 next_at : (before : List Token) (at : Token) (more text : List Token) → base_next (before ++ at ∷ more) ≡ false → (before ≡ [] → is_opening at.kind ≡ false) → base_next (before ++ at ∷ text) ≡ false
@@ -292,57 +293,78 @@ next_at [] at more text h closed = rw (closed refl) refl
 next_at (t ∷ before) at more text h closed = next_behind (t ∷ before) (at ∷ text) (at ∷ more) (omega arith) refl ∙ h
 
 -- where an address is wrong; where no target comes next none does by what stands behind the wrong token
-abbrev pub AddressWrong : List Token → SyntaxError → Type 0
-AddressWrong ts w =
-    (x : Failing (List Operand) (IsOperand An_address) (operand_at An_address) ts w)
+abbrev pub AddressWrong : RegisterSet → List Token → SyntaxError → Type 0
+AddressWrong set ts w =
+    (x : Failing (List Operand) (IsOperand (An_address_by set)) (operand_at (An_address_by set)) ts w)
     × (target_next ts ≡ false → (text : List Token) → target_next (x.before ++ x.at ∷ text) ≡ false)
 
--- where a register in parentheses is not closed
-based_wrong : (ts : List Token) (w : SyntaxError) → ended ts ≡ true → base_next ts ≡ true → base_at ts ≡ Err w → AddressWrong ts w
-based_wrong ts w end next e =
+-- where a register in parentheses is none of the set, or is not closed
+based_wrong : (set : RegisterSet) (ts : List Token) (w : SyntaxError) → ended ts ≡ true → base_next ts ≡ true → base_at set ts ≡ Err w → AddressWrong set ts w
+based_wrong set ts w end next e =
     let p = base_parts ts next in
-    let o = p.0 in
-    let r = p.1 in
-    let behind : ended p.2 ≡ true = ended_more r p.2 (register_no_last r.kind p.3 p.6) (ended_more o (r ∷ p.2) (opening_no_last o.kind p.5) (ap ended (sym p.4) ∙ end)) in
-    let k = single_fault A_closing p.2 w behind
-    (seen_err (λ none. Register p.3 ∷ []) (single_at A_closing p.2) w (sym (closing o r p.2 p.3 p.5 p.6) ∙ ap (base_at) (sym p.4) ∙ e)) in (
-      record {
-        before = o ∷ r ∷ [];
-        at = k.0;
-        more = k.1;
-        whole = p.4 ∙ ap (λ xs. o ∷ r ∷ xs) k.2;
-        is_wrong = at_once (o ∷ r ∷ []) k.0 _ w k.4;
-        fails = λ text. rw (begins o r (k.0 ∷ text) p.3 p.5 p.6) (closing_err o r k.0 p.3 text w p.5 p.6 k.3 k.4);
-        goes = goes (o ∷ r ∷ []) (closing_goes o r p.3 p.5 p.6);
-      },
-      λ none text. base_no_target (o ∷ r ∷ k.0 ∷ text) (begins o r (k.0 ∷ text) p.3 p.5 p.6),
-    )
+    let last : ended (p.1 ∷ p.2) ≡ true = ended_more p.0 (p.1 ∷ p.2) (opening_no_last p.0.kind p.5) (ap ended (sym p.4) ∙ end) in
+    subst (λ us. AddressWrong set us w) (sym p.4)
+    (by_register p.0 p.1 p.2 p.3 p.5 p.6 last (ap (base_at set) (sym p.4) ∙ e) (kept_in set (register_of p.1.kind)) refl)
   where
-    closing : (o r : Token) (us : List Token) (number : ℕ) → is_opening o.kind ≡ true → register_of r.kind ≡ Some number
-        → base_at (o ∷ r ∷ us) ≡ seen_as (λ none. Register number ∷ []) (single_at A_closing us)
-    closing o r us number opens named = rw (opens, named) refl
+    begins : (o r : Token) (us : List Token) (n : ℕ) → is_opening o.kind ≡ true → register_of r.kind ≡ Some n → base_next (o ∷ r ∷ us) ≡ true
+    begins o r us n opens named = rw (opens, named) refl
 
-    begins : (o r : Token) (us : List Token) (number : ℕ) → is_opening o.kind ≡ true → register_of r.kind ≡ Some number → base_next (o ∷ r ∷ us) ≡ true
-    begins o r us number opens named = rw (opens, named) refl
-
-    goes : (before : List Token) → (text : List Token) × (os : List Operand) × IsBase (before ++ text) os → (text : List Token) × (os : List Operand) × IsOperand An_address (before ++ text) os
+    goes : (before : List Token) → (text : List Token) × (os : List Operand) × IsBase set (before ++ text) os → (text : List Token) × (os : List Operand) × IsOperand (An_address_by set) (before ++ text) os
     goes before (text, os, base) = (text, os, inl base)
 
--- a value and a base, whatever they are
-abbrev to_offset : (one : List Token) (e : Operand) → IsValueIn roles.Operand one e → (us : List Token) (os : List Operand) → IsBase us os → (all : List Operand) × IsOperand An_address (one ++ us) all
-to_offset one e v us os base = (e ∷ os, inr (one, us, e, os, refl, v, base, refl))
+    other : (o r : Token) (us : List Token) → is_opening o.kind ≡ true → kept_in set (register_of r.kind) ≡ None
+        → base_at set (o ∷ r ∷ us) ≡ Err (wrong r (wrong_first (A_register_of set) r.kind))
+    other o r us opens none = rw (opens, none) refl
 
-offset_wrong : (ts : List Token) (w : SyntaxError) → ended ts ≡ true → base_next ts ≡ false → offset_at ts ≡ Err w → AddressWrong ts w
+    closing : (o r : Token) (us : List Token) (number : ℕ) → is_opening o.kind ≡ true → kept_in set (register_of r.kind) ≡ Some number
+        → base_at set (o ∷ r ∷ us) ≡ seen_as (λ none. Register number ∷ []) (single_at A_closing us)
+    closing o r us number opens kept = rw (opens, kept) refl
+
+    by_register : (o r : Token) (us : List Token) (n : ℕ) → is_opening o.kind ≡ true → register_of r.kind ≡ Some n → ended (r ∷ us) ≡ true → base_at set (o ∷ r ∷ us) ≡ Err w
+        → (x : Option ℕ) → kept_in set (register_of r.kind) ≡ x → AddressWrong set (o ∷ r ∷ us) w
+    by_register o r us n opens named last e None none =
+        let is : w ≡ wrong r (wrong_first (A_register_of set) r.kind) = wrongs w (wrong r (wrong_first (A_register_of set) r.kind)) (sym e ∙ other o r us opens none) in (
+          record {
+            before = o ∷ [];
+            at = r;
+            more = us;
+            whole = refl;
+            is_wrong = at_once (o ∷ []) r _ w is;
+            fails = λ text. rw (begins o r text n opens named) (other o r text opens none ∙ ap (λ (y : SyntaxError). Err y) (sym is));
+            goes = goes (o ∷ []) (register_goes set o opens);
+          },
+          λ none text. base_no_target (o ∷ r ∷ text) (begins o r text n opens named),
+        )
+    by_register o r us n opens named last e (Some number) kept =
+        let k = single_fault A_closing us w (ended_more r us (register_no_last r.kind n named) last)
+        (seen_err (λ none. Register number ∷ []) (single_at A_closing us) w (sym (closing o r us number opens kept) ∙ e)) in (
+          record {
+            before = o ∷ r ∷ [];
+            at = k.0;
+            more = k.1;
+            whole = ap (λ xs. o ∷ r ∷ xs) k.2;
+            is_wrong = at_once (o ∷ r ∷ []) k.0 _ w k.4;
+            fails = λ text. rw (begins o r (k.0 ∷ text) n opens named) (closing_err set o r k.0 number text w opens kept k.3 k.4);
+            goes = goes (o ∷ r ∷ []) (closing_goes set o r number opens kept);
+          },
+          λ none text. base_no_target (o ∷ r ∷ k.0 ∷ text) (begins o r (k.0 ∷ text) n opens named),
+        )
+
+-- a value and a base, whatever they are
+abbrev to_offset : (set : RegisterSet) (one : List Token) (e : Operand) → IsValueIn roles.Operand one e → (us : List Token) (os : List Operand) → IsBase set us os → (all : List Operand) × IsOperand (An_address_by set) (one ++ us) all
+to_offset set one e v us os base = (e ∷ os, inr (one, us, e, os, refl, v, base, refl))
+
+offset_wrong : (set : RegisterSet) (ts : List Token) (w : SyntaxError) → ended ts ≡ true → base_next ts ≡ false → offset_at set ts ≡ Err w → AddressWrong set ts w
 unfolding behind
-offset_wrong ts w end next e = elim (bind_err (value_in roles.Operand ts) (λ v. seen_as (λ os. v.0 ∷ os) (base_at v.1)) w e) [
+offset_wrong set ts w end next e = elim (bind_err (value_in roles.Operand ts) (λ v. seen_as (λ os. v.0 ∷ os) (base_at set v.1)) w e) [
   | inl f ↦ valued (value_wrong roles.Operand ts w end f)
-  | inr good ↦ based good.0.0 good.0.1 (value_found roles.Operand ts good.0.0 good.0.1 good.1) (seen_err (λ os. good.0.0 ∷ os) (base_at good.0.1) w good.2)
+  | inr good ↦ based good.0.0 good.0.1 (value_found roles.Operand ts good.0.0 good.0.1 good.1) (seen_err (λ os. good.0.0 ∷ os) (base_at set good.0.1) w good.2)
 ]
   where
-    value_err : (us : List Token) → base_next us ≡ false → value_in roles.Operand us ≡ Err w → operand_at An_address us ≡ Err w
+    value_err : (us : List Token) → base_next us ≡ false → value_in roles.Operand us ≡ Err w → operand_at (An_address_by set) us ≡ Err w
     value_err us none fails = rw (none, fails) refl
 
-    valued : ValueWrong roles.Operand ts w → AddressWrong ts w
+    valued : ValueWrong roles.Operand ts w → AddressWrong set ts w
     valued (x, closed) = (
       record {
         before = x.before;
@@ -351,27 +373,27 @@ offset_wrong ts w end next e = elim (bind_err (value_in roles.Operand ts) (λ v.
         whole = x.whole;
         is_wrong = x.is_wrong;
         fails = λ text. value_err (x.before ++ x.at ∷ text) (next_at x.before x.at x.more text (ap base_next (sym x.whole) ∙ next) closed) (x.fails text);
-        goes = goes base_goes;
+        goes = goes (base_goes set);
       },
       λ none text. unread_no_target (x.before ++ x.at ∷ text) w (x.fails text),
     )
       where
-        goes : (text : List Token) × (os : List Operand) × IsBase text os → (text : List Token) × (os : List Operand) × IsOperand An_address (x.before ++ text) os
+        goes : (text : List Token) × (os : List Operand) × IsBase set text os → (text : List Token) × (os : List Operand) × IsOperand (An_address_by set) (x.before ++ text) os
         goes (text, os, base) =
-            let all = to_offset (x.before ++ x.goes.0) x.goes.1 x.goes.2 text os base in
-            (x.goes.0 ++ text, all.0, subst (λ us. IsOperand An_address us all.0) (append_assoc x.before x.goes.0 text) all.1)
+            let all = to_offset set (x.before ++ x.goes.0) x.goes.1 x.goes.2 text os base in
+            (x.goes.0 ++ text, all.0, subst (λ us. IsOperand (An_address_by set) us all.0) (append_assoc x.before x.goes.0 text) all.1)
 
-    base_err : (us : List Token) (e : Operand) (rest : List Token) → base_next us ≡ false → value_in roles.Operand us ≡ Ok (e, rest) → base_at rest ≡ Err w
-        → operand_at An_address us ≡ Err w
+    base_err : (us : List Token) (e : Operand) (rest : List Token) → base_next us ≡ false → value_in roles.Operand us ≡ Ok (e, rest) → base_at set rest ≡ Err w
+        → operand_at (An_address_by set) us ≡ Err w
     base_err us e rest none read fails = rw (none, read, fails) refl
 
-    based : (e : Operand) (rest : List Token) → ValueFound roles.Operand ts e rest → base_at rest ≡ Err w → AddressWrong ts w
+    based : (e : Operand) (rest : List Token) → ValueFound roles.Operand ts e rest → base_at set rest ≡ Err w → AddressWrong set ts w
     based e rest v fails =
         let last : ended rest ≡ true = v.ended_rest end in
-        let f = base_wrong rest w last fails in
-        subst (λ us. AddressWrong us w) (sym v.whole) (
-          behind (List Operand) (List Operand) (IsOperand An_address) IsBase (operand_at An_address) base_at v.text rest w
-              (λ us os base. to_offset v.text e v.is us os base)
+        let f = base_wrong set rest w last fails in
+        subst (λ us. AddressWrong set us w) (sym v.whole) (
+          behind (List Operand) (List Operand) (IsOperand (An_address_by set)) (IsBase set) (operand_at (An_address_by set)) (base_at set) v.text rest w
+              (λ us os base. to_offset set v.text e v.is us os base)
               (λ us first fails. base_err (v.text ++ us) e us (next_behind v.text us rest (value_in_some roles.Operand v.text e v.is) first ∙ ap base_next (sym v.whole) ∙ next) (v.steady us first) fails)
               f,
           λ none text.
@@ -384,32 +406,32 @@ offset_wrong ts w end next e = elim (bind_err (value_in roles.Operand ts) (λ v.
             target_read (v.text ++ us) e us (v.steady us first) ∙ behind_alike e us rest first
             ∙ sym (target_read (v.text ++ rest) e rest (v.steady rest refl)) ∙ none
 
-pub address_wrong : (ts : List Token) (w : SyntaxError) → ended ts ≡ true → operand_at An_address ts ≡ Err w → AddressWrong ts w
-address_wrong ts w end e = go (base_next ts) refl e
+pub address_wrong : (set : RegisterSet) (ts : List Token) (w : SyntaxError) → ended ts ≡ true → operand_at (An_address_by set) ts ≡ Err w → AddressWrong set ts w
+address_wrong set ts w end e = go (base_next ts) refl e
   where
-    go : (b : Bool) → base_next ts ≡ b → cond b (base_at ts) (offset_at ts) ≡ Err w → AddressWrong ts w
-    go true next e = based_wrong ts w end next e
-    go false next e = offset_wrong ts w end next e
+    go : (b : Bool) → base_next ts ≡ b → cond b (base_at set ts) (offset_at set ts) ≡ Err w → AddressWrong set ts w
+    go true next e = based_wrong set ts w end next e
+    go false next e = offset_wrong set ts w end next e
 
-pub address_some : (text : List Token) (os : List Operand) → IsOperand An_address text os → 0 < length text
-address_some text os (inl (o, r, c, number, w, opens, named, closed, is)) = rw w (omega arith)
-address_some text os (inr (one, rest, e, base, w, v, b, is)) = rw w (omega (arith, value_in_some roles.Operand one e v, length-append one rest))
+pub address_some : (set : RegisterSet) (text : List Token) (os : List Operand) → IsOperand (An_address_by set) text os → 0 < length text
+address_some set text os (inl (o, r, c, number, w, opens, named, closed, is)) = rw w (omega arith)
+address_some set text os (inr (one, rest, e, base, w, v, b, is)) = rw w (omega (arith, value_in_some roles.Operand one e v, length-append one rest))
 
-base_ended : (text : List Token) (os : List Operand) (rest : List Token) → IsBase text os → ended (text ++ rest) ≡ true → ended rest ≡ true
-base_ended text os rest (o, r, c, number, w, opens, named, closed, is) end =
-    ended_more c rest (closing_no_last c.kind closed) (ended_more r (c ∷ rest) (register_no_last r.kind number named) (ended_more o (r ∷ c ∷ rest) (opening_no_last o.kind opens) (ap (λ us. ended (us ++ rest)) (sym w) ∙ end)))
+base_ended : (set : RegisterSet) (text : List Token) (os : List Operand) (rest : List Token) → IsBase set text os → ended (text ++ rest) ≡ true → ended rest ≡ true
+base_ended set text os rest (o, r, c, number, w, opens, named, closed, is) end =
+    ended_more c rest (closing_no_last c.kind closed) (ended_more r (c ∷ rest) (register_no_last r.kind number (kept_is set (register_of r.kind) number named)) (ended_more o (r ∷ c ∷ rest) (opening_no_last o.kind opens) (ap (λ us. ended (us ++ rest)) (sym w) ∙ end)))
 
-pub address_ended : (ts : List Token) (os : List Operand) (rest : List Token) → ended ts ≡ true → operand_at An_address ts ≡ Ok (os, rest) → ended rest ≡ true
-address_ended ts os rest end e = go (base_next ts) e
+pub address_ended : (set : RegisterSet) (ts : List Token) (os : List Operand) (rest : List Token) → ended ts ≡ true → operand_at (An_address_by set) ts ≡ Ok (os, rest) → ended rest ≡ true
+address_ended set ts os rest end e = go (base_next ts) e
   where
-    go : (b : Bool) → cond b (base_at ts) (offset_at ts) ≡ Ok (os, rest) → ended rest ≡ true
-    go true e = let f = base_found ts os rest e in base_ended f.0 os rest f.2 (ap ended (sym f.1) ∙ end)
+    go : (b : Bool) → cond b (base_at set ts) (offset_at set ts) ≡ Ok (os, rest) → ended rest ≡ true
+    go true e = let f = base_found set ts os rest e in base_ended set f.0 os rest f.2 (ap ended (sym f.1) ∙ end)
     go false e =
-        let a = bind_ok (value_in roles.Operand ts) (λ v. seen_as (λ os. v.0 ∷ os) (base_at v.1)) (os, rest) e in
-        let b = seen_ok (λ os. a.0.0 ∷ os) (base_at a.0.1) os rest a.2 in
+        let a = bind_ok (value_in roles.Operand ts) (λ v. seen_as (λ os. v.0 ∷ os) (base_at set v.1)) (os, rest) e in
+        let b = seen_ok (λ os. a.0.0 ∷ os) (base_at set a.0.1) os rest a.2 in
         let v = value_found roles.Operand ts a.0.0 a.0.1 a.1 in
-        let f = base_found a.0.1 b.0 rest b.1 in
-        base_ended f.0 b.0 rest f.2 (ap ended (sym f.1) ∙ v.ended_rest end)
+        let f = base_found set a.0.1 b.0 rest b.1 in
+        base_ended set f.0 b.0 rest f.2 (ap ended (sym f.1) ∙ v.ended_rest end)
 
-pub address_live : (t : Token) × (us : List Token) × (os : List Operand) × IsOperand An_address (t ∷ us) os × (is_colon t.kind ≡ false)
-address_live = (an_opening, a_register ∷ a_closing ∷ [], base_goes.1, inl base_goes.2, refl)
+pub address_live : (set : RegisterSet) → (t : Token) × (us : List Token) × (os : List Operand) × IsOperand (An_address_by set) (t ∷ us) os × (is_colon t.kind ≡ false)
+address_live set = (an_opening, a_register set ∷ a_closing ∷ [], (base_goes set).1, inl (base_goes set).2, refl)

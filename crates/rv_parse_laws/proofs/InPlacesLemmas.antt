@@ -6,13 +6,19 @@ use Rattle.rv_text_laws.specs.declared.punct.Punct.TheVariants.{Comma, Open}
 use Rattle.rv_text_laws.specs.Grammar.{Kind, Punctuation}
 use Rattle.rv_text_laws.specs.Lexing.{Token, ended}
 use Rattle.rv_text_laws.specs.SyntaxError.{SyntaxError, wrong}
+use Rattle.rv_compress.specs.declared.parcel.RegisterSet.{RegisterSet}
+use Rattle.rv_compress.specs.declared.parcel.RegisterSet.TheVariants.{Any}
+use Rattle.rv_compress.specs.declared.parcel.OperandShape.{OperandShape}
+use Rattle.rv_compress.specs.declared.parcel.OperandShape.TheVariants as shapes
+use Rattle.rv_compress.specs.Mnemonics.{register_sets, shape_of}
 use Rattle.rv_statement.specs.declared.mnemonic.Mnemonic.{Mnemonic}
-use Rattle.rv_statement.specs.declared.mnemonic.Mnemonic.TheVariants.{Registers}
+use Rattle.rv_statement.specs.declared.mnemonic.Mnemonic.TheVariants.{Registers, Parcel}
 use Rattle.rv_statement.specs.declared.directive.DirectiveWord.{DirectiveWord}
 use Rattle.rv_statement.specs.declared.directive.DirectiveWord.TheVariants as words
 use Rattle.rv_statement.specs.Statement.{Operand}
-use Rattle.rv_parse_laws.specs.Syntax.{is_comma, is_end, is_opening, with_constant, source, Slot, A_value, An_address, A_callee, A_section, A_comma, An_opening, single, front_begins, Slots, Stops, Takes, Chooses, Locates, Lists, Anything, slots, places, IsOperand, IsTaken, AreOperands, colon_next, EndsHere}
+use Rattle.rv_parse_laws.specs.Syntax.{is_comma, is_end, is_opening, with_constant, source, registers_alone, registers_and_base, registers_before, parcel_slots, last, Slot, A_value, A_target, An_address_by, A_callee, A_section, A_comma, An_opening, single, front_begins, Slots, Stops, Takes, Chooses, Locates, Lists, Anything, slots, places, IsOperand, IsTaken, AreOperands, colon_next, EndsHere}
 use Rattle.rv_parse_laws.specs.Faults.{wrong_after}
+use Rattle.rv_parse_laws.specs.declared.role.Role.TheVariants as roles
 use Rattle.rv_parse_laws.specs.Parsing.{taking, operands_at}
 use Rattle.rv_parse_laws.proofs.FailingLemmas.{Failing, at_once, alike, first_of, same_first}
 use Rattle.rv_parse_laws.proofs.SinglesLemmas.{IsSingle, is_single, end_none}
@@ -65,8 +71,29 @@ sound_source : (b : Bool) → sound (source b) ≡ true
 sound_source true = refl
 sound_source false = refl
 
+alone_sound : (sets : List RegisterSet) → sound (registers_alone sets) ≡ true
+alone_sound [] = refl
+alone_sound (set ∷ []) = refl
+alone_sound (set ∷ other ∷ sets) = alone_sound (other ∷ sets)
+
+based_sound : (sets : List RegisterSet) → sound (registers_and_base sets) ≡ true
+based_sound [] = refl
+based_sound (set ∷ []) = refl
+based_sound (set ∷ other ∷ sets) = based_sound (other ∷ sets)
+
+before_sound : (sets : List RegisterSet) (rest : Slots) → sound rest ≡ true → sound (registers_before sets rest) ≡ true
+before_sound [] rest h = h
+before_sound (set ∷ sets) rest h = before_sound sets rest h
+
+parcel_sound : (shape : OperandShape) (sets : List RegisterSet) → sound (parcel_slots shape sets) ≡ true
+parcel_sound shapes.Registers sets = alone_sound sets
+parcel_sound shapes.Number sets = before_sound sets (last (A_value roles.Operand)) refl
+parcel_sound shapes.Address sets = based_sound sets
+parcel_sound shapes.Target sets = before_sound sets (last A_target) refl
+
 pub slots_sound : (m : Mnemonic) → sound (slots m) ≡ true
 slots_sound (Registers operation) = sound_source (is_some (with_constant operation))
+slots_sound (Parcel operation) = parcel_sound (shape_of operation) (register_sets operation)
 slots_sound _ = refl
 
 pub places_sound : (word : DirectiveWord) → sound (places word) ≡ true
@@ -79,7 +106,7 @@ one_begins s text more os (t, w, is) = rw w (rw is refl)
 
 pub operand_begins : (s : Slot) (text more : List Token) (os : List Operand) → is_single s ≡ true → IsOperand s text os → front_begins s (text ++ more) ≡ true
 operand_begins (A_value role) text more os one is = absurd (cc)
-operand_begins An_address text more os one is = absurd (cc)
+operand_begins (An_address_by set) text more os one is = absurd (cc)
 operand_begins A_callee text more os one is = absurd (cc)
 operand_begins A_section text more os one is = absurd (cc)
 operand_begins s text more os one is = one_begins s text more os is
@@ -227,7 +254,7 @@ operands_go (Chooses s more others) =
     let o = operand_goes s in
     let m = operands_go more in
     (o.0 ++ m.0, o.1 ++ m.1, inl (o.0, m.0, o.1, m.1, refl, o.2, m.2, refl))
-operands_go (Locates more) = let a = address_live in (a.0 ∷ a.1, a.2, inl a.3)
+operands_go (Locates more) = let a = address_live Any in (a.0 ∷ a.1, a.2, inl a.3)
 operands_go (Lists s) = let o = operand_goes s in (o.0, o.1, (1, o.2))
 operands_go Anything = ([], [], (refl, refl))
 
@@ -242,7 +269,7 @@ operands_live (Chooses s more others) =
     let o = operand_live s in
     let m = operands_go more in
     (o.0 ∷ (o.1 ++ m.0), o.2 ++ m.1, inl (o.0 ∷ o.1, m.0, o.2, m.1, refl, o.3, m.2, refl), o.4)
-operands_live (Locates more) = let a = address_live in (a.0 ∷ a.1, a.2, inl a.3, a.4)
+operands_live (Locates more) = let a = address_live Any in (a.0 ∷ a.1, a.2, inl a.3, a.4)
 operands_live (Lists s) = let o = operand_live s in (o.0 ∷ o.1, o.2, (1, o.3), o.4)
 operands_live Anything = ([], [], (refl, refl), refl)
 

@@ -11,7 +11,7 @@ use Rattle.rv_text_laws.specs.SyntaxError.{SyntaxError, wrong, Read, nowhere, is
 use Rattle.rv_text_laws.specs.Joined.{joined_at}
 use Rattle.rv_text_laws.proofs.ExpressionWrongLemmas.{ended_more}
 use Rattle.rv_statement.specs.Statement.{Operand}
-use Rattle.rv_parse_laws.specs.Syntax.{is_comma, is_end, is_wrong, is_any, Slot, A_value, An_address, A_callee, A_section, IsOperand, IsTaken, IsFurther, AreItems, EndsHere}
+use Rattle.rv_parse_laws.specs.Syntax.{is_comma, is_end, is_wrong, is_any, Slot, A_value, An_address_by, A_callee, A_section, IsOperand, IsTaken, IsFurther, AreItems, EndsHere}
 use Rattle.rv_parse_laws.specs.Faults.{wrong_after, wrong_any}
 use Rattle.rv_parse_laws.specs.Parsing.{◌>>=◌, seen_as, operand_at, end_at, ended_at, taking, further, items_in, items_at, any_at}
 use Rattle.rv_parse_laws.proofs.StepsLemmas.{bind_ok, tested_ok, pair_parts, bind_err, tested_err}
@@ -87,7 +87,7 @@ further_same s (t ∷ us) R Q h = ap (λ x. cond (is_comma t.kind) x (ended_at s
 operand_none : (s : Slot) → operand_at s [] ≡ Err nowhere
 unfolding joined_at
 operand_none (A_value role) = refl
-operand_none An_address = refl
+operand_none (An_address_by set) = refl
 operand_none A_callee = refl
 operand_none A_section = refl
 operand_none _ = refl

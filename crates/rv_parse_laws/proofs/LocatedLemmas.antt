@@ -7,6 +7,7 @@ use Rattle.rv_text_laws.specs.Lexing.{Token, ended}
 use Rattle.rv_text_laws.specs.Codes.{unsupported_here}
 use Rattle.rv_text_laws.specs.SyntaxError.{SyntaxError, wrong, Read}
 use Rattle.rv_text_laws.proofs.ExpressionWrongLemmas.{ended_behind}
+use Rattle.rv_compress.specs.declared.parcel.RegisterSet.TheVariants.{Any}
 use Rattle.rv_statement.specs.Statement.{Expression, Operand, Target}
 use Rattle.rv_parse_laws.specs.declared.role.Role.TheVariants as roles
 use Rattle.rv_parse_laws.specs.Syntax.{is_opening, is_end, is_number, A_register, A_target, An_address, An_opening, front_begins, IsValue, IsOperand, IsTaken, EndsHere}
@@ -48,7 +49,7 @@ target_there R one more rest now later is parted next =
 pub address_there : (R : List Token → Read (List Operand)) (text : List Token) (os : List Operand) (rest : List Token) → IsOperand An_address text os → EndsHere rest
     → located R (text ++ rest) ≡ Ok (os, rest)
 address_there R text os rest is ends =
-    rw (address_no_target text os is rest)
+    rw (address_no_target Any text os is rest)
     (ap (λ us. taking An_address (ended_at An_address) (us ++ rest)) (sym (append-nil text))
     ∙ taken_is An_address (ended_at An_address) text [] rest os [] is tt (end_is An_address rest ends) ∙ ap (λ (x : List Operand). Ok (x, rest)) (append-nil os))
 
@@ -146,7 +147,7 @@ address_err R us w none e = rw none (rw e refl)
 
 unended_err : (R : List Token → Read (List Operand)) (text : List Token) (os : List Operand) (t : Token) (us : List Token) (w : SyntaxError) → IsOperand An_address text os → is_end t.kind ≡ false
     → w ≡ wrong t (wrong_after An_address t.kind) → located R (text ++ t ∷ us) ≡ Err w
-unended_err R text os t us w is no_end shown = rw (address_no_target text os is (t ∷ us), address_is text os is (t ∷ us)) (rw (no_end, shown) refl)
+unended_err R text os t us w is no_end shown = rw (address_no_target Any text os is (t ∷ us), address_is Any text os is (t ∷ us)) (rw (no_end, shown) refl)
 
 pub located_wrong : (R : List Token → Read (List Operand)) (N : List Token → List Operand → Type 0) (ts : List Token) (w : SyntaxError)
     → (text : List Token) × (os : List Operand) × N text os → ended ts ≡ true → located R ts ≡ Err w
@@ -164,7 +165,7 @@ located_wrong R N ts w live end e ih = go (target_next ts) refl e
 
     addressed : target_next ts ≡ false → taking An_address (ended_at An_address) ts ≡ Err w → Failing (List Operand) (IsLocated N) (located R) ts w
     addressed none e = elim (bind_err (operand_at An_address ts) (λ o. seen_as (λ os. o.0 ++ os) (ended_at An_address o.1)) w e) [
-      | inl f ↦ (let x = address_wrong ts w end f in record {
+      | inl f ↦ (let x = address_wrong Any ts w end f in record {
         before = x.0.before;
         at = x.0.at;
         more = x.0.more;
@@ -173,8 +174,8 @@ located_wrong R N ts w live end e ih = go (target_next ts) refl e
         fails = λ text. address_err R (x.0.before ++ x.0.at ∷ text) w (x.1 none text) (x.0.fails text);
         goes = (x.0.goes.0, x.0.goes.1, inl x.0.goes.2);
       })
-      | inr good ↦ (let a = address_found ts good.0.0 good.0.1 good.1 in
-          let k = ended_err An_address good.0.1 w (address_ended ts good.0.0 good.0.1 end good.1) (seen_err (λ os. good.0.0 ++ os) (ended_at An_address good.0.1) w good.2) in
+      | inr good ↦ (let a = address_found Any ts good.0.0 good.0.1 good.1 in
+          let k = ended_err An_address good.0.1 w (address_ended Any ts good.0.0 good.0.1 end good.1) (seen_err (λ os. good.0.0 ++ os) (ended_at An_address good.0.1) w good.2) in
           record {
             before = a.0;
             at = k.0;

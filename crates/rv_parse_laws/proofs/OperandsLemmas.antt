@@ -6,7 +6,7 @@ use Rattle.rv_text_laws.specs.Lexing.{Token, ended}
 use Rattle.rv_text_laws.specs.SyntaxError.{SyntaxError, Read}
 use Rattle.rv_text_laws.proofs.ExpressionWrongLemmas.{ended_more}
 use Rattle.rv_statement.specs.Statement.{Operand, Word}
-use Rattle.rv_parse_laws.specs.Syntax.{is_colon, Slot, A_value, An_address, A_callee, A_section, IsValueIn, IsOperand, IsTaken, EndsHere}
+use Rattle.rv_parse_laws.specs.Syntax.{is_colon, Slot, A_value, An_address_by, A_callee, A_section, IsValueIn, IsOperand, IsTaken, EndsHere}
 use Rattle.rv_parse_laws.specs.Parsing.{seen_as, value_in, section_at, operand_at, taking}
 use Rattle.rv_parse_laws.proofs.StepsLemmas.{bind_ok, seen_ok, bind_err, seen_err}
 use Rattle.rv_parse_laws.proofs.FailingLemmas.{Failing, behind, alike, first_of}
@@ -26,7 +26,7 @@ Ready _ rest = Unit {0}
 
 pub operand_is : (s : Slot) (text : List Token) (os : List Operand) → IsOperand s text os → (rest : List Token) → Ready s rest → operand_at s (text ++ rest) ≡ Ok (os, rest)
 operand_is (A_value role) text os is rest ready = rw is.2 (ap (seen_as (λ o. o ∷ [])) (value_in_is role text rest is.0 is.1 ready))
-operand_is An_address text os is rest ready = address_is text os is rest
+operand_is (An_address_by set) text os is rest ready = address_is set text os is rest
 operand_is A_callee text os is rest ready = callee_is text os is rest ready
 operand_is A_section text os is rest ready = rw is.3 (ap (seen_as (λ name. Word name ∷ [])) (section_is text rest is.0 (is.1, is.2) ready))
 operand_is s text os is rest ready = one_is s text os is rest
@@ -48,9 +48,9 @@ operand_found (A_value role) ts os rest e =
       is = (s.0, f.is, s.2);
       steady = λ us first. ap (seen_as (λ o. o ∷ [])) (f.steady us first) ∙ ap (λ (x : List Operand). Ok (x, us)) (sym s.2);
     }
-operand_found An_address ts os rest e =
-    let f = address_found ts os rest e in
-    record { text = f.0; whole = f.1; is = f.2; steady = λ us first. address_is f.0 os f.2 us }
+operand_found (An_address_by set) ts os rest e =
+    let f = address_found set ts os rest e in
+    record { text = f.0; whole = f.1; is = f.2; steady = λ us first. address_is set f.0 os f.2 us }
 operand_found A_callee ts os rest e =
     let f = callee_found ts os rest e in
     record { text = f.text; whole = f.whole; is = f.is; steady = f.steady }
@@ -74,7 +74,7 @@ section_some (t ∷ text) os is = omega arith
 -- one token or more
 pub operand_some : (s : Slot) (text : List Token) (os : List Operand) → IsOperand s text os → 0 < length text
 operand_some (A_value role) text os is = value_in_some role text is.0 is.1
-operand_some An_address text os is = address_some text os is
+operand_some (An_address_by set) text os is = address_some set text os is
 operand_some A_callee text os is = callee_some text os is
 operand_some A_section text os is = section_some text os is
 operand_some s text os is = one_some s text os is
@@ -91,7 +91,7 @@ operand_ended (A_value role) ts os rest end e =
     let s = seen_ok (λ o. o ∷ []) (value_in role ts) os rest e in
     let f = value_found role ts s.0 rest s.1 in
     f.ended_rest end
-operand_ended An_address ts os rest end e = address_ended ts os rest end e
+operand_ended (An_address_by set) ts os rest end e = address_ended set ts os rest end e
 operand_ended A_callee ts os rest end e = let f = callee_found ts os rest e in f.ended_rest end
 operand_ended A_section ts os rest end e =
     let s = seen_ok (λ name. Word name ∷ []) (section_at ts) os rest e in
@@ -106,7 +106,7 @@ operand_ended s ts os rest end e = (single_passed s ts os rest end e).3
 -- each place has something that stands in it, and does not begin with a colon
 pub operand_live : (s : Slot) → (t : Token) × (us : List Token) × (os : List Operand) × IsOperand s (t ∷ us) os × (is_colon t.kind ≡ false)
 operand_live (A_value role) = (a_symbol, [], (value_goes role).0 ∷ [], ((value_goes role).0, (value_goes role).1, refl), refl)
-operand_live An_address = address_live
+operand_live (An_address_by set) = address_live set
 operand_live A_callee = callee_live
 operand_live A_section = (section_token, [], Word some_section.1 ∷ [], (some_section.1, some_section.2.0, some_section.2.1, refl), refl)
 operand_live s = one_goes s refl
@@ -119,7 +119,7 @@ operand_wrong (A_value role) ts w end e =
     alike (List Operand) Operand (IsOperand (A_value role)) (IsValueIn role) (operand_at (A_value role)) (value_in role) ts w
     (λ us x v. (x ∷ [], (x, v, refl))) (λ us first h. ap (seen_as (λ o. o ∷ [])) h)
     (value_wrong role ts w end (seen_err (λ o. o ∷ []) (value_in role ts) w e)).0
-operand_wrong An_address ts w end e = (address_wrong ts w end e).0
+operand_wrong (An_address_by set) ts w end e = (address_wrong set ts w end e).0
 operand_wrong A_callee ts w end e = callee_wrong ts w end e
 operand_wrong A_section ts w end e =
     alike (List Operand) (List ℕ) (IsOperand A_section) IsSection (operand_at A_section) section_at ts w

@@ -1,15 +1,18 @@
 -- What one token is in its place.
 
-use Rattle.std.proofs.Common.{◌≡◌, ◌<◌, Bool, true, false, List, [], ◌∷◌, ◌++◌, length, Some, None, Ok, Err, refl, sym, ◌∙◌, ap, codes, arith}
+use Rattle.std.proofs.Common.{◌≡◌, ℕ, ◌<◌, Bool, true, false, cond, List, [], ◌∷◌, ◌++◌, length, Option, Some, None, option_map, Ok, Err, refl, sym, ◌∙◌, ap, codes, arith}
 use Rattle.rv_text_laws.specs.declared.punct.Punct.TheVariants.{Comma, Colon, Semicolon, Open, Close, At}
 use Rattle.rv_text_laws.specs.Grammar.{Kind, Newline, Punctuation, Name as NameToken, Number, Text, Bad_byte, Bad_token, End}
 use Rattle.rv_text_laws.specs.Lexing.{Token, is_last, ended}
 use Rattle.rv_text_laws.specs.SyntaxError.{SyntaxError, wrong}
 use Rattle.rv_text_laws.proofs.ExpressionWrongLemmas.{ended_more}
 use Rattle.rv_isa.specs.RegisterNames.{abi_names}
+use Rattle.rv_compress.specs.declared.parcel.RegisterSet.{RegisterSet}
+use Rattle.rv_compress.specs.declared.parcel.RegisterSet.TheVariants.{Any, Nonzero, Short, Stack, Upper}
+use Rattle.rv_compress.specs.Mnemonics.{is_in}
 use Rattle.rv_statement.specs.Statement.{Operand, Register, Accesses, Word, Quoted}
 use Rattle.rv_parse_laws.specs.Words.{names_of, register, choices}
-use Rattle.rv_parse_laws.specs.Syntax.{is_symbol, register_of, symbol_of, is_colon, is_end, access_sets, accesses, Slot, A_register, A_value, An_address, A_callee, A_zero, Some_accesses, A_symbol, A_string, A_section, Some_flags, At_sign, A_type, An_option, A_plt, A_comma, An_opening, A_closing, single}
+use Rattle.rv_parse_laws.specs.Syntax.{is_symbol, register_of, kept_in, symbol_of, is_colon, is_end, access_sets, accesses, Slot, A_register_of, A_value, An_address_by, A_callee, A_zero, Some_accesses, A_symbol, A_string, A_section, Some_flags, At_sign, A_type, An_option, A_plt, A_comma, An_opening, A_closing, single}
 use Rattle.rv_parse_laws.specs.Faults.{wrong_first}
 use Rattle.rv_parse_laws.specs.Parsing.{single_at}
 use Rattle.rv_parse_laws.proofs.StepsLemmas.{taken_ok, taken_err}
@@ -19,24 +22,41 @@ use Rattle.rv_parse_laws.proofs.FailingLemmas.{Failing, at_first}
 abbrev pub IsSingle : Slot → List Token → List Operand → Type 0
 IsSingle s text os = (t : Token) × (text ≡ t ∷ []) × (single s t.kind ≡ Some os)
 
+-- what is no register is none of a set, and what is one of a set is a register
+kept_none : (set : RegisterSet) → kept_in set None ≡ None
+kept_none Any = refl
+kept_none _ = refl
+
+if_kept : (b : Bool) (r n : ℕ) → cond {A = Option ℕ} b (Some r) None ≡ Some n → r ≡ n
+if_kept true r n h = cc
+if_kept false r n h = absurd (cc)
+
+pub kept_is : (set : RegisterSet) (o : Option ℕ) (n : ℕ) → kept_in set o ≡ Some n → o ≡ Some n
+kept_is Any o n h = h
+kept_is set None n h = h
+kept_is set (Some r) n h = ap (λ m. Some m) (if_kept (is_in set r) r n h)
+
+no_register : (set : RegisterSet) → option_map (λ r. Register r ∷ []) (kept_in set None) ≡ None
+no_register set = rw (kept_none set) refl
+
 bad_byte_in : (s : Slot) → single s Bad_byte ≡ None
-bad_byte_in A_register = refl
+bad_byte_in (A_register_of set) = no_register set
 bad_byte_in _ = refl
 
 bad_token_in : (s : Slot) → single s Bad_token ≡ None
-bad_token_in A_register = refl
+bad_token_in (A_register_of set) = no_register set
 bad_token_in _ = refl
 
 end_in : (s : Slot) → single s End ≡ None
-end_in A_register = refl
+end_in (A_register_of set) = no_register set
 end_in _ = refl
 
 newline_in : (s : Slot) → single s Newline ≡ None
-newline_in A_register = refl
+newline_in (A_register_of set) = no_register set
 newline_in _ = refl
 
 semicolon_in : (s : Slot) → single s (Punctuation Semicolon) ≡ None
-semicolon_in A_register = refl
+semicolon_in (A_register_of set) = no_register set
 semicolon_in _ = refl
 
 -- what stands in a place is not the last token, and no end
@@ -66,12 +86,25 @@ a_closing = some_token (Punctuation Close)
 abbrev pub a_newline : Token
 a_newline = some_token Newline
 
-abbrev pub a_register : Token
-a_register = some_token (NameToken (codes "a0"))
+-- a register of each set
+abbrev a_name : RegisterSet → List ℕ
+a_name Stack = codes "sp"
+a_name _ = codes "a0"
 
-pub a_register_is : register_of a_register.kind ≡ Some 10
+abbrev pub a_number : RegisterSet → ℕ
+a_number Stack = 2
+a_number _ = 10
+
+abbrev pub a_register : RegisterSet → Token
+a_register set = some_token (NameToken (a_name set))
+
+pub a_register_is : (set : RegisterSet) → kept_in set (register_of (a_register set).kind) ≡ Some (a_number set)
 unfolding register names_of abi_names
-a_register_is = refl
+a_register_is Any = refl
+a_register_is Nonzero = refl
+a_register_is Short = refl
+a_register_is Stack = refl
+a_register_is Upper = refl
 
 abbrev pub a_literal : Token
 a_literal = some_token (Number [] 0)
@@ -87,8 +120,8 @@ a_symbol_is = refl
 abbrev pub Goes : Slot → Type 0
 Goes s = (t : Token) × (os : List Operand) × (single s t.kind ≡ Some os)
 
-register_goes : Goes A_register
-register_goes = (a_register, Register 10 ∷ [], rw a_register_is refl)
+register_goes : (set : RegisterSet) → Goes (A_register_of set)
+register_goes set = (a_register set, Register (a_number set) ∷ [], rw (a_register_is set) refl)
 
 accesses_go : Goes Some_accesses
 unfolding access_sets
@@ -107,15 +140,15 @@ option_goes = (some_token (NameToken (codes "rvc")), Word (codes "rvc") ∷ [], 
 -- a place that one token stands in
 abbrev pub is_single : Slot → Bool
 is_single (A_value role) = false
-is_single An_address = false
+is_single (An_address_by set) = false
 is_single A_callee = false
 is_single A_section = false
 is_single _ = true
 
 pub single_goes : (s : Slot) → is_single s ≡ true → Goes s
-single_goes A_register h = register_goes
+single_goes (A_register_of set) h = register_goes set
 single_goes (A_value role) h = absurd (cc)
-single_goes An_address h = absurd (cc)
+single_goes (An_address_by set) h = absurd (cc)
 single_goes A_callee h = absurd (cc)
 single_goes A_zero h = (a_literal, [], refl)
 single_goes Some_accesses h = accesses_go
@@ -171,7 +204,7 @@ pub one_some : (s : Slot) (text : List Token) (os : List Operand) → IsSingle s
 one_some s text os (t, w, is) = rw w (omega arith)
 
 colon_in : (s : Slot) → single s (Punctuation Colon) ≡ None
-colon_in A_register = refl
+colon_in (A_register_of set) = no_register set
 colon_in _ = refl
 
 pub single_no_colon : (s : Slot) (k : Kind) (os : List Operand) → single s k ≡ Some os → is_colon k ≡ false

@@ -13,7 +13,8 @@ use Rattle.rv_text_laws.specs.declared.operator.UnaryOperator.TheVariants.{Negat
 use Rattle.rv_text_laws.specs.declared.operator.BinaryOperator.TheVariants.{Add, Multiply}
 use Rattle.rv_statement.specs.declared.directive.Choice.TheVariants.{Norvc}
 use Rattle.rv_statement.specs.declared.directive.Standard.TheVariants.{Bss}
-use Rattle.rv_statement.specs.declared.mnemonic.Mnemonic.TheVariants.{Registers, Upper, Load, Store, Branch, Jal, Jalr, LoadReserved, Nop, Unary, Compare, ZeroBranch, SwappedBranch, J, Jr, Ret, La, Call, Tail, Jump}
+use Rattle.rv_statement.specs.declared.mnemonic.Mnemonic.TheVariants.{Registers, Upper, Load, Store, Branch, Jal, Jalr, LoadReserved, Nop, Unary, Compare, ZeroBranch, SwappedBranch, J, Jr, Ret, La, Call, Tail, Jump, Parcel}
+use Rattle.rv_compress.specs.declared.parcel.ParcelOperation.TheVariants as parcels
 use Rattle.rv_isa.specs.declared.operation.RegisterOperation.TheVariants.{And}
 use Rattle.rv_isa.specs.declared.operation.BranchOperation.TheVariants.{Bgeu}
 use Rattle.rv_isa.specs.declared.operation.UpperOperation.TheVariants.{Lui, Auipc}
@@ -80,6 +81,15 @@ good_lines =
     (codes "and a0, a1, %lo((5))", Instruction (Registers And) (Register 10 ∷ Register 11 ∷ Applied Lo (Leaf (Literal 5)) ∷ [])) ∷
     (codes "and a0, a1, -1", Instruction (Registers And) (Register 10 ∷ Register 11 ∷ Value (Unary Negate (Leaf (Literal 1))) ∷ [])) ∷
     (codes "lr.w a0, '\\0'(a1)", Instruction (LoadReserved (form_with false false false)) (Register 10 ∷ Register 11 ∷ [])) ∷
+    (codes "c.addi4spn a0, sp, 16", Instruction (Parcel parcels.Addi4spn) (Register 10 ∷ Register 2 ∷ Value (Leaf (Literal 16)) ∷ [])) ∷
+    (codes "c.addi16sp sp, %lo(16)", Instruction (Parcel parcels.Addi16sp) (Register 2 ∷ Applied Lo (Leaf (Literal 16)) ∷ [])) ∷
+    (codes "c.lw a0, 4(a1)", Instruction (Parcel parcels.Lw) (Register 10 ∷ Value (Leaf (Literal 4)) ∷ Register 11 ∷ [])) ∷
+    (codes "c.swsp zero, (sp)", Instruction (Parcel parcels.Swsp) (Register 0 ∷ Register 2 ∷ [])) ∷
+    (codes "c.and s0, a5", Instruction (Parcel parcels.And) (Register 8 ∷ Register 15 ∷ [])) ∷
+    (codes "c.jr ra", Instruction (Parcel parcels.Jr) (Register 1 ∷ [])) ∷
+    (codes "c.j x", Instruction (Parcel parcels.J) (Target (Leaf (Symbol (codes "x"))) ∷ [])) ∷
+    (codes "c.beqz a0, .+4", Instruction (Parcel parcels.Beqz) (Register 10 ∷ Target (Binary Add (Leaf Here) (Leaf (Literal 4))) ∷ [])) ∷
+    (codes "c.nop", Instruction (Parcel parcels.Nop) []) ∷
     (codes ".section .note.GNU-stack,\"awxMS\",@note, 4", Directs (Opens (codes ".note.GNU-stack") (Some (codes "awxMS")) (Some (codes "note")))) ∷
     (codes ".section x,\"\"", Directs (Opens (codes "x") (Some []) None)) ∷
     (codes ".section x,\"zz\",@foo", Directs (Opens (codes "x") (Some (codes "zz")) (Some (codes "foo")))) ∷
@@ -158,6 +168,18 @@ bad_lines =
     (codes "call x, t0", 7, 6) ∷
     (codes "tail x@plt", 7, 6) ∷
     (codes "jump x", 7, 6) ∷
+    (codes "c.lwsp zero, 0(sp)", 7, 7) ∷
+    (codes "c.lwsp a0, 0(a1)", 7, 13) ∷
+    (codes "c.lwsp a0, (a1)", 7, 12) ∷
+    (codes "c.lw a0, 4(a6)", 7, 11) ∷
+    (codes "c.addi4spn a0, a1, 16", 7, 15) ∷
+    (codes "c.lui sp, 1", 7, 6) ∷
+    (codes "c.and a0, a6", 7, 10) ∷
+    (codes "c.add a0, 1", 7, 10) ∷
+    (codes "c.jr 0(ra)", 7, 5) ∷
+    (codes "c.j 8", 9, 4) ∷
+    (codes "c.nop 1", 7, 6) ∷
+    (codes "c.foo", 6, 0) ∷
     (codes "unimp", 9, 0) ∷
     (codes "csrr a0, x", 6, 0) ∷
     (codes "li a0, x == 1", 9, 9) ∷

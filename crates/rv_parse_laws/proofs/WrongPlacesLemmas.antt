@@ -2,13 +2,14 @@
 
 use Rattle.std.proofs.Common.{◌≡◌, ℕ, zero, suc, List, [], ◌∷◌, ◌++◌, append_assoc, refl, sym, ◌∙◌, ap, subst, inl, inr}
 use Rattle.rv_text_laws.specs.Lexing.{Token}
+use Rattle.rv_compress.specs.declared.parcel.RegisterSet.{RegisterSet}
 use Rattle.rv_statement.specs.declared.pseudo.Function.{Function}
 use Rattle.rv_statement.specs.declared.pseudo.Function.TheVariants.{Hi, Lo, PcrelHi, PcrelLo}
 use Rattle.rv_parse_laws.specs.declared.role.Role.{Role}
 use Rattle.rv_parse_laws.specs.declared.role.Role.TheVariants as roles
 use Rattle.rv_parse_laws.specs.declared.beginning.Beginning.{Beginning}
 use Rattle.rv_parse_laws.specs.declared.beginning.Beginning.TheVariants as beginnings
-use Rattle.rv_parse_laws.specs.Syntax.{A_value, A_target, An_address, A_callee, A_section, Slot, Slots, Stops, Takes, Chooses, Locates, Lists, Anything, slots, places, begins}
+use Rattle.rv_parse_laws.specs.Syntax.{A_value, A_target, An_address_by, An_address, A_callee, A_section, Slot, Slots, Stops, Takes, Chooses, Locates, Lists, Anything, slots, places, begins}
 use Rattle.rv_parse_laws.specs.Wrong.{IsWrongInside, IsWrongArgument, IsWrongCall, IsWrongApplied, IsWrongValue, IsWrongBase, IsWrongAddress, IsWrongCallee, IsWrongSection, IsWrongOperand, IsWrongTaken, IsNoEnd, IsWrongNext, IsWrongItem, IsWrongIn, IsWrongAfter, IsWrongStatement}
 
 -- the token is one of these
@@ -47,16 +48,16 @@ value role ts t code (inl (next, (p, us, w, x))) = subst (Occurs t) (sym w) (app
 value role ts t code (inr (next, inl x)) = inside ts t code x
 value role ts t code (inr (next, inr (us, w, r))) = first t ts us w
 
-base : (ts : List Token) (t : Token) (code : ℕ) → IsWrongBase ts t code → Occurs t ts
-base ts t code (inl (us, w, none, is)) = first t ts us w
-base ts t code (inr (o, us, w, opens, inl (vs, v, none, is))) = occurs_behind t ts (o ∷ []) us w (first t us vs v)
-base ts t code (inr (o, us, w, opens, inr (r, vs, number, v, named, (xs, x, none, is)))) =
+base : (set : RegisterSet) (ts : List Token) (t : Token) (code : ℕ) → IsWrongBase set ts t code → Occurs t ts
+base set ts t code (inl (us, w, none, is)) = first t ts us w
+base set ts t code (inr (o, us, w, opens, inl (vs, v, none, is))) = occurs_behind t ts (o ∷ []) us w (first t us vs v)
+base set ts t code (inr (o, us, w, opens, inr (r, vs, number, v, named, (xs, x, none, is)))) =
     occurs_behind t ts (o ∷ r ∷ []) vs (w ∙ ap (λ ys. o ∷ ys) v) (first t vs xs x)
 
-address : (ts : List Token) (t : Token) (code : ℕ) → IsWrongAddress ts t code → Occurs t ts
-address ts t code (inl (next, x)) = base ts t code x
-address ts t code (inr (next, inl x)) = value roles.Operand ts t code x
-address ts t code (inr (next, inr (one, rest, o, w, is, ends, x))) = occurs_behind t ts one rest w (base rest t code x)
+address : (set : RegisterSet) (ts : List Token) (t : Token) (code : ℕ) → IsWrongAddress set ts t code → Occurs t ts
+address set ts t code (inl (next, x)) = base set ts t code x
+address set ts t code (inr (next, inl x)) = value roles.Operand ts t code x
+address set ts t code (inr (next, inr (one, rest, o, w, is, ends, x))) = occurs_behind t ts one rest w (base set rest t code x)
 
 callee : (ts : List Token) (t : Token) (code : ℕ) → IsWrongCallee ts t code → Occurs t ts
 callee ts t code (inl (next, (f, a, us, w, (vs, v, none, is)))) = occurs_behind t ts (f ∷ a ∷ []) us w (first t us vs v)
@@ -69,7 +70,7 @@ section ts t code (inr (inr (us, name, rest, w, reads, bad))) = first t ts us w
 
 operand : (s : Slot) (ts : List Token) (t : Token) (code : ℕ) → IsWrongOperand s ts t code → Occurs t ts
 operand (A_value role) ts t code x = value role ts t code x
-operand An_address ts t code x = address ts t code x
+operand (An_address_by set) ts t code x = address set ts t code x
 operand A_callee ts t code x = callee ts t code x
 operand A_section ts t code x = section ts t code x
 operand s ts t code x = first t ts x.0 x.1

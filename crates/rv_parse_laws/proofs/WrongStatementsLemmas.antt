@@ -10,7 +10,7 @@ use Rattle.rv_statement.specs.Statement.{Operand, Target, Word, Instruction, Dir
 use Rattle.rv_parse_laws.specs.declared.role.Role.TheVariants as roles
 use Rattle.rv_parse_laws.specs.declared.beginning.Beginning.{Beginning}
 use Rattle.rv_parse_laws.specs.declared.beginning.Beginning.TheVariants as beginnings
-use Rattle.rv_parse_laws.specs.Syntax.{symbol_of, is_at, label_of, begins, is_comma, is_end, is_any, Slot, A_value, A_target, An_address, A_callee, A_section, A_plt, front_begins, Slots, Stops, Takes, Chooses, Locates, Lists, Anything, slots, places, directed, colon_next, Part, Ends, Says}
+use Rattle.rv_parse_laws.specs.Syntax.{symbol_of, is_at, label_of, begins, is_comma, is_end, is_any, Slot, A_value, A_target, An_address_by, An_address, A_callee, A_section, A_plt, front_begins, Slots, Stops, Takes, Chooses, Locates, Lists, Anything, slots, places, directed, colon_next, Part, Ends, Says}
 use Rattle.rv_parse_laws.specs.Faults.{wrong_after, wrong_any, wrong_start, wrong_label}
 use Rattle.rv_parse_laws.specs.Wrong.{IsWrongFirst, IsWrongCallee, IsTargetNext, IsWrongOperand, Passes, IsWrongTaken, IsNoEnd, IsWrongNext, IsWrongItem, IsWrongAny, IsWrongIn, IsWrongAfter, IsWrongStatement}
 use Rattle.rv_parse_laws.specs.Parsing.{seen_as, taken, single_at, value_at, value_in, is_target, target_next, plt_next, plt_at, section_at, operand_at, ended_at, taking, further, items_at, any_at, operands_at, begun_at, after_first, statement_at, part_at}
@@ -54,14 +54,14 @@ callee_said ts w end e = go (plt_next ts) refl e
 -- what stands in a slot
 operand_wrongs : (s : Slot) (ts : List Token) (t : Token) (code : ℕ) → IsWrongOperand s ts t code → operand_at s ts ≡ Err (wrong t code)
 operand_wrongs (A_value role) ts t code x = ap (seen_as (λ o. o ∷ [])) (value_is role ts t code x)
-operand_wrongs An_address ts t code x = address_wrongs ts t code x
+operand_wrongs (An_address_by set) ts t code x = address_wrongs set ts t code x
 operand_wrongs A_callee ts t code x = callee_wrongs ts t code x
 operand_wrongs A_section ts t code x = ap (seen_as (λ name. Word name ∷ [])) (section_wrongs ts t code x)
 operand_wrongs s ts t code x = first_is s ts t code x
 
 operand_said : (s : Slot) (ts : List Token) (w : SyntaxError) → ended ts ≡ true → operand_at s ts ≡ Err w → SaidBy (IsWrongOperand s) ts w
 operand_said (A_value role) ts w end e = value_said role ts w end (seen_err (λ o. o ∷ []) (value_in role ts) w e)
-operand_said An_address ts w end e = address_said ts w end e
+operand_said (An_address_by set) ts w end e = address_said set ts w end e
 operand_said A_callee ts w end e = callee_said ts w end e
 operand_said A_section ts w end e = section_said ts w (seen_err (λ name. Word name ∷ []) (section_at ts) w e) end
 operand_said s ts w end e = first_said s ts w end e

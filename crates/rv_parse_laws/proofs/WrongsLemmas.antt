@@ -10,12 +10,13 @@ use Rattle.rv_text_laws.specs.Codes.{bad_operands, unsupported_here}
 use Rattle.rv_text_laws.proofs.ExpressionFoundLemmas.{expression_found}
 use Rattle.rv_text_laws.proofs.ExpressionWrongLemmas.{ended_more}
 use Rattle.rv_text_laws.proofs.ExpressionFaultsLemmas.{fails_there, wrong_at}
+use Rattle.rv_compress.specs.declared.parcel.RegisterSet.{RegisterSet}
 use Rattle.rv_statement.specs.Statement.{Expression, Operand, Applied, Value, Target}
 use Rattle.rv_statement.specs.declared.pseudo.Function.{Function}
 use Rattle.rv_statement.specs.declared.pseudo.Function.TheVariants.{Hi, Lo, PcrelHi, PcrelLo}
 use Rattle.rv_parse_laws.specs.declared.role.Role.{Role}
 use Rattle.rv_parse_laws.specs.declared.role.Role.TheVariants as roles
-use Rattle.rv_parse_laws.specs.Syntax.{is_register, register_of, is_percent, is_opening, targets, valued, is_number, is_refused, function_in, label_named, is_refused_by, IsArgument, IsValueIn, Slot, A_register, A_value, An_address, A_closing, An_opening}
+use Rattle.rv_parse_laws.specs.Syntax.{is_register, register_of, kept_in, is_percent, is_opening, targets, valued, is_number, is_refused, function_in, label_named, is_refused_by, IsArgument, IsValueIn, Slot, A_register_of, A_register, A_value, An_address_by, A_closing, An_opening}
 use Rattle.rv_parse_laws.specs.Content.{left_out, content_fault}
 use Rattle.rv_parse_laws.specs.Faults.{may_call, is_name, wrong_or, wrong_symbol, wrong_function, wrong_first}
 use Rattle.rv_parse_laws.specs.Wrong.{IsWrongFirst, IsWrongInside, IsRefused, IsRefusedCall, IsWrongArgument, EndsArgument, IsWrongCall, IsWrongApplied, IsWrongPlain, IsWrongValue, EndsValue, IsWrongBase, IsWrongAddress}
@@ -283,60 +284,60 @@ value_ends role (t ∷ ts) o rest e = go (may_call role && is_percent t.kind) re
         subst (λ x. EndsValue x rest) (sym s.2) (ends_valued role s.0 rest (ends_before (t ∷ ts) s.0 rest a.0))
 
 -- a register in parentheses
-base_first : (ts : List Token) (w : SyntaxError) → single_at (An_opening A_register) ts ≡ Err w → base_at ts ≡ Err w
-base_first ts w h = rw h refl
+base_first : (set : RegisterSet) (ts : List Token) (w : SyntaxError) → single_at (An_opening A_register) ts ≡ Err w → base_at set ts ≡ Err w
+base_first set ts w h = rw h refl
 
-base_second : (o : Token) (us : List Token) (w : SyntaxError) → is_opening o.kind ≡ true → single_at A_register us ≡ Err w → base_at (o ∷ us) ≡ Err w
-base_second o us w opens h = rw (opens, h) refl
+base_second : (set : RegisterSet) (o : Token) (us : List Token) (w : SyntaxError) → is_opening o.kind ≡ true → single_at (A_register_of set) us ≡ Err w → base_at set (o ∷ us) ≡ Err w
+base_second set o us w opens h = rw (opens, h) refl
 
-base_third : (o r : Token) (vs : List Token) (number : ℕ) (w : SyntaxError) → is_opening o.kind ≡ true → register_of r.kind ≡ Some number → single_at A_closing vs ≡ Err w
-    → base_at (o ∷ r ∷ vs) ≡ Err w
-base_third o r vs number w opens named h = rw (opens, named, h) refl
+base_third : (set : RegisterSet) (o r : Token) (vs : List Token) (number : ℕ) (w : SyntaxError) → is_opening o.kind ≡ true → kept_in set (register_of r.kind) ≡ Some number → single_at A_closing vs ≡ Err w
+    → base_at set (o ∷ r ∷ vs) ≡ Err w
+base_third set o r vs number w opens named h = rw (opens, named, h) refl
 
-base_wrongs : (ts : List Token) (t : Token) (code : ℕ) → IsWrongBase ts t code → base_at ts ≡ Err (wrong t code)
-base_wrongs ts t code (inl x) = base_first ts (wrong t code) (first_is (An_opening A_register) ts t code x)
-base_wrongs ts t code (inr (o, us, w, opens, inl x)) = ap (base_at) w ∙ base_second o us (wrong t code) opens (first_is A_register us t code x)
-base_wrongs ts t code (inr (o, us, w, opens, inr (r, vs, number, v, named, x))) =
-    ap (base_at) (w ∙ ap (λ xs. o ∷ xs) v) ∙ base_third o r vs number (wrong t code) opens named (first_is A_closing vs t code x)
+base_wrongs : (set : RegisterSet) (ts : List Token) (t : Token) (code : ℕ) → IsWrongBase set ts t code → base_at set ts ≡ Err (wrong t code)
+base_wrongs set ts t code (inl x) = base_first set ts (wrong t code) (first_is (An_opening A_register) ts t code x)
+base_wrongs set ts t code (inr (o, us, w, opens, inl x)) = ap (base_at set) w ∙ base_second set o us (wrong t code) opens (first_is (A_register_of set) us t code x)
+base_wrongs set ts t code (inr (o, us, w, opens, inr (r, vs, number, v, named, x))) =
+    ap (base_at set) (w ∙ ap (λ xs. o ∷ xs) v) ∙ base_third set o r vs number (wrong t code) opens named (first_is A_closing vs t code x)
 
-base_said : (ts : List Token) (w : SyntaxError) → ended ts ≡ true → base_at ts ≡ Err w → SaidBy (IsWrongBase) ts w
-base_said ts w end e = elim (bind_err (single_at (An_opening A_register) ts) (λ o. single_at A_register o.1 >>= λ r. seen_as (λ none. r.0) (single_at A_closing r.1)) w e) [
+base_said : (set : RegisterSet) (ts : List Token) (w : SyntaxError) → ended ts ≡ true → base_at set ts ≡ Err w → SaidBy (IsWrongBase set) ts w
+base_said set ts w end e = elim (bind_err (single_at (An_opening A_register) ts) (λ o. single_at (A_register_of set) o.1 >>= λ r. seen_as (λ none. r.0) (single_at A_closing r.1)) w e) [
   | inl f ↦ (let k = first_said (An_opening A_register) ts w end f in (k.0, k.1, inl k.2, k.3))
   | inr a ↦ (let o = single_passed (An_opening A_register) ts a.0.0 a.0.1 end a.1 in
       second o.0 a.0.1 o.1 (opening_is A_register o.0.kind a.0.0 o.2).0 o.3 a.2)
 ]
   where
-    second : (o : Token) (us : List Token) → ts ≡ o ∷ us → is_opening o.kind ≡ true → ended us ≡ true → (single_at A_register us >>= λ r. seen_as (λ none. r.0) (single_at A_closing r.1)) ≡ Err w
-        → SaidBy (IsWrongBase) ts w
-    second o us whole opens end e = elim (bind_err (single_at A_register us) (λ r. seen_as (λ none. r.0) (single_at A_closing r.1)) w e) [
-      | inl f ↦ (let k = first_said A_register us w end f in (k.0, k.1, inr (o, us, whole, opens, inl k.2), k.3))
-      | inr b ↦ (let r = single_passed A_register us b.0.0 b.0.1 end b.1 in
-          let number = register_is r.0.kind b.0.0 r.2 in
+    second : (o : Token) (us : List Token) → ts ≡ o ∷ us → is_opening o.kind ≡ true → ended us ≡ true → (single_at (A_register_of set) us >>= λ r. seen_as (λ none. r.0) (single_at A_closing r.1)) ≡ Err w
+        → SaidBy (IsWrongBase set) ts w
+    second o us whole opens end e = elim (bind_err (single_at (A_register_of set) us) (λ r. seen_as (λ none. r.0) (single_at A_closing r.1)) w e) [
+      | inl f ↦ (let k = first_said (A_register_of set) us w end f in (k.0, k.1, inr (o, us, whole, opens, inl k.2), k.3))
+      | inr b ↦ (let r = single_passed (A_register_of set) us b.0.0 b.0.1 end b.1 in
+          let number = register_is set r.0.kind b.0.0 r.2 in
           let k = first_said A_closing b.0.1 w r.3 (seen_err (λ none. b.0.0) (single_at A_closing b.0.1) w b.2) in
           (k.0, k.1, inr (o, us, whole, opens, inr (r.0, b.0.1, number.0, r.1, number.1, k.2)), k.3))
     ]
 
 -- an address
-offset_first : (ts : List Token) (w : SyntaxError) → value_in roles.Operand ts ≡ Err w → offset_at ts ≡ Err w
-offset_first ts w h = rw h refl
+offset_first : (set : RegisterSet) (ts : List Token) (w : SyntaxError) → value_in roles.Operand ts ≡ Err w → offset_at set ts ≡ Err w
+offset_first set ts w h = rw h refl
 
-offset_base : (ts rest : List Token) (o : Operand) (w : SyntaxError) → value_in roles.Operand ts ≡ Ok (o, rest) → base_at rest ≡ Err w → offset_at ts ≡ Err w
-offset_base ts rest o w h g = rw (h, g) refl
+offset_base : (set : RegisterSet) (ts rest : List Token) (o : Operand) (w : SyntaxError) → value_in roles.Operand ts ≡ Ok (o, rest) → base_at set rest ≡ Err w → offset_at set ts ≡ Err w
+offset_base set ts rest o w h g = rw (h, g) refl
 
-pub address_wrongs : (ts : List Token) (t : Token) (code : ℕ) → IsWrongAddress ts t code → operand_at An_address ts ≡ Err (wrong t code)
-address_wrongs ts t code (inl (next, x)) = rw next (base_wrongs ts t code x)
-address_wrongs ts t code (inr (next, inl x)) = rw next (offset_first ts (wrong t code) (value_is roles.Operand ts t code x))
-address_wrongs ts t code (inr (next, inr (one, rest, o, w, is, ends, x))) =
-    rw next (offset_base ts rest o (wrong t code) (ap (value_in roles.Operand) w ∙ value_passed roles.Operand one rest o is ends) (base_wrongs rest t code x))
+pub address_wrongs : (set : RegisterSet) (ts : List Token) (t : Token) (code : ℕ) → IsWrongAddress set ts t code → operand_at (An_address_by set) ts ≡ Err (wrong t code)
+address_wrongs set ts t code (inl (next, x)) = rw next (base_wrongs set ts t code x)
+address_wrongs set ts t code (inr (next, inl x)) = rw next (offset_first set ts (wrong t code) (value_is roles.Operand ts t code x))
+address_wrongs set ts t code (inr (next, inr (one, rest, o, w, is, ends, x))) =
+    rw next (offset_base set ts rest o (wrong t code) (ap (value_in roles.Operand) w ∙ value_passed roles.Operand one rest o is ends) (base_wrongs set rest t code x))
 
-pub address_said : (ts : List Token) (w : SyntaxError) → ended ts ≡ true → operand_at An_address ts ≡ Err w → SaidBy (IsWrongAddress) ts w
-address_said ts w end e = go (base_next ts) refl e
+pub address_said : (set : RegisterSet) (ts : List Token) (w : SyntaxError) → ended ts ≡ true → operand_at (An_address_by set) ts ≡ Err w → SaidBy (IsWrongAddress set) ts w
+address_said set ts w end e = go (base_next ts) refl e
   where
-    go : (b : Bool) → base_next ts ≡ b → cond b (base_at ts) (offset_at ts) ≡ Err w → SaidBy (IsWrongAddress) ts w
-    go true next e = let k = base_said ts w end e in (k.0, k.1, inl (next, k.2), k.3)
-    go false next e = elim (bind_err (value_in roles.Operand ts) (λ v. seen_as (λ os. v.0 ∷ os) (base_at v.1)) w e) [
+    go : (b : Bool) → base_next ts ≡ b → cond b (base_at set ts) (offset_at set ts) ≡ Err w → SaidBy (IsWrongAddress set) ts w
+    go true next e = let k = base_said set ts w end e in (k.0, k.1, inl (next, k.2), k.3)
+    go false next e = elim (bind_err (value_in roles.Operand ts) (λ v. seen_as (λ os. v.0 ∷ os) (base_at set v.1)) w e) [
       | inl f ↦ (let k = value_said roles.Operand ts w end f in (k.0, k.1, inr (next, inl k.2), k.3))
       | inr a ↦ (let x = value_found roles.Operand ts a.0.0 a.0.1 a.1 in
-          let k = base_said a.0.1 w (x.ended_rest end) (seen_err (λ os. a.0.0 ∷ os) (base_at a.0.1) w a.2) in
+          let k = base_said set a.0.1 w (x.ended_rest end) (seen_err (λ os. a.0.0 ∷ os) (base_at set a.0.1) w a.2) in
           (k.0, k.1, inr (next, inr (x.text, a.0.1, a.0.0, x.whole, x.is, value_ends roles.Operand ts a.0.0 a.0.1 a.1, k.2)), k.3))
     ]

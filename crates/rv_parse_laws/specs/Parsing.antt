@@ -11,10 +11,11 @@ use Rattle.rv_text_laws.specs.Joined.{bytes_of, joined_at}
 use Rattle.rv_text_laws.specs.Expression.{tree_of}
 use Rattle.rv_text_laws.specs.ExpressionAt.{expression_at}
 use Rattle.rv_statement.specs.Statement.{Expression, Operand, Value, Applied, Target, Word, StatementKind, Instruction, Directs}
-use Rattle.rv_parse_laws.specs.Syntax.{is_register, label_of, begins, is_comma, is_percent, is_end, is_any, is_section_name, valued, is_refused, function_in, label_named, is_refused_by, Slot, A_register, A_value, A_target, An_address, A_callee, A_section, Some_flags, At_sign, A_plt, A_comma, A_closing, An_opening, single, front_begins, Slots, Stops, Takes, Chooses, Locates, Lists, Anything, slots, places, directed, colon_next, Part, Ends, Says}
+use Rattle.rv_parse_laws.specs.Syntax.{is_register, label_of, begins, is_comma, is_percent, is_end, is_any, is_section_name, valued, is_refused, function_in, label_named, is_refused_by, Slot, A_register_of, A_register, A_value, A_target, An_address_by, An_address, A_callee, A_section, Some_flags, At_sign, A_plt, A_comma, A_closing, An_opening, single, front_begins, Slots, Stops, Takes, Chooses, Locates, Lists, Anything, slots, places, directed, colon_next, Part, Ends, Says}
 pub use Rattle.rv_parse_laws.specs.Syntax.{base_next, plt_next}
 use Rattle.rv_parse_laws.specs.Faults.{may_call, wrong_function, wrong_symbol, wrong_first, wrong_after, wrong_any, wrong_start, wrong_label}
 use Rattle.rv_parse_laws.specs.WrongOpening.{flags_fault, type_fault, is_section}
+use Rattle.rv_compress.specs.declared.parcel.RegisterSet.{RegisterSet}
 use Rattle.rv_statement.specs.declared.pseudo.Function.{Function}
 use Rattle.rv_statement.specs.declared.pseudo.Function.TheVariants.{PcrelLo}
 use Rattle.rv_parse_laws.specs.declared.role.Role.{Role}
@@ -87,15 +88,15 @@ value_in role (t ∷ ts) =
     if may_call role && is_percent t.kind then applied_at role t ts
     else seen_as (valued role) (allowed (λ e. is_refused role e) t (value_at (t ∷ ts)))
 
--- a register in parentheses
-abbrev pub base_at : List Token → Read (List Operand)
-base_at ts =
-    single_at (An_opening A_register) ts >>= λ o. single_at A_register o.1 >>=
+-- a register of a set in parentheses
+abbrev pub base_at : RegisterSet → List Token → Read (List Operand)
+base_at set ts =
+    single_at (An_opening A_register) ts >>= λ o. single_at (A_register_of set) o.1 >>=
     λ r. seen_as (λ none. r.0) (single_at A_closing r.1)
 
--- an expression, and then a register in parentheses
-abbrev pub offset_at : List Token → Read (List Operand)
-offset_at ts = value_in roles.Operand ts >>= λ v. seen_as (λ os. v.0 ∷ os) (base_at v.1)
+-- an expression, and then a register of a set in parentheses
+abbrev pub offset_at : RegisterSet → List Token → Read (List Operand)
+offset_at set ts = value_in roles.Operand ts >>= λ v. seen_as (λ os. v.0 ∷ os) (base_at set v.1)
 
 -- a target comes next: an expression that no `(` stands behind
 abbrev pub is_target : Read Expression → Bool
@@ -148,7 +149,7 @@ section_at ts = named_or ts (joined_at ts)
 -- what stands in a place
 abbrev pub operand_at : Slot → List Token → Read (List Operand)
 operand_at (A_value role) ts = seen_as (λ o. o ∷ []) (value_in role ts)
-operand_at An_address ts = if base_next ts then base_at ts else offset_at ts
+operand_at (An_address_by set) ts = if base_next ts then base_at set ts else offset_at set ts
 operand_at A_callee ts =
     if plt_next ts then plt_at ts else seen_as (λ o. o ∷ []) (value_in roles.Target ts)
 operand_at A_section ts = seen_as (λ name. Word name ∷ []) (section_at ts)

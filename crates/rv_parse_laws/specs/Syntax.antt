@@ -15,7 +15,12 @@ use Rattle.rv_text_laws.specs.SyntaxError.{longest_name, is_long}
 use Rattle.rv_text_laws.specs.Joined.{IsJoined}
 use Rattle.rv_text_laws.specs.Expression.{Literal, Symbol, Reference, Tree, Leaf, Unary, Paren, Binary, SpellsTree, IsAt, nesting, deepest, bare}
 use Rattle.rv_statement.specs.declared.mnemonic.Mnemonic.{Mnemonic}
-use Rattle.rv_statement.specs.declared.mnemonic.Mnemonic.TheVariants.{Registers, Immediate, Shift, Upper, Load, Store, Branch, Jal, Jalr, LoadReserved, Atomic, Fence, FenceTso, Ecall, Ebreak, Nop, Unary as Of_one, Compare, ZeroBranch, SwappedBranch, J, Jr, Ret, La, Li, Call, Tail, Jump}
+use Rattle.rv_statement.specs.declared.mnemonic.Mnemonic.TheVariants.{Registers, Immediate, Shift, Upper, Load, Store, Branch, Jal, Jalr, LoadReserved, Atomic, Fence, FenceTso, Ecall, Ebreak, Nop, Unary as Of_one, Compare, ZeroBranch, SwappedBranch, J, Jr, Ret, La, Li, Call, Tail, Jump, Parcel}
+use Rattle.rv_compress.specs.declared.parcel.RegisterSet.{RegisterSet}
+use Rattle.rv_compress.specs.declared.parcel.RegisterSet.TheVariants.{Any}
+use Rattle.rv_compress.specs.declared.parcel.OperandShape.{OperandShape}
+use Rattle.rv_compress.specs.declared.parcel.OperandShape.TheVariants as shapes
+use Rattle.rv_compress.specs.Mnemonics.{is_in, register_sets, shape_of}
 use Rattle.rv_isa.specs.declared.operation.RegisterOperation.{RegisterOperation}
 use Rattle.rv_isa.specs.declared.operation.RegisterOperation.TheVariants.{Add, Sll, Slt, Sltu, Xor, Srl, Sra, Or, And, Addw, Sllw, Srlw, Sraw}
 use Rattle.rv_isa.specs.declared.operation.ImmediateOperation.TheVariants.{Addi, Slti, Sltiu, Xori, Ori, Andi, Addiw}
@@ -50,6 +55,12 @@ is_register name = is_some (register name)
 abbrev pub register_of : Kind → Option ℕ
 register_of (NameToken name) = register name
 register_of _ = None
+
+-- the same where it is one of a set
+abbrev pub kept_in : RegisterSet → Option ℕ → Option ℕ
+kept_in Any o = o
+kept_in set None = None
+kept_in set (Some r) = if is_in set r then Some r else None
 
 -- the symbol that a token names
 abbrev pub symbol_of : Kind → Option (List ℕ)
@@ -167,11 +178,12 @@ is_flag letter =
 
 -- what may stand in one slot of a statement
 pub data Slot : Type 0 where
-  A_register : Slot
+  -- a register of a set
+  A_register_of : (set : RegisterSet) → Slot
   -- an expression; by its role it is a value or a target
   A_value : (role : Role) → Slot
-  -- `(rs)`, or an expression and then `(rs)`
-  An_address : Slot
+  -- `(rs)`, or an expression and then `(rs)`, with a register of a set
+  An_address_by : (set : RegisterSet) → Slot
   -- what `call` calls: a target, or a symbol and then `@plt`
   A_callee : Slot
   -- the 0 before an atomic's address
@@ -194,6 +206,13 @@ pub data Slot : Type 0 where
   A_comma : (behind : Slot) → Slot
   An_opening : (behind : Slot) → Slot
   A_closing : Slot
+
+-- with any register
+abbrev pub A_register : Slot
+A_register = A_register_of Any
+
+abbrev pub An_address : Slot
+An_address = An_address_by Any
 
 -- the places of a statement behind its word, one after another
 pub data Slots : Type 0 where
@@ -269,6 +288,28 @@ A_target = A_value roles.Target
 abbrev pub linked : Slot → Slots
 linked target = Chooses A_register (Takes (A_comma A_register) (last target)) (last target)
 
+-- the places of a parcel's operands, by the sets of its registers: these alone, with the last one in
+-- parentheses, or with what stands behind them
+abbrev pub registers_alone : List RegisterSet → Slots
+registers_alone [] = Stops A_register
+registers_alone (set ∷ []) = last (A_register_of set)
+registers_alone (set ∷ sets) = and_then (A_register_of set) (registers_alone sets)
+
+abbrev pub registers_and_base : List RegisterSet → Slots
+registers_and_base [] = Stops A_register
+registers_and_base (base ∷ []) = last (An_address_by base)
+registers_and_base (set ∷ sets) = and_then (A_register_of set) (registers_and_base sets)
+
+abbrev pub registers_before : List RegisterSet → Slots → Slots
+registers_before [] rest = rest
+registers_before (set ∷ sets) rest = and_then (A_register_of set) (registers_before sets rest)
+
+abbrev pub parcel_slots : OperandShape → List RegisterSet → Slots
+parcel_slots shapes.Registers sets = registers_alone sets
+parcel_slots shapes.Number sets = registers_before sets (last (A_value roles.Operand))
+parcel_slots shapes.Address sets = registers_and_base sets
+parcel_slots shapes.Target sets = registers_before sets (last A_target)
+
 -- the places of each instruction's operands (ISA, chapter 24; Assembly Programmer's Manual)
 abbrev pub slots : Mnemonic → Slots
 slots (Registers operation) =
@@ -304,6 +345,7 @@ slots Li = and_then A_register (last (A_value roles.Operand))
 slots Call = linked A_callee
 slots Tail = last A_target
 slots Jump = and_then A_target (last A_register)
+slots (Parcel operation) = parcel_slots (shape_of operation) (register_sets operation)
 
 -- `.section name[,"flags"[,@type[,n]]]`
 abbrev pub section_slots : Slots
@@ -328,7 +370,8 @@ places words.Ignored = Anything
 
 -- the operands that one token is, in a place for it
 abbrev pub single : Slot → Kind → Option (List Operand)
-single A_register k = option_map (λ r. Register r ∷ []) (register_of k)
+single (A_register_of set) k =
+    option_map (λ r. Register r ∷ []) (kept_in set (register_of k))
 single A_zero k = if is_zero k then Some [] else None
 single Some_accesses k = option_map (λ set. Accesses set ∷ []) (accesses_of k)
 single A_symbol k = option_map (λ name. Word name ∷ []) (symbol_of k)
@@ -423,18 +466,18 @@ IsValueIn role ts o =
     ((e : Expression) × IsValue ts e × (is_refused role e ≡ false) × (o ≡ valued role e))
     ⊎ IsApplied role ts o
 
--- the tokens are a register in parentheses
-abbrev pub IsBase : List Token → List Operand → Type 0
-IsBase ts os =
+-- the tokens are a register of a set in parentheses
+abbrev pub IsBase : RegisterSet → List Token → List Operand → Type 0
+IsBase set ts os =
     (o r c : Token) × (number : ℕ) × (ts ≡ o ∷ r ∷ c ∷ []) × (is_opening o.kind ≡ true)
-    × (register_of r.kind ≡ Some number) × (is_closing c.kind ≡ true)
+    × (kept_in set (register_of r.kind) ≡ Some number) × (is_closing c.kind ≡ true)
     × (os ≡ Register number ∷ [])
 
--- the tokens are an expression and then a register in parentheses
-abbrev pub IsOffset : List Token → List Operand → Type 0
-IsOffset ts os =
+-- the tokens are an expression and then a register of a set in parentheses
+abbrev pub IsOffset : RegisterSet → List Token → List Operand → Type 0
+IsOffset set ts os =
     (one rest : List Token) × (o : Operand) × (base : List Operand) × (ts ≡ one ++ rest)
-    × IsValueIn roles.Operand one o × IsBase rest base × (os ≡ o ∷ base)
+    × IsValueIn roles.Operand one o × IsBase set rest base × (os ≡ o ∷ base)
 
 -- the tokens are a symbol and `@plt`
 abbrev pub IsLinked : List Token → List Operand → Type 0
@@ -450,7 +493,7 @@ IsOneIn role ts os = (o : Operand) × IsValueIn role ts o × (os ≡ o ∷ [])
 -- the tokens stand in this place, with these operands
 abbrev pub IsOperand : Slot → List Token → List Operand → Type 0
 IsOperand (A_value role) ts os = IsOneIn role ts os
-IsOperand An_address ts os = IsBase ts os ⊎ IsOffset ts os
+IsOperand (An_address_by set) ts os = IsBase set ts os ⊎ IsOffset set ts os
 IsOperand A_callee ts os = IsOneIn roles.Target ts os ⊎ IsLinked ts os
 IsOperand A_section ts os =
     (name : List ℕ) × IsJoined ts name × (is_section_name name ≡ true) × (os ≡ Word name ∷ [])

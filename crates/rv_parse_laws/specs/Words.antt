@@ -7,7 +7,8 @@ use Rattle.std.specs.Option.{option_or}
 use Rattle.rv_text_laws.specs.SyntaxError.{longest_name}
 use Rattle.rv_isa.specs.RegisterNames.{abi_names, decimal}
 use Rattle.rv_statement.specs.declared.mnemonic.Mnemonic.{Mnemonic}
-use Rattle.rv_statement.specs.declared.mnemonic.Mnemonic.TheVariants.{Registers, Immediate, Shift, Upper, Load, Store, Branch, Jal, Jalr, LoadReserved, Atomic, Fence, FenceTso, Ecall, Ebreak, Nop, Unary, Compare, ZeroBranch, SwappedBranch, J, Jr, Ret, La, Li, Call, Tail, Jump}
+use Rattle.rv_statement.specs.declared.mnemonic.Mnemonic.TheVariants.{Registers, Immediate, Shift, Upper, Load, Store, Branch, Jal, Jalr, LoadReserved, Atomic, Fence, FenceTso, Ecall, Ebreak, Nop, Unary, Compare, ZeroBranch, SwappedBranch, J, Jr, Ret, La, Li, Call, Tail, Jump, Parcel}
+use Rattle.rv_compress.specs.declared.parcel.ParcelOperation.TheVariants as parcels
 use Rattle.rv_isa.specs.declared.operation.RegisterOperation.TheVariants.{Add, Sub, Sll, Slt, Sltu, Xor, Srl, Sra, Or, And, Addw, Subw, Sllw, Srlw, Sraw, Mul, Mulh, Mulhsu, Mulhu, Div, Divu, Rem, Remu, Mulw, Divw, Divuw, Remw, Remuw}
 use Rattle.rv_isa.specs.declared.operation.ImmediateOperation.TheVariants.{Addi, Slti, Sltiu, Xori, Ori, Andi, Addiw}
 use Rattle.rv_isa.specs.declared.operation.ShiftOperation.TheVariants.{Slli, Srli, Srai, Slliw, Srliw, Sraiw}
@@ -47,8 +48,8 @@ left_out_words =
     codes ".pushsection" ∷ codes ".popsection" ∷ codes ".previous" ∷ codes ".insn" ∷
     codes ".uleb128" ∷ codes ".loc" ∷ []
 
--- the mnemonics but the atomics: base instructions (ISA, chapter 24), then pseudo-instructions
--- (Assembly Programmer's Manual, "pseudoinstructions")
+-- the mnemonics but the atomics: base instructions (ISA, chapter 24), pseudo-instructions (Assembly
+-- Programmer's Manual, "pseudoinstructions") and parcels (ISA, chapter 16)
 unfoldable pub instruction_words : List (List ℕ × Mnemonic)
 instruction_words =
     (codes "lui", Upper Lui)
@@ -153,6 +154,39 @@ instruction_words =
     ∷ (codes "call", Call)
     ∷ (codes "tail", Tail)
     ∷ (codes "jump", Jump)
+    ∷ (codes "c.addi4spn", Parcel parcels.Addi4spn)
+    ∷ (codes "c.lw", Parcel parcels.Lw)
+    ∷ (codes "c.ld", Parcel parcels.Ld)
+    ∷ (codes "c.sw", Parcel parcels.Sw)
+    ∷ (codes "c.sd", Parcel parcels.Sd)
+    ∷ (codes "c.nop", Parcel parcels.Nop)
+    ∷ (codes "c.addi", Parcel parcels.Addi)
+    ∷ (codes "c.addiw", Parcel parcels.Addiw)
+    ∷ (codes "c.li", Parcel parcels.Li)
+    ∷ (codes "c.addi16sp", Parcel parcels.Addi16sp)
+    ∷ (codes "c.lui", Parcel parcels.Lui)
+    ∷ (codes "c.srli", Parcel parcels.Srli)
+    ∷ (codes "c.srai", Parcel parcels.Srai)
+    ∷ (codes "c.andi", Parcel parcels.Andi)
+    ∷ (codes "c.sub", Parcel parcels.Sub)
+    ∷ (codes "c.xor", Parcel parcels.Xor)
+    ∷ (codes "c.or", Parcel parcels.Or)
+    ∷ (codes "c.and", Parcel parcels.And)
+    ∷ (codes "c.subw", Parcel parcels.Subw)
+    ∷ (codes "c.addw", Parcel parcels.Addw)
+    ∷ (codes "c.j", Parcel parcels.J)
+    ∷ (codes "c.beqz", Parcel parcels.Beqz)
+    ∷ (codes "c.bnez", Parcel parcels.Bnez)
+    ∷ (codes "c.slli", Parcel parcels.Slli)
+    ∷ (codes "c.lwsp", Parcel parcels.Lwsp)
+    ∷ (codes "c.ldsp", Parcel parcels.Ldsp)
+    ∷ (codes "c.jr", Parcel parcels.Jr)
+    ∷ (codes "c.mv", Parcel parcels.Mv)
+    ∷ (codes "c.ebreak", Parcel parcels.Ebreak)
+    ∷ (codes "c.jalr", Parcel parcels.Jalr)
+    ∷ (codes "c.add", Parcel parcels.Add)
+    ∷ (codes "c.swsp", Parcel parcels.Swsp)
+    ∷ (codes "c.sdsp", Parcel parcels.Sdsp)
     ∷ []
 
 -- the atomics that have a second source (ISA, chapter 8)

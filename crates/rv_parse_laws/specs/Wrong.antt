@@ -12,13 +12,14 @@ use Rattle.rv_text_laws.specs.Joined.{IsJoined, ReadsJoined, first_name}
 use Rattle.rv_text_laws.specs.Expression.{EndsBefore}
 use Rattle.rv_text_laws.specs.ExpressionFault.{FailsAt}
 use Rattle.rv_statement.specs.Statement.{Expression, Operand, Applied, Word}
+use Rattle.rv_compress.specs.declared.parcel.RegisterSet.{RegisterSet}
 use Rattle.rv_statement.specs.declared.pseudo.Function.{Function}
 use Rattle.rv_statement.specs.declared.pseudo.Function.TheVariants.{PcrelLo}
 use Rattle.rv_parse_laws.specs.declared.role.Role.{Role}
 use Rattle.rv_parse_laws.specs.declared.role.Role.TheVariants as roles
 use Rattle.rv_parse_laws.specs.declared.beginning.Beginning.{Beginning}
 use Rattle.rv_parse_laws.specs.declared.beginning.Beginning.TheVariants as beginnings
-use Rattle.rv_parse_laws.specs.Syntax.{is_register, register_of, label_of, begins, is_comma, is_percent, is_end, is_opening, is_closing, is_any, is_section_name, valued, function_in, label_named, IsValue, IsArgument, IsValueIn, IsLinked, IsOperand, Slot, A_register, A_value, A_target, An_address, A_callee, A_section, A_plt, A_closing, An_opening, single, front_begins, base_next, plt_next, Slots, Stops, Takes, Chooses, Locates, Lists, Anything, slots, places, colon_next}
+use Rattle.rv_parse_laws.specs.Syntax.{is_register, register_of, kept_in, label_of, begins, is_comma, is_percent, is_end, is_opening, is_closing, is_any, is_section_name, valued, function_in, label_named, IsValue, IsArgument, IsValueIn, IsLinked, IsOperand, Slot, A_register_of, A_register, A_value, A_target, An_address_by, An_address, A_callee, A_section, A_plt, A_closing, An_opening, single, front_begins, base_next, plt_next, Slots, Stops, Takes, Chooses, Locates, Lists, Anything, slots, places, colon_next}
 use Rattle.rv_parse_laws.specs.Content.{content_fault}
 use Rattle.rv_parse_laws.specs.Faults.{may_call, is_name, wrong_or, wrong_symbol, wrong_first, wrong_after, wrong_any, wrong_start, wrong_label}
 
@@ -103,28 +104,28 @@ abbrev pub EndsValue : Operand → List Token → Type 0
 EndsValue (Applied f e) rest = Unit {0}
 EndsValue _ rest = EndsBefore rest
 
--- a register in parentheses
-abbrev pub IsWrongBase : List Token → Token → ℕ → Type 0
-IsWrongBase ts t code =
+-- a register of a set in parentheses
+abbrev pub IsWrongBase : RegisterSet → List Token → Token → ℕ → Type 0
+IsWrongBase set ts t code =
     IsWrongFirst (An_opening A_register) ts t code
     ⊎ ((o : Token) × (us : List Token) × (ts ≡ o ∷ us) × (is_opening o.kind ≡ true)
-    × (IsWrongFirst A_register us t code
+    × (IsWrongFirst (A_register_of set) us t code
     ⊎ ((r : Token) × (vs : List Token) × (number : ℕ) × (us ≡ r ∷ vs)
-    × (register_of r.kind ≡ Some number) × IsWrongFirst A_closing vs t code)))
+    × (kept_in set (register_of r.kind) ≡ Some number) × IsWrongFirst A_closing vs t code)))
 
--- an expression, or a function of one, and then a register in parentheses
-abbrev pub IsWrongOffset : List Token → Token → ℕ → Type 0
-IsWrongOffset ts t code =
+-- an expression, or a function of one, and then a register of a set in parentheses
+abbrev pub IsWrongOffset : RegisterSet → List Token → Token → ℕ → Type 0
+IsWrongOffset set ts t code =
     IsWrongValue roles.Operand ts t code
     ⊎ ((one rest : List Token) × (o : Operand) × (ts ≡ one ++ rest)
-    × IsValueIn roles.Operand one o × EndsValue o rest × IsWrongBase rest t code)
+    × IsValueIn roles.Operand one o × EndsValue o rest × IsWrongBase set rest t code)
 
 -- an address: a register in parentheses, where the first two tokens are `(` and a register; else
 -- with an offset
-abbrev pub IsWrongAddress : List Token → Token → ℕ → Type 0
-IsWrongAddress ts t code =
-    ((base_next ts ≡ true) × IsWrongBase ts t code)
-    ⊎ ((base_next ts ≡ false) × IsWrongOffset ts t code)
+abbrev pub IsWrongAddress : RegisterSet → List Token → Token → ℕ → Type 0
+IsWrongAddress set ts t code =
+    ((base_next ts ≡ true) × IsWrongBase set ts t code)
+    ⊎ ((base_next ts ≡ false) × IsWrongOffset set ts t code)
 
 -- what a call calls: a symbol and `@plt`, where the first two tokens are a symbol and `@`; else a
 -- target
@@ -160,7 +161,7 @@ IsWrongSection ts t code =
 -- what stands in a slot
 abbrev pub IsWrongOperand : Slot → List Token → Token → ℕ → Type 0
 IsWrongOperand (A_value role) ts t code = IsWrongValue role ts t code
-IsWrongOperand An_address ts t code = IsWrongAddress ts t code
+IsWrongOperand (An_address_by set) ts t code = IsWrongAddress set ts t code
 IsWrongOperand A_callee ts t code = IsWrongCallee ts t code
 IsWrongOperand A_section ts t code = IsWrongSection ts t code
 IsWrongOperand s ts t code = IsWrongFirst s ts t code

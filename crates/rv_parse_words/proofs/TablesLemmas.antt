@@ -57,12 +57,12 @@ none_of ms (row ∷ rows) n all h =
         let also : is_one_of ms n ≡ true = subst (λ k. is_one_of ms k ≡ true) same known in
         absurd (cc)
 
-lengths : have_lengths (1 ∷ 2 ∷ 3 ∷ 4 ∷ 5 ∷ 6 ∷ 9 ∷ []) instruction_words ≡ true
+lengths : have_lengths (1 ∷ 2 ∷ 3 ∷ 4 ∷ 5 ∷ 6 ∷ 7 ∷ 8 ∷ 9 ∷ 10 ∷ []) instruction_words ≡ true
 unfolding instruction_words
 lengths = refl
 
 -- no instruction has a name of another length
-pub of_no_length : (word : List ℕ) → is_one_of (1 ∷ 2 ∷ 3 ∷ 4 ∷ 5 ∷ 6 ∷ 9 ∷ []) (length word) ≡ false → named_in instruction_words word ≡ None
+pub of_no_length : (word : List ℕ) → is_one_of (1 ∷ 2 ∷ 3 ∷ 4 ∷ 5 ∷ 6 ∷ 7 ∷ 8 ∷ 9 ∷ 10 ∷ []) (length word) ≡ false → named_in instruction_words word ≡ None
 of_no_length word h =
     sym (by_length instruction_words word)
-    ∙ ap (λ rows. named_in rows word) (none_of (1 ∷ 2 ∷ 3 ∷ 4 ∷ 5 ∷ 6 ∷ 9 ∷ []) instruction_words (length word) lengths h)
+    ∙ ap (λ rows. named_in rows word) (none_of (1 ∷ 2 ∷ 3 ∷ 4 ∷ 5 ∷ 6 ∷ 7 ∷ 8 ∷ 9 ∷ 10 ∷ []) instruction_words (length word) lengths h)

@@ -12,9 +12,9 @@ use Rattle.rv_parse_words.specs.declared.fault.Slot.{Slot}
 use Rattle.rv_parse_words.specs.declared.fault.Slot.TheVariants as slots
 
 abbrev pub slot_of : Slot → syntax.Slot
-slot_of slots.Register = syntax.A_register
+slot_of (slots.Register set) = syntax.A_register_of set
 slot_of (slots.Value role) = syntax.A_value role
-slot_of slots.Address = syntax.An_address
+slot_of (slots.Address set) = syntax.An_address_by set
 slot_of slots.Callee = syntax.A_callee
 slot_of slots.Zero = syntax.A_zero
 slot_of slots.Accesses = syntax.Some_accesses

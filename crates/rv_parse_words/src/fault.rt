@@ -10,17 +10,19 @@ ghost use Rattle.rv_parse_laws.specs.Syntax.{targets};
 
 use crate::kinds::is_comma;
 use crate::words::{are_known_flags, is_frame, is_left_out, is_left_out_option};
+use rv_compress::RegisterSet;
 use rv_parse_laws::Role;
 use rv_text::{LONGEST_NAME, Punct, SourceCode, TokenKind};
 
 /// What stands in one slot of a statement.
 #[derive(Clone, Copy, Debug, PartialEq, Eq, Drop)]
 pub enum Slot {
-    Register,
+    /// A register of a set.
+    Register(RegisterSet),
     /// An expression.
     Value(Role),
-    /// A register in parentheses, with or without an expression before it.
-    Address,
+    /// A register of a set in parentheses, with or without an expression before it.
+    Address(RegisterSet),
     /// What a call calls.
     Callee,
     /// The 0 before an atomic's address.
@@ -38,6 +40,13 @@ pub enum Slot {
     Type,
     /// What `.option` takes.
     Choice,
+}
+
+impl Slot {
+    /// A register, whichever.
+    pub const ANY_REGISTER: Self = Slot::Register(RegisterSet::Any);
+    /// An address by a register, whichever.
+    pub const ANY_ADDRESS: Self = Slot::Address(RegisterSet::Any);
 }
 
 /// The code of a token that is wrong wherever it stands; for every other the code of its slot.

@@ -9,7 +9,7 @@ ghost use Rattle.rv_text_laws.specs.Bytes.{is_decimal};
 ghost use Rattle.rv_text_laws.specs.Lexing.{is_last};
 ghost use Rattle.rv_lexer.specs.Token.{kind_of};
 ghost use Rattle.rv_statement.specs.View.{now_of, statement_kind};
-ghost use Rattle.rv_parse_laws.specs.Syntax.{is_symbol, is_section_name, register_of, symbol_of, label_of, begins, is_comma, is_colon, is_percent, is_at, is_plt, is_end, is_source_end, is_opening, is_closing, is_zero, is_any, is_wrong, accesses_of, single, A_string, A_type, may_stand, function_in, label_named};
+ghost use Rattle.rv_parse_laws.specs.Syntax.{is_symbol, is_section_name, register_of, kept_in, symbol_of, label_of, begins, is_comma, is_colon, is_percent, is_at, is_plt, is_end, is_source_end, is_opening, is_closing, is_zero, is_any, is_wrong, accesses_of, single, A_string, A_type, may_stand, function_in, label_named};
 ghost use Rattle.rv_parse_laws.specs.Faults.{is_name};
 ghost use Rattle.rv_text.specs.Expr.{tree_of_expr};
 ghost use Rattle.rv_parse_laws.specs.WrongOpening.{is_section};
@@ -17,6 +17,7 @@ ghost use Rattle.rv_parse_laws.specs.Parsing.{width};
 ghost use Rattle.rv_parse_words.specs.View.{choice_of, word_of, string_of};
 
 use crate::words::{accesses_named, beginning_with, choice_named, function_named, register_named};
+use rv_compress::RegisterSet;
 use rv_isa::{AccessSet, Reg};
 use rv_parse_laws::{Beginning, Role};
 use rv_statement::{Choice, Function, StatementKind};
@@ -44,6 +45,16 @@ pub fn register_of(kind: TokenKind<'_>) -> Option<Reg>
 {
     match kind {
         TokenKind::Name(name) => register_named(name),
+        _ => None,
+    }
+}
+
+/// The register of a set that the token names.
+pub fn register_in(set: RegisterSet, kind: TokenKind<'_>) -> Option<Reg>
+    ensures { result ≡ kept_in set (register_of (kind_of kind.entry)) }
+{
+    match register_of(kind) {
+        Some(register) if set.contains(register) => Some(register),
         _ => None,
     }
 }

@@ -13,7 +13,7 @@
 //!     Beginning::Nothing => Err(SyntaxError::at(token, fault::at_start(token.kind))),
 //! ```
 //!
-//! Source: RISC-V Unprivileged ISA 20191213, chapter 24; RISC-V Assembly Programmer's Manual; GNU as, "Pseudo Ops".
+//! Source: RISC-V Unprivileged ISA 20191213, chapters 16 and 24; RISC-V Assembly Programmer's Manual; GNU as, "Pseudo Ops".
 #![tactic(auto)]
 
 pub mod fault;

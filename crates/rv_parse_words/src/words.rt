@@ -14,6 +14,7 @@ ghost use Rattle.rv_parse_laws.specs.Syntax.{access_sets, with_constant, is_flag
 ghost use Rattle.rv_parse_laws.specs.Faults.{is_known_flag};
 ghost use Rattle.rv_parse_words.specs.View.{named_of};
 
+use rv_compress::ParcelOperation;
 use rv_isa::{
     AccessSet, AtomicForm, AtomicOperation, BranchOperation, ImmediateOperation, LoadOperation,
     Reg, RegisterOperation, ShiftOperation, StoreOperation, UpperOperation, reg_named,
@@ -139,7 +140,7 @@ const OF_TWO: [(&str, Mnemonic); 13] = [
 ];
 
 /// The mnemonics but the atomics, of 3 letters.
-const OF_THREE: [(&str, Mnemonic); 29] = [
+const OF_THREE: [(&str, Mnemonic); 30] = [
     ("lui", Mnemonic::Upper(UpperOperation::Lui)),
     ("jal", Mnemonic::Jal),
     ("beq", Mnemonic::Branch(BranchOperation::Beq)),
@@ -169,10 +170,11 @@ const OF_THREE: [(&str, Mnemonic); 29] = [
     ("ble", Mnemonic::SwappedBranch(SwappedBranchOperation::Ble)),
     ("ret", Mnemonic::Ret),
     ("lla", Mnemonic::La),
+    ("c.j", Mnemonic::Parcel(ParcelOperation::J)),
 ];
 
 /// The mnemonics but the atomics, of 4 letters.
-const OF_FOUR: [(&str, Mnemonic); 39] = [
+const OF_FOUR: [(&str, Mnemonic); 47] = [
     ("jalr", Mnemonic::Jalr),
     ("bltu", Mnemonic::Branch(BranchOperation::Bltu)),
     ("bgeu", Mnemonic::Branch(BranchOperation::Bgeu)),
@@ -218,10 +220,18 @@ const OF_FOUR: [(&str, Mnemonic); 39] = [
     ("call", Mnemonic::Call),
     ("tail", Mnemonic::Tail),
     ("jump", Mnemonic::Jump),
+    ("c.lw", Mnemonic::Parcel(ParcelOperation::Lw)),
+    ("c.ld", Mnemonic::Parcel(ParcelOperation::Ld)),
+    ("c.sw", Mnemonic::Parcel(ParcelOperation::Sw)),
+    ("c.sd", Mnemonic::Parcel(ParcelOperation::Sd)),
+    ("c.li", Mnemonic::Parcel(ParcelOperation::Li)),
+    ("c.or", Mnemonic::Parcel(ParcelOperation::Or)),
+    ("c.jr", Mnemonic::Parcel(ParcelOperation::Jr)),
+    ("c.mv", Mnemonic::Parcel(ParcelOperation::Mv)),
 ];
 
 /// The mnemonics but the atomics, of 5 letters.
-const OF_FIVE: [(&str, Mnemonic); 11] = [
+const OF_FIVE: [(&str, Mnemonic); 17] = [
     ("auipc", Mnemonic::Upper(UpperOperation::Auipc)),
     ("sltiu", Mnemonic::Immediate(ImmediateOperation::Sltiu)),
     ("addiw", Mnemonic::Immediate(ImmediateOperation::Addiw)),
@@ -233,10 +243,16 @@ const OF_FIVE: [(&str, Mnemonic); 11] = [
     ("mulhu", Mnemonic::Registers(RegisterOperation::Mulhu)),
     ("divuw", Mnemonic::Registers(RegisterOperation::Divuw)),
     ("remuw", Mnemonic::Registers(RegisterOperation::Remuw)),
+    ("c.nop", Mnemonic::Parcel(ParcelOperation::Nop)),
+    ("c.lui", Mnemonic::Parcel(ParcelOperation::Lui)),
+    ("c.sub", Mnemonic::Parcel(ParcelOperation::Sub)),
+    ("c.xor", Mnemonic::Parcel(ParcelOperation::Xor)),
+    ("c.and", Mnemonic::Parcel(ParcelOperation::And)),
+    ("c.add", Mnemonic::Parcel(ParcelOperation::Add)),
 ];
 
 /// The mnemonics but the atomics, of 6 letters.
-const OF_SIX: [(&str, Mnemonic); 8] = [
+const OF_SIX: [(&str, Mnemonic); 22] = [
     ("ebreak", Mnemonic::Ebreak),
     ("mulhsu", Mnemonic::Registers(RegisterOperation::Mulhsu)),
     ("sext.b", Mnemonic::Unary(UnaryOperation::SextB)),
@@ -245,10 +261,36 @@ const OF_SIX: [(&str, Mnemonic); 8] = [
     ("zext.b", Mnemonic::Unary(UnaryOperation::ZextB)),
     ("zext.h", Mnemonic::Unary(UnaryOperation::ZextH)),
     ("zext.w", Mnemonic::Unary(UnaryOperation::ZextW)),
+    ("c.addi", Mnemonic::Parcel(ParcelOperation::Addi)),
+    ("c.srli", Mnemonic::Parcel(ParcelOperation::Srli)),
+    ("c.srai", Mnemonic::Parcel(ParcelOperation::Srai)),
+    ("c.andi", Mnemonic::Parcel(ParcelOperation::Andi)),
+    ("c.subw", Mnemonic::Parcel(ParcelOperation::Subw)),
+    ("c.addw", Mnemonic::Parcel(ParcelOperation::Addw)),
+    ("c.beqz", Mnemonic::Parcel(ParcelOperation::Beqz)),
+    ("c.bnez", Mnemonic::Parcel(ParcelOperation::Bnez)),
+    ("c.slli", Mnemonic::Parcel(ParcelOperation::Slli)),
+    ("c.lwsp", Mnemonic::Parcel(ParcelOperation::Lwsp)),
+    ("c.ldsp", Mnemonic::Parcel(ParcelOperation::Ldsp)),
+    ("c.jalr", Mnemonic::Parcel(ParcelOperation::Jalr)),
+    ("c.swsp", Mnemonic::Parcel(ParcelOperation::Swsp)),
+    ("c.sdsp", Mnemonic::Parcel(ParcelOperation::Sdsp)),
 ];
+
+/// The mnemonics but the atomics, of 7 letters.
+const OF_SEVEN: [(&str, Mnemonic); 1] = [("c.addiw", Mnemonic::Parcel(ParcelOperation::Addiw))];
+
+/// The mnemonics but the atomics, of 8 letters.
+const OF_EIGHT: [(&str, Mnemonic); 1] = [("c.ebreak", Mnemonic::Parcel(ParcelOperation::Ebreak))];
 
 /// The mnemonics but the atomics, of 9 letters.
 const OF_NINE: [(&str, Mnemonic); 1] = [("fence.tso", Mnemonic::FenceTso)];
+
+/// The mnemonics but the atomics, of 10 letters.
+const OF_TEN: [(&str, Mnemonic); 2] = [
+    ("c.addi4spn", Mnemonic::Parcel(ParcelOperation::Addi4spn)),
+    ("c.addi16sp", Mnemonic::Parcel(ParcelOperation::Addi16sp)),
+];
 
 /// The atomics that have a second source.
 const ATOMICS: [(&str, AtomicOperation); 10] = [
@@ -398,7 +440,10 @@ fn instruction_named(word: &[u8]) -> Option<Mnemonic>
         4 => named_in(&OF_FOUR, word),
         5 => named_in(&OF_FIVE, word),
         6 => named_in(&OF_SIX, word),
+        7 => named_in(&OF_SEVEN, word),
+        8 => named_in(&OF_EIGHT, word),
         9 => named_in(&OF_NINE, word),
+        10 => named_in(&OF_TEN, word),
         _ => None,
     }
 }

@@ -28,11 +28,23 @@ pub returns-in-6 : goal.returns-in-6
 unfolding instruction_words
 returns-in-6 c = c.named_in-in-6.ensures ∙ of_this_length 6 c.args.word.now c.in-6.is
 
+pub returns-in-7 : goal.returns-in-7
+unfolding instruction_words
+returns-in-7 c = c.named_in-in-7.ensures ∙ of_this_length 7 c.args.word.now c.in-7.is
+
+pub returns-in-8 : goal.returns-in-8
+unfolding instruction_words
+returns-in-8 c = c.named_in-in-8.ensures ∙ of_this_length 8 c.args.word.now c.in-8.is
+
 pub returns-in-9 : goal.returns-in-9
 unfolding instruction_words
 returns-in-9 c = c.named_in-in-9.ensures ∙ of_this_length 9 c.args.word.now c.in-9.is
 
+pub returns-in-10 : goal.returns-in-10
+unfolding instruction_words
+returns-in-10 c = c.named_in-in-10.ensures ∙ of_this_length 10 c.args.word.now c.in-10.is
+
 pub returns-in_default : goal.returns-in_default
 returns-in_default c =
-    let others : is_one_of (1 ∷ 2 ∷ 3 ∷ 4 ∷ 5 ∷ 6 ∷ 9 ∷ []) (length c.args.word.now) ≡ false = grind (arith, nat_tests, c.in_default) in
+    let others : is_one_of (1 ∷ 2 ∷ 3 ∷ 4 ∷ 5 ∷ 6 ∷ 7 ∷ 8 ∷ 9 ∷ 10 ∷ []) (length c.args.word.now) ≡ false = grind (arith, nat_tests, c.in_default) in
     sym (of_no_length c.args.word.now others)
