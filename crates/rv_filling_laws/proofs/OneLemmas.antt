@@ -1,6 +1,6 @@
 -- One open field, and the two of a call.
 
-use Rattle.std.proofs.Common.{◌≡◌, ℕ, Bool, true, List, ◌++◌, refl, sym, ap, ◌∙◌, subst, arith, ℤ, ◌⊎◌, inl, inr}
+use Rattle.std.proofs.Common.{◌≡◌, ℕ, true, List, ◌++◌, refl, sym, ap, ◌∙◌, subst, arith, ℤ, ◌⊎◌, inl, inr, None}
 use Rattle.std.proofs.lemmas.Int.{ints}
 use Rattle.std.proofs.lemmas.Bool.{or_cases}
 use Rattle.rv_isa.specs.declared.kind.Kind.{Kind}
@@ -208,7 +208,7 @@ word_encoded i f e = inl (refl, ap word_bytes (sym e))
 
 call_filled_by : (f g : Format) (k : Kind) (v : ℤ) (i j : Inst) (first second : List ℕ) → IsValidFormat f → IsValidFormat g → is_call k f g ≡ true → Takes k v
     → first ≡ word_bytes (form (instruction_of f)) → second ≡ word_bytes (form (instruction_of g))
-    → IsEncodedPart (Joined k (format_with f v i) (format_with g v j)) (patched k v (first ++ second))
+    → IsEncodedPart None (Joined k (format_with f v i) (format_with g v j)) (patched k v (first ++ second))
 call_filled_by (format.Upper operation x) (format.Jalr y) k v i j first second valid valid' e t a b =
     let after = word_bytes (Upper (upper_opcode operation) (upper_of x v)) in
     let later = word_bytes (Immediate 0x67 0 (immediate_of y v)) in (
@@ -226,9 +226,9 @@ call_filled_by (format.Upper operation x) g k v i j first second valid valid' e 
 call_filled_by f g k v i j first second valid valid' e t a b = absurd (cc)
 
 pub call_filled : (k : Kind) (v : ℤ) (i j : Inst) (bytes : List ℕ) → IsOpen k i → IsOpen k j → is_call k (format_of i) (format_of j) ≡ true → Takes k v
-    → IsEncodedPart (Joined k i j) bytes → IsEncodedPart (Joined k (with_value v i) (with_value v j)) (patched k v bytes)
+    → IsEncodedPart None (Joined k i j) bytes → IsEncodedPart None (Joined k (with_value v i) (with_value v j)) (patched k v bytes)
 call_filled k v i j bytes (valid, a) (valid', b) e t (first, (second, x, y, whole)) =
-    subst (λ l. IsEncodedPart (Joined k (with_value v i) (with_value v j)) (patched k v l)) (sym whole)
+    subst (λ l. IsEncodedPart None (Joined k (with_value v i) (with_value v j)) (patched k v l)) (sym whole)
     (call_filled_by (format_of i) (format_of j) k v i j first second valid valid' e t
     (as_word i first x ∙ ap (λ i. word_bytes (form i)) (sym (rebuilt i))) (as_word j second y ∙ ap (λ i. word_bytes (form i)) (sym (rebuilt j))))
 

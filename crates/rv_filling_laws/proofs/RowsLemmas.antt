@@ -1,7 +1,7 @@
 -- In the code of statements only calls have two instructions that are filled as one.
 
-use Rattle.std.proofs.Common.{◌≡◌, ℕ, Bool, true, false, ◌==◌, refl, subst, ℤ, pos, List, [], ◌∷◌, map, Option, Some, None, option_map}
-use Rattle.std.specs.Prelude.{if◌then◌else◌, ⊤}
+use Rattle.std.proofs.Common.{◌≡◌, ℕ, Bool, true, false, ◌==◌, refl, sym, ap, ◌∙◌, subst, ℤ, pos, List, [], ◌∷◌, map, Option, Some, None, option_map}
+use Rattle.std.specs.Prelude.{if◌then◌else◌, ⊤, unwrap_or}
 use Rattle.std.specs.List.{AllByRecursion}
 use Rattle.rv_isa.specs.declared.kind.Kind.{Kind}
 use Rattle.rv_isa.specs.declared.kind.Kind.TheVariants as kind
@@ -11,8 +11,13 @@ use Rattle.rv_isa.specs.declared.operation.BranchOperation.TheVariants.{Beq, Bne
 use Rattle.rv_isa.specs.Operations.{of_immediate, of_shift, of_upper, of_load, of_store, of_branch}
 use Rattle.rv_isa_laws.specs.Arithmetic.{wrapped}
 use Rattle.rv_isa_laws.specs.Halves.{hi, lo}
+use Rattle.rv_compress.specs.declared.form.Compressed.{Compressed}
+use Rattle.rv_compress.specs.declared.parcel.ParcelOperation.TheVariants as parcels
+use Rattle.rv_compress.specs.declared.parcel.RegisterSet.TheVariants.{Short}
+use Rattle.rv_compress.specs.Mnemonics.{is_in}
+use Rattle.rv_compress.specs.Parcel.{expansion}
 use Rattle.rv_statement.specs.declared.mnemonic.Mnemonic.{Mnemonic}
-use Rattle.rv_statement.specs.declared.mnemonic.Mnemonic.TheVariants.{Registers, Immediate, Shift, Upper, Load, Store, Branch, Jal, Jalr, LoadReserved, Atomic, Fence, FenceTso, Ecall, Ebreak, Nop, Unary, Compare, ZeroBranch, SwappedBranch, J, Jr, Ret, La, Li, Call, Tail, Jump}
+use Rattle.rv_statement.specs.declared.mnemonic.Mnemonic.TheVariants.{Registers, Immediate, Shift, Upper, Load, Store, Branch, Jal, Jalr, LoadReserved, Atomic, Fence, FenceTso, Ecall, Ebreak, Nop, Unary, Compare, ZeroBranch, SwappedBranch, J, Jr, Ret, La, Li, Call, Tail, Jump, Parcel}
 use Rattle.rv_statement.specs.declared.pseudo.ZeroBranchOperation.{ZeroBranchOperation}
 use Rattle.rv_statement.specs.declared.pseudo.ZeroBranchOperation.TheVariants.{Beqz, Bnez, Bgez, Bltz, Blez, Bgtz}
 use Rattle.rv_statement.specs.declared.pseudo.SwappedBranchOperation.{SwappedBranchOperation}
@@ -21,8 +26,9 @@ use Rattle.rv_statement.specs.declared.pseudo.Function.TheVariants.{Hi, Lo, Pcre
 use Rattle.rv_statement.specs.Statement.{Operand, Register, Value, Applied, Target, Accesses}
 use Rattle.rv_parse_laws.specs.Syntax.{with_constant}
 use Rattle.rv_pseudo_laws.specs.Li.{li}
-use Rattle.rv_pseudo_laws.specs.Code.{Part, Closed, Open, Joined, Constants, i_type, s_type, b_type, u_type, shift_by, jalr, jal, auipc, unary, inverted, branch, jump, near, far, through, zero_branch, swapped_branch, by_number, by_part, signed_12, upper_20, number_of, by_amount, by_constant, code}
-use Rattle.rv_filling_laws.specs.Parts.{IsCallPart}
+use Rattle.rv_pseudo_laws.specs.Code.{Part, Closed, Open, Joined, Constants, i_type, s_type, b_type, u_type, shift_by, jalr, jal, auipc, unary, inverted, branch, jump, near, far, through, zero_branch, swapped_branch, by_number, by_part, signed_12, upper_20, number_of, by_amount, by_constant, named_form, short_branch, code}
+use Rattle.rv_pseudo_laws.proofs.ParcelsLemmas.{named_code}
+use Rattle.rv_filling_laws.specs.Parts.{IsCallPart, IsNamedPart}
 
 -- each part, if there is code
 abbrev AreCalls : Option (List Part) → Type 0
@@ -112,6 +118,19 @@ sequence_calls : (rd : ℕ) (o : Option ℤ) → AreCalls (option_map (λ k. map
 sequence_calls rd None = tt
 sequence_calls rd (Some k) = closed_calls (li rd k)
 
+-- ---- parcels
+
+form_calls : (named : Option Compressed) → AreCalls (option_map (λ form. Closed (expansion form) ∷ []) named)
+form_calls None = tt
+form_calls (Some form) = (tt, tt)
+
+short_by : (short : Bool) (operation : BranchOperation) (rs : ℕ) → AreCalls (if short then Some (branch 2 operation rs 0) else None)
+short_by true operation rs = branch_calls 2 operation rs 0
+short_by false operation rs = tt
+
+short_calls : (operation : BranchOperation) (rs : ℕ) → AreCalls (short_branch operation rs)
+short_calls operation rs = short_by (is_in Short rs) operation rs
+
 -- ---- all rows
 
 rows_calls : (v : Constants) (rvc : Bool) (bytes : ℕ) (mnemonic : Mnemonic) (operands : List Operand) → AreCalls (code v rvc bytes mnemonic operands)
@@ -158,8 +177,29 @@ rows_calls v rvc bytes Call (Register rd ∷ Target e ∷ []) = through_calls rd
 rows_calls v rvc bytes Call (Target e ∷ []) = far_calls bytes 1 1
 rows_calls v rvc bytes Tail (Target e ∷ []) = far_calls bytes 0 6
 rows_calls v rvc bytes Jump (Target e ∷ Register rt ∷ []) = through_calls rt (far bytes 0 rt) (far_calls bytes 0 rt)
+rows_calls v rvc bytes (Parcel parcels.J) (Target e ∷ []) = (tt, tt)
+rows_calls v rvc bytes (Parcel parcels.Beqz) (Register rs ∷ Target e ∷ []) = short_calls Beq rs
+rows_calls v rvc bytes (Parcel parcels.Bnez) (Register rs ∷ Target e ∷ []) = short_calls Bne rs
+rows_calls v rvc bytes (Parcel operation) operands = form_calls (named_form v (Parcel operation) operands)
 rows_calls v rvc bytes mnemonic operands = tt
 
 pub code_calls : (v : Constants) (rvc : Bool) (bytes : ℕ) (mnemonic : Mnemonic) (operands : List Operand) (parts : List Part)
     → code v rvc bytes mnemonic operands ≡ Some parts → AllByRecursion IsCallPart parts
 code_calls v rvc bytes mnemonic operands parts e = subst AreCalls e (rows_calls v rvc bytes mnemonic operands)
+
+-- ---- statements that name a parcel
+
+any_part : (parts : List Part) → AllByRecursion (IsNamedPart None) parts
+any_part [] = tt
+any_part (p ∷ parts) = (tt, any_part parts)
+
+closed_by : (named : Option Compressed) (parts : List Part) → ((form : Compressed) → named ≡ Some form → Closed (expansion form) ∷ [] ≡ parts)
+    → AllByRecursion (IsNamedPart named) parts
+closed_by None parts is = any_part parts
+closed_by (Some form) parts is = subst (AllByRecursion (IsNamedPart (Some form))) (is form refl) (refl, tt)
+
+pub named_closed : (v : Constants) (rvc : Bool) (bytes : ℕ) (mnemonic : Mnemonic) (operands : List Operand) (parts : List Part)
+    → code v rvc bytes mnemonic operands ≡ Some parts → AllByRecursion (IsNamedPart (named_form v mnemonic operands)) parts
+named_closed v rvc bytes mnemonic operands parts e =
+    closed_by (named_form v mnemonic operands) parts
+    (λ form named. ap (λ o. unwrap_or o []) (sym (named_code v rvc bytes mnemonic operands form named) ∙ e))

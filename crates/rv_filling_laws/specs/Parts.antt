@@ -1,7 +1,7 @@
 -- The bytes of a statement's code before and after its open fields are filled, part by part
 -- (RISC-V ELF psABI, "Relocations").
 
-use Rattle.std.specs.Prelude.{◌≡◌, ℕ, ◌+◌, ◌*◌, ◌%◌, ◌≤◌, Bool, true, false, ⊤, List, [], ◌∷◌, ◌++◌, length}
+use Rattle.std.specs.Prelude.{◌≡◌, ℕ, ◌+◌, ◌*◌, ◌%◌, ◌≤◌, Bool, true, false, ⊤, List, [], ◌∷◌, ◌++◌, length, Option, Some, None}
 use Rattle.rv_isa.specs.declared.kind.Kind.{Kind}
 use Rattle.rv_isa.specs.declared.instruction.Inst.{Inst}
 use Rattle.rv_isa.specs.declared.instruction.Format.{Format}
@@ -10,19 +10,21 @@ use Rattle.rv_isa.specs.Kinds.{width_of}
 use Rattle.rv_isa.specs.Operations.{format_of}
 use Rattle.rv_reloc.specs.Fields.{patched}
 use Rattle.rv_reloc.specs.Operands.{with_value}
-use Rattle.rv_compress.specs.Encoded.{IsEncodedIn}
+use Rattle.rv_compress.specs.declared.form.Compressed.{Compressed}
+use Rattle.rv_compress.specs.Encoded.{IsEncodedIn, IsEncodedAs}
 use Rattle.rv_pseudo_laws.specs.Code.{Part, Closed, Open, Joined}
-use Rattle.rv_pseudo_laws.specs.Filled.{FieldValue, part_bytes}
+use Rattle.rv_pseudo_laws.specs.Filled.{FieldValue, is_closed, part_bytes}
 use Rattle.rv_pseudo_laws.specs.Runs.{Sized}
 use Rattle.rv_pseudo_laws.specs.Valid.{fills_call, IsValidPart}
 
 -- ---- before
 
--- these bytes are the part's, with what its open field holds so far
-abbrev pub IsEncodedPart : Part → List ℕ → Type 0
-IsEncodedPart (Closed i) bytes = IsEncodedIn i (length bytes) bytes
-IsEncodedPart (Open k i) bytes = IsEncodedIn i (width_of k) bytes
-IsEncodedPart (Joined k i j) bytes =
+-- these bytes are the part's, with what its open field holds so far; of a closed part those of the
+-- form of a parcel that is named, if one is
+abbrev pub IsEncodedPart : Option Compressed → Part → List ℕ → Type 0
+IsEncodedPart named (Closed i) bytes = IsEncodedAs named i (length bytes) bytes
+IsEncodedPart named (Open k i) bytes = IsEncodedIn i (width_of k) bytes
+IsEncodedPart named (Joined k i j) bytes =
     (first : List ℕ)
     × ((second : List ℕ)
     × IsEncodedIn i 4 first × IsEncodedIn j 4 second × (bytes ≡ first ++ second))
@@ -38,13 +40,19 @@ IsCallPart (Closed i) = ⊤
 IsCallPart (Open k i) = ⊤
 IsCallPart (Joined k i j) = is_call k (format_of i) (format_of j) ≡ true
 
+-- a form is named of closed parts alone
+abbrev pub IsNamedPart : Option Compressed → Part → Type 0
+IsNamedPart (Some form) p = is_closed p ≡ true
+IsNamedPart None p = ⊤
+
 -- parts with their bytes, which relocations can fill
-abbrev pub AreFillable : List Part → List (List ℕ) → Type 0
-AreFillable [] [] = ⊤
-AreFillable [] (bytes ∷ coded) = ⊥
-AreFillable (p ∷ ps) [] = ⊥
-AreFillable (p ∷ ps) (bytes ∷ coded) =
-    IsValidPart p × IsCallPart p × IsEncodedPart p bytes × AreFillable ps coded
+abbrev pub AreFillable : Option Compressed → List Part → List (List ℕ) → Type 0
+AreFillable named [] [] = ⊤
+AreFillable named [] (bytes ∷ coded) = ⊥
+AreFillable named (p ∷ ps) [] = ⊥
+AreFillable named (p ∷ ps) (bytes ∷ coded) =
+    IsValidPart p × IsCallPart p × IsNamedPart named p × IsEncodedPart named p bytes
+    × AreFillable named ps coded
 
 -- ---- after
 
@@ -79,12 +87,13 @@ sized_parts value a (p ∷ ps) (bytes ∷ coded) =
     sized_part value a p bytes ++ sized_parts value (a + part_bytes p) ps coded
 
 -- instructions of these sizes lie in bytes one after another
-abbrev pub AreEncoded : List Sized → List ℕ → Type 0
-AreEncoded [] bytes = bytes ≡ []
-AreEncoded (l ∷ ls) bytes =
+abbrev pub AreEncoded : Option Compressed → List Sized → List ℕ → Type 0
+AreEncoded named [] bytes = bytes ≡ []
+AreEncoded named (l ∷ ls) bytes =
     (front : List ℕ)
     × ((rest : List ℕ)
-    × (bytes ≡ front ++ rest) × IsEncodedIn l.instruction l.bytes front × AreEncoded ls rest)
+    × (bytes ≡ front ++ rest) × IsEncodedAs named l.instruction l.bytes front
+    × AreEncoded named ls rest)
 
 -- two bytes an instruction at least, four at most, and an even count of them
 abbrev pub AreFew : ℕ → ℕ → Type 0

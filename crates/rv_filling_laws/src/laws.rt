@@ -1,6 +1,6 @@
 //! The laws: of one open field, of a call, of all parts of a statement, and of their sizes.
 
-ghost use Rattle.std.specs.Prelude.{◌≡◌, ℕ, ℤ, Bool, true, false, List, length, map, flat_map, Some};
+ghost use Rattle.std.specs.Prelude.{◌≡◌, ℕ, ℤ, Bool, true, false, List, length, map, flat_map, Option, Some};
 ghost use Rattle.std.specs.List.{AllByRecursion};
 ghost use Rattle.rv_isa.specs.declared.instruction.Inst.{Inst};
 ghost use Rattle.rv_isa.specs.declared.kind.Kind.{Kind};
@@ -10,14 +10,15 @@ ghost use Rattle.rv_isa.specs.Operations.{format_of};
 ghost use Rattle.rv_reloc.specs.Fields.{patched};
 ghost use Rattle.rv_reloc.specs.Operands.{with_value};
 ghost use Rattle.rv_reloc.specs.Ranges.{Takes};
+ghost use Rattle.rv_compress.specs.declared.form.Compressed.{Compressed};
 ghost use Rattle.rv_compress.specs.Encoded.{IsEncodedIn};
 ghost use Rattle.rv_statement.specs.declared.mnemonic.Mnemonic.{Mnemonic};
 ghost use Rattle.rv_statement.specs.Statement.{Operand};
-ghost use Rattle.rv_pseudo_laws.specs.Code.{Part, Joined, Constants, code};
+ghost use Rattle.rv_pseudo_laws.specs.Code.{Part, Joined, Constants, named_form, code};
 ghost use Rattle.rv_pseudo_laws.specs.Filled.{FieldValue, AreTaken, filled, is_closed, part_bytes};
 ghost use Rattle.rv_pseudo_laws.specs.Valid.{IsOpen};
 ghost use Rattle.rv_pseudo_laws.specs.Runs.{Sized, bytes_of, instructions_of};
-ghost use Rattle.rv_filling_laws.specs.Parts.{is_call, AreFew, IsEncodedPart, IsCallPart, AreFillable, AreEncoded, patched_parts, sized_parts};
+ghost use Rattle.rv_filling_laws.specs.Parts.{is_call, AreFew, IsEncodedPart, IsCallPart, IsNamedPart, AreFillable, AreEncoded, patched_parts, sized_parts};
 
 /// An instruction whose open field is patched with a value that it takes is the instruction with that value, in as many
 /// bytes; so are both of a call.
@@ -25,10 +26,10 @@ pub fn open_fields_fill()
     ensures alone { (k : Kind) (v : ℤ) (i : Inst) (bytes : List ℕ) → IsOpen k i → Takes k v →
         IsEncodedIn i (width_of k) bytes →
         IsEncodedIn (with_value v i) (width_of k) (patched k v bytes) }
-    ensures calls { (k : Kind) (v : ℤ) (i j : Inst) (bytes : List ℕ) → IsOpen k i → IsOpen k j →
-        is_call k (format_of i) (format_of j) ≡ true → Takes k v →
-        IsEncodedPart (Joined k i j) bytes →
-        IsEncodedPart (Joined k (with_value v i) (with_value v j)) (patched k v bytes) }
+    ensures calls { (named : Option Compressed) (k : Kind) (v : ℤ) (i j : Inst) (bytes : List ℕ) →
+        IsOpen k i → IsOpen k j → is_call k (format_of i) (format_of j) ≡ true → Takes k v →
+        IsEncodedPart named (Joined k i j) bytes →
+        IsEncodedPart named (Joined k (with_value v i) (with_value v j)) (patched k v bytes) }
 {}
 
 /// In the code of statements only calls have two instructions that are filled as one.
@@ -38,30 +39,39 @@ pub fn code_joins_calls()
         code v rvc bytes mnemonic operands ≡ Some parts → AllByRecursion IsCallPart parts }
 {}
 
+/// The code of a statement that names a parcel has no open field.
+pub fn named_code_is_closed()
+    ensures { (v : Constants) (rvc : Bool) (bytes : ℕ) (mnemonic : Mnemonic)
+        (operands : List Operand) (parts : List Part) →
+        code v rvc bytes mnemonic operands ≡ Some parts →
+        AllByRecursion (IsNamedPart (named_form v mnemonic operands)) parts }
+{}
+
 /// Parts whose fields take what they are to: the patched bytes are as many, and those of the statement's instructions with
-/// their operands, one after another.
+/// their operands, one after another, in the form of a parcel that is named, if one is.
 pub fn parts_fill()
-    ensures instructions { (value : FieldValue) (a : ℕ) (ps : List Part) (coded : List (List ℕ)) →
-        AreFillable ps coded →
+    ensures instructions { (named : Option Compressed) (value : FieldValue) (a : ℕ) (ps : List Part)
+        (coded : List (List ℕ)) → AreFillable named ps coded →
         instructions_of (sized_parts value a ps coded) ≡ filled value a ps }
-    ensures encoded { (value : FieldValue) (a : ℕ) (ps : List Part) (coded : List (List ℕ)) →
-        AreFillable ps coded → AreTaken value a ps →
-        AreEncoded (sized_parts value a ps coded)
+    ensures encoded { (named : Option Compressed) (value : FieldValue) (a : ℕ) (ps : List Part)
+        (coded : List (List ℕ)) → AreFillable named ps coded → AreTaken value a ps →
+        AreEncoded named (sized_parts value a ps coded)
         (flat_map (λ bytes. bytes) (patched_parts value a ps coded)) }
-    ensures lengths { (value : FieldValue) (a : ℕ) (ps : List Part) (coded : List (List ℕ)) →
-        AreFillable ps coded →
+    ensures lengths { (named : Option Compressed) (value : FieldValue) (a : ℕ) (ps : List Part)
+        (coded : List (List ℕ)) → AreFillable named ps coded →
         map length (patched_parts value a ps coded) ≡ map length coded }
-    ensures valid { (value : FieldValue) (a : ℕ) (ps : List Part) (coded : List (List ℕ)) →
-        AreFillable ps coded → AreTaken value a ps →
+    ensures valid { (named : Option Compressed) (value : FieldValue) (a : ℕ) (ps : List Part)
+        (coded : List (List ℕ)) → AreFillable named ps coded → AreTaken value a ps →
         AllByRecursion IsValid (filled value a ps) }
 {}
 
 /// How many bytes there are: of instructions one after another, and of an open part as its relocation's kind says.
 pub fn sizes_agree()
-    ensures total { (ls : List Sized) (bytes : List ℕ) → AreEncoded ls bytes →
-        bytes_of ls ≡ length bytes }
-    ensures few { (ls : List Sized) (bytes : List ℕ) → AreEncoded ls bytes →
-        AreFew (length ls) (length bytes) }
-    ensures parts { (p : Part) (bytes : List ℕ) → is_closed p ≡ false → IsCallPart p →
-        IsEncodedPart p bytes → length bytes ≡ part_bytes p }
+    ensures total { (named : Option Compressed) (ls : List Sized) (bytes : List ℕ) →
+        AreEncoded named ls bytes → bytes_of ls ≡ length bytes }
+    ensures few { (named : Option Compressed) (ls : List Sized) (bytes : List ℕ) →
+        AreEncoded named ls bytes → AreFew (length ls) (length bytes) }
+    ensures parts { (named : Option Compressed) (p : Part) (bytes : List ℕ) →
+        is_closed p ≡ false → IsCallPart p → IsEncodedPart named p bytes →
+        length bytes ≡ part_bytes p }
 {}

@@ -14,4 +14,4 @@ mod by_format;
 mod laws;
 
 pub use by_format::{parcels_fill, words_fill};
-pub use laws::{code_joins_calls, open_fields_fill, parts_fill, sizes_agree};
+pub use laws::{code_joins_calls, named_code_is_closed, open_fields_fill, parts_fill, sizes_agree};

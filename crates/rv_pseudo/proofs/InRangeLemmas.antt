@@ -3,6 +3,7 @@
 use Rattle.std.proofs.Common.{◌≡◌, ℕ, Bool, true, false, List, [], ◌∷◌, ◌++◌, Option, Some, None, refl, sym, ap, ◌∙◌, ℤ, pos}
 use Rattle.std.specs.Prelude.{if◌then◌else◌, not, ◌&&◌}
 use Rattle.rv_isa_laws.specs.Halves.{hi, lo}
+use Rattle.rv_compress.specs.Mnemonics.{shape_of}
 use Rattle.rv_text_laws.specs.Codes.{scratch_register, not_constant, immediate_range, faulty_if}
 use Rattle.rv_statement.specs.declared.mnemonic.Mnemonic.{Mnemonic}
 use Rattle.rv_statement.specs.declared.mnemonic.Mnemonic.TheVariants as mnemonics
@@ -13,7 +14,8 @@ use Rattle.rv_statement.specs.declared.statement.Operation.TheVariants as operat
 use Rattle.rv_parse_laws.specs.Syntax.{with_constant}
 use Rattle.rv_pseudo_laws.specs.Valid.{form_takes, is_upper_20, takes}
 use Rattle.rv_pseudo_laws.specs.InstructionFaults.{Worth, Number, Address, Wrong, is_signed_12, takes_address, number_faults, target_faults}
-use Rattle.rv_pseudo.specs.Faults.{constant_in, number, mnemonic_of, with_part, known_as, takes_target, is_upper, is_constant_form, is_lower, is_placed, is_bad_scratch, scratch_of, faults_of}
+use Rattle.rv_pseudo.specs.Faults.{takes_registers, constant_in, number, mnemonic_of, with_part, known_as, takes_target, is_upper, is_constant_form, is_lower, is_written, is_placed, is_bad_scratch, scratch_of, faults_of}
+use Rattle.rv_pseudo.proofs.ParcelRowsLemmas.{beside_away}
 
 -- ---- what a field takes
 
@@ -200,6 +202,7 @@ lower_known (operations.JalrThen rd rs1) e = (refl, refl)
 lower_known (operations.JalrLinked rs1) e = (refl, refl)
 lower_known (operations.Jr rs) e = (refl, refl)
 lower_known (operations.Li rd) e = (refl, refl)
+lower_known (operations.Parcel operation a b) e = (refl, beside_away (shape_of operation) (takes_registers operation a b) e)
 lower_known _ e = absurd (cc)
 
 form_part : (m : Option Mnemonic) → is_constant_form m ≡ true → is_signed_12 m ≡ true → is_immediate m ≡ true
@@ -221,9 +224,13 @@ low_part (operations.Jr rs) e f = refl
 low_part (operations.Li rd) e f = absurd (cc)
 low_part _ e f = absurd (cc)
 
+-- an expression by itself is, also where it has no row
+pub value_sound : (operation : Operation) (w : Worth) → faults_of operation None w ≡ [] → is_taken operation None (constant_in w) ≡ true
+value_sound operation w own = value_taken (takes_target operation) operation w refl own
+
 pub sound_taken : (operation : Operation) (function : Option Function) (w : Worth) → faults_of operation function w ≡ [] → is_placed operation function ≡ true
     → is_taken (known_as operation function) function (constant_in w) ≡ true
-sound_taken operation None w own placed = value_taken (takes_target operation) operation w refl own
+sound_taken operation None w own placed = value_sound operation w own
 sound_taken operation (Some Hi) (Number k) own placed = upper_taken operation k placed (no_fault _ immediate_range own)
 sound_taken operation (Some Hi) (Address labelled) own placed = ap is_upper (upper_known operation placed) ∙ placed
 sound_taken operation (Some Hi) (Wrong code) own placed = absurd (cc)
@@ -238,6 +245,18 @@ sound_taken operation (Some Lo) (Wrong code) own placed = absurd (cc)
 sound_taken operation (Some PcrelLo) (Number k) own placed = absurd (cc)
 sound_taken operation (Some PcrelLo) (Address labelled) own placed = low_part operation placed (no_fault _ not_constant (append_right _ _ own))
 sound_taken operation (Some PcrelLo) (Wrong code) own placed = absurd (cc)
+
+part_placed : (operation : Operation) (f : Function) → is_placed operation (Some f) ≡ true → is_placed (with_part operation) (Some f) ≡ true
+part_placed (operations.StoreSymbol operation rs2 rt) Hi placed = absurd (cc)
+part_placed (operations.StoreSymbol operation rs2 rt) PcrelHi placed = absurd (cc)
+part_placed (operations.StoreSymbol operation rs2 rt) Lo placed = refl
+part_placed (operations.StoreSymbol operation rs2 rt) PcrelLo placed = refl
+part_placed _ f placed = placed
+
+pub known_placed : (operation : Operation) (function : Option Function) → is_placed operation function ≡ true
+    → is_placed (known_as operation function) function ≡ true
+known_placed operation None placed = placed
+known_placed operation (Some f) placed = part_placed operation f placed
 
 -- ---- scratch registers
 
@@ -255,3 +274,9 @@ pub good_scratch : (operation : Operation) (function : Option Function) (w : Wor
     → takes_target (known_as operation function) ≡ true → is_bad_scratch (known_as operation function) ≡ false
 good_scratch operation None w own alone target = target_scratch (takes_target operation) operation w target own
 good_scratch operation (Some f) w own alone target = absurd (cc)
+
+-- a target that has a row stands beside registers that are taken
+pub target_written : (operation : Operation) (function : Option Function) → function ≡ None → is_placed operation function ≡ true
+    → is_written (known_as operation function) ≡ true
+target_written operation None alone placed = placed
+target_written operation (Some f) alone placed = absurd (cc)

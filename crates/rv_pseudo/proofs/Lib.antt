@@ -1,5 +1,6 @@
 pub mod InRangeLemmas
 pub mod LowestLemmas
 pub mod OneRowLemmas
+pub mod ParcelRowsLemmas
 pub mod RowsLemmas
 pub mod TableLemmas

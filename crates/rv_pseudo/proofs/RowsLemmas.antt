@@ -1,7 +1,7 @@
 -- The rows of statements with a number: where there is no fault there is one, and what it puts into its field.
 
 use Rattle.std.proofs.Common.{◌≡◌, ℕ, Bool, true, false, refl, sym, ap, subst, ◌∙◌, ℤ, pos, List, [], ◌∷◌, map, Option, Some, None, option_map}
-use Rattle.std.specs.Prelude.{not, ◌&&◌, is_some}
+use Rattle.std.specs.Prelude.{not, ◌&&◌, is_some, unwrap_or}
 use Rattle.rv_isa.specs.declared.instruction.Inst.{Inst}
 use Rattle.rv_isa.specs.declared.kind.Kind.{Kind}
 use Rattle.rv_isa.specs.declared.operation.ImmediateOperation.{ImmediateOperation}
@@ -10,6 +10,11 @@ use Rattle.rv_isa.specs.declared.operation.RegisterOperation.{RegisterOperation}
 use Rattle.rv_isa.specs.declared.operation.StoreOperation.{StoreOperation}
 use Rattle.rv_isa.specs.Operations.{of_immediate, of_shift, of_upper, of_load, of_store}
 use Rattle.rv_isa_laws.specs.Arithmetic.{wrapped}
+use Rattle.rv_isa_laws.specs.Halves.{lo}
+use Rattle.rv_compress.specs.declared.form.Compressed.{Compressed}
+use Rattle.rv_compress.specs.declared.parcel.ParcelOperation.{ParcelOperation}
+use Rattle.rv_compress.specs.Mnemonics.{shape_of, takes_number}
+use Rattle.rv_compress.specs.Parcel.{expansion}
 use Rattle.rv_statement.specs.declared.mnemonic.Mnemonic.{Mnemonic}
 use Rattle.rv_statement.specs.declared.mnemonic.Mnemonic.TheVariants as mnemonics
 use Rattle.rv_statement.specs.declared.pseudo.Function.{Function}
@@ -23,8 +28,9 @@ use Rattle.rv_pseudo_laws.specs.Code.{Part, Closed, i_type, s_type, u_type, shif
 use Rattle.rv_pseudo_laws.specs.Li.{li}
 use Rattle.rv_pseudo_laws.specs.Valid.{form_takes}
 use Rattle.rv_pseudo.specs.declared.template.Template.{Template}
-use Rattle.rv_pseudo.specs.Faults.{is_upper, takes_target, number}
-use Rattle.rv_pseudo.specs.Templates.{plain, all_templates, parts_of, operand, number_operand, with_reloc, Puts, IsKindOf, IsConstantRow, AreNumbered}
+use Rattle.rv_pseudo.specs.Faults.{is_target, is_number, takes_registers, takes_number_beside, is_upper, is_placed, takes_target, number}
+use Rattle.rv_pseudo.specs.Templates.{plain, all_templates, parts_of, operand, number_operand, with_reloc, form_beside, form_told, Puts, IsKindOf, IsConstantRow, AreNumbered}
+use Rattle.rv_pseudo.proofs.ParcelRowsLemmas.{shaped_away, shaped_target, closed_form, number_row, told_open, told_some, number_beside}
 use Rattle.rv_pseudo.proofs.InRangeLemmas.{is_immediate, is_low, is_taken, and_left, number_takes}
 
 -- ---- operands
@@ -41,6 +47,7 @@ away_value (operations.JalrThen rd rs1) e away = refl
 away_value (operations.JalrLinked rs1) e away = refl
 away_value (operations.Jr rs) e away = refl
 away_value (operations.Li rd) e away = refl
+away_value (operations.Parcel operation a b) e away = shaped_away (shape_of operation) e away
 away_value _ e away = absurd (cc)
 
 pub away_operand : (operation : Operation) (function : Option Function) (e : Expression) → takes_target operation ≡ false
@@ -62,6 +69,7 @@ target_value (operations.Call rd) e target = refl
 target_value operations.CallLinked e target = refl
 target_value operations.Tail e target = refl
 target_value (operations.Jump rt) e target = refl
+target_value (operations.Parcel operation a b) e target = shaped_target (shape_of operation) e target
 target_value _ e target = absurd (cc)
 
 pub target_operand : (operation : Operation) (function : Option Function) (e : Expression) → function ≡ None → takes_target operation ≡ true
@@ -133,38 +141,64 @@ constant_some operation form rd rs1 function value e same f =
     (let fits = subst (λ g. form_takes g (number function value) ≡ true) same (number_takes (operations.Registers operation rd rs1) function value f refl) in
     cc)
 
+-- the number of an operand, where that is one
+number_is : (function : Option Function) (value : Option ℤ) (e : Expression) (k : ℤ) → number_of (λ t. value) (number_operand function e) ≡ Some k
+    → k ≡ number function value
+number_is None (Some v) e k is = ap (λ o. unwrap_or o v) (sym is)
+number_is None None e k is = absurd (cc)
+number_is (Some Lo) (Some v) e k is = ap (λ o. unwrap_or o (lo v)) (sym is)
+number_is (Some Lo) None e k is = absurd (cc)
+number_is (Some Hi) value e k is = absurd (cc)
+number_is (Some PcrelHi) value e k is = absurd (cc)
+number_is (Some PcrelLo) value e k is = absurd (cc)
+
+-- a parcel that has a row, and no target, takes a number
+parcel_beside : (operation : ParcelOperation) (a b : ℕ) (function : Option Function) → is_target (shape_of operation) ≡ false
+    → is_placed (operations.Parcel operation a b) function ≡ true → takes_number_beside operation a b ≡ true
+parcel_beside operation a b None away placed =
+    number_beside (is_number (shape_of operation)) (is_target (shape_of operation)) (takes_registers operation a b) away placed
+parcel_beside operation a b (Some Lo) away placed = placed
+parcel_beside operation a b (Some PcrelLo) away placed = placed
+parcel_beside operation a b (Some Hi) away placed = absurd (cc)
+parcel_beside operation a b (Some PcrelHi) away placed = absurd (cc)
+
 pub row_some : (operation : Operation) (function : Option Function) (value : Option ℤ) (rvc : Bool) (bytes : ℕ) (e : Expression)
-    → is_taken operation function value ≡ true → takes_target operation ≡ false
+    → is_taken operation function value ≡ true → takes_target operation ≡ false → is_placed operation function ≡ true
     → is_some (parts_of (λ t. value) rvc bytes (with_operand operation (number_operand function e))) ≡ true
-row_some (operations.Registers operation rd rs1) None value rvc bytes e f away = constant_some operation (with_constant operation) rd rs1 None value e refl f
-row_some (operations.Registers operation rd rs1) (Some g) value rvc bytes e f away =
+row_some (operations.Registers operation rd rs1) None value rvc bytes e f away placed = constant_some operation (with_constant operation) rd rs1 None value e refl f
+row_some (operations.Registers operation rd rs1) (Some g) value rvc bytes e f away placed =
     constant_some operation (with_constant operation) rd rs1 (Some g) value e refl f
-row_some (operations.Immediate operation rd rs1) function value rvc bytes e f away =
+row_some (operations.Immediate operation rd rs1) function value rvc bytes e f away placed =
     signed_some (operations.Immediate operation rd rs1) function value false (λ k. of_immediate operation (i_type rd rs1 k)) e refl refl f
-row_some (operations.Shift operation rd rs1) function value rvc bytes e f away =
+row_some (operations.Shift operation rd rs1) function value rvc bytes e f away placed =
     by_number_some (λ k. of_shift operation (shift_by rd rs1 (wrapped k))) _ (number_some (operations.Shift operation rd rs1) function value e refl refl refl f)
-row_some (operations.Upper operation rd) function value rvc bytes e f away =
+row_some (operations.Upper operation rd) function value rvc bytes e f away placed =
     upper_some (operations.Upper operation rd) function value (λ n. of_upper operation (u_type rd n)) e refl refl refl f
-row_some (operations.Load operation rd rs1) None value rvc bytes e f away =
+row_some (operations.Load operation rd rs1) None value rvc bytes e f away placed =
     signed_some (operations.Load operation rd rs1) None value false (λ k. of_load operation (i_type rd rs1 k)) e refl refl f
-row_some (operations.Load operation rd rs1) (Some g) value rvc bytes e f away =
+row_some (operations.Load operation rd rs1) (Some g) value rvc bytes e f away placed =
     signed_some (operations.Load operation rd rs1) (Some g) value false (λ k. of_load operation (i_type rd rs1 k)) e refl refl f
-row_some (operations.Store operation rs2 rs1) None value rvc bytes e f away =
+row_some (operations.Store operation rs2 rs1) None value rvc bytes e f away placed =
     signed_some (operations.Store operation rs2 rs1) None value true (λ k. of_store operation (s_type rs2 rs1 k)) e refl refl f
-row_some (operations.Store operation rs2 rs1) (Some g) value rvc bytes e f away =
+row_some (operations.Store operation rs2 rs1) (Some g) value rvc bytes e f away placed =
     signed_some (operations.Store operation rs2 rs1) (Some g) value true (λ k. of_store operation (s_type rs2 rs1 k)) e refl refl f
-row_some (operations.Jalr rd rs1) None value rvc bytes e f away = signed_some (operations.Jalr rd rs1) None value false (jalr rd rs1) e refl refl f
-row_some (operations.Jalr rd rs1) (Some g) value rvc bytes e f away = signed_some (operations.Jalr rd rs1) (Some g) value false (jalr rd rs1) e refl refl f
-row_some (operations.JalrThen rd rs1) None value rvc bytes e f away = signed_some (operations.JalrThen rd rs1) None value false (jalr rd rs1) e refl refl f
-row_some (operations.JalrThen rd rs1) (Some g) value rvc bytes e f away =
+row_some (operations.Jalr rd rs1) None value rvc bytes e f away placed = signed_some (operations.Jalr rd rs1) None value false (jalr rd rs1) e refl refl f
+row_some (operations.Jalr rd rs1) (Some g) value rvc bytes e f away placed = signed_some (operations.Jalr rd rs1) (Some g) value false (jalr rd rs1) e refl refl f
+row_some (operations.JalrThen rd rs1) None value rvc bytes e f away placed = signed_some (operations.JalrThen rd rs1) None value false (jalr rd rs1) e refl refl f
+row_some (operations.JalrThen rd rs1) (Some g) value rvc bytes e f away placed =
     signed_some (operations.JalrThen rd rs1) (Some g) value false (jalr rd rs1) e refl refl f
-row_some (operations.JalrLinked rs1) None value rvc bytes e f away = signed_some (operations.JalrLinked rs1) None value false (jalr 1 rs1) e refl refl f
-row_some (operations.JalrLinked rs1) (Some g) value rvc bytes e f away = signed_some (operations.JalrLinked rs1) (Some g) value false (jalr 1 rs1) e refl refl f
-row_some (operations.Jr rs) None value rvc bytes e f away = signed_some (operations.Jr rs) None value false (jalr 0 rs) e refl refl f
-row_some (operations.Jr rs) (Some g) value rvc bytes e f away = signed_some (operations.Jr rs) (Some g) value false (jalr 0 rs) e refl refl f
-row_some (operations.Li rd) function value rvc bytes e f away =
+row_some (operations.JalrLinked rs1) None value rvc bytes e f away placed = signed_some (operations.JalrLinked rs1) None value false (jalr 1 rs1) e refl refl f
+row_some (operations.JalrLinked rs1) (Some g) value rvc bytes e f away placed = signed_some (operations.JalrLinked rs1) (Some g) value false (jalr 1 rs1) e refl refl f
+row_some (operations.Jr rs) None value rvc bytes e f away placed = signed_some (operations.Jr rs) None value false (jalr 0 rs) e refl refl f
+row_some (operations.Jr rs) (Some g) value rvc bytes e f away placed = signed_some (operations.Jr rs) (Some g) value false (jalr 0 rs) e refl refl f
+row_some (operations.Li rd) function value rvc bytes e f away placed =
     mapped_some (λ k. map Closed (li rd k)) _ (number_some (operations.Li rd) function value e refl refl refl f)
-row_some _ function value rvc bytes e f away = absurd (cc)
+row_some (operations.Parcel operation a b) function value rvc bytes e f away placed =
+    ap is_some (number_row operation a b function e (λ t. value) rvc bytes)
+    ∙ told_some operation a b (number_of (λ t. value) (number_operand function e)) (parcel_beside operation a b function away placed)
+    (number_some (operations.Parcel operation a b) function value e refl refl away f)
+    (λ k is. subst (λ (z : ℤ). takes_number operation z ≡ true) (sym (number_is function value e k is)) (number_takes (operations.Parcel operation a b) function value f away))
+row_some _ function value rvc bytes e f away placed = absurd (cc)
 
 -- a row that there is, whose templates are known
 pub row_known : (row : Option (List Part)) (found : List Template) → is_some row ≡ true
@@ -261,6 +295,34 @@ jr_numbered rs number reloc (Some f) value rvc bytes e parts (low, upper, consta
 pub li_numbered : (rd : ℕ) (number : ℤ) (reloc : Option Kind) → AreNumbered (operations.Li rd) number reloc (map plain (li rd number))
 li_numbered rd number reloc function value rvc bytes e parts (low, upper, constant) row =
     li_put rd (number_of (λ t. value) (number_operand function e)) number reloc parts (λ k h. constant k e h) row
+
+-- a parcel, where its number makes a form
+parcel_put : (found : Option Compressed) (reloc : Option Kind) (parts : List Part) (made : List Template)
+    → ((form : Compressed) → found ≡ Some form → made ≡ plain (expansion form) ∷ []) → closed_form found ≡ Some parts → all_templates parts ≡ made
+parcel_put None reloc parts made is row = absurd (cc)
+parcel_put (Some form) reloc parts made is row = ap (λ o. all_templates (unwrap_or o [])) (sym row) ∙ sym (is form refl)
+
+told_put : (operation : ParcelOperation) (a b : ℕ) (o : Option ℤ) (number : ℤ) (reloc : Option Kind) (parts : List Part) (made : List Template)
+    → ((form : Compressed) → form_beside operation a b number ≡ Some form → made ≡ plain (expansion form) ∷ [])
+    → ((k : ℤ) → o ≡ Some k → k ≡ number) → closed_form (form_told operation a b o) ≡ Some parts → all_templates parts ≡ made
+told_put operation a b None number reloc parts made is same row = absurd (let none = sym (ap closed_form (told_open operation a b)) ∙ row in cc)
+told_put operation a b (Some k) number reloc parts made is same row =
+    parcel_put (form_beside operation a b number) reloc parts made is (ap (λ (z : ℤ). closed_form (form_beside operation a b z)) (sym (same k refl)) ∙ row)
+
+pub parcel_numbered : (operation : ParcelOperation) (a b : ℕ) (number : ℤ) (reloc : Option Kind) (made : List Template)
+    → ((form : Compressed) → form_beside operation a b number ≡ Some form → made ≡ plain (expansion form) ∷ [])
+    → AreNumbered (operations.Parcel operation a b) number reloc made
+parcel_numbered operation a b number reloc made is function value rvc bytes e parts (low, upper, constant) row =
+    told_put operation a b (number_of (λ t. value) (number_operand function e)) number reloc parts made is (λ k h. (constant k e h).0)
+    (sym (number_row operation a b function e (λ t. value) rvc bytes) ∙ row)
+
+-- what is made of the form that was found, and of none
+pub form_made : (found : Option Compressed) (form : Compressed) (made : List Template) → found ≡ Some form → made ≡ plain (expansion form) ∷ []
+    → (other : Compressed) → found ≡ Some other → made ≡ plain (expansion other) ∷ []
+form_made found form made is makes other same = makes ∙ ap (λ o. plain (expansion (unwrap_or o form)) ∷ []) (sym is ∙ same)
+
+pub none_made : (found : Option Compressed) (made : List Template) → found ≡ None → (other : Compressed) → found ≡ Some other → made ≡ plain (expansion other) ∷ []
+none_made found made is other same = absurd (let none = sym is ∙ same in cc)
 
 pub numbered_by : (operation o : Operation) (number : ℤ) (reloc : Option Kind) (made found : List Template) → operation ≡ o → found ≡ made
     → AreNumbered o number reloc made → AreNumbered operation number reloc found

@@ -1,11 +1,13 @@
 -- The faults of an operation with an operand are those of its statement.
 
-use Rattle.std.proofs.Common.{◌≡◌, ℕ, ℤ, Bool, true, false, List, [], ◌++◌, Option, Some, None, option_map, Ok, Err, refl, sym, ap, ◌∙◌, append-nil}
+use Rattle.std.proofs.Common.{◌≡◌, ℕ, Bool, true, false, List, [], ◌++◌, Option, Some, None, option_map, Ok, Err, refl, sym, ap, ◌∙◌, append-nil}
 use Rattle.std.specs.Prelude.{◌==◌, is_some, if◌then◌else◌}
 use Rattle.arrayvec.specs.ArrayVec.{ArrayVec}
 use Rattle.rv_text_laws.specs.Codes.{unsupported_here, lowest}
 use Rattle.rv_lexer.specs.declared.fault.SourceCode.{SourceCode}
 use Rattle.rv_lexer.specs.Fault.{number_of, IsLowest}
+use Rattle.rv_compress.specs.declared.parcel.ParcelOperation.{ParcelOperation}
+use Rattle.rv_compress.specs.Mnemonics.{shape_of}
 use Rattle.rv_statement.specs.declared.mnemonic.Mnemonic.{Mnemonic}
 use Rattle.rv_statement.specs.declared.mnemonic.Mnemonic.TheVariants as mnemonics
 use Rattle.rv_statement.specs.declared.pseudo.Function.{Function}
@@ -15,14 +17,16 @@ use Rattle.rv_statement.specs.declared.statement.Operation.TheVariants as operat
 use Rattle.rv_statement.specs.declared.statement.Plain.{Plain}
 use Rattle.rv_statement.specs.declared.statement.Plain.TheVariants as plains
 use Rattle.rv_statement.specs.Statement.{StatementKind, Instruction, Expression, Operand, Applied}
-use Rattle.rv_statement.specs.View.{plain_of, with_operand}
+use Rattle.rv_statement.specs.View.{parcel_registers, parcel_operands, shaped, plain_of, with_operand}
 use Rattle.rv_parse_laws.specs.Syntax.{with_constant}
-use Rattle.rv_pseudo_laws.specs.Code.{Part, Constants, by_constant, far}
-use Rattle.rv_pseudo_laws.specs.InstructionFaults.{Worth, target_faults, else_unplaced, has_row, faults}
+use Rattle.rv_pseudo_laws.specs.Code.{Part, Constants, number_of as number_in, by_constant, far}
+use Rattle.rv_pseudo_laws.specs.InstructionFaults.{Worth, target_faults, operand_faults, else_unplaced, has_row, faults}
+use Rattle.rv_pseudo_laws.proofs.ParcelsLemmas.{parcel_code}
 use Rattle.rv_pseudo.specs.declared.template.Form.{Form}
 use Rattle.rv_pseudo.specs.declared.template.Template.{Template}
 use Rattle.rv_pseudo.specs.Faults.{worth_of, known_as, is_upper, is_constant_form, is_placed, scratch_of, faults_of}
-use Rattle.rv_pseudo.specs.Templates.{all_templates, constants_of, worths_of, parts_of, form_templates, faults_by, statement_with, Answers}
+use Rattle.rv_pseudo.specs.Templates.{all_templates, constants_of, worths_of, parts_of, form_templates, faults_by, statement_with, Answers, AnswersBare, AreTemplates}
+use Rattle.rv_pseudo.proofs.ParcelRowsLemmas.{register_faults, beside_faults, shaped_faults, told_open, told_none, value_none, part_none}
 use Rattle.rv_pseudo.proofs.LowestLemmas.{lowest_same, unplaced, faultless}
 
 -- ---- its statement
@@ -40,7 +44,9 @@ has_rows v _ = true
 
 -- ---- its faults
 
-pub plain_faults : (p : Plain) (v : Constants) (w : Expression → Worth) → faults v w (plain_of p) ≡ []
+pub plain_faults : (p : Plain) (v : Constants) (w : Expression → Worth) → faults v w (plain_of p) ≡ else_unplaced (has_rows v (plain_of p)) []
+plain_faults (plains.Parcel operation a b) v w =
+    ap (else_unplaced (has_rows v (plain_of (plains.Parcel operation a b)))) (register_faults w (mnemonics.Parcel operation) operation a b)
 plain_faults plains.Ecall v w = refl
 plain_faults _ v w = refl
 
@@ -50,17 +56,32 @@ alone placed cs = ap (else_unplaced placed) (append-nil cs)
 beside : (placed : Bool) (scratch cs : List ℕ) → else_unplaced placed (scratch ++ (cs ++ [])) ≡ else_unplaced placed (scratch ++ cs)
 beside placed scratch cs = ap (λ t. else_unplaced placed (scratch ++ t)) (append-nil cs)
 
+parcel_part_faults : (operation : ParcelOperation) (a b : ℕ) (f : Function) (e : Expression) (v : Constants) (w : Expression → Worth)
+    → faults v w (statement_with (operations.Parcel operation a b) (Some f) e)
+    ≡ else_unplaced (has_rows v (statement_with (operations.Parcel operation a b) (Some f) e)) (operand_faults w (mnemonics.Parcel operation) (Applied f e))
+parcel_part_faults operation a b f e v w =
+    ap (else_unplaced (has_rows v (statement_with (operations.Parcel operation a b) (Some f) e)))
+    (beside_faults w (mnemonics.Parcel operation) (shape_of operation) operation a b (Applied f e))
+
 pub with_faults : (operation : Operation) (function : Option Function) (e : Expression) (v : Constants) (w : Expression → Worth)
     → faults v w (statement_with operation function e) ≡ else_unplaced (has_rows v (statement_with operation function e)) (faults_of operation function (w e))
 with_faults (operations.LoadSymbol operation rd) None e v w = beside (has_rows v (statement_with (operations.LoadSymbol operation rd) None e)) (scratch_of (operations.LoadSymbol operation rd)) (target_faults (w e))
 with_faults (operations.StoreSymbol operation rs2 rt) None e v w = beside (has_rows v (statement_with (operations.StoreSymbol operation rs2 rt) None e)) (scratch_of (operations.StoreSymbol operation rs2 rt)) (target_faults (w e))
 with_faults (operations.Call rd) None e v w = beside (has_rows v (statement_with (operations.Call rd) None e)) (scratch_of (operations.Call rd)) (target_faults (w e))
 with_faults (operations.Jump rt) None e v w = beside (has_rows v (statement_with (operations.Jump rt) None e)) (scratch_of (operations.Jump rt)) (target_faults (w e))
+with_faults (operations.Parcel operation a b) None e v w =
+    ap (else_unplaced (has_rows v (statement_with (operations.Parcel operation a b) None e)))
+    (beside_faults w (mnemonics.Parcel operation) (shape_of operation) operation a b (shaped (shape_of operation) e)
+    ∙ shaped_faults w (mnemonics.Parcel operation) (shape_of operation) e)
 with_faults operation None e v w = alone (has_rows v (statement_with operation None e)) (faults_of operation None (w e))
 with_faults (operations.Li rd) (Some Hi) e v w = alone (has_rows v (statement_with (operations.Li rd) (Some Hi) e)) (faults_of (operations.Li rd) (Some Hi) (w e))
 with_faults (operations.Li rd) (Some Lo) e v w = alone (has_rows v (statement_with (operations.Li rd) (Some Lo) e)) (faults_of (operations.Li rd) (Some Lo) (w e))
 with_faults (operations.Li rd) (Some PcrelHi) e v w = alone (has_rows v (statement_with (operations.Li rd) (Some PcrelHi) e)) (faults_of (operations.Li rd) (Some PcrelHi) (w e))
 with_faults (operations.Li rd) (Some PcrelLo) e v w = alone (has_rows v (statement_with (operations.Li rd) (Some PcrelLo) e)) (faults_of (operations.Li rd) (Some PcrelLo) (w e))
+with_faults (operations.Parcel operation a b) (Some Hi) e v w = parcel_part_faults operation a b Hi e v w
+with_faults (operations.Parcel operation a b) (Some Lo) e v w = parcel_part_faults operation a b Lo e v w
+with_faults (operations.Parcel operation a b) (Some PcrelHi) e v w = parcel_part_faults operation a b PcrelHi e v w
+with_faults (operations.Parcel operation a b) (Some PcrelLo) e v w = parcel_part_faults operation a b PcrelLo e v w
 with_faults operation (Some Hi) e v w = alone (has_rows v (statement_with operation (Some Hi) e)) (faults_of operation (Some Hi) (w e))
 with_faults operation (Some Lo) e v w = alone (has_rows v (statement_with operation (Some Lo) e)) (faults_of operation (Some Lo) (w e))
 with_faults operation (Some PcrelHi) e v w = alone (has_rows v (statement_with operation (Some PcrelHi) e)) (faults_of operation (Some PcrelHi) (w e))
@@ -76,7 +97,11 @@ pub same_row : (operation : Operation) (function : Option Function) (e : Express
     → is_some (parts_of v rvc bytes (statement_with operation function e)) ≡ has_rows v (statement_with operation function e)
 same_row (operations.Call rd) None e v rvc bytes = through_some (rd == 0) (far 8 rd rd) (far 4 rd rd)
 same_row (operations.Jump rt) None e v rvc bytes = through_some (rt == 0) (far 8 0 rt) (far 4 0 rt)
+same_row (operations.Parcel operation a b) None e v rvc bytes =
+    ap is_some (parcel_code v rvc false bytes 4 operation (parcel_operands (shape_of operation) operation a b (shaped (shape_of operation) e)))
 same_row _ None e v rvc bytes = refl
+same_row (operations.Parcel operation a b) (Some f) e v rvc bytes =
+    ap is_some (parcel_code v rvc false bytes 4 operation (parcel_operands (shape_of operation) operation a b (Applied f e)))
 same_row (operations.Li rd) (Some f) e v rvc bytes = refl
 same_row _ (Some f) e v rvc bytes = refl
 
@@ -100,11 +125,13 @@ no_form v _ rd rs1 o bare = refl
 high_none : (operation : Operation) (v : Constants) (e : Expression) → is_upper operation ≡ false → has_rows v (with_operand operation (Applied Hi e)) ≡ false
 high_none (operations.Registers operation rd rs1) v e away = no_high v (with_constant operation) rd rs1 e
 high_none (operations.Upper operation rd) v e away = absurd (cc)
+high_none (operations.Parcel operation a b) v e away = part_none operation a b Hi e v (told_open operation a b)
 high_none _ v e away = refl
 
 distance_none : (operation : Operation) (v : Constants) (e : Expression) → is_upper operation ≡ false → has_rows v (with_operand operation (Applied PcrelHi e)) ≡ false
 distance_none (operations.Registers operation rd rs1) v e away = no_distance v (with_constant operation) rd rs1 e
 distance_none (operations.Upper operation rd) v e away = absurd (cc)
+distance_none (operations.Parcel operation a b) v e away = part_none operation a b PcrelHi e v (told_open operation a b)
 distance_none _ v e away = refl
 
 low_none : (operation : Operation) (v : Constants) (e : Expression) → is_placed operation (Some Lo) ≡ false → has_rows v (with_operand operation (Applied Lo e)) ≡ false
@@ -122,6 +149,7 @@ low_none (operations.Call rd) v e away = refl
 low_none operations.CallLinked v e away = refl
 low_none operations.Tail v e away = refl
 low_none (operations.Jump rt) v e away = refl
+low_none (operations.Parcel operation a b) v e away = part_none operation a b Lo e v (told_none operation a b (number_in v (Applied Lo e)) away)
 low_none _ v e away = absurd (cc)
 
 low_distance_none : (operation : Operation) (v : Constants) (e : Expression) → is_placed operation (Some PcrelLo) ≡ false → has_rows v (with_operand operation (Applied PcrelLo e)) ≡ false
@@ -139,11 +167,13 @@ low_distance_none (operations.Call rd) v e away = refl
 low_distance_none operations.CallLinked v e away = refl
 low_distance_none operations.Tail v e away = refl
 low_distance_none (operations.Jump rt) v e away = refl
+low_distance_none (operations.Parcel operation a b) v e away = part_none operation a b PcrelLo e v (told_open operation a b)
 low_distance_none _ v e away = absurd (cc)
 
 pub row_none : (operation : Operation) (function : Option Function) (v : Constants) (e : Expression) → is_placed operation function ≡ false
     → has_rows v (statement_with operation function e) ≡ false
-row_none operation None v e away = absurd (cc)
+row_none (operations.Parcel operation a b) None v e away = value_none operation a b e v away
+row_none _ None v e away = absurd (cc)
 row_none operation (Some Hi) v e away = high_none operation v e away
 row_none operation (Some PcrelHi) v e away = distance_none operation v e away
 row_none operation (Some Lo) v e away = low_none operation v e away
@@ -159,11 +189,32 @@ pub row_placed : (operation : Operation) (function : Option Function) (v : Const
     → is_placed operation function ≡ true
 row_placed operation function v e some = placed_by (is_placed operation function) operation function v e refl some
 
--- ---- the code's answers
+-- ---- statements without an expression
 
 pub some_of : (row : Option (List Part)) (found : List Template) → option_map all_templates row ≡ Some found → is_some row ≡ true
 some_of None found e = absurd (cc)
 some_of (Some ps) found e = refl
+
+plain_row : (p : Plain) (v : Constants) (rvc : Bool) (bytes : ℕ) → is_some (parts_of v rvc bytes (plain_of p)) ≡ has_rows v (plain_of p)
+plain_row (plains.Parcel operation a b) v rvc bytes = ap is_some (parcel_code v rvc false bytes 4 operation (parcel_registers operation a b))
+plain_row _ v rvc bytes = refl
+
+-- one that has a row has no fault
+pub plain_sound : (p : Plain) (v : Constants) (w : Expression → Worth) (rvc : Bool) (bytes : ℕ) (found : List Template)
+    → option_map all_templates (parts_of v rvc bytes (plain_of p)) ≡ Some found → faults v w (plain_of p) ≡ []
+plain_sound p v w rvc bytes found row =
+    let placed = sym (plain_row p v rvc bytes) ∙ some_of (parts_of v rvc bytes (plain_of p)) found row in
+    plain_faults p v w ∙ faultless (has_rows v (plain_of p)) [] placed refl
+
+pub bare_found : (p : Plain) (rvc : Bool) (found : ArrayVec Template) → ((bytes : ℕ) → AreTemplates rvc bytes (plain_of p) found.items)
+    → AnswersBare rvc (plain_of p) (Ok found)
+bare_found p rvc found are v w bytes = (plain_sound p v w rvc bytes found.items (are bytes v), are bytes v)
+
+pub bare_unplaced : (p : Plain) (rvc : Bool) (code : SourceCode) → number_of code ≡ unsupported_here → ((v : Constants) → has_rows v (plain_of p) ≡ false)
+    → AnswersBare rvc (plain_of p) (Err code)
+bare_unplaced p rvc code is away v w bytes = ap lowest (plain_faults p v w) ∙ unplaced (has_rows v (plain_of p)) [] (away v) refl ∙ ap Some (sym is)
+
+-- ---- the code's answers
 
 pub answer_found : (operation : Operation) (function : Option Function) (form : Form) (found : ArrayVec Template) → faults_of operation function (worth_of form.worth) ≡ []
     → ((e : Expression) → form_templates form (statement_with operation function e) ≡ Some found.items) → (e : Expression)

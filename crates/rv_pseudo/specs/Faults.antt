@@ -1,8 +1,12 @@
 -- The faults of the operand of a statement of code, as the code decides them (`InstructionFaults` has
 -- them for any statement).
 
-use Rattle.std.specs.Prelude.{ℕ, ℤ, pos, Bool, true, false, ◌||◌, ◌==◌, if◌then◌else◌, List, ◌++◌, Option, Some, None}
+use Rattle.std.specs.Prelude.{ℕ, ℤ, pos, Bool, true, false, ◌&&◌, ◌||◌, ◌==◌, if◌then◌else◌, List, ◌++◌, Option, Some, None}
 use Rattle.rv_isa_laws.specs.Halves.{hi, lo}
+use Rattle.rv_compress.specs.declared.parcel.ParcelOperation.{ParcelOperation}
+use Rattle.rv_compress.specs.declared.parcel.OperandShape.{OperandShape}
+use Rattle.rv_compress.specs.declared.parcel.OperandShape.TheVariants as shapes
+use Rattle.rv_compress.specs.Mnemonics.{register_sets, are_in, own_registers, shape_of}
 use Rattle.rv_text_laws.specs.Codes.{scratch_register, faulty_if}
 use Rattle.rv_lexer.specs.Fault.{number_of}
 use Rattle.rv_statement.specs.declared.mnemonic.Mnemonic.{Mnemonic}
@@ -65,6 +69,7 @@ mnemonic_of (operations.Call rd) = mnemonics.Call
 mnemonic_of operations.CallLinked = mnemonics.Call
 mnemonic_of operations.Tail = mnemonics.Tail
 mnemonic_of (operations.Jump rt) = mnemonics.Jump
+mnemonic_of (operations.Parcel operation a b) = mnemonics.Parcel operation
 
 -- with a part of a value a store to a symbol is one at a number from a register
 abbrev pub with_part : Operation → Operation
@@ -75,6 +80,16 @@ with_part operation = operation
 abbrev pub known_as : Operation → Option Function → Operation
 known_as operation None = operation
 known_as operation (Some function) = with_part operation
+
+-- whether a target stands beside the registers of a parcel, and whether a number does
+abbrev pub is_target : OperandShape → Bool
+is_target shapes.Target = true
+is_target _ = false
+
+abbrev pub is_number : OperandShape → Bool
+is_number shapes.Number = true
+is_number shapes.Address = true
+is_number _ = false
 
 -- whether the expression of an operation is a target, and not a number
 abbrev pub takes_target : Operation → Bool
@@ -91,6 +106,7 @@ takes_target (operations.Call rd) = true
 takes_target operations.CallLinked = true
 takes_target operations.Tail = true
 takes_target (operations.Jump rt) = true
+takes_target (operations.Parcel operation a b) = is_target (shape_of operation)
 takes_target _ = false
 
 -- ---- fields
@@ -106,6 +122,19 @@ is_constant_form (Some (mnemonics.Immediate operation)) = true
 is_constant_form (Some (mnemonics.Shift operation)) = true
 is_constant_form _ = false
 
+-- whether a parcel takes these registers, and an operand beside them
+abbrev pub takes_registers : ParcelOperation → ℕ → ℕ → Bool
+takes_registers operation a b = are_in (register_sets operation) (own_registers operation a b)
+
+abbrev pub takes_number_beside : ParcelOperation → ℕ → ℕ → Bool
+takes_number_beside operation a b =
+    is_number (shape_of operation) && takes_registers operation a b
+
+abbrev pub takes_operand : ParcelOperation → ℕ → ℕ → Bool
+takes_operand operation a b =
+    (is_number (shape_of operation) || is_target (shape_of operation))
+    && takes_registers operation a b
+
 -- all other numbers take low parts
 abbrev pub is_lower : Operation → Bool
 is_lower (operations.Registers operation rd rs1) = is_constant_form (with_constant operation)
@@ -119,11 +148,17 @@ is_lower (operations.JalrThen rd rs1) = true
 is_lower (operations.JalrLinked rs1) = true
 is_lower (operations.Jr rs) = true
 is_lower (operations.Li rd) = true
+is_lower (operations.Parcel operation a b) = takes_number_beside operation a b
 is_lower _ = false
 
--- whether there is a row for a function of a value without faults
+-- whether an operation takes an expression
+abbrev pub is_written : Operation → Bool
+is_written (operations.Parcel operation a b) = takes_operand operation a b
+is_written _ = true
+
+-- whether there is a row for a value, or a function of one, without faults
 abbrev pub is_placed : Operation → Option Function → Bool
-is_placed operation None = true
+is_placed operation None = is_written operation
 is_placed operation (Some Hi) = is_upper operation
 is_placed operation (Some Lo) = is_lower operation
 is_placed operation (Some PcrelHi) = is_upper operation

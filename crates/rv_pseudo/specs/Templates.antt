@@ -1,10 +1,13 @@
 -- The templates of a statement of code: the parts of its row in the one table (`code`), as the code
 -- holds them.
 
-use Rattle.std.specs.Prelude.{◌≡◌, ℕ, ℤ, pos, Bool, true, false, List, [], ◌∷◌, flat_map, Option, Some, None, option_map, Result, Ok, Err}
+use Rattle.std.specs.Prelude.{◌≡◌, ℕ, ℤ, pos, Bool, true, false, List, [], ◌∷◌, flat_map, Option, Some, None, option_map, Result, Ok, Err, if◌then◌else◌}
 use Rattle.arrayvec.specs.ArrayVec.{ArrayVec}
 use Rattle.rv_isa.specs.declared.instruction.Inst.{Inst}
 use Rattle.rv_isa.specs.declared.kind.Kind.{Kind}
+use Rattle.rv_compress.specs.declared.form.Compressed.{Compressed}
+use Rattle.rv_compress.specs.declared.parcel.ParcelOperation.{ParcelOperation}
+use Rattle.rv_compress.specs.Mnemonics.{own_registers, shape_of, form_of}
 use Rattle.rv_text_laws.specs.Codes.{lowest}
 use Rattle.rv_lexer.specs.declared.fault.SourceCode.{SourceCode}
 use Rattle.rv_lexer.specs.declared.fault.SourceFault.{SourceFault}
@@ -20,12 +23,12 @@ use Rattle.rv_statement.specs.declared.statement.Operation.TheVariants as operat
 use Rattle.rv_statement.specs.Statement.{StatementKind, Instruction, Operand, Value, Applied, Expression}
 use Rattle.rv_statement.specs.View.{with_operand, operand_in}
 use Rattle.rv_isa_laws.specs.Arithmetic.{wrapped}
-use Rattle.rv_pseudo_laws.specs.Code.{Part, Closed, Open, Joined, Constants, code, alone, signed_12, upper_20, number_of, by_constant}
+use Rattle.rv_pseudo_laws.specs.Code.{Part, Closed, Open, Joined, Constants, code, alone, signed_12, upper_20, number_of, by_constant, by_form, named_form}
 use Rattle.rv_pseudo_laws.specs.InstructionFaults.{Worth, faults}
 use Rattle.rv_pseudo.specs.declared.template.Form.{Form}
 use Rattle.rv_pseudo.specs.declared.template.Template.{Template}
 use Rattle.rv_pseudo.specs.declared.template.Worth.TheVariants as told
-use Rattle.rv_pseudo.specs.Faults.{worth_of, constant_in}
+use Rattle.rv_pseudo.specs.Faults.{worth_of, constant_in, is_number}
 
 -- ---- templates
 
@@ -67,6 +70,11 @@ parts_of v rvc bytes (Instruction mnemonic operands) =
     code v rvc (asked_bytes mnemonic bytes) mnemonic operands
 parts_of v rvc bytes kind = Some []
 
+-- the form of a parcel that it names
+abbrev pub named_of : Constants → StatementKind → Option Compressed
+named_of v (Instruction mnemonic operands) = named_form v mnemonic operands
+named_of v kind = None
+
 abbrev pub form_templates : Form → StatementKind → Option (List Template)
 form_templates form kind =
     option_map all_templates (parts_of (constants_of form) form.rvc form.bytes kind)
@@ -90,6 +98,13 @@ abbrev pub Answers : List ℕ → Option (List Template) → Result (ArrayVec Te
     Type 0
 Answers codes row (Ok found) = (codes ≡ []) × (row ≡ Some found.items)
 Answers codes row (Err code) = lowest codes ≡ Some (code_number code)
+
+-- the same of a statement without an expression, whatever expressions are worth
+abbrev pub AnswersBare :
+    (rvc : Bool) → StatementKind → Result (ArrayVec Template) SourceCode → Type 0
+AnswersBare rvc kind found =
+    (v : Constants) (w : Expression → Worth) (bytes : ℕ) →
+    Answers (faults v w kind) (option_map all_templates (parts_of v rvc bytes kind)) found
 
 -- the same at a line; never want of memory
 abbrev pub IsExpansion : List ℕ → Option (List Template) → ℕ →
@@ -152,38 +167,58 @@ AreNumbered operation number reloc found =
     ≡ Some parts
     → all_templates parts ≡ found
 
+-- the form that a mnemonic is with a number beside these registers
+abbrev pub form_beside : ParcelOperation → ℕ → ℕ → ℤ → Option Compressed
+form_beside operation a b k =
+    if is_number (shape_of operation)
+    then form_of operation (own_registers operation a b) k else None
+
+abbrev pub form_told : ParcelOperation → ℕ → ℕ → Option ℤ → Option Compressed
+form_told operation a b number =
+    if is_number (shape_of operation)
+    then by_form (form_of operation (own_registers operation a b)) number else None
+
 -- these are the templates of a statement, whatever constants there are
 abbrev pub AreTemplates : (rvc : Bool) → (bytes : ℕ) → StatementKind → List Template → Type 0
 AreTemplates rvc bytes kind found =
     (v : Constants) → option_map all_templates (parts_of v rvc bytes kind) ≡ Some found
 
-abbrev pub is_li : Operation → Bool
-is_li (operations.Li rd) = true
-is_li _ = false
+-- one says more than an instruction: `li` may have several, and a parcel is a form
+abbrev pub says_more_with : Operation → Bool
+says_more_with (operations.Li rd) = true
+says_more_with (operations.Parcel operation a b) = true
+says_more_with _ = false
 
--- this is its one instruction, under whichever relocation it is put; `li` may have several
+-- this is its one instruction, under whichever relocation it is put, unless it says more
 abbrev pub IsNumberedOne : Operation → ℤ → Option Inst → Type 0
-IsNumberedOne operation number None = is_li operation ≡ true
+IsNumberedOne operation number None = says_more_with operation ≡ true
 IsNumberedOne operation number (Some i) =
     (reloc : Option Kind) → AreNumbered operation number reloc (with_reloc reloc i)
 
 abbrev pub form_by : ℤ → Bool → ℕ → Form
 form_by number rvc bytes = record { worth = told.Number number; bytes = bytes; rvc = rvc }
 
--- an operation with this constant has no fault, and this one instruction
+-- a statement names no form of a parcel
+abbrev pub IsUnnamed : StatementKind → Type 0
+IsUnnamed kind = (v : Constants) → named_of v kind ≡ None
+
+-- an operation with this constant has no fault, this one instruction, and names no form
 pub record IsOne (operation : Operation) (number : ℤ) (i : Inst) : Type 0 where
   pub sound : (rvc : Bool) (bytes : ℕ) (e : Expression) →
       faults_by (form_by number rvc bytes) (statement_with operation None e) ≡ []
   pub is : (rvc : Bool) (bytes : ℕ) (e : Expression) →
       form_templates (form_by number rvc bytes) (statement_with operation None e)
       ≡ Some (plain i ∷ [])
+  pub unnamed : (e : Expression) → IsUnnamed (statement_with operation None e)
 
-abbrev pub is_unary : Plain → Bool
-is_unary (plains.Unary operation rd rs) = true
-is_unary _ = false
+-- one says more than an instruction: an operation on one register may have two, and a parcel is a form
+abbrev pub says_more : Plain → Bool
+says_more (plains.Unary operation rd rs) = true
+says_more (plains.Parcel operation a b) = true
+says_more _ = false
 
--- a statement without an expression is this one instruction, compressed code or not; an operation on
--- one register may have two
+-- a statement without an expression is this one instruction, compressed code or not, unless it
+-- says more
 abbrev pub IsBareOne : StatementKind → Bool → Option Inst → Type 0
-IsBareOne kind unary None = unary ≡ true
-IsBareOne kind unary (Some i) = (rvc : Bool) (bytes : ℕ) → AreTemplates rvc bytes kind (plain i ∷ [])
+IsBareOne kind more None = more ≡ true
+IsBareOne kind more (Some i) = (rvc : Bool) (bytes : ℕ) → AreTemplates rvc bytes kind (plain i ∷ [])

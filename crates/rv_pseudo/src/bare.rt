@@ -1,6 +1,6 @@
 //! Statements without an expression.
 
-ghost use Rattle.std.specs.Prelude.{◌≡◌, ℕ, ◌<◌, [], ◌∷◌, ◌==◌, map, true};
+ghost use Rattle.std.specs.Prelude.{◌≡◌, ◌<◌, [], ◌∷◌, ◌==◌, map, true, IfSome};
 ghost use Rattle.rv_isa.specs.Operations.{of_reserve, of_atomic, of_shift};
 ghost use Rattle.rv_isa.specs.Ranges.{shift_limit};
 ghost use Rattle.rv_statement.specs.declared.pseudo.UnaryOperation.TheVariants.{Mv};
@@ -9,12 +9,14 @@ ghost use Rattle.rv_pseudo_laws.specs.Code as row;
 ghost use Rattle.rv_pseudo_laws.specs.Li as li;
 ghost use Rattle.rv_pseudo.specs.Templates as is;
 
+use crate::parcel;
 use crate::template::{Templates, one, plain, two};
 use arrayvec::ArrayVec;
 use rv_isa::{
     Atomic, AtomicForm, AtomicOperation, IType, Inst, RType, Reg, Reserve, SType, Shift,
     ShiftOperation, fence,
 };
+use rv_lexer::SourceCode;
 use rv_statement::{CompareOperation, Plain, UnaryOperation};
 
 /// Whether a register is x0.
@@ -151,9 +153,10 @@ fn compare(operation: CompareOperation, rd: Reg, rs1: Reg, rs2: Reg) -> Inst
     }
 }
 
-/// The one instruction of a statement without an expression; none of an operation on one register.
+/// The one instruction of a statement without an expression, unless it says more.
 fn instruction(statement: Plain) -> Option<Inst>
-    ensures { is.IsBareOne (plain_of statement) (is.is_unary statement) result }
+    ensures is { is.IsBareOne (plain_of statement) (is.says_more statement) result }
+    ensures unnamed { IfSome result (λ i. is.IsUnnamed (plain_of statement)) }
 {
     match statement {
         Plain::Registers(operation, rd, rs1, rs2) => {
@@ -179,34 +182,41 @@ fn instruction(statement: Plain) -> Option<Inst>
         Plain::Compare(operation, rd, rs1, rs2) => Some(compare(operation, rd, rs1, rs2)),
         Plain::Jr(rs) => Some(jalr(Reg::ZERO, rs, 0)),
         Plain::Ret => Some(jalr(Reg::ZERO, Reg::RA, 0)),
+        Plain::Parcel(..) => None,
     }
 }
 
-/// The one instruction of a statement without an expression; none of an operation on one register,
-/// which may have two.
+/// The one instruction of a statement without an expression; none of an operation on one register, which may have two,
+/// and of a parcel, of which one has to know the form.
 pub fn single_bare(statement: &Plain) -> Option<Inst>
-    ensures { is.IsBareOne (plain_of statement.now) (is.is_unary statement.now) result }
+    ensures is { is.IsBareOne (plain_of statement.now) (is.says_more statement.now) result }
+    ensures unnamed { IfSome result (λ i. is.IsUnnamed (plain_of statement.now)) }
 {
     instruction(*statement)
 }
 
-/// The templates of an operation on one register.
-fn on_register(statement: Plain, rvc: bool) -> Templates
-    requires { is.is_unary statement ≡ true }
-    ensures { (bytes : ℕ) → is.AreTemplates rvc bytes (plain_of statement) result.items }
+/// The templates of a statement that says more than one instruction, or that there is no row.
+fn more(statement: Plain, rvc: bool) -> Result<Templates, SourceCode>
+    requires { is.says_more statement ≡ true }
+    ensures { is.AnswersBare rvc (plain_of statement) result }
 {
     match statement {
-        Plain::Unary(operation, rd, rs) => unary(rvc, operation, rd, rs),
-        _ => ArrayVec::new(),
+        Plain::Unary(operation, rd, rs) => Ok(unary(rvc, operation, rd, rs)),
+        Plain::Parcel(operation, a, b) => parcel::without_number(operation, a, b),
+        _ => Ok(ArrayVec::new()),
     }
 }
 
 /// The templates of a statement without an expression.
-pub fn without_operand(statement: Plain, rvc: bool) -> Templates
-    ensures { (bytes : ℕ) → is.AreTemplates rvc bytes (plain_of statement) result.items }
+///
+/// # Errors
+///
+/// E9 for a parcel with registers that it does not take, or without the number that it has.
+pub fn without_operand(statement: Plain, rvc: bool) -> Result<Templates, SourceCode>
+    ensures { is.AnswersBare rvc (plain_of statement) result }
 {
     match single_bare(&statement) {
-        Some(inst) => one(plain(inst)),
-        None => on_register(statement, rvc),
+        Some(inst) => Ok(one(plain(inst))),
+        None => more(statement, rvc),
     }
 }

@@ -98,7 +98,8 @@ pub fn with_operand(
     }
 }
 
-/// The one instruction of an operation with a constant; none where it is faulty, or may have several.
+/// The one instruction of an operation with a constant; none where it is faulty, may have several, or is a parcel, of
+/// which one has to know the form.
 pub fn single(operation: &Operation, number: i64) -> Option<Inst>
     ensures { IfSome result (λ i. is.IsOne operation.now number i) }
 {
@@ -117,7 +118,7 @@ fn expanded(kind: &StatementKind<'_>, form: Form) -> Result<Templates, SourceCod
         (is.form_templates form (statement_kind kind.now)) result }
 {
     match kind {
-        StatementKind::Plain(statement) => Ok(without_operand(*statement, form.rvc)),
+        StatementKind::Plain(statement) => without_operand(*statement, form.rvc),
         StatementKind::With(operation, _) => with_operand(*operation, None, form),
         StatementKind::WithFunction(operation, function, _) => {
             with_operand(*operation, Some(*function), form)
@@ -134,7 +135,7 @@ fn expanded(kind: &StatementKind<'_>, form: Form) -> Result<Templates, SourceCod
 /// At the statement's line the fault with the lowest number: that of its expression; E10 for a scratch register that is
 /// x0 or the one that is stored; E12 for a low part of a distance to no label; E13 for an address where a constant has to
 /// stand; E14 for a constant out of its range, or in place of a target. Where nothing else is wrong, E9 for a part of a value
-/// in a field that takes none. Never want of memory.
+/// in a field that takes none, and for a parcel with registers or an operand that it does not take. Never want of memory.
 pub fn expansion(statement: &Statement<'_>, form: Form) -> Result<Templates, SourceFault>
     ensures { IsExpansion (is.faults_by form (statement_kind (statement.now).kind))
         (is.form_templates form (statement_kind (statement.now).kind)) (statement.now).line result }

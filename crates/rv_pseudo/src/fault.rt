@@ -17,6 +17,7 @@ use crate::li::is_short;
 use crate::number::{lower_part, upper_part};
 use crate::target::takes_target;
 use crate::template::Worth;
+use rv_compress::{OperandShape, ParcelOperation};
 use rv_isa::{Reg, RegisterOperation, ShiftOperation};
 use rv_lexer::SourceCode;
 use rv_statement::{Function, Operation};
@@ -68,6 +69,7 @@ fn takes(operation: Operation, number: i64) -> bool
         Operation::Shift(operation, _, _) => is_amount(operation, number),
         Operation::Upper(_, _) => is_upper_20(number),
         Operation::Li(_) => true,
+        Operation::Parcel(operation, ..) => operation.takes(number),
         _ => is_short(number),
     }
 }
@@ -95,7 +97,7 @@ fn takes_address(operation: Operation) -> bool
 {
     match operation {
         Operation::Registers(operation, ..) => !has_amount(operation),
-        Operation::Shift(..) | Operation::Li(_) => false,
+        Operation::Shift(..) | Operation::Li(_) | Operation::Parcel(..) => false,
         _ => true,
     }
 }
@@ -123,6 +125,28 @@ fn is_upper(operation: Operation) -> bool
     matches!(operation, Operation::Upper(..))
 }
 
+/// Whether a parcel takes these registers, and a number beside them.
+fn takes_number_beside(operation: ParcelOperation, a: Reg, b: Reg) -> bool
+    ensures { result ≡ is.takes_number_beside operation a b }
+{
+    matches!(
+        operation.shape(),
+        OperandShape::Number | OperandShape::Address
+    ) && operation.takes_registers(a, b)
+}
+
+/// Whether a parcel takes these registers, and an operand beside them.
+fn takes_operand(operation: ParcelOperation, a: Reg, b: Reg) -> bool
+    ensures { result ≡ is.takes_operand operation a b }
+{
+    match operation.shape() {
+        OperandShape::Registers => false,
+        OperandShape::Number | OperandShape::Address | OperandShape::Target => {
+            operation.takes_registers(a, b)
+        }
+    }
+}
+
 /// Whether the field takes the low part of a value.
 fn is_lower(operation: Operation) -> bool
     ensures { result ≡ is.is_lower operation }
@@ -139,7 +163,18 @@ fn is_lower(operation: Operation) -> bool
         | Operation::JalrLinked(_)
         | Operation::Jr(_)
         | Operation::Li(_) => true,
+        Operation::Parcel(operation, a, b) => takes_number_beside(operation, a, b),
         _ => false,
+    }
+}
+
+/// Whether an operation takes an expression.
+fn is_written(operation: Operation) -> bool
+    ensures { result ≡ is.is_written operation }
+{
+    match operation {
+        Operation::Parcel(operation, a, b) => takes_operand(operation, a, b),
+        _ => true,
     }
 }
 
@@ -148,7 +183,7 @@ pub(crate) fn is_placed(operation: &Operation, function: Option<Function>) -> bo
     ensures { result ≡ is.is_placed operation.now function }
 {
     match function {
-        None => true,
+        None => is_written(*operation),
         Some(Function::Hi) => is_upper(*operation),
         Some(Function::Lo) => is_lower(*operation),
         Some(Function::PcrelHi) => is_upper(*operation),

@@ -6,8 +6,9 @@
 //!
 //! Main contracts: `expansion` answers the statement's row of the one table, `rv_pseudo_laws/specs/Code`, as templates
 //! (`specs/Templates`), exactly where it has no fault (`rv_pseudo_laws/specs/InstructionFaults`); `without_operand` and `with_operand` answer the same of a
-//! statement without an expression and of an operation with one; `li_sequence` answers `li`. What the rows are worth
-//! the laws of `rv_pseudo_laws` say. Neither takes memory. It must not know what names mean, where a statement stands, or
+//! statement without an expression and of an operation with one; `li_sequence` answers `li`; `named` answers the form of a
+//! parcel that a `c.` mnemonic names, since its templates are base instructions too. What the rows are worth the laws of
+//! `rv_pseudo_laws` say. None takes memory. It must not know what names mean, where a statement stands, or
 //! how an instruction is written as bits.
 //!
 //! ```text
@@ -24,11 +25,13 @@ mod expanding;
 mod fault;
 mod li;
 mod number;
+mod parcel;
 mod target;
 mod template;
 
 pub use bare::{single_bare, without_operand};
 pub use expanding::{expansion, single, with_operand};
 pub use li::li_sequence;
+pub use parcel::{named, named_bare, named_with};
 pub use target::takes_target;
 pub use template::{Form, Template, Templates, Worth};

@@ -4,7 +4,7 @@
 //! template carries the relocation that fills it, so both cases make the same instruction. Ranges are tested before
 //! (`fault`), so each function here asks for a number in range and refuses none.
 
-ghost use Rattle.std.specs.Prelude.{◌≡◌, ◌<◌, ◌^◌, Option, true, false};
+ghost use Rattle.std.specs.Prelude.{◌≡◌, ◌<◌, ◌^◌, IfSome, Option, true, false};
 ghost use Rattle.rv_isa.specs.Operations.{of_immediate, of_shift, of_upper, of_load, of_store};
 ghost use Rattle.rv_isa.specs.declared.kind.Kind.{Kind as SpecKind};
 ghost use Rattle.rv_isa.specs.Ranges.{IsSigned12, shift_limit};
@@ -18,7 +18,8 @@ ghost use Rattle.rv_pseudo.specs.Faults as faults;
 ghost use Rattle.rv_pseudo.specs.Templates as is;
 
 use crate::bare::jalr;
-use crate::li::{halves, is_short, li_sequence};
+use crate::li::{halves, li_sequence};
+use crate::parcel;
 use crate::template::{Templates, all_plain, with_reloc};
 use arrayvec::ArrayVec;
 use rv_isa::{
@@ -136,11 +137,12 @@ fn jump(rd: Reg, rs1: Reg, number: i64) -> Inst
     jalr(rd, rs1, immediate(number))
 }
 
-/// The one instruction of a statement with a number that is in the range of its field; none of `li`.
+/// The one instruction of a statement with a number that is in the range of its field, unless it says more.
 fn instruction(operation: Operation, number: i64) -> Option<Inst>
     requires range { takes (faults.mnemonic_of operation) number ≡ true }
     requires away { faults.takes_target operation ≡ false }
-    ensures { is.IsNumberedOne operation number result }
+    ensures is { is.IsNumberedOne operation number result }
+    ensures whole { IfSome result (λ i. is.says_more_with operation ≡ false) }
 {
     match operation {
         Operation::Registers(operation, rd, rs1) => {
@@ -165,18 +167,20 @@ fn instruction(operation: Operation, number: i64) -> Option<Inst>
 pub(crate) fn numbered_one(operation: &Operation, number: i64) -> Option<Inst>
     requires range { takes (faults.mnemonic_of operation.now) number ≡ true }
     requires away { faults.takes_target operation.now ≡ false }
-    ensures { is.IsNumberedOne operation.now number result }
+    ensures is { is.IsNumberedOne operation.now number result }
+    ensures whole { IfSome result (λ i. is.says_more_with operation.now ≡ false) }
 {
     instruction(*operation, number)
 }
 
-/// The templates of `li` with a number.
-fn loaded(operation: Operation, number: i64) -> Templates
-    requires { is.is_li operation ≡ true }
+/// The templates of `li`, or of a parcel, with a number.
+fn more(operation: Operation, number: i64) -> Templates
+    requires { is.says_more_with operation ≡ true }
     ensures { (reloc : Option SpecKind) → is.AreNumbered operation number reloc result.items }
 {
     match operation {
         Operation::Li(rd) => all_plain(li_sequence(rd, number)),
+        Operation::Parcel(operation, a, b) => parcel::with_number(operation, a, b, number),
         _ => ArrayVec::new(),
     }
 }
@@ -189,7 +193,7 @@ pub(crate) fn numbered(operation: Operation, number: i64, reloc: Option<Kind>) -
 {
     match numbered_one(&operation, number) {
         Some(inst) => with_reloc(inst, reloc),
-        None => loaded(operation, number),
+        None => more(operation, number),
     }
 }
 

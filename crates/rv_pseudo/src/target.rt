@@ -16,8 +16,10 @@ ghost use Rattle.rv_pseudo.specs.Faults as faults;
 ghost use Rattle.rv_pseudo.specs.Templates as is;
 
 use crate::bare::{is_x0, jalr};
+use crate::parcel;
 use crate::template::{Templates, one, plain, two, under};
 use arrayvec::ArrayVec;
+use rv_compress::OperandShape;
 use rv_isa::{
     BType, BranchOperation, IType, Inst, JType, Kind, LoadOperation, Reg, SType, StoreOperation,
     UType,
@@ -54,7 +56,7 @@ fn branch_over(operation: BranchOperation, rs1: Reg, rs2: Reg, offset: i32) -> I
 }
 
 /// A branch of 2, 4 or 8 bytes.
-fn branch(bytes: u8, operation: BranchOperation, rs1: Reg, rs2: Reg) -> Templates
+pub(crate) fn branch(bytes: u8, operation: BranchOperation, rs1: Reg, rs2: Reg) -> Templates
     ensures { result.items ≡ is.all_templates (row.branch bytes operation rs1 rs2) }
 {
     match bytes {
@@ -68,7 +70,7 @@ fn branch(bytes: u8, operation: BranchOperation, rs1: Reg, rs2: Reg) -> Template
 }
 
 /// A jump of 2 or 4 bytes.
-fn jump(bytes: u8, rd: Reg) -> Templates
+pub(crate) fn jump(bytes: u8, rd: Reg) -> Templates
     ensures { result.items ≡ is.all_templates (row.jump bytes rd) }
 {
     if is_x0(rd) && bytes == 2 {
@@ -167,31 +169,40 @@ fn swapped_branch(bytes: u8, operation: SwappedBranchOperation, a: Reg, b: Reg) 
     branch(bytes, operation, b, a)
 }
 
+/// Whether a target stands beside the registers of a parcel.
+fn is_target(shape: OperandShape) -> bool
+    ensures { result ≡ faults.is_target shape }
+{
+    matches!(shape, OperandShape::Target)
+}
+
 /// Whether the expression of an operation is a target, and not a number.
 pub fn takes_target(operation: &Operation) -> bool
     ensures { result ≡ faults.takes_target operation.now }
 {
-    matches!(
-        operation,
+    match operation {
         Operation::Branch(..)
-            | Operation::ZeroBranch(..)
-            | Operation::SwappedBranch(..)
-            | Operation::Jal(_)
-            | Operation::JalLinked
-            | Operation::J
-            | Operation::La(_)
-            | Operation::LoadSymbol(..)
-            | Operation::StoreSymbol(..)
-            | Operation::Call(_)
-            | Operation::CallLinked
-            | Operation::Tail
-            | Operation::Jump(_)
-    )
+        | Operation::ZeroBranch(..)
+        | Operation::SwappedBranch(..)
+        | Operation::Jal(_)
+        | Operation::JalLinked
+        | Operation::J
+        | Operation::La(_)
+        | Operation::LoadSymbol(..)
+        | Operation::StoreSymbol(..)
+        | Operation::Call(_)
+        | Operation::CallLinked
+        | Operation::Tail
+        | Operation::Jump(_) => true,
+        Operation::Parcel(operation, ..) => is_target(operation.shape()),
+        _ => false,
+    }
 }
 
 /// The templates of a statement with a target that is open.
 pub(crate) fn targeted(bytes: u8, operation: Operation) -> Templates
     requires target { faults.takes_target operation ≡ true }
+    requires written { faults.is_written operation ≡ true }
     requires scratch { faults.is_bad_scratch operation ≡ false }
     ensures { (rvc : Bool) (e : Expression) →
         is.AreTemplates rvc bytes (with_operand operation (Target e)) result.items }
@@ -210,6 +221,7 @@ pub(crate) fn targeted(bytes: u8, operation: Operation) -> Templates
         Operation::CallLinked => far(Reg::RA, Reg::RA),
         Operation::Tail => far(Reg::ZERO, Reg::T1),
         Operation::Jump(rt) => far(Reg::ZERO, rt),
+        Operation::Parcel(operation, a, _) => parcel::with_target(operation, a),
         _ => ArrayVec::new(),
     }
 }

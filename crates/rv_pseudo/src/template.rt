@@ -1,7 +1,6 @@
 //! What stands for a statement: instructions, with the relocations of the operands that are still open.
 
 ghost use Rattle.std.specs.Prelude.{◌≡◌, [], ◌∷◌, map};
-ghost use Rattle.rv_isa.specs.declared.instruction.Inst.{Inst as Instruction};
 ghost use Rattle.rv_pseudo.specs.Faults as faults;
 ghost use Rattle.rv_pseudo.specs.Templates as is;
 

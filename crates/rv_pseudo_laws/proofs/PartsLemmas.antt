@@ -27,8 +27,13 @@ use Rattle.rv_isa.specs.Operations.{format_of, of_registers, of_immediate, of_sh
 use Rattle.rv_isa.specs.Ranges.{IsSigned12, IsValidFormat, IsValid, shift_limit}
 use Rattle.rv_isa_laws.specs.Arithmetic.{wrapped}
 use Rattle.rv_isa_laws.specs.Halves.{hi, lo}
+use Rattle.rv_compress.specs.declared.form.Compressed.{Compressed}
+use Rattle.rv_compress.specs.declared.parcel.ParcelOperation.TheVariants as parcels
+use Rattle.rv_compress.specs.declared.parcel.RegisterSet.TheVariants.{Short}
+use Rattle.rv_compress.specs.Mnemonics.{is_in}
+use Rattle.rv_compress.specs.Parcel.{expansion}
 use Rattle.rv_statement.specs.declared.mnemonic.Mnemonic.{Mnemonic}
-use Rattle.rv_statement.specs.declared.mnemonic.Mnemonic.TheVariants.{Registers, Immediate, Shift, Upper, Load, Store, Branch, Jal, Jalr, LoadReserved, Atomic, Fence, FenceTso, Ecall, Ebreak, Nop, Unary, Compare, ZeroBranch, SwappedBranch, J, Jr, Ret, La, Li, Call, Tail, Jump}
+use Rattle.rv_statement.specs.declared.mnemonic.Mnemonic.TheVariants.{Registers, Immediate, Shift, Upper, Load, Store, Branch, Jal, Jalr, LoadReserved, Atomic, Fence, FenceTso, Ecall, Ebreak, Nop, Unary, Compare, ZeroBranch, SwappedBranch, J, Jr, Ret, La, Li, Call, Tail, Jump, Parcel}
 use Rattle.rv_statement.specs.declared.pseudo.UnaryOperation.{UnaryOperation}
 use Rattle.rv_statement.specs.declared.pseudo.UnaryOperation.TheVariants.{Mv, Not, Neg, Negw, SextB, SextH, SextW, ZextB, ZextH, ZextW, Seqz, Snez, Sltz, Sgtz}
 use Rattle.rv_statement.specs.declared.pseudo.CompareOperation.{CompareOperation}
@@ -41,10 +46,11 @@ use Rattle.rv_statement.specs.declared.pseudo.Function.TheVariants.{Hi, Lo, Pcre
 use Rattle.rv_statement.specs.Statement.{Operand, Register, Value, Applied, Target, Accesses}
 use Rattle.rv_parse_laws.specs.Syntax.{with_constant}
 use Rattle.rv_pseudo_laws.specs.Li.{addi, li}
-use Rattle.rv_pseudo_laws.specs.Code.{Part, Closed, Open, Joined, Constants, r_type, i_type, s_type, b_type, u_type, shift_by, reserve, atomic, jalr, jal, auipc, unary, compare, inverted, branch, jump, near, far, through, zero_branch, swapped_branch, by_number, by_part, signed_12, upper_20, number_of, by_amount, by_constant, code}
+use Rattle.rv_pseudo_laws.specs.Code.{Part, Closed, Open, Joined, Constants, r_type, i_type, s_type, b_type, u_type, shift_by, reserve, atomic, jalr, jal, auipc, unary, compare, inverted, branch, jump, near, far, through, zero_branch, swapped_branch, by_number, by_part, signed_12, upper_20, number_of, by_amount, by_constant, named_form, short_branch, code}
 use Rattle.rv_pseudo_laws.specs.Valid.{form_takes, takes, takes_constant, is_amount, IsOperandOf, AreOperandsOf, fills, fills_branch, IsOpen, IsValidPart}
 use Rattle.rv_pseudo_laws.proofs.ModuloLemmas.{signed_12 as twelve}
 use Rattle.rv_pseudo_laws.proofs.SequencesLemmas.{li_valid}
+use Rattle.rv_pseudo_laws.proofs.ParcelsLemmas.{named_written, expansion_valid}
 use Rattle.rv_pseudo_laws.proofs.FormatsLemmas.{registers_format, immediate_format, shift_format, upper_format, load_format, store_format, branch_format, reserve_format, atomic_format}
 
 -- each part, if there is code
@@ -275,6 +281,26 @@ li_parts v rd (Value e) d fits = sequence_valid rd (v e) d fits
 li_parts v rd (Applied Lo e) d fits = sequence_valid rd (option_map lo (v e)) d fits
 li_parts v rd _ d fits = tt
 
+-- ---- parcels
+
+-- the form that is named, if one is
+form_valid : (named : Option Compressed) → ((form : Compressed) → named ≡ Some form → IsValid (expansion form))
+    → AreParts (option_map (λ form. Closed (expansion form) ∷ []) named)
+form_valid None valid = tt
+form_valid (Some form) valid = (valid form refl, tt)
+
+parcel_valid : (v : Constants) (mnemonic : Mnemonic) (operands : List Operand)
+    → AreParts (option_map (λ form. Closed (expansion form) ∷ []) (named_form v mnemonic operands))
+parcel_valid v mnemonic operands =
+    form_valid (named_form v mnemonic operands) (λ form e. expansion_valid form (named_written v mnemonic operands form e).0)
+
+short_by : (short : Bool) (operation : BranchOperation) (rs : ℕ) → rs < 32 → AreParts (if short then Some (branch 2 operation rs 0) else None)
+short_by true operation rs s = branch_valid 2 operation rs 0 s (omega arith)
+short_by false operation rs s = tt
+
+short_valid : (operation : BranchOperation) (rs : ℕ) → rs < 32 → AreParts (short_branch operation rs)
+short_valid operation rs s = short_by (is_in Short rs) operation rs s
+
 -- ---- all rows
 
 registers_valid : (operation : RegisterOperation) (rd rs1 rs2 : ℕ) → rd < 32 → rs1 < 32 → rs2 < 32 → IsValid (of_registers operation (r_type rd rs1 rs2))
@@ -352,6 +378,10 @@ rows_valid v rvc bytes Call (Register rd ∷ Target e ∷ []) f = through_valid 
 rows_valid v rvc bytes Call (Target e ∷ []) f = far_valid bytes 1 1 (omega arith) (omega arith)
 rows_valid v rvc bytes Tail (Target e ∷ []) f = far_valid bytes 0 6 (omega arith) (omega arith)
 rows_valid v rvc bytes Jump (Target e ∷ Register rt ∷ []) f = through_valid rt (far bytes 0 rt) (far_valid bytes 0 rt (omega arith) f.1.0)
+rows_valid v rvc bytes (Parcel parcels.J) (Target e ∷ []) f = jump_valid 2 0 (omega arith)
+rows_valid v rvc bytes (Parcel parcels.Beqz) (Register rs ∷ Target e ∷ []) f = short_valid Beq rs f.0
+rows_valid v rvc bytes (Parcel parcels.Bnez) (Register rs ∷ Target e ∷ []) f = short_valid Bne rs f.0
+rows_valid v rvc bytes (Parcel operation) operands f = parcel_valid v (Parcel operation) operands
 rows_valid v rvc bytes mnemonic operands f = tt
 
 pub code_valid : (v : Constants) (rvc : Bool) (bytes : ℕ) (mnemonic : Mnemonic) (operands : List Operand) (parts : List Part)

@@ -22,8 +22,16 @@ use Rattle.rv_isa.specs.declared.operation.AtomicForm.{AtomicForm}
 use Rattle.rv_isa.specs.Operations.{of_registers, of_immediate, of_shift, of_upper, of_load, of_store, of_branch, of_reserve, of_atomic, access_bits, fence}
 use Rattle.rv_isa_laws.specs.Arithmetic.{wrapped}
 use Rattle.rv_isa_laws.specs.Halves.{hi, lo}
+use Rattle.rv_compress.specs.declared.form.Compressed.{Compressed}
+use Rattle.rv_compress.specs.declared.parcel.ParcelOperation.{ParcelOperation}
+use Rattle.rv_compress.specs.declared.parcel.ParcelOperation.TheVariants as parcels
+use Rattle.rv_compress.specs.declared.parcel.OperandShape.{OperandShape}
+use Rattle.rv_compress.specs.declared.parcel.OperandShape.TheVariants as shapes
+use Rattle.rv_compress.specs.declared.parcel.RegisterSet.TheVariants.{Short}
+use Rattle.rv_compress.specs.Mnemonics.{is_in, shape_of, form_of}
+use Rattle.rv_compress.specs.Parcel.{expansion}
 use Rattle.rv_statement.specs.declared.mnemonic.Mnemonic.{Mnemonic}
-use Rattle.rv_statement.specs.declared.mnemonic.Mnemonic.TheVariants.{Registers, Immediate, Shift, Upper, Load, Store, Branch, Jal, Jalr, LoadReserved, Atomic, Fence, FenceTso, Ecall, Ebreak, Nop, Unary, Compare, ZeroBranch, SwappedBranch, J, Jr, Ret, La, Li, Call, Tail, Jump}
+use Rattle.rv_statement.specs.declared.mnemonic.Mnemonic.TheVariants.{Registers, Immediate, Shift, Upper, Load, Store, Branch, Jal, Jalr, LoadReserved, Atomic, Fence, FenceTso, Ecall, Ebreak, Nop, Unary, Compare, ZeroBranch, SwappedBranch, J, Jr, Ret, La, Li, Call, Tail, Jump, Parcel}
 use Rattle.rv_statement.specs.declared.pseudo.UnaryOperation.{UnaryOperation}
 use Rattle.rv_statement.specs.declared.pseudo.UnaryOperation.TheVariants.{Mv, Not, Neg, Negw, SextB, SextH, SextW, ZextB, ZextH, ZextW, Seqz, Snez, Sltz, Sgtz}
 use Rattle.rv_statement.specs.declared.pseudo.CompareOperation.{CompareOperation}
@@ -217,6 +225,38 @@ by_constant v (Some (Shift operation)) rd rs1 o =
     by_amount v (λ n. of_shift operation (shift_by rd rs1 n)) o
 by_constant v _ rd rs1 o = None
 
+-- ---- parcels
+
+abbrev pub by_form : (ℤ → Option Compressed) → Option ℤ → Option Compressed
+by_form make None = None
+by_form make (Some k) = make k
+
+-- the form that a mnemonic is with operands; none where a number is open, or a target stands
+abbrev pub parcel_form : Constants → ParcelOperation → OperandShape → List Operand →
+    Option Compressed
+parcel_form v operation shapes.Registers [] = form_of operation [] (pos 0)
+parcel_form v operation shapes.Registers (Register a ∷ []) = form_of operation (a ∷ []) (pos 0)
+parcel_form v operation shapes.Registers (Register a ∷ Register b ∷ []) =
+    form_of operation (a ∷ b ∷ []) (pos 0)
+parcel_form v operation shapes.Number (Register a ∷ Register b ∷ o ∷ []) =
+    by_form (form_of operation (a ∷ b ∷ [])) (number_of v o)
+parcel_form v operation shapes.Number (Register a ∷ o ∷ []) =
+    by_form (form_of operation (a ∷ [])) (number_of v o)
+parcel_form v operation shapes.Address (Register a ∷ Register b ∷ []) =
+    form_of operation (a ∷ b ∷ []) (pos 0)
+parcel_form v operation shapes.Address (Register a ∷ o ∷ Register b ∷ []) =
+    by_form (form_of operation (a ∷ b ∷ [])) (number_of v o)
+parcel_form v operation shape operands = None
+
+-- the form of a parcel that a statement names: that one it has, and no shorter or longer one
+abbrev pub named_form : Constants → Mnemonic → List Operand → Option Compressed
+named_form v (Parcel operation) operands = parcel_form v operation (shape_of operation) operands
+named_form v mnemonic operands = None
+
+-- a branch on one of x8 to x15
+abbrev pub short_branch : BranchOperation → ℕ → Option (List Part)
+short_branch operation rs = if is_in Short rs then Some (branch 2 operation rs 0) else None
+
 -- ---- all rows
 
 -- the code of a statement, where `rvc` says whether compressed code is on and `bytes` how long a
@@ -286,4 +326,10 @@ code v rvc bytes Call (Register rd ∷ Target e ∷ []) = through rd (far bytes 
 code v rvc bytes Call (Target e ∷ []) = Some (far bytes 1 1)
 code v rvc bytes Tail (Target e ∷ []) = Some (far bytes 0 6)
 code v rvc bytes Jump (Target e ∷ Register rt ∷ []) = through rt (far bytes 0 rt)
+code v rvc bytes (Parcel parcels.J) (Target e ∷ []) = Some (jump 2 0)
+code v rvc bytes (Parcel parcels.Beqz) (Register rs ∷ Target e ∷ []) = short_branch Beq rs
+code v rvc bytes (Parcel parcels.Bnez) (Register rs ∷ Target e ∷ []) = short_branch Bne rs
+code v rvc bytes (Parcel operation) operands =
+    option_map (λ form. Closed (expansion form) ∷ [])
+    (named_form v (Parcel operation) operands)
 code v rvc bytes mnemonic operands = None

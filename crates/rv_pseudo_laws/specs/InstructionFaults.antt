@@ -3,11 +3,11 @@
 -- "RISC-V-Modifiers", for parts of addresses). What has no row is refused as such, where nothing else
 -- is wrong.
 
-use Rattle.std.specs.Prelude.{ℕ, ℤ, Bool, true, false, not, ◌||◌, ◌==◌, List, [], ◌∷◌, ◌++◌, flat_map, Option, Some, None, is_some}
+use Rattle.std.specs.Prelude.{ℕ, ℤ, Bool, true, false, not, ◌||◌, ◌==◌, List, [], ◌∷◌, ◌++◌, flat_map, Option, Some, is_some}
 use Rattle.rv_isa_laws.specs.Halves.{hi, lo}
 use Rattle.rv_text_laws.specs.Codes.{unsupported_here, scratch_register, undefined_local, not_constant, immediate_range, faulty_if}
 use Rattle.rv_statement.specs.declared.mnemonic.Mnemonic.{Mnemonic}
-use Rattle.rv_statement.specs.declared.mnemonic.Mnemonic.TheVariants.{Registers, Shift, Load, Store, Li, Call, Jump}
+use Rattle.rv_statement.specs.declared.mnemonic.Mnemonic.TheVariants.{Registers, Shift, Load, Store, Li, Call, Jump, Parcel}
 use Rattle.rv_statement.specs.declared.pseudo.Function.TheVariants.{Hi, Lo, PcrelHi, PcrelLo}
 use Rattle.rv_statement.specs.Statement.{StatementKind, Instruction, Expression, Operand, Register, Value, Applied, Target}
 use Rattle.rv_parse_laws.specs.Syntax.{with_constant}
@@ -53,11 +53,12 @@ is_signed_12 (Some (Shift operation)) = false
 is_signed_12 form = true
 
 -- whether an instruction's number may be the low part of an address: one of 12 signed bits may, a
--- shift's and `li`'s may not
+-- shift's, `li`'s and a parcel's may not
 abbrev pub takes_address : Mnemonic → Bool
 takes_address (Registers operation) = is_signed_12 (with_constant operation)
 takes_address (Shift operation) = false
 takes_address Li = false
+takes_address (Parcel operation) = false
 takes_address mnemonic = true
 
 abbrev pub low_faults : Mnemonic → Worth → List ℕ

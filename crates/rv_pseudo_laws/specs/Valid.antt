@@ -12,8 +12,9 @@ use Rattle.rv_isa.specs.declared.operation.ShiftOperation.{ShiftOperation}
 use Rattle.rv_isa.specs.Operations.{format_of}
 use Rattle.rv_isa.specs.Ranges.{IsReg, IsValid, shift_limit}
 use Rattle.rv_isa_laws.specs.Halves.{hi, lo}
+use Rattle.rv_compress.specs.Mnemonics.{takes_number}
 use Rattle.rv_statement.specs.declared.mnemonic.Mnemonic.{Mnemonic}
-use Rattle.rv_statement.specs.declared.mnemonic.Mnemonic.TheVariants.{Registers, Immediate, Shift, Upper, Li}
+use Rattle.rv_statement.specs.declared.mnemonic.Mnemonic.TheVariants.{Registers, Immediate, Shift, Upper, Li, Parcel}
 use Rattle.rv_statement.specs.declared.pseudo.Function.TheVariants.{Hi, Lo}
 use Rattle.rv_statement.specs.Statement.{Operand, Register, Value, Applied}
 use Rattle.rv_parse_laws.specs.Syntax.{with_constant}
@@ -42,6 +43,7 @@ takes (Registers operation) k = form_takes (with_constant operation) k
 takes (Shift operation) k = is_amount operation k
 takes (Upper operation) k = is_upper_20 k
 takes Li k = is_signed 64 k
+takes (Parcel operation) k = takes_number operation k
 takes mnemonic k = is_signed 12 k
 
 -- an open number is in none

@@ -1,8 +1,9 @@
 -- Which statements are compressed code, and whether sources have any (RISC-V ELF psABI, "File
 -- Header").
 
-use Rattle.std.specs.Prelude.{Bool, true, false, ◌&&◌, List}
+use Rattle.std.specs.Prelude.{Bool, true, false, ◌&&◌, ◌||◌, List}
 use Rattle.std.specs.List.{list_any}
+use Rattle.rv_statement.specs.declared.mnemonic.Mnemonic.TheVariants.{Parcel}
 use Rattle.rv_statement.specs.Statement.{StatementKind, Instruction, Directs, Statement}
 use Rattle.rv_unit_laws.specs.Contributions.{Contribution, Alignment, contribution}
 use Rattle.rv_source_laws.specs.Located.{Located, located}
@@ -17,9 +18,15 @@ is_code executable (Instruction mnemonic operands) = true
 is_code executable (Directs directive) = executable && is_alignment (contribution directive)
 is_code executable _ = false
 
--- a statement is code where instructions may be compressed
+-- a statement names a parcel
+abbrev pub names_parcel : StatementKind → Bool
+names_parcel (Instruction (Parcel operation) operands) = true
+names_parcel _ = false
+
+-- a statement is code where instructions may be compressed, or is a parcel wherever it is
 abbrev pub is_compressed_code : Located → Bool
-is_compressed_code s = s.options.rvc && is_code s.home.executable s.kind
+is_compressed_code s =
+    (s.options.rvc || names_parcel s.kind) && is_code s.home.executable s.kind
 
 -- whether a program of these sources is flagged as compressed code: one of their statements is such
 -- code

@@ -3,17 +3,23 @@
 -- 24; RISC-V Assembly Programmer's Manual, "pseudoinstructions"). No file, no field of one and no
 -- linker is spoken of here.
 
-use Rattle.std.specs.Prelude.{ℕ, ℤ, pos, ◌%◌, ◌^◌, List, [], ◌∷◌, Option, Some, None}
+use Rattle.std.specs.Prelude.{ℕ, ℤ, pos, ◌%◌, ◌^◌, List, [], ◌∷◌, Option, Some, None, option_map}
 use Rattle.rv_isa.specs.declared.instruction.Inst.{Inst}
 use Rattle.rv_isa.specs.declared.instruction.Inst.TheVariants as inst
 use Rattle.rv_isa.specs.Operations.{of_registers, of_immediate, of_shift, of_upper, of_load, of_store, of_reserve, of_atomic, access_bits, fence}
 use Rattle.rv_isa_laws.specs.Arithmetic.{wrapped}
+use Rattle.rv_compress.specs.declared.parcel.ParcelOperation.{ParcelOperation}
+use Rattle.rv_compress.specs.declared.parcel.ParcelOperation.TheVariants as parcels
+use Rattle.rv_compress.specs.declared.parcel.OperandShape.{OperandShape}
+use Rattle.rv_compress.specs.declared.parcel.OperandShape.TheVariants as shapes
+use Rattle.rv_compress.specs.Mnemonics.{shape_of, form_with}
+use Rattle.rv_compress.specs.Parcel.{expansion}
 use Rattle.rv_statement.specs.declared.mnemonic.Mnemonic.{Mnemonic}
-use Rattle.rv_statement.specs.declared.mnemonic.Mnemonic.TheVariants.{Registers, Immediate, Shift, Upper, Load, Store, Jal, Jalr, LoadReserved, Atomic, Fence, FenceTso, Ecall, Ebreak, Nop, J, Jr, Ret}
+use Rattle.rv_statement.specs.declared.mnemonic.Mnemonic.TheVariants.{Registers, Immediate, Shift, Upper, Load, Store, Jal, Jalr, LoadReserved, Atomic, Fence, FenceTso, Ecall, Ebreak, Nop, J, Jr, Ret, Parcel}
 use Rattle.rv_statement.specs.Statement.{Operand, Register, Target, Accesses}
 use Rattle.rv_parse_laws.specs.Syntax.{with_constant}
 use Rattle.rv_pseudo_laws.specs.Li.{addi}
-use Rattle.rv_pseudo_laws.specs.Code.{r_type, i_type, s_type, u_type, shift_by, reserve, atomic, jalr}
+use Rattle.rv_pseudo_laws.specs.Code.{r_type, i_type, s_type, b_type, u_type, shift_by, reserve, atomic, jalr}
 
 -- an instruction by the number that fills its hole
 abbrev pub Hole : Type 0
@@ -42,6 +48,30 @@ constant_hole (Some (Immediate operation)) rd rs1 =
 constant_hole (Some (Shift operation)) rd rs1 =
     shift_hole (λ n. of_shift operation (shift_by rd rs1 n))
 constant_hole _ rd rs1 = None
+
+-- what a parcel with these registers stands for
+abbrev pub form_hole : ParcelOperation → List ℕ → Option Hole
+form_hole operation registers =
+    option_map (λ make. λ k. expansion (make k)) (form_with operation registers)
+
+abbrev pub parcel_hole : ParcelOperation → OperandShape → List Operand → Option Hole
+parcel_hole parcels.J shape (Target e ∷ []) = jump_hole 0
+parcel_hole parcels.Beqz shape (Register rs ∷ Target e ∷ []) =
+    Some (λ k. inst.Beq (b_type rs 0 k))
+parcel_hole parcels.Bnez shape (Register rs ∷ Target e ∷ []) =
+    Some (λ k. inst.Bne (b_type rs 0 k))
+parcel_hole operation shapes.Registers [] = form_hole operation []
+parcel_hole operation shapes.Registers (Register a ∷ []) = form_hole operation (a ∷ [])
+parcel_hole operation shapes.Registers (Register a ∷ Register b ∷ []) =
+    form_hole operation (a ∷ b ∷ [])
+parcel_hole operation shapes.Number (Register a ∷ Register b ∷ o ∷ []) =
+    form_hole operation (a ∷ b ∷ [])
+parcel_hole operation shapes.Number (Register a ∷ o ∷ []) = form_hole operation (a ∷ [])
+parcel_hole operation shapes.Address (Register a ∷ Register b ∷ []) =
+    form_hole operation (a ∷ b ∷ [])
+parcel_hole operation shapes.Address (Register a ∷ o ∷ Register b ∷ []) =
+    form_hole operation (a ∷ b ∷ [])
+parcel_hole operation shape operands = None
 
 -- none for operands that it can't have, and for what is said by more than one instruction
 abbrev pub hole : Mnemonic → List Operand → Option Hole
@@ -86,4 +116,5 @@ hole FenceTso [] = whole (fence 8 3 3)
 hole Ecall [] = whole inst.Ecall
 hole Ebreak [] = whole inst.Ebreak
 hole Nop [] = whole (addi 0 0 (pos 0))
+hole (Parcel operation) operands = parcel_hole operation (shape_of operation) operands
 hole mnemonic operands = None

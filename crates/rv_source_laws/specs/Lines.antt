@@ -15,7 +15,8 @@ use Rattle.rv_statement.specs.declared.mnemonic.Mnemonic.TheVariants.{Upper, Loa
 use Rattle.rv_statement.specs.declared.pseudo.Function.TheVariants.{Hi, Lo, PcrelHi, PcrelLo}
 use Rattle.rv_statement.specs.Statement.{StatementKind, Label, Numbered, Instruction, Directs, Operand, Register, Value as Of_value, Applied, Target, Expression, Directive, Sets, Aligns_to_power, Aligns_to_bytes}
 use Rattle.rv_pseudo_laws.specs.Li.{addi}
-use Rattle.rv_pseudo_laws.specs.Code.{Part, Closed, Constants, code}
+use Rattle.rv_compress.specs.declared.form.Compressed.{Compressed}
+use Rattle.rv_pseudo_laws.specs.Code.{Part, Closed, Constants, named_form, code}
 use Rattle.rv_pseudo_laws.specs.Filled.{FieldValue, filled}
 use Rattle.rv_unit_laws.specs.Tables.{definition}
 use Rattle.rv_source_laws.specs.Located.{Located}
@@ -56,6 +57,14 @@ parts_of v rvc bytes (Directs directive) = directive_parts directive bytes
 abbrev pub parts : Program → Mapped → Option (List Part)
 parts p s =
     parts_of (constants p s.located) s.located.options.rvc s.row.bytes s.located.kind
+
+-- the form of a parcel that it names
+abbrev pub form_in : Constants → StatementKind → Option Compressed
+form_in v (Instruction mnemonic operands) = named_form v mnemonic operands
+form_in v _ = None
+
+abbrev pub form_at : Program → Mapped → Option Compressed
+form_at p s = form_in (constants p s.located) s.located.kind
 
 -- ---- the operand that has a number
 

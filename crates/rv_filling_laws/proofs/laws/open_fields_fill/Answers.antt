@@ -5,4 +5,4 @@ pub returns-clause-alone : goal.returns-clause-alone
 returns-clause-alone c = open_filled
 
 pub returns-clause-calls : goal.returns-clause-calls
-returns-clause-calls c = call_filled
+returns-clause-calls c = λ named. call_filled

@@ -1,17 +1,14 @@
-use Rattle.std.proofs.Common.{ap, sym, subst, ◌∙◌}
+use Rattle.std.proofs.Common.{ap, sym, subst}
 use Rattle.rv_text.specs.Expr.{tree_of_expr}
 use Rattle.rv_statement.specs.View.{statement_kind}
 use Rattle.rv_pseudo.specs.Templates as is
-use Rattle.rv_pseudo.proofs.TableLemmas.{plain_faults}
 use Rattle.rv_pseudo.proofs.expanding.expanded.Goals as goal
 
 pub returns-in-Plain : goal.returns-in-Plain
 returns-in-Plain c =
     let form = c.args.form in
-    let says = ap statement_kind c.in-Plain.is in (
-      ap (is.faults_by form) says ∙ plain_faults c.in-Plain.statement (is.constants_of form) (is.worths_of form),
-      ap (is.form_templates form) says ∙ c.without_operand.ensures form.bytes (is.constants_of form),
-    )
+    subst (λ k. is.Answers (is.faults_by form k) (is.form_templates form k) c.without_operand.result) (sym (ap statement_kind c.in-Plain.is))
+    (c.without_operand.ensures (is.constants_of form) (is.worths_of form) form.bytes)
 
 pub returns-in-With : goal.returns-in-With
 returns-in-With c =

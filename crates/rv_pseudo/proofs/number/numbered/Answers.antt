@@ -7,8 +7,8 @@ pub returns-in-Some : goal.returns-in-Some
 returns-in-Some c =
     subst (AreNumbered c.args.operation c.args.number c.args.reloc) (sym c.with_reloc.ensures)
     (subst (λ (z : ℤ). AreNumbered c.args.operation z c.args.reloc (with_reloc c.args.reloc c.in-Some.inst)) (to_z-of_z w64 c.args.number c.ranges.number)
-    (c.in-Some.ensures c.args.reloc))
+    (c.in-Some.ensures.is c.args.reloc))
 
 pub returns-in-None : goal.returns-in-None
 returns-in-None c =
-    subst (λ (z : ℤ). AreNumbered c.args.operation z c.args.reloc c.loaded.result.items) (to_z-of_z w64 c.args.number c.ranges.number) (c.loaded.ensures c.args.reloc)
+    subst (λ (z : ℤ). AreNumbered c.args.operation z c.args.reloc c.more.result.items) (to_z-of_z w64 c.args.number c.ranges.number) (c.more.ensures c.args.reloc)
