@@ -17,9 +17,10 @@ use Rattle.rv_encode.specs.Word.{word, form}
 use Rattle.rv_text_laws.specs.Values.{Value, Constant, Symbolic, Difference, Faulty}
 use Rattle.rv_statement.specs.declared.pseudo.Function.TheVariants.{Hi, Lo, PcrelHi, PcrelLo}
 use Rattle.rv_statement.specs.Statement.{StatementKind, Label, Numbered, Instruction, Directs, Expression, Operand, Register, Value as Of_value, Applied, Target, Accesses, Word, Quoted}
-use Rattle.rv_pseudo_laws.specs.Code.{Part as CodePart, Closed, Open as OpenPart, Joined, code}
+use Rattle.rv_pseudo_laws.specs.Code.{Part as CodePart, Closed, Open as OpenPart, Joined, named_form, code}
 use Rattle.rv_pseudo_laws.specs.Filled.{are_closed}
 use Rattle.rv_pseudo_laws.specs.Valid.{fills_branch, fills_jump, fills_call, fills_upper, fills_lower, fills_store, fills}
+use Rattle.rv_compress.specs.declared.form.Compressed.{Compressed}
 use Rattle.rv_compress.specs.Encoded.{IsEncodedIn}
 use Rattle.rv_unit_laws.specs.Contributions.{Numbers, Texts, Contribution, Nothing, Bytes, Zero_bytes, Alignment, contribution}
 use Rattle.rv_unit_laws.specs.Sections.{Section}
@@ -28,7 +29,7 @@ use Rattle.rv_source_laws.specs.Located.{Located}
 use Rattle.rv_source_laws.specs.Lines.{operand_of, is_low_part}
 use Rattle.rv_object.specs.Valid.{is_align}
 use Rattle.rv_assemble_laws.specs.CodeFields.{symbol_field, low_field, low_field_at, label_field, field_of, relax_fields, part_fields}
-use Rattle.rv_assemble_laws.specs.Coded.{IsCodedPart, AreCodedParts}
+use Rattle.rv_assemble_laws.specs.Coded.{constants, IsCodedPart, AreCodedParts}
 use Rattle.rv_assemble_laws.specs.Templates.{Template, Datum, Open, absolute_kind, add_kind, subtract_kind, value_bytes, value_fields, template_fields, IsWide, IsWidth, HasField, IsTemplate, align_field, padding_templates, contribution_templates}
 use Rattle.rv_assemble_laws.specs.Sites.{Site, Part, part_of, part_bytes, parts_of, parts, form as values, coded_templates, templates, HasSize}
 use Rattle.rv_assemble.proofs.SettledLemmas.{IsIn}
@@ -157,12 +158,12 @@ joined_long i j bytes first second h k e =
     let d = length-append first second in
     omega (arith, a, b, c, d)
 
-part_fits : (compressed : Bool) (t : Tables) (v : Expression → Value) (s : Located) (p : CodePart) (bytes : List ℕ) → IsCodedPart compressed p bytes → AllByRecursion (FitsIn (length bytes)) (part_fields t v s p)
-part_fits compressed t v s (Closed i) bytes h = tt
-part_fits compressed t v s (OpenPart k i) bytes (open_at, written) =
+part_fits : (named : Option Compressed) (compressed : Bool) (t : Tables) (v : Expression → Value) (s : Located) (p : CodePart) (bytes : List ℕ) → IsCodedPart named compressed p bytes → AllByRecursion (FitsIn (length bytes)) (part_fields t v s p)
+part_fits named compressed t v s (Closed i) bytes h = tt
+part_fits named compressed t v s (OpenPart k i) bytes (open_at, written) =
     let long = (encoded_long i (width_of k) bytes written).0 in
     operand_fits (length bytes) t v s.ordinal (operand_of s.kind) k (omega (arith, long), filled_plain (format_of i) k open_at.1)
-part_fits compressed t v s (Joined k i j) bytes (open_at, other, (first, (second, a, b, e))) =
+part_fits named compressed t v s (Joined k i j) bytes (open_at, other, (first, (second, a, b, e))) =
     let long = joined_long i j bytes first second a b e in
     let most = width_most k in
     all_join (FitsIn (length bytes)) (field_of t v s.ordinal (operand_of s.kind) k) (relax_fields s.options.relax s.ordinal)
@@ -180,12 +181,12 @@ pub record IsPadding (p : Part) : Type 0 where
 abbrev pub Holds : Part → Type 0
 Holds p = AllByRecursion (FitsIn (length (part_bytes p))) (template_fields p.ordinal p.template) ⊎ IsPadding p
 
-code_fits : (compressed : Bool) (t : Tables) (v : Expression → Value) (s : Located) (ordinal : ℕ) (ps : List CodePart) (coded : List (List ℕ)) → AreCodedParts compressed ps coded
+code_fits : (named : Option Compressed) (compressed : Bool) (t : Tables) (v : Expression → Value) (s : Located) (ordinal : ℕ) (ps : List CodePart) (coded : List (List ℕ)) → AreCodedParts named compressed ps coded
     → AllByRecursion Holds (map (part_of ordinal) (coded_templates (part_fields t v s) ps coded))
-code_fits compressed t v s ordinal [] [] h = tt
-code_fits compressed t v s ordinal [] (bytes ∷ coded) h = absurd h
-code_fits compressed t v s ordinal (p ∷ ps) [] h = absurd h
-code_fits compressed t v s ordinal (p ∷ ps) (bytes ∷ coded) (h, hs) = (inl (part_fits compressed t v s p bytes h), code_fits compressed t v s ordinal ps coded hs)
+code_fits named compressed t v s ordinal [] [] h = tt
+code_fits named compressed t v s ordinal [] (bytes ∷ coded) h = absurd h
+code_fits named compressed t v s ordinal (p ∷ ps) [] h = absurd h
+code_fits named compressed t v s ordinal (p ∷ ps) (bytes ∷ coded) (h, hs) = (inl (part_fits named compressed t v s p bytes h), code_fits named compressed t v s ordinal ps coded hs)
 
 -- ---- the fields of data
 
@@ -270,7 +271,7 @@ kind_fits t s multiple (Label name) size h = tt
 kind_fits t s multiple (Numbered number) size h = tt
 kind_fits t s multiple (Instruction mnemonic operands) size h =
     subst (λ o. AllByRecursion Holds (map (part_of s.located.ordinal) (coded_templates (part_fields t (values t s.located) s.located) (unwrap_or o []) s.coded))) (sym size.parts)
-    (code_fits (s.located.options.rvc && are_closed size.ps) t (values t s.located) s.located s.located.ordinal size.ps s.coded size.coded_as)
+    (code_fits (named_form (constants (values t s.located)) mnemonic operands) (s.located.options.rvc && are_closed size.ps) t (values t s.located) s.located s.located.ordinal size.ps s.coded size.coded_as)
 kind_fits t s multiple (Directs d) size h =
     contribution_fits s.located.home.executable s.located.ordinal s.bytes (values t s.located) (contribution d) (λ e. directive_room (values t s.located) s multiple d e size) h
 

@@ -1,20 +1,21 @@
 -- Sections of code end at even offsets.
 
-use Rattle.std.proofs.Common.{◌≡◌, ℕ, zero, suc, ◌+◌, ◌%◌, ◌≤◌, Bool, true, false, List, [], ◌∷◌, length, refl, sym, ap, ◌∙◌, subst, arith, map, length-append, inl, inr}
+use Rattle.std.proofs.Common.{◌≡◌, ℕ, zero, suc, ◌+◌, ◌%◌, ◌≤◌, Bool, true, false, List, [], ◌∷◌, length, refl, sym, ap, ◌∙◌, subst, arith, map, length-append, Option, Some, None, inl, inr}
 use Rattle.std.specs.Prelude.{◌&&◌, flat_map, unwrap_or}
 use Rattle.std.specs.List.{AllByRecursion}
 use Rattle.rv_isa.specs.declared.instruction.Inst.{Inst}
 use Rattle.rv_isa.specs.Kinds.{width_of}
-use Rattle.rv_compress.specs.Encoded.{IsLeast}
+use Rattle.rv_compress.specs.declared.form.Compressed.{Compressed}
+use Rattle.rv_compress.specs.Encoded.{IsLeast, IsLeastAs}
 use Rattle.rv_text_laws.specs.Values.{Value}
 use Rattle.rv_statement.specs.Statement.{StatementKind, Label, Numbered, Instruction, Directs, Expression}
-use Rattle.rv_pseudo_laws.specs.Code.{Part as CodePart, Closed, Open as OpenPart, Joined}
+use Rattle.rv_pseudo_laws.specs.Code.{Part as CodePart, Closed, Open as OpenPart, Joined, named_form}
 use Rattle.rv_pseudo_laws.specs.Filled.{are_closed}
 use Rattle.rv_unit_laws.specs.Contributions.{Contribution, Nothing, Bytes, Zero_bytes, Alignment, contribution}
 use Rattle.rv_unit_laws.specs.Sections.{Section}
 use Rattle.rv_unit_laws.specs.Tables.{Tables}
 use Rattle.rv_assemble_laws.specs.CodeFields.{part_fields}
-use Rattle.rv_assemble_laws.specs.Coded.{IsCodedPart, AreCodedParts}
+use Rattle.rv_assemble_laws.specs.Coded.{constants, IsCodedPart, AreCodedParts}
 use Rattle.rv_assemble_laws.specs.Templates.{Open, padding_templates, contribution_templates}
 use Rattle.rv_assemble_laws.specs.Sites.{Site, Part, form, part_of, part_bytes, parts_of, parts, coded_templates, templates, Tile, end_of, HasSize}
 use Rattle.rv_assemble_laws.proofs.FilledLemmas.{filled}
@@ -29,21 +30,25 @@ least_even true i n (inl (e, h)) = ap (λ m. m % 2) e
 least_even true i n (inr (e, h)) = ap (λ m. m % 2) e
 least_even false i n e = ap (λ m. m % 2) e
 
+least_as_even : (named : Option Compressed) (rvc : Bool) (i : Inst) (n : ℕ) → IsLeastAs named rvc i n → n % 2 ≡ 0
+least_as_even (Some parcel) rvc i n e = ap (λ m. m % 2) e
+least_as_even None rvc i n h = least_even rvc i n h
+
 -- a part has an even count of bytes
 abbrev pub IsEvenPart : Part → Type 0
 IsEvenPart p = length (part_bytes p) % 2 ≡ 0
 
-part_even : (rvc : Bool) (p : CodePart) (bytes : List ℕ) → IsCodedPart rvc p bytes → length bytes % 2 ≡ 0
-part_even rvc (Closed i) bytes h = least_even rvc i (length bytes) h.1
-part_even rvc (OpenPart k i) bytes (h, written) = let both = encoded_long i (width_of k) bytes written in ap (λ n. n % 2) both.0 ∙ both.1
-part_even rvc (Joined k i j) bytes (h, o, (first, (second, a, b, e))) = ap (λ n. n % 2) (joined_long i j bytes first second a b e)
+part_even : (named : Option Compressed) (rvc : Bool) (p : CodePart) (bytes : List ℕ) → IsCodedPart named rvc p bytes → length bytes % 2 ≡ 0
+part_even named rvc (Closed i) bytes h = least_as_even named rvc i (length bytes) h.1
+part_even named rvc (OpenPart k i) bytes (h, written) = let both = encoded_long i (width_of k) bytes written in ap (λ n. n % 2) both.0 ∙ both.1
+part_even named rvc (Joined k i j) bytes (h, o, (first, (second, a, b, e))) = ap (λ n. n % 2) (joined_long i j bytes first second a b e)
 
-code_even : (rvc : Bool) (ordinal : ℕ) (fields : CodePart → List Open) (ps : List CodePart) (coded : List (List ℕ)) → AreCodedParts rvc ps coded
+code_even : (named : Option Compressed) (rvc : Bool) (ordinal : ℕ) (fields : CodePart → List Open) (ps : List CodePart) (coded : List (List ℕ)) → AreCodedParts named rvc ps coded
     → AllByRecursion IsEvenPart (map (part_of ordinal) (coded_templates fields ps coded))
-code_even rvc ordinal fields [] [] h = tt
-code_even rvc ordinal fields [] (bytes ∷ coded) h = absurd h
-code_even rvc ordinal fields (p ∷ ps) [] h = absurd h
-code_even rvc ordinal fields (p ∷ ps) (bytes ∷ coded) (h, hs) = (part_even rvc p bytes h, code_even rvc ordinal fields ps coded hs)
+code_even named rvc ordinal fields [] [] h = tt
+code_even named rvc ordinal fields [] (bytes ∷ coded) h = absurd h
+code_even named rvc ordinal fields (p ∷ ps) [] h = absurd h
+code_even named rvc ordinal fields (p ∷ ps) (bytes ∷ coded) (h, hs) = (part_even named rvc p bytes h, code_even named rvc ordinal fields ps coded hs)
 
 padding_even : (executable : Bool) (ordinal bytes : ℕ) → executable ≡ true → IsRoom bytes → AllByRecursion IsEvenPart (map (part_of ordinal) (padding_templates executable ordinal bytes))
 padding_even true ordinal zero e h = tt
@@ -63,7 +68,7 @@ kind_even t home s multiple (Label name) code here held size = tt
 kind_even t home s multiple (Numbered number) code here held size = tt
 kind_even t home s multiple (Instruction mnemonic operands) code here held size =
     subst (λ o. AllByRecursion IsEvenPart (map (part_of s.located.ordinal) (coded_templates (part_fields t (form t s.located) s.located) (unwrap_or o []) s.coded))) (sym size.parts)
-    (code_even (s.located.options.rvc && are_closed size.ps) s.located.ordinal (part_fields t (form t s.located) s.located) size.ps s.coded size.coded_as)
+    (code_even (named_form (constants (form t s.located)) mnemonic operands) (s.located.options.rvc && are_closed size.ps) s.located.ordinal (part_fields t (form t s.located) s.located) size.ps s.coded size.coded_as)
 kind_even t home s multiple (Directs d) code here held size =
     contribution_even home s.located.home.executable s.located.ordinal s.bytes (form t s.located) (contribution d) code here held (directive_room (form t s.located) s multiple d here size)
 

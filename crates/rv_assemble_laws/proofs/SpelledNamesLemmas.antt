@@ -17,6 +17,10 @@ use Rattle.rv_text_laws.specs.declared.punct.Punct.TheVariants as puncts
 use Rattle.rv_text_laws.specs.SyntaxError.{longest_name}
 use Rattle.rv_text_laws.specs.Expression.{Primary, Literal, Symbol, Here, Reference as Of_label, Tree, Leaf, Unary, Paren, Binary, Begin, begins, named_operand, punct_begins, A_primary, SpellsTree, bare}
 use Rattle.rv_isa.specs.declared.operation.AccessSet.{AccessSet}
+use Rattle.rv_compress.specs.declared.parcel.RegisterSet.{RegisterSet}
+use Rattle.rv_compress.specs.declared.parcel.OperandShape.{OperandShape}
+use Rattle.rv_compress.specs.declared.parcel.OperandShape.TheVariants as shapes
+use Rattle.rv_compress.specs.Mnemonics.{register_sets, shape_of}
 use Rattle.rv_statement.specs.declared.mnemonic.Mnemonic.{Mnemonic}
 use Rattle.rv_statement.specs.declared.pseudo.Function.{Function}
 use Rattle.rv_statement.specs.declared.pseudo.Function.TheVariants as functions
@@ -28,7 +32,7 @@ use Rattle.rv_statement.specs.Statement.{Expression, Operand, Register, Value, A
 use Rattle.rv_parse_laws.specs.declared.role.Role.{Role}
 use Rattle.rv_parse_laws.specs.declared.role.Role.TheVariants as roles
 use Rattle.rv_parse_laws.specs.Words.{named_in, choices}
-use Rattle.rv_parse_laws.specs.Syntax.{Slot, A_register, A_zero, Some_accesses, A_symbol, A_string, Some_flags, At_sign, A_type, An_option, A_plt, A_comma, An_opening, A_closing, register_of, symbol_of, is_symbol, is_zero, accesses_of, is_at, is_plt, is_comma, is_opening, is_closing, single, A_value, An_address, A_callee, A_section, A_target, Slots, Stops as Ends_here, Takes, Chooses, Locates, Lists, Anything, IsValue, IsValueIn, IsOneIn, IsArgument, IsBase, IsLinked, IsOperand, IsTaken, IsFurther, AreItems, AreOperands, label_named, label_of, valued, targets, is_register, slots, places, source, with_constant, names_in, values_in, chosen, directed, Part, Ends, Says, IsPart, StopsPart, IsStatement}
+use Rattle.rv_parse_laws.specs.Syntax.{Slot, A_register_of, A_zero, Some_accesses, A_symbol, A_string, Some_flags, At_sign, A_type, An_option, A_plt, A_comma, An_opening, A_closing, register_of, kept_in, symbol_of, is_symbol, is_zero, accesses_of, is_at, is_plt, is_comma, is_opening, is_closing, single, A_value, An_address_by, An_address, A_callee, A_section, A_target, Slots, Stops as Ends_here, Takes, Chooses, Locates, Lists, Anything, IsValue, IsValueIn, IsOneIn, IsArgument, IsBase, IsLinked, IsOperand, IsTaken, IsFurther, AreItems, AreOperands, label_named, label_of, valued, targets, is_register, slots, places, source, registers_alone, registers_and_base, registers_before, parcel_slots, with_constant, names_in, values_in, chosen, directed, Part, Ends, Says, IsPart, StopsPart, IsStatement}
 use Rattle.rv_parse_laws.specs.Reading.{told, said, Reads}
 use Rattle.rv_source_laws.specs.Program.{in_operand}
 use Rattle.rv_text_laws.proofs.RunsLemmas.{pick}
@@ -278,7 +282,7 @@ when_none false os e = absurd (cc)
 
 single_shown : (s : Slot) (k : Kind) (os : List Operand) → good k ≡ true → single s k ≡ Some os → AllShown os
 unfolding AllShown operand_names good
-single_shown A_register k os h e = go (register_of k) e
+single_shown (A_register_of set) k os h e = go (kept_in set (register_of k)) e
   where
     go : (o : Option ℕ) → option_map (λ r. Register r ∷ []) o ≡ Some os → AllShown os
     go None e = absurd (cc)
@@ -353,9 +357,9 @@ value_in_shown role ts o g (inr (p, n, q, argument, c, f, e, is, percent, functi
 one_in_shown : (role : Role) (ts : List Token) (os : List Operand) → are_good ts ≡ true → IsOneIn role ts os → AllShown os
 one_in_shown role ts os g (o, value, is) = subst AllShown (sym is) (one_shown o (value_in_shown role ts o g value))
 
-base_shown : (ts : List Token) (os : List Operand) → IsBase ts os → AllShown os
+base_shown : (set : RegisterSet) (ts : List Token) (os : List Operand) → IsBase set ts os → AllShown os
 unfolding AllShown operand_names
-base_shown ts os (o, r, c, number, is, a, b, d, says) = subst (λ (x : List Operand). are_good_operands x ≡ true) (sym says) refl
+base_shown set ts os (o, r, c, number, is, a, b, d, says) = subst (λ (x : List Operand). are_good_operands x ≡ true) (sym says) refl
 
 joined_shown : (xs ys : List Operand) → AllShown xs → AllShown ys → AllShown (xs ++ ys)
 unfolding AllShown
@@ -380,15 +384,15 @@ is_plain _ = true
 operand_shown : (s : Slot) (ts : List Token) (os : List Operand) → is_plain s ≡ true → are_good ts ≡ true → IsOperand s ts os → AllShown os
 unfolding is_plain
 operand_shown (A_value role) ts os s g h = one_in_shown role ts os g h
-operand_shown An_address ts os s g (inl h) = base_shown ts os h
-operand_shown An_address ts os s g (inr (one, rest, o, base, is, value, based, says)) =
+operand_shown (An_address_by set) ts os s g (inl h) = base_shown set ts os h
+operand_shown (An_address_by set) ts os s g (inr (one, rest, o, base, is, value, based, says)) =
     let k = all_parts (λ (t : Token). good t.kind) one rest (subst (λ (us : List Token). are_good us ≡ true) is g) in
     subst AllShown (sym says)
-    (joined_shown (o ∷ []) base (one_shown o (value_in_shown roles.Operand one o k.0 value)) (base_shown rest base based))
+    (joined_shown (o ∷ []) base (one_shown o (value_in_shown roles.Operand one o k.0 value)) (base_shown set rest base based))
 operand_shown A_callee ts os s g (inl h) = one_in_shown roles.Target ts os g h
 operand_shown A_callee ts os s g (inr h) = linked_shown ts os g h
 operand_shown A_section ts os s g h = absurd (cc)
-operand_shown A_register ts os s g h = one_token_shown A_register ts os g h
+operand_shown (A_register_of set) ts os s g h = one_token_shown (A_register_of set) ts os g h
 operand_shown A_zero ts os s g h = one_token_shown A_zero ts os g h
 operand_shown Some_accesses ts os s g h = one_token_shown Some_accesses ts os g h
 operand_shown A_symbol ts os s g h = one_token_shown A_symbol ts os g h
@@ -465,6 +469,30 @@ unfolding are_plain is_plain
 source_plain true = refl
 source_plain false = refl
 
+alone_plain : (sets : List RegisterSet) → are_plain (registers_alone sets) ≡ true
+unfolding are_plain is_plain
+alone_plain [] = refl
+alone_plain (set ∷ []) = refl
+alone_plain (set ∷ next ∷ sets) = alone_plain (next ∷ sets)
+
+based_plain : (sets : List RegisterSet) → are_plain (registers_and_base sets) ≡ true
+unfolding are_plain is_plain
+based_plain [] = refl
+based_plain (set ∷ []) = refl
+based_plain (set ∷ next ∷ sets) = based_plain (next ∷ sets)
+
+before_plain : (sets : List RegisterSet) (rest : Slots) → are_plain rest ≡ true → are_plain (registers_before sets rest) ≡ true
+unfolding are_plain is_plain
+before_plain [] rest plain = plain
+before_plain (set ∷ sets) rest plain = before_plain sets rest plain
+
+parcel_plain : (shape : OperandShape) (sets : List RegisterSet) → are_plain (parcel_slots shape sets) ≡ true
+unfolding are_plain is_plain
+parcel_plain shapes.Registers sets = alone_plain sets
+parcel_plain shapes.Number sets = before_plain sets _ refl
+parcel_plain shapes.Address sets = based_plain sets
+parcel_plain shapes.Target sets = before_plain sets _ refl
+
 slots_plain : (m : Mnemonic) → are_plain (slots m) ≡ true
 unfolding are_plain is_plain
 slots_plain (mnemonics.Registers operation) = source_plain (is_some (with_constant operation))
@@ -495,6 +523,7 @@ slots_plain mnemonics.Li = refl
 slots_plain mnemonics.Call = refl
 slots_plain mnemonics.Tail = refl
 slots_plain mnemonics.Jump = refl
+slots_plain (mnemonics.Parcel operation) = parcel_plain (shape_of operation) (register_sets operation)
 
 -- the names of the expressions of operands
 expressions_shown : (os : List Operand) → AllShown os → Shown (flat_map tree_names (flat_map in_operand os))

@@ -9,9 +9,14 @@ use Rattle.rv_isa.specs.Operations.{of_immediate, of_shift, of_upper, of_load, o
 use Rattle.rv_isa.specs.declared.operation.BranchOperation.{BranchOperation}
 use Rattle.rv_isa.specs.declared.operation.BranchOperation.TheVariants.{Beq, Bne, Blt, Bge, Bltu, Bgeu}
 use Rattle.rv_isa_laws.specs.Arithmetic.{wrapped}
+use Rattle.rv_compress.specs.declared.form.Compressed.{Compressed}
+use Rattle.rv_compress.specs.declared.parcel.ParcelOperation.TheVariants as parcels
+use Rattle.rv_compress.specs.declared.parcel.RegisterSet.TheVariants.{Short}
+use Rattle.rv_compress.specs.Mnemonics.{is_in}
+use Rattle.rv_compress.specs.Parcel.{expansion}
 use Rattle.rv_text_laws.specs.Values.{Value, Constant, Symbolic, Difference, Faulty}
 use Rattle.rv_statement.specs.declared.mnemonic.Mnemonic.{Mnemonic}
-use Rattle.rv_statement.specs.declared.mnemonic.Mnemonic.TheVariants.{Registers, Immediate, Shift, Upper, Load, Store, Branch, Jal, Jalr, LoadReserved, Atomic, Fence, FenceTso, Ecall, Ebreak, Nop, Unary, Compare, ZeroBranch, SwappedBranch, J, Jr, Ret, La, Li, Call, Tail, Jump}
+use Rattle.rv_statement.specs.declared.mnemonic.Mnemonic.TheVariants.{Registers, Immediate, Shift, Upper, Load, Store, Branch, Jal, Jalr, LoadReserved, Atomic, Fence, FenceTso, Ecall, Ebreak, Nop, Unary, Compare, ZeroBranch, SwappedBranch, J, Jr, Ret, La, Li, Call, Tail, Jump, Parcel}
 use Rattle.rv_statement.specs.declared.pseudo.Function.TheVariants.{Hi, Lo, PcrelHi, PcrelLo}
 use Rattle.rv_statement.specs.declared.pseudo.ZeroBranchOperation.{ZeroBranchOperation}
 use Rattle.rv_statement.specs.declared.pseudo.ZeroBranchOperation.TheVariants.{Beqz, Bnez, Bgez, Bltz, Blez, Bgtz}
@@ -19,7 +24,7 @@ use Rattle.rv_statement.specs.declared.pseudo.SwappedBranchOperation.{SwappedBra
 use Rattle.rv_statement.specs.declared.pseudo.SwappedBranchOperation.TheVariants.{Bgt, Ble, Bgtu, Bleu}
 use Rattle.rv_statement.specs.Statement.{StatementKind, Label, Numbered, Instruction, Directs, Statement, Operand, Register, Value as Of_value, Applied, Target, Accesses, Word, Quoted, Expression}
 use Rattle.rv_parse_laws.specs.Syntax.{with_constant}
-use Rattle.rv_pseudo_laws.specs.Code.{Part as CodePart, Closed, Open as OpenPart, Joined, Constants, by_number, by_part, signed_12, upper_20, number_of, by_constant, i_type, s_type, u_type, shift_by, jalr, unary, branch, near, far, through, zero_branch, swapped_branch, code}
+use Rattle.rv_pseudo_laws.specs.Code.{Part as CodePart, Closed, Open as OpenPart, Joined, Constants, by_number, by_part, signed_12, upper_20, number_of, by_constant, i_type, s_type, u_type, shift_by, jalr, unary, branch, near, far, through, zero_branch, swapped_branch, short_branch, named_form, code}
 use Rattle.rv_pseudo_laws.specs.Li.{li}
 use Rattle.rv_unit_laws.specs.Contributions.{Contribution, Nothing, Bytes, Zero_bytes, Alignment, Numbers, Texts, contribution}
 use Rattle.rv_unit_laws.specs.Tables.{Tables, Definition, definition, meaning, after}
@@ -132,6 +137,17 @@ few_li : (make : ℤ → List Inst) (o : Option ℤ) → IsFew (option_map (λ k
 few_li make None = omega arith
 few_li make (Some k) = closed_few (make k)
 
+few_short_branch : (operation : BranchOperation) (rs : ℕ) → IsFew (short_branch operation rs)
+few_short_branch operation rs = go (is_in Short rs)
+  where
+    go : (b : Bool) → IsFew (if b then Some (branch 2 operation rs 0) else None)
+    go true = few_branch 2 operation rs 0
+    go false = omega arith
+
+few_form : (found : Option Compressed) → IsFew (option_map (λ form. Closed (expansion form) ∷ []) found)
+few_form None = omega arith
+few_form (Some form) = omega arith
+
 few_code : (v : Constants) (rvc : Bool) (n : ℕ) (m : Mnemonic) (os : List Operand) → IsFew (code v rvc n m os)
 few_code v rvc n (Registers operation) (Register rd ∷ Register rs1 ∷ Register rs2 ∷ []) = omega arith
 few_code v rvc n (Registers operation) (Register rd ∷ Register rs1 ∷ o ∷ []) = few_constant v (with_constant operation) rd rs1 o
@@ -178,6 +194,10 @@ few_code v rvc n Call (Register rd ∷ Target x ∷ []) = few_found (rd == 0) (f
 few_code v rvc n Call (Target x ∷ []) = few_far n 1 1
 few_code v rvc n Tail (Target x ∷ []) = few_far n 0 6
 few_code v rvc n Jump (Target x ∷ Register rt ∷ []) = few_found (rt == 0) (far n 0 rt) (few_far n 0 rt)
+few_code v rvc n (Parcel parcels.J) (Target x ∷ []) = omega arith
+few_code v rvc n (Parcel parcels.Beqz) (Register rs ∷ Target x ∷ []) = few_short_branch Beq rs
+few_code v rvc n (Parcel parcels.Bnez) (Register rs ∷ Target x ∷ []) = few_short_branch Bne rs
+few_code v rvc n (Parcel operation) os = few_form (named_form v (Parcel operation) os)
 few_code v rvc n m os = omega arith
 
 -- ---- the field of an operand

@@ -17,6 +17,7 @@ use Rattle.rv_text_laws.specs.Codes.{bad_operands, limit}
 use Rattle.rv_text_laws.specs.SyntaxError.{longest_name}
 use Rattle.rv_text_laws.specs.Expression.{Primary, Literal, Symbol, Here, Reference as Of_label, Tree, Leaf, Unary, Paren, Binary, A_primary, No_operand, begins, named_operand, punct_begins, SpellsTree, bare}
 use Rattle.rv_isa.specs.declared.operation.AccessSet.{AccessSet}
+use Rattle.rv_compress.specs.declared.parcel.RegisterSet.{RegisterSet}
 use Rattle.rv_statement.specs.declared.pseudo.Function.{Function}
 use Rattle.rv_statement.specs.declared.pseudo.Function.TheVariants as functions
 use Rattle.rv_statement.specs.declared.directive.DirectiveWord.{DirectiveWord}
@@ -26,7 +27,7 @@ use Rattle.rv_statement.specs.Statement.{Expression, Operand, Register, Value, A
 use Rattle.rv_parse_laws.specs.declared.role.Role.{Role}
 use Rattle.rv_parse_laws.specs.declared.role.Role.TheVariants as roles
 use Rattle.rv_parse_laws.specs.Words.{named_in, choices}
-use Rattle.rv_parse_laws.specs.Syntax.{Slot, A_register, A_zero, Some_accesses, A_symbol, A_string, Some_flags, At_sign, A_type, An_option, A_plt, A_comma, An_opening, A_closing, register_of, symbol_of, is_symbol, is_zero, accesses_of, is_at, is_plt, is_comma, is_opening, is_closing, single, A_value, An_address, A_callee, A_section, A_target, Slots, Stops as Ends_here, Takes, Chooses, Locates, Lists, Anything, IsValue, IsValueIn, IsOneIn, IsArgument, IsBase, IsLinked, IsOperand, IsTaken, IsFurther, AreItems, AreOperands, label_named, label_of, targets, is_register, slots, places, names_in, values_in, chosen, directed, Part, Ends, Says, IsPart, StopsPart, IsStatement}
+use Rattle.rv_parse_laws.specs.Syntax.{Slot, A_register_of, A_zero, Some_accesses, A_symbol, A_string, Some_flags, At_sign, A_type, An_option, A_plt, A_comma, An_opening, A_closing, register_of, kept_in, symbol_of, is_symbol, is_zero, accesses_of, is_at, is_plt, is_comma, is_opening, is_closing, single, A_value, An_address_by, An_address, A_callee, A_section, A_target, Slots, Stops as Ends_here, Takes, Chooses, Locates, Lists, Anything, IsValue, IsValueIn, IsOneIn, IsArgument, IsBase, IsLinked, IsOperand, IsTaken, IsFurther, AreItems, AreOperands, label_named, label_of, targets, is_register, slots, places, names_in, values_in, chosen, directed, Part, Ends, Says, IsPart, StopsPart, IsStatement}
 use Rattle.rv_parse_laws.specs.Reading.{told, said, longest_source, Reads}
 use Rattle.rv_source_laws.specs.Program.{in_operand}
 use Rattle.rv_assemble_laws.specs.ShownNames.{primary_names, tree_names, said_names}
@@ -187,7 +188,7 @@ when_none true os n e = same_operands [] os n e (omega arith)
 when_none false os n e = absurd (cc)
 
 single_light : (s : Slot) (k : Kind) (os : List Operand) → single s k ≡ Some os → load os ≤ heft k
-single_light A_register k os e = go (register_of k) e
+single_light (A_register_of set) k os e = go (kept_in set (register_of k)) e
   where
     go : (o : Option ℕ) → option_map (λ r. Register r ∷ []) o ≡ Some os → load os ≤ heft k
     go None e = absurd (cc)
@@ -257,8 +258,8 @@ value_in_light role ts o (inr (p, n, q, argument, c, f, e, is, percent, function
 one_in_light : (role : Role) (ts : List Token) (os : List Operand) → IsOneIn role ts os → load os ≤ total ts
 one_in_light role ts os (o, value, is) = let a = ap load is in let b = value_in_light role ts o value in omega (arith, a, b)
 
-base_light : (ts : List Token) (os : List Operand) → IsBase ts os → load os ≤ total ts
-base_light ts os (o, r, c, number, is, a, b, d, says) = let g : load os ≡ 0 = ap load says in omega (arith, g)
+base_light : (set : RegisterSet) (ts : List Token) (os : List Operand) → IsBase set ts os → load os ≤ total ts
+base_light set ts os (o, r, c, number, is, a, b, d, says) = let g : load os ≡ 0 = ap load says in omega (arith, g)
 
 linked_light : (ts : List Token) (os : List Operand) → IsLinked ts os → load os ≤ total ts
 linked_light ts os (f, a, p, name, is, symbol, at, plt, says) =
@@ -298,17 +299,17 @@ joined_light (t ∷ ts) name (first, rest, kind, is, more) =
 
 operand_light : (s : Slot) (ts : List Token) (os : List Operand) → IsOperand s ts os → load os ≤ total ts
 operand_light (A_value role) ts os h = one_in_light role ts os h
-operand_light An_address ts os (inl h) = base_light ts os h
-operand_light An_address ts os (inr (one, rest, o, base, is, value, based, says)) =
+operand_light (An_address_by set) ts os (inl h) = base_light set ts os h
+operand_light (An_address_by set) ts os (inr (one, rest, o, base, is, value, based, says)) =
     let a = ap total is ∙ total_append one rest in
     let b = value_in_light roles.Operand one o value in
-    let c = base_light rest base based in
+    let c = base_light set rest base based in
     let d = ap load says in
     omega (arith, a, b, c, d)
 operand_light A_callee ts os (inl h) = one_in_light roles.Target ts os h
 operand_light A_callee ts os (inr h) = linked_light ts os h
 operand_light A_section ts os (name, joined, fine, is) = let a = ap load is in let b = joined_light ts name joined in omega (arith, a, b)
-operand_light A_register ts os h = one_token_light A_register ts os h
+operand_light (A_register_of set) ts os h = one_token_light (A_register_of set) ts os h
 operand_light A_zero ts os h = one_token_light A_zero ts os h
 operand_light Some_accesses ts os h = one_token_light Some_accesses ts os h
 operand_light A_symbol ts os h = one_token_light A_symbol ts os h

@@ -5,10 +5,11 @@ use Rattle.std.specs.Prelude.{◌&&◌, unwrap_or, if◌then◌else◌}
 use Rattle.std.proofs.lemmas.List.{at_drop_all, map-append}
 use Rattle.rv_isa.specs.declared.instruction.Inst.{Inst}
 use Rattle.rv_isa.specs.declared.kind.Kind.{Kind}
+use Rattle.rv_compress.specs.declared.form.Compressed.{Compressed}
 use Rattle.rv_text_laws.specs.Values.{Value}
 use Rattle.rv_statement.specs.declared.mnemonic.Mnemonic.{Mnemonic}
 use Rattle.rv_statement.specs.Statement.{StatementKind, Label, Numbered, Instruction, Directs, Expression, Operand}
-use Rattle.rv_pseudo_laws.specs.Code.{Part as CodePart, Closed, Open as OpenPart, Joined, code}
+use Rattle.rv_pseudo_laws.specs.Code.{Part as CodePart, Closed, Open as OpenPart, Joined, named_form, code}
 use Rattle.rv_pseudo_laws.specs.Filled.{are_closed}
 use Rattle.rv_unit_laws.specs.Tables.{Tables, tables, value}
 use Rattle.rv_unit.specs.Unit.{said}
@@ -41,9 +42,9 @@ own_parts t v l (Closed i) = refl
 own_parts t v l (OpenPart k i) = sym (append-nil _)
 own_parts t v l (Joined k i j) = refl
 
-module _ (fields : Kind → List Open) (more : List Open) (own : CodePart → List Open) (section ordinal : ℕ) (rvc : Bool) where
+module _ (fields : Kind → List Open) (more : List Open) (own : CodePart → List Open) (section ordinal : ℕ) (named : Option Compressed) (rvc : Bool) where
   pub parts_fields : ((p : CodePart) → own p ≡ shape_opens fields more (shape_of p)) → (ps : List CodePart) (found : List Coded) (coded : List (List ℕ)) (place : ℕ)
-      → map shape_in found ≡ map shape_of ps → AreCodedParts rvc ps (coded_by found) → AreCodedParts rvc ps coded
+      → map shape_in found ≡ map shape_of ps → AreCodedParts named rvc ps (coded_by found) → AreCodedParts named rvc ps coded
       → coded_fields fields more section place found ≡ fields_from section place (map (part_of ordinal) (coded_templates own ps coded))
   parts_fields are [] [] [] place same a b = refl
   parts_fields are [] [] (x ∷ coded) place same a b = absurd b
@@ -53,7 +54,7 @@ module _ (fields : Kind → List Open) (more : List Open) (own : CodePart → Li
   parts_fields are (p ∷ ps) (c ∷ found) (x ∷ coded) place same (a, as') (b, bs) =
       let one : shape_in c ≡ shape_of p = cc in
       let rest : map shape_in found ≡ map shape_of ps = cc in
-      let long : length (encoded_bytes c.encoded) ≡ length x = part_long rvc p (encoded_bytes c.encoded) x a b in
+      let long : length (encoded_bytes c.encoded) ≡ length x = part_long named rvc p (encoded_bytes c.encoded) x a b in
       ap (λ s. map (field_at section place) (shape_opens fields more s) ++ coded_fields fields more section (place + length (encoded_bytes c.encoded)) found) one
       ∙ ap (λ o. map (field_at section place) o ++ coded_fields fields more section (place + length (encoded_bytes c.encoded)) found) (sym (are p))
       ∙ ap (λ n. map (field_at section place) (own p) ++ coded_fields fields more section (place + n) found) long
@@ -71,8 +72,8 @@ code_fields_of v rvc m n bytes mnemonic operands found coded f g long size field
     let there : code (constants v) rvc bytes mnemonic operands ≡ Some g.is.ps = ap (λ n. code (constants v) rvc n mnemonic operands) size ∙ g.is.parts in
     let here : code (constants v) rvc bytes mnemonic operands ≡ Some f.is.ps = ap (λ n. code (constants v) rvc n mnemonic operands) (sym long) ∙ f.is.parts in
     let same : f.is.ps ≡ g.is.ps = some_parts f.is.ps g.is.ps (sym here ∙ there) in
-    let one = subst (λ ps. AreCodedParts (rvc && are_closed ps) ps (coded_by found)) same f.is.coded_as in
-    parts_fields fields more own section ordinal (rvc && are_closed g.is.ps) are g.is.ps found (coded_by coded) place (f.shapes ∙ ap (λ ps. map shape_of ps) same) one g.is.coded_as
+    let one = subst (λ ps. AreCodedParts (named_form (constants v) mnemonic operands) (rvc && are_closed ps) ps (coded_by found)) same f.is.coded_as in
+    parts_fields fields more own section ordinal (named_form (constants v) mnemonic operands) (rvc && are_closed g.is.ps) are g.is.ps found (coded_by coded) place (f.shapes ∙ ap (λ ps. map shape_of ps) same) one g.is.coded_as
     ∙ ap (λ o. fields_from section place (map (part_of ordinal) (coded_templates own (unwrap_or o []) (coded_by coded)))) (sym there)
 
 no_fields : (fields : Kind → List Open) (more : List Open) (section place : ℕ) (found : List Coded) → found ≡ [] → coded_fields fields more section place found ≡ []

@@ -3,8 +3,8 @@
 use Rattle.std.proofs.Common.{◌≡◌, ℕ, ◌+◌, Bool, true, false, List, [], ◌∷◌, drop, refl, sym, ap, ◌∙◌}
 use Rattle.std.specs.List.{list_any}
 use Rattle.std.specs.Prelude.{◌&&◌, ◌||◌}
-use Rattle.rv_statement.specs.Statement.{Statement, Expression}
-use Rattle.rv_statement.specs.View.{statement_of, statement_kind, plain_of, with_expression, with_function}
+use Rattle.rv_statement.specs.Statement.{Statement, Operand, Expression}
+use Rattle.rv_statement.specs.View.{statement_of, statement_kind, plain_of, with_operand, with_expression, with_function}
 use Rattle.rv_statement.specs.declared.statement.Statement.{Statement as SourceStatement}
 use Rattle.rv_statement.specs.declared.pseudo.Function.{Function}
 use Rattle.rv_statement.specs.declared.statement.Operation.{Operation}
@@ -20,8 +20,8 @@ use Rattle.rv_unit_tables.specs.declared.section.Extent.{Extent}
 use Rattle.rv_unit.specs.declared.unit.Unit.{Unit as SourceUnit}
 use Rattle.rv_unit.specs.Unit.{said}
 use Rattle.rv_source_laws.specs.Located.{Located, located_from}
-use Rattle.rv_source_laws.specs.Compressed.{is_code, is_compressed_code, is_compressed}
-use Rattle.rv_draft.specs.Compressed.{is_code_kind}
+use Rattle.rv_source_laws.specs.Compressed.{is_code, names_parcel, is_compressed_code, is_compressed}
+use Rattle.rv_draft.specs.Compressed.{is_code_kind, is_parcel_plain, is_parcel_operation, names_parcel_kind}
 use Rattle.rv_layout.specs.Code.{IsExtentAt}
 use Rattle.rv_layout.proofs.ExtentsLemmas.{home_at}
 use Rattle.rv_layout.proofs.StandingLemmas.{StandsAt, located_at}
@@ -59,14 +59,32 @@ code_as executable (kinds.Label name) = refl
 code_as executable (kinds.Numbered number) = refl
 code_as executable _ = and_false executable
 
+-- ---- what names a parcel
+
+plain_parcel : (p : Plain) → is_parcel_plain p ≡ names_parcel (plain_of p)
+plain_parcel (plains.Registers operation rd rs1 rs2) = refl
+plain_parcel (plains.Parcel operation first second) = refl
+plain_parcel _ = refl
+
+operand_parcel : (operation : Operation) (o : Operand) → is_parcel_operation operation ≡ names_parcel (with_operand operation o)
+operand_parcel (operations.Parcel operation first second) o = refl
+operand_parcel _ o = refl
+
+pub parcel_as : (kind : StatementKind) → names_parcel_kind kind ≡ names_parcel (statement_kind kind)
+parcel_as (kinds.Plain p) = plain_parcel p
+parcel_as (kinds.With operation x) = operand_parcel operation _
+parcel_as (kinds.WithFunction operation function x) = operand_parcel operation _
+parcel_as _ = refl
+
 -- the test of a statement of a unit where it stands
 pub compressed_as : (u : SourceUnit) (i : ℕ) (x : SourceStatement) (p : SectionOffset) (e : Extent) (on : Bool) → StandsAt u i x p → IsExtentAt u.tables.extents.items p.section e
     → on ≡ (located_at (said u) i (statement_of x)).options.rvc
-    → (on && is_code_kind e.section.executable x.kind) ≡ is_compressed_code (located_at (said u) i (statement_of x))
+    → ((on || names_parcel_kind x.kind) && is_code_kind e.section.executable x.kind) ≡ is_compressed_code (located_at (said u) i (statement_of x))
 compressed_as u i x p e on at there is =
-    ap (λ b. on && b) (code_as e.section.executable x.kind)
-    ∙ ap (λ (h : Section). on && is_code h.executable (statement_kind x.kind)) (home_at u i x p e at there)
-    ∙ ap (λ b. b && is_code (located_at (said u) i (statement_of x)).home.executable (statement_kind x.kind)) is
+    ap (λ b. (on || names_parcel_kind x.kind) && b) (code_as e.section.executable x.kind)
+    ∙ ap (λ (h : Section). (on || names_parcel_kind x.kind) && is_code h.executable (statement_kind x.kind)) (home_at u i x p e at there)
+    ∙ ap (λ b. (b || names_parcel_kind x.kind) && is_code (located_at (said u) i (statement_of x)).home.executable (statement_kind x.kind)) is
+    ∙ ap (λ b. ((located_at (said u) i (statement_of x)).options.rvc || b) && is_code (located_at (said u) i (statement_of x)).home.executable (statement_kind x.kind)) (parcel_as x.kind)
 
 -- ---- the first code
 

@@ -6,6 +6,7 @@ use Rattle.std.specs.Prelude.{flat_map, not, ◌&&◌, ◌||◌, nat_lt, nat_le,
 use Rattle.std.specs.List.{AllByRecursion}
 use Rattle.std.proofs.lemmas.Bool.{leb-true, both_ways}
 use Rattle.rv_isa_laws.specs.Bytes.{zeros}
+use Rattle.rv_compress.specs.declared.form.Compressed.{Compressed}
 use Rattle.rv_text_laws.specs.Values.{Value, Constant, Symbolic, Difference, Faulty}
 use Rattle.rv_statement.specs.declared.mnemonic.Mnemonic.{Mnemonic}
 use Rattle.rv_statement.specs.Statement.{StatementKind, Label, Numbered, Instruction, Directs, Statement, Operand, Expression, Directive, Enters, Sets, Aligns_to_power, Aligns_to_bytes, Values, Strings, Zeros}
@@ -17,7 +18,7 @@ use Rattle.rv_unit_laws.specs.Faults.{value_faults, power_faults, bytes_faults, 
 use Rattle.rv_unit_laws.proofs.OpenedLemmas.{after_opened}
 use Rattle.rv_unit.proofs.ConstantsLemmas.{constant_whole}
 use Rattle.rv_object.specs.Padding.{no_operations, operations_in}
-use Rattle.rv_pseudo_laws.specs.Code.{Part as CodePart, code}
+use Rattle.rv_pseudo_laws.specs.Code.{Part as CodePart, named_form, code}
 use Rattle.rv_pseudo_laws.specs.Filled.{are_closed}
 use Rattle.rv_source_laws.specs.Located.{Located, located_now, located_from, contributes, is_placed}
 use Rattle.rv_assemble_laws.specs.CodeFields.{part_fields}
@@ -69,12 +70,12 @@ placed_as t k (Directs d) = placed_directive t k d
 -- ---- the parts of code
 
 -- the bytes of code are those of its parts
-coded_bytes : (o : ℕ) (fields : CodePart → List Open) (compressed : Bool) (ps : List CodePart) (coded : List (List ℕ)) → AreCodedParts compressed ps coded
+coded_bytes : (o : ℕ) (fields : CodePart → List Open) (named : Option Compressed) (compressed : Bool) (ps : List CodePart) (coded : List (List ℕ)) → AreCodedParts named compressed ps coded
     → flat_map part_bytes (map (part_of o) (coded_templates fields ps coded)) ≡ joined coded
-coded_bytes o fields compressed [] [] h = refl
-coded_bytes o fields compressed [] (bytes ∷ coded) h = absurd h
-coded_bytes o fields compressed (p ∷ ps) [] h = absurd h
-coded_bytes o fields compressed (p ∷ ps) (bytes ∷ coded) h = ap (λ l. bytes ++ l) (coded_bytes o fields compressed ps coded h.1)
+coded_bytes o fields named compressed [] [] h = refl
+coded_bytes o fields named compressed [] (bytes ∷ coded) h = absurd h
+coded_bytes o fields named compressed (p ∷ ps) [] h = absurd h
+coded_bytes o fields named compressed (p ∷ ps) (bytes ∷ coded) h = ap (λ l. bytes ++ l) (coded_bytes o fields named compressed ps coded h.1)
 
 coded_are : (o : ℕ) (fields : CodePart → List Open) (ps : List CodePart) (coded : List (List ℕ)) → AllByRecursion (λ (p : Part). IsTemplate p.template) (map (part_of o) (coded_templates fields ps coded))
 coded_are o fields [] coded = tt
@@ -125,7 +126,7 @@ module _ (all : Tables) (s : Located) (x : Item) (begins : ℕ) (found : List Co
       → flat_map part_bytes (Parts (Instruction mnemonic operands)) ≡ bytes
   code_bytes mnemonic operands size (asked, own) =
       ap (λ ps. flat_map part_bytes ps) (code_parts mnemonic operands size asked own)
-      ∙ coded_bytes s.ordinal (part_fields all worth s) (s.options.rvc && are_closed own.is.ps) own.is.ps (coded_by found) own.is.coded_as
+      ∙ coded_bytes s.ordinal (part_fields all worth s) (named_form (constants worth) mnemonic operands) (s.options.rvc && are_closed own.is.ps) own.is.ps (coded_by found) own.is.coded_as
 
   -- bytes
 

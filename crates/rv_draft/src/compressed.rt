@@ -1,12 +1,12 @@
 //! Whether a source has compressed code.
 
-ghost use Rattle.std.specs.Prelude.{◌≡◌, ◌&&◌, ◌∷◌, []};
+ghost use Rattle.std.specs.Prelude.{◌≡◌, ◌&&◌, ◌||◌, ◌∷◌, []};
 ghost use Rattle.rv_unit.specs.Unit.{said, IsFilled};
 ghost use Rattle.rv_source_laws.specs.Compressed as laws;
-ghost use Rattle.rv_draft.specs.Compressed.{is_code_kind};
+ghost use Rattle.rv_draft.specs.Compressed.{is_code_kind, names_parcel_kind};
 
 use rv_layout::extent_at;
-use rv_statement::StatementKind;
+use rv_statement::{Operation, Plain, StatementKind};
 use rv_unit::Unit;
 
 /// Whether a statement is code: an instruction, or an alignment in a section of code.
@@ -20,14 +20,28 @@ fn is_code(executable: bool, kind: &StatementKind<'_>) -> bool
     }
 }
 
-/// Whether a statement is compressed code, where that is on or off.
-fn is_compressed(compressed: bool, executable: bool, kind: &StatementKind<'_>) -> bool
-    ensures { result ≡ (compressed && is_code_kind executable kind.now) }
+/// Whether a statement names a parcel.
+fn names_parcel(kind: &StatementKind<'_>) -> bool
+    ensures { result ≡ names_parcel_kind kind.now }
 {
-    compressed && is_code(executable, kind)
+    match kind {
+        StatementKind::Plain(plain) => matches!(plain, Plain::Parcel(..)),
+        StatementKind::With(operation, _) | StatementKind::WithFunction(operation, ..) => {
+            matches!(operation, Operation::Parcel(..))
+        }
+        _ => false,
+    }
 }
 
-/// Whether a statement of the source is code where compressed code is on.
+/// Whether a statement is compressed code, where that is on or off: code there, and a parcel wherever it is.
+fn is_compressed(compressed: bool, executable: bool, kind: &StatementKind<'_>) -> bool
+    ensures { result
+        ≡ ((compressed || names_parcel_kind kind.now) && is_code_kind executable kind.now) }
+{
+    (compressed || names_parcel(kind)) && is_code(executable, kind)
+}
+
+/// Whether a statement of the source is compressed code.
 pub(crate) fn has_compressed(unit: &Unit<'_>) -> bool
     requires { IsFilled unit.now }
     ensures { result ≡ laws.is_compressed (said unit.now ∷ []) }

@@ -6,4 +6,5 @@ pub mod OpenFieldsLemmas
 pub mod EncodingLemmas
 pub mod StatementKindsLemmas
 pub mod RangesLemmas
+pub mod NamedLemmas
 pub mod WorthsLemmas

@@ -1,7 +1,7 @@
 -- A statement that is one instruction.
 
-use Rattle.std.proofs.Common.{◌≡◌, ℕ, Bool, true, false, sym, ap, subst, ℤ, [], ◌∷◌, map, Option, Some, None, Ok}
-use Rattle.std.specs.Prelude.{IfSome, ◌&&◌}
+use Rattle.std.proofs.Common.{◌≡◌, ℕ, Bool, true, false, refl, sym, ap, ◌∙◌, subst, ℤ, [], ◌∷◌, map, Option, Some, None, Ok}
+use Rattle.std.specs.Prelude.{IfSome, ◌&&◌, is_some}
 use Rattle.rv_isa.specs.declared.instruction.Inst.{Inst}
 use Rattle.rv_isa.specs.Ranges.{IsValid}
 use Rattle.rv_isa_laws.specs.Arithmetic.{signed}
@@ -12,14 +12,17 @@ use Rattle.rv_text.specs.declared.evaluation.Value.TheVariants.{Constant}
 use Rattle.rv_text.specs.Eval.{value_told}
 use Rattle.rv_statement.specs.declared.statement.Operation.{Operation}
 use Rattle.rv_statement.specs.declared.statement.Plain.{Plain}
+use Rattle.rv_statement.specs.declared.statement.Plain.TheVariants as plains
 use Rattle.rv_statement.specs.Statement.{Operand, Expression, Statement}
 use Rattle.rv_statement.specs.View.{plain_of, with_operand}
 use Rattle.rv_pseudo_laws.specs.Code.{Closed, Constants}
 use Rattle.rv_pseudo_laws.specs.Filled.{are_closed}
+use Rattle.rv_pseudo_laws.specs.InstructionFaults.{else_unplaced}
 use Rattle.rv_pseudo_laws.specs.Valid.{IsOperandOf}
 use Rattle.rv_pseudo.specs.declared.template.Worth.TheVariants as told
 use Rattle.rv_pseudo.specs.Faults.{mnemonic_of}
-use Rattle.rv_pseudo.specs.Templates.{plain, is_unary, statement_with, AreTemplates, IsBareOne, IsOne}
+use Rattle.rv_pseudo.specs.Templates.{plain, says_more, parts_of, statement_with, AnswersBare, AreTemplates, IsBareOne, IsOne}
+use Rattle.rv_pseudo.proofs.TableLemmas.{has_rows, plain_faults, some_of}
 use Rattle.rv_assemble_laws.specs.Coded.{IsCodedPart, AreCodedParts}
 use Rattle.rv_instruction.specs.declared.encoded.Encoded.{Encoded}
 use Rattle.rv_instruction.specs.Code.{encoded_bytes, encoded_instructions, shape_by, shape_in, shape_of, alone, whole, worth_for, AreInRange, IsExpanded, IsOneOf}
@@ -32,14 +35,24 @@ some_more P Q f (Some x) h = f x h
 
 -- ---- without an expression
 
-pub plain_valid : (p : Plain) (found : Option Inst) → ((c : Constants) → AreInRange c (plain_of p)) → IsBareOne (plain_of p) (is_unary p) found → IfSome found (λ i. IsValid i)
+pub plain_valid : (p : Plain) (found : Option Inst) → ((c : Constants) → AreInRange c (plain_of p)) → IsBareOne (plain_of p) (says_more p) found → IfSome found (λ i. IsValid i)
 plain_valid p None ranges are = tt
 plain_valid p (Some i) ranges are = (plain_codable p false (plain i ∷ []) ranges (are false)).0
 
-pub plain_alone : (p : Plain) (found : Option Inst) → IsBareOne (plain_of p) (is_unary p) found
-    → IfSome found (λ i. (rvc : Bool) (bytes : ℕ) → AreTemplates rvc bytes (plain_of p) (alone i).items)
+plain_placed : (p : Plain) (c : Constants) → has_rows c (plain_of p) ≡ is_some (parts_of c false 4 (plain_of p))
+plain_placed plains.Ecall c = refl
+plain_placed _ c = refl
+
+one_bare : (p : Plain) (i : Inst) → ((rvc : Bool) (bytes : ℕ) → AreTemplates rvc bytes (plain_of p) (plain i ∷ [])) → (rvc : Bool) → AnswersBare rvc (plain_of p) (Ok (alone i))
+one_bare p i are rvc c w bytes = (
+  plain_faults p c w ∙ ap (λ b. else_unplaced b []) (plain_placed p c ∙ some_of (parts_of c false 4 (plain_of p)) (plain i ∷ []) (are false 4 c)),
+  are rvc bytes c,
+)
+
+pub plain_alone : (p : Plain) (found : Option Inst) → IsBareOne (plain_of p) (says_more p) found
+    → IfSome found (λ i. (rvc : Bool) → AnswersBare rvc (plain_of p) (Ok (alone i)))
 plain_alone p None are = tt
-plain_alone p (Some i) are = are
+plain_alone p (Some i) are = one_bare p i are
 
 -- ---- with a constant
 
@@ -70,10 +83,7 @@ one_expanded operation x s v l rvc bytes i says (n, (e, one)) =
 
 -- ---- the code
 
-pub coded_alone : (rvc : Bool) (i : Inst) (e : Encoded) → IsCodedPart rvc (Closed i) (encoded_bytes e)
-    → AreCodedParts (rvc && are_closed (Closed i ∷ [])) (Closed i ∷ []) (encoded_bytes e ∷ [])
+pub coded_alone : (rvc : Bool) (i : Inst) (e : Encoded) → IsCodedPart None rvc (Closed i) (encoded_bytes e)
+    → AreCodedParts None (rvc && are_closed (Closed i ∷ [])) (Closed i ∷ []) (encoded_bytes e ∷ [])
 coded_alone true i e h = (h, tt)
 coded_alone false i e h = (h, tt)
-
-pub shapes_alone : (i : Inst) (e : Encoded) → encoded_instructions e ≡ 1 → map shape_in (whole e ∷ []) ≡ map shape_of (Closed i ∷ [])
-shapes_alone i e one = ap (λ n. shape_by None n ∷ []) one

@@ -14,6 +14,9 @@ use Rattle.rv_isa.specs.declared.operation.BranchOperation.{BranchOperation}
 use Rattle.rv_isa.specs.declared.operation.BranchOperation.TheVariants.{Beq, Bne, Blt, Bge, Bltu, Bgeu}
 use Rattle.rv_isa.specs.Kinds.{width_of}
 use Rattle.rv_isa.specs.Operations.{of_immediate, of_upper, of_load, of_store, of_branch}
+use Rattle.rv_compress.specs.declared.parcel.ParcelOperation.TheVariants as parcels
+use Rattle.rv_compress.specs.declared.parcel.RegisterSet.TheVariants.{Short}
+use Rattle.rv_compress.specs.Mnemonics.{is_in}
 use Rattle.rv_compress.specs.Parcel.{parcel, IsShort, IsBranch, IsJump}
 use Rattle.rv_compress.specs.declared.form.Compressed.TheVariants as compressed
 use Rattle.rv_statement.specs.declared.mnemonic.Mnemonic.{Mnemonic}
@@ -29,12 +32,12 @@ use Rattle.rv_parse_laws.specs.Syntax.{with_constant}
 use Rattle.rv_layout_laws.specs.declared.item.Forms.{Forms}
 use Rattle.rv_layout_laws.specs.declared.item.Forms.TheVariants.{Settled}
 use Rattle.rv_compress.specs.Encoded.{HasShort}
-use Rattle.rv_pseudo_laws.specs.Code.{Part, Closed, Open, Joined, Constants, i_type, s_type, b_type, u_type, jal, jalr, opened, by_part, signed_12, upper_20, by_constant, branch, inverted, jump, near, far, through}
+use Rattle.rv_pseudo_laws.specs.Code.{Part, Closed, Open, Joined, Constants, i_type, s_type, b_type, u_type, jal, jalr, opened, by_part, signed_12, upper_20, by_constant, branch, inverted, jump, near, far, through, short_branch}
 use Rattle.rv_pseudo_laws.specs.Li.{addi}
 use Rattle.rv_pseudo_laws.specs.Filled.{are_closed, code_bytes}
 use Rattle.rv_isa_laws.specs.Halves.{hi, lo}
 use Rattle.rv_isa_laws.specs.Arithmetic.{wrapped}
-use Rattle.rv_pseudo.specs.Faults.{is_upper, is_bad_scratch, takes_target}
+use Rattle.rv_pseudo.specs.Faults.{is_upper, is_bad_scratch, is_written, takes_target}
 use Rattle.rv_pseudo.specs.Templates.{all_templates, asked_bytes, statement_with}
 use Rattle.rv_pseudo.proofs.InRangeLemmas.{is_immediate, is_low, takes_part, is_taken}
 use Rattle.rv_source_laws.specs.Lines as lines
@@ -116,31 +119,31 @@ jump_zero = grind (arith, ints)
 zero_is : (r : ℕ) → (r == 0) ≡ true → 0 ≡ r
 zero_is r e = grind (arith, nat_tests)
 
-beqz_short : (r s : ℕ) → is_short_register r ≡ true → 0 ≡ s → HasShort (of_branch Beq (b_type r s (pos 0)))
+beqz_short : (r s : ℕ) → IsShort r → 0 ≡ s → HasShort (of_branch Beq (b_type r s (pos 0)))
 beqz_short r s short zero = (
   parcel (compressed.Beqz r (pos 0)),
   record {
     form = compressed.Beqz r (pos 0);
-    spells = record { line = (short_line r short, branch_zero); sum = refl };
+    spells = record { line = (short, branch_zero); sum = refl };
     chosen = tt;
     same = ap (λ n. isa.Beq (b_type r n (pos 0))) zero;
   },
 )
 
-bnez_short : (r s : ℕ) → is_short_register r ≡ true → 0 ≡ s → HasShort (of_branch Bne (b_type r s (pos 0)))
+bnez_short : (r s : ℕ) → IsShort r → 0 ≡ s → HasShort (of_branch Bne (b_type r s (pos 0)))
 bnez_short r s short zero = (
   parcel (compressed.Bnez r (pos 0)),
   record {
     form = compressed.Bnez r (pos 0);
-    spells = record { line = (short_line r short, branch_zero); sum = refl };
+    spells = record { line = (short, branch_zero); sum = refl };
     chosen = tt;
     same = ap (λ n. isa.Bne (b_type r n (pos 0))) zero;
   },
 )
 
 branch_short : (o : BranchOperation) (r s : ℕ) → is_short_branch o r s ≡ true → HasShort (of_branch o (b_type r s (pos 0)))
-branch_short Beq r s e = beqz_short r s (and_parts (s == 0) _ e).1 (zero_is s (and_parts (s == 0) _ e).0)
-branch_short Bne r s e = bnez_short r s (and_parts (s == 0) _ e).1 (zero_is s (and_parts (s == 0) _ e).0)
+branch_short Beq r s e = beqz_short r s (short_line r (and_parts (s == 0) _ e).1) (zero_is s (and_parts (s == 0) _ e).0)
+branch_short Bne r s e = bnez_short r s (short_line r (and_parts (s == 0) _ e).1) (zero_is s (and_parts (s == 0) _ e).0)
 branch_short _ r s e = absurd (cc)
 
 abbrev branch_by : (two eight : Bool) → BranchOperation → ℕ → ℕ → List Part
@@ -258,6 +261,27 @@ link_open rd b e = record {
 jal_open : (zero : Bool) (rd b : ℕ) (rvc : Bool) → (rd == 0) ≡ zero → AreOpen (λ n. jump n rd) (if zero then Some (jump_forms rvc) else None) b
 jal_open true rd b rvc e = subst (λ r. AreOpen (λ n. jump n r) (Some (jump_forms rvc)) b) (zero_is rd e) (jump_open rvc b)
 jal_open false rd b rvc e = link_open rd b e
+
+-- ---- parcels
+
+-- an instruction in a parcel, however long it is asked to be
+parcel_open : (k : Kind) (i : Inst) (b : ℕ) → is_short k ≡ true → width_of k ≡ 2 → HasShort i → AreOpen (λ n. Open k i ∷ []) None b
+parcel_open k i b short two has = record {
+  back = refl;
+  same = refl;
+  left = refl;
+  near = λ o e. never e;
+  fit = λ o. (inr (short, has), tt);
+}
+
+short_in : (r : ℕ) → (is_in Short r && true) ≡ true → is_in Short r ≡ true
+short_in r e = (and_parts (is_in Short r) true e).0
+
+in_line : (r : ℕ) → is_in Short r ≡ true → IsShort r
+in_line r e = grind (arith, nat_tests)
+
+short_is : (o : BranchOperation) (r : ℕ) → is_in Short r ≡ true → short_branch o r ≡ Some (branch 2 o r 0)
+short_is o r e = ap (λ t. if t then Some (branch 2 o r 0) else None) e
 
 -- ---- through a register
 
@@ -381,6 +405,7 @@ part_row (operations.StoreSymbol operation rs2 rt) f rvc b e t = none_taken f (o
 part_row (operations.La rd) f rvc b e t = none_taken f (operations.La rd) t refl refl
 part_row (operations.Call rd) f rvc b e t = none_taken f (operations.Call rd) t refl refl
 part_row (operations.Jump rt) f rvc b e t = none_taken f (operations.Jump rt) t refl refl
+part_row (operations.Parcel operation r s) f rvc b e t = none_taken f (operations.Parcel operation r s) t refl refl
 part_row operations.JalLinked f rvc b e t = none_taken f operations.JalLinked t refl refl
 part_row operations.J f rvc b e t = none_taken f operations.J t refl refl
 part_row operations.CallLinked f rvc b e t = none_taken f operations.CallLinked t refl refl
@@ -390,39 +415,49 @@ made_of : (kind : StatementKind) (e : Expression) (forms : Option Forms) (b : �
     → ((c : Constants) (rvc : Bool) (size : ℕ) → lines.parts_of c rvc size kind ≡ Some (F size)) → AreOpen F forms b → OpenRow kind e forms b
 made_of kind e forms b F rows are = record { F = F; rows = λ c rvc size none. rows c rvc size; are = are }
 
-target_row : (o : Operation) (rvc : Bool) (b : ℕ) (e : Expression) → is_bad_scratch o ≡ false → takes_target o ≡ true → IsRowOf o None rvc b e
-target_row (operations.Branch operation r s) rvc b e good t =
+target_row : (o : Operation) (rvc : Bool) (b : ℕ) (e : Expression) → is_bad_scratch o ≡ false → is_written o ≡ true → takes_target o ≡ true → IsRowOf o None rvc b e
+target_row (operations.Branch operation r s) rvc b e good written t =
     made_of _ e _ _ (λ n. branch n operation r s) (λ c rvc size. refl) (branch_open (rvc && is_short_branch operation r s) b operation r s (λ x. branch_short operation r s (and_parts rvc _ x).1))
-target_row (operations.ZeroBranch Beqz r) rvc b e good t =
-    made_of _ e _ _ (λ n. branch n Beq r 0) (λ c rvc size. refl) (branch_open (rvc && is_short_register r) b Beq r 0 (λ x. beqz_short r 0 (and_parts rvc _ x).1 refl))
-target_row (operations.ZeroBranch Bnez r) rvc b e good t =
-    made_of _ e _ _ (λ n. branch n Bne r 0) (λ c rvc size. refl) (branch_open (rvc && is_short_register r) b Bne r 0 (λ x. bnez_short r 0 (and_parts rvc _ x).1 refl))
-target_row (operations.ZeroBranch Bgez r) rvc b e good t = made_of _ e _ _ (λ n. branch n Bge r 0) (λ c rvc size. refl) (branch_open false b Bge r 0 not_short)
-target_row (operations.ZeroBranch Bltz r) rvc b e good t = made_of _ e _ _ (λ n. branch n Blt r 0) (λ c rvc size. refl) (branch_open false b Blt r 0 not_short)
-target_row (operations.ZeroBranch Blez r) rvc b e good t = made_of _ e _ _ (λ n. branch n Bge 0 r) (λ c rvc size. refl) (branch_open false b Bge 0 r not_short)
-target_row (operations.ZeroBranch Bgtz r) rvc b e good t = made_of _ e _ _ (λ n. branch n Blt 0 r) (λ c rvc size. refl) (branch_open false b Blt 0 r not_short)
-target_row (operations.SwappedBranch Bgt r s) rvc b e good t = made_of _ e _ _ (λ n. branch n Blt s r) (λ c rvc size. refl) (branch_open false b Blt s r not_short)
-target_row (operations.SwappedBranch Ble r s) rvc b e good t = made_of _ e _ _ (λ n. branch n Bge s r) (λ c rvc size. refl) (branch_open false b Bge s r not_short)
-target_row (operations.SwappedBranch Bgtu r s) rvc b e good t = made_of _ e _ _ (λ n. branch n Bltu s r) (λ c rvc size. refl) (branch_open false b Bltu s r not_short)
-target_row (operations.SwappedBranch Bleu r s) rvc b e good t = made_of _ e _ _ (λ n. branch n Bgeu s r) (λ c rvc size. refl) (branch_open false b Bgeu s r not_short)
-target_row (operations.Jal rd) rvc b e good t = made_of _ e _ _ (λ n. jump n rd) (λ c rvc size. refl) (jal_open (rd == 0) rd b rvc refl)
-target_row operations.JalLinked rvc b e good t = made_of _ e _ _ (λ n. jump n 1) (λ c rvc size. refl) (link_open 1 b refl)
-target_row operations.J rvc b e good t = made_of _ e _ _ (λ n. jump n 0) (λ c rvc size. refl) (jump_open rvc b)
-target_row (operations.La rd) rvc b e good t =
+target_row (operations.ZeroBranch Beqz r) rvc b e good written t =
+    made_of _ e _ _ (λ n. branch n Beq r 0) (λ c rvc size. refl) (branch_open (rvc && is_short_register r) b Beq r 0 (λ x. beqz_short r 0 (short_line r (and_parts rvc _ x).1) refl))
+target_row (operations.ZeroBranch Bnez r) rvc b e good written t =
+    made_of _ e _ _ (λ n. branch n Bne r 0) (λ c rvc size. refl) (branch_open (rvc && is_short_register r) b Bne r 0 (λ x. bnez_short r 0 (short_line r (and_parts rvc _ x).1) refl))
+target_row (operations.ZeroBranch Bgez r) rvc b e good written t = made_of _ e _ _ (λ n. branch n Bge r 0) (λ c rvc size. refl) (branch_open false b Bge r 0 not_short)
+target_row (operations.ZeroBranch Bltz r) rvc b e good written t = made_of _ e _ _ (λ n. branch n Blt r 0) (λ c rvc size. refl) (branch_open false b Blt r 0 not_short)
+target_row (operations.ZeroBranch Blez r) rvc b e good written t = made_of _ e _ _ (λ n. branch n Bge 0 r) (λ c rvc size. refl) (branch_open false b Bge 0 r not_short)
+target_row (operations.ZeroBranch Bgtz r) rvc b e good written t = made_of _ e _ _ (λ n. branch n Blt 0 r) (λ c rvc size. refl) (branch_open false b Blt 0 r not_short)
+target_row (operations.SwappedBranch Bgt r s) rvc b e good written t = made_of _ e _ _ (λ n. branch n Blt s r) (λ c rvc size. refl) (branch_open false b Blt s r not_short)
+target_row (operations.SwappedBranch Ble r s) rvc b e good written t = made_of _ e _ _ (λ n. branch n Bge s r) (λ c rvc size. refl) (branch_open false b Bge s r not_short)
+target_row (operations.SwappedBranch Bgtu r s) rvc b e good written t = made_of _ e _ _ (λ n. branch n Bltu s r) (λ c rvc size. refl) (branch_open false b Bltu s r not_short)
+target_row (operations.SwappedBranch Bleu r s) rvc b e good written t = made_of _ e _ _ (λ n. branch n Bgeu s r) (λ c rvc size. refl) (branch_open false b Bgeu s r not_short)
+target_row (operations.Jal rd) rvc b e good written t = made_of _ e _ _ (λ n. jump n rd) (λ c rvc size. refl) (jal_open (rd == 0) rd b rvc refl)
+target_row operations.JalLinked rvc b e good written t = made_of _ e _ _ (λ n. jump n 1) (λ c rvc size. refl) (link_open 1 b refl)
+target_row operations.J rvc b e good written t = made_of _ e _ _ (λ n. jump n 0) (λ c rvc size. refl) (jump_open rvc b)
+target_row (operations.La rd) rvc b e good written t =
     made_of _ e _ _ (λ n. near rd kinds.PcrelLo12I (addi rd rd (pos 0))) (λ c rvc size. refl) (near_open rd kinds.PcrelLo12I (addi rd rd (pos 0)) b refl refl)
-target_row (operations.LoadSymbol operation rd) rvc b e good t =
+target_row (operations.LoadSymbol operation rd) rvc b e good written t =
     made_of _ e _ _ (λ n. near rd kinds.PcrelLo12I (of_load operation (i_type rd rd (pos 0)))) (λ c rvc size. through_is rd _ good)
     (near_open rd kinds.PcrelLo12I (of_load operation (i_type rd rd (pos 0))) b refl refl)
-target_row (operations.StoreSymbol operation rs2 rt) rvc b e good t =
+target_row (operations.StoreSymbol operation rs2 rt) rvc b e good written t =
     made_of _ e _ _ (λ n. near rt kinds.PcrelLo12S (of_store operation (s_type rs2 rt (pos 0))))
     (λ c rvc size. ap (λ x. if x then None else through rt (near rt kinds.PcrelLo12S (of_store operation (s_type rs2 rt (pos 0))))) (or_parts (rt == 0) _ good).1 ∙ through_is rt _ (or_parts (rt == 0) _ good).0)
     (near_open rt kinds.PcrelLo12S (of_store operation (s_type rs2 rt (pos 0))) b refl refl)
-target_row (operations.Call rd) rvc b e good t = made_of _ e _ _ (λ n. far n rd rd) (λ c rvc size. through_is rd _ good) (far_open rd rd)
-target_row operations.CallLinked rvc b e good t = made_of _ e _ _ (λ n. far n 1 1) (λ c rvc size. refl) (far_open 1 1)
-target_row operations.Tail rvc b e good t = made_of _ e _ _ (λ n. far n 0 6) (λ c rvc size. refl) (far_open 0 6)
-target_row (operations.Jump rt) rvc b e good t = made_of _ e _ _ (λ n. far n 0 rt) (λ c rvc size. through_is rt _ good) (far_open 0 rt)
-target_row _ rvc b e good t = absurd (cc)
+target_row (operations.Call rd) rvc b e good written t = made_of _ e _ _ (λ n. far n rd rd) (λ c rvc size. through_is rd _ good) (far_open rd rd)
+target_row operations.CallLinked rvc b e good written t = made_of _ e _ _ (λ n. far n 1 1) (λ c rvc size. refl) (far_open 1 1)
+target_row operations.Tail rvc b e good written t = made_of _ e _ _ (λ n. far n 0 6) (λ c rvc size. refl) (far_open 0 6)
+target_row (operations.Jump rt) rvc b e good written t = made_of _ e _ _ (λ n. far n 0 rt) (λ c rvc size. through_is rt _ good) (far_open 0 rt)
+target_row (operations.Parcel parcels.J r s) rvc b e good written t = made_of _ e _ _ (λ n. jump 2 0) (λ c rvc size. refl) (parcel_open kinds.RvcJump (jal 0) b refl refl jump_short)
+target_row (operations.Parcel parcels.Beqz r s) rvc b e good written t =
+    let short = short_in r written in
+    made_of _ e _ _ (λ n. branch 2 Beq r 0) (λ c rvc size. short_is Beq r short)
+    (parcel_open kinds.RvcBranch (of_branch Beq (b_type r 0 (pos 0))) b refl refl (beqz_short r 0 (in_line r short) refl))
+target_row (operations.Parcel parcels.Bnez r s) rvc b e good written t =
+    let short = short_in r written in
+    made_of _ e _ _ (λ n. branch 2 Bne r 0) (λ c rvc size. short_is Bne r short)
+    (parcel_open kinds.RvcBranch (of_branch Bne (b_type r 0 (pos 0))) b refl refl (bnez_short r 0 (in_line r short) refl))
+target_row _ rvc b e good written t = absurd (cc)
 
-pub open_row : (o : Operation) (f : Option Function) (rvc : Bool) (b : ℕ) (e : Expression) → (takes_target o ≡ true → is_bad_scratch o ≡ false) → is_taken o f None ≡ true → IsRowOf o f rvc b e
-open_row o None rvc b e good taken = target_row o rvc b e (good taken) taken
-open_row o (Some f) rvc b e good taken = part_row o f rvc b e taken
+pub open_row : (o : Operation) (f : Option Function) (rvc : Bool) (b : ℕ) (e : Expression) → (takes_target o ≡ true → is_bad_scratch o ≡ false) → (takes_target o ≡ true → is_written o ≡ true) → is_taken o f None ≡ true
+    → IsRowOf o f rvc b e
+open_row o None rvc b e good written taken = target_row o rvc b e (good taken) (written taken) taken
+open_row o (Some f) rvc b e good written taken = part_row o f rvc b e taken

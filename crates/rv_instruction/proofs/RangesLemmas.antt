@@ -1,10 +1,11 @@
 -- The instructions of a statement whose operands are known have them in range.
 
-use Rattle.std.proofs.Common.{◌≡◌, ℕ, ℤ, Bool, true, List, [], ◌∷◌, Option, Some, None, option_map, Ok, refl, sym, ap, subst, ◌∙◌}
-use Rattle.std.specs.Prelude.{not, ◌&&◌}
+use Rattle.std.proofs.Common.{◌≡◌, ℕ, ℤ, Bool, true, List, [], ◌∷◌, Option, Some, None, option_map, Result, Ok, Err, refl, sym, ap, subst, ◌∙◌}
+use Rattle.std.specs.Prelude.{not, ◌&&◌, IfOk}
 use Rattle.std.specs.List.{AllByRecursion}
 use Rattle.arrayvec.specs.ArrayVec.{ArrayVec}
 use Rattle.rv_text_laws.specs.Expression.{Leaf, Here}
+use Rattle.rv_lexer.specs.declared.fault.SourceCode.{SourceCode}
 use Rattle.rv_statement.specs.declared.pseudo.Function.{Function}
 use Rattle.rv_statement.specs.declared.pseudo.Function.TheVariants.{Hi, Lo, PcrelHi, PcrelLo}
 use Rattle.rv_statement.specs.declared.statement.Operation.{Operation}
@@ -18,7 +19,7 @@ use Rattle.rv_pseudo_laws.proofs.PartsLemmas.{code_valid}
 use Rattle.rv_pseudo.specs.declared.template.Template.{Template}
 use Rattle.rv_pseudo.specs.declared.template.Worth.{Worth}
 use Rattle.rv_pseudo.specs.Faults.{worth_of, constant_in, mnemonic_of, with_part, known_as, takes_target, is_upper}
-use Rattle.rv_pseudo.specs.Templates.{statement_with, number_operand, AreTemplates}
+use Rattle.rv_pseudo.specs.Templates.{statement_with, number_operand, AnswersBare, AreTemplates}
 use Rattle.rv_pseudo.proofs.InRangeLemmas.{is_taken, and_right, good_away, part_mnemonic}
 use Rattle.rv_pseudo.proofs.TableLemmas.{part_statement}
 use Rattle.rv_pseudo.proofs.RowsLemmas.{away_operand}
@@ -29,9 +30,10 @@ use Rattle.rv_pseudo.proofs.RowsLemmas.{target_operand}
 use Rattle.rv_pseudo_laws.specs.Code.{Part, Closed, Open, Joined}
 use Rattle.rv_pseudo_laws.specs.Filled.{are_closed}
 use Rattle.rv_instruction.specs.Code.{parts_in, IsCodable, AreCodable, AreInRange, MayHave}
-use Rattle.rv_instruction.proofs.KnownRowsLemmas.{closed_in, row_back, row_closed, row_all_closed, plain_same, plain_closed}
+use Rattle.rv_instruction.specs.Opened.{are_free}
+use Rattle.rv_instruction.proofs.KnownRowsLemmas.{row_back, row_closed, row_all_closed, plain_same, plain_closed, taken_known}
 use Rattle.rv_instruction.proofs.OpenRowsLemmas.{IsFit, asked_of}
-use Rattle.rv_instruction.proofs.StatementKindsLemmas.{is_instruction, plain_instruction, operand_instruction, plain_row, IsOfNumber, AreAnswers, answered, constant_row, open_row_of, address_found, asked_offers}
+use Rattle.rv_instruction.proofs.StatementKindsLemmas.{is_instruction, plain_instruction, operand_instruction, plain_row, bare_templates, IsOfNumber, AreAnswers, answered, constant_row, open_row_of, address_found, asked_offers}
 
 -- parts with their operands in range, whose open fields are those of words or of parcels that there are
 all_codable : (ps : List Part) → AllByRecursion IsValidPart ps → AllByRecursion IsFit ps → AllByRecursion IsCodable ps
@@ -59,8 +61,12 @@ nothing_known = λ e. None
 pub plain_codable : (p : Plain) (rvc : Bool) (found : List Template) → ((c : Constants) → AreInRange c (plain_of p)) → ((bytes : ℕ) → AreTemplates rvc bytes (plain_of p) found) → AreCodable found
 plain_codable p rvc found ranges are =
     let row = plain_row p rvc found are nothing_known 0 in
-    let closed = row_all_closed _ _ (ap closed_in (plain_same p nothing_known rvc 0) ∙ plain_closed p nothing_known rvc 0) row in
+    let closed = row_all_closed _ _ (ap are_free (plain_same p nothing_known rvc 0) ∙ plain_closed p nothing_known rvc 0) row in
     all_codable (parts_in found) (valid_row (plain_of p) nothing_known rvc 0 (parts_in found) (plain_instruction p) (ranges nothing_known) row) (closed_fit _ closed)
+
+pub bare_codable : (p : Plain) (rvc : Bool) (r : Result (ArrayVec Template) SourceCode) → ((c : Constants) → AreInRange c (plain_of p)) → AnswersBare rvc (plain_of p) r → IfOk r (λ t. AreCodable t.items)
+bare_codable p rvc (Ok found) ranges are = plain_codable p rvc found.items ranges (bare_templates p rvc found are)
+bare_codable p rvc (Err code) ranges are = tt
 
 -- ---- with an operand
 
@@ -76,7 +82,7 @@ constant_closed : (operation : Operation) (function : Option Function) (k : ℤ)
 constant_closed operation function k rvc bytes found is =
     let e = Leaf Here in
     let away = good_away operation function k is.taken in
-    let closed = row_closed operation function k rvc bytes e is.taken away in
+    let closed = row_closed operation function (Some k) rvc bytes e (taken_known operation function k is.taken) away in
     row_all_closed _ _ closed (row_back _ found.items closed
     (ap (λ s. option_map all_templates (pseudo.parts_of (λ t. Some k) rvc bytes s)) (sym (ap (with_operand operation) (away_operand operation function e away))) ∙ is.rows e))
 

@@ -1,8 +1,7 @@
 -- What the statements of instructions have, by their kinds.
 
-use Rattle.std.proofs.Common.{◌≡◌, ℕ, List, [], ◌∷◌, Option, Some, None, Bool, true, false, map, Result, Ok, Err, refl, sym, ap, ◌∙◌, subst, ℤ, length, option_map}
+use Rattle.std.proofs.Common.{◌≡◌, ℕ, List, [], ◌∷◌, Option, Some, None, Bool, true, false, map, Result, Ok, Err, refl, sym, ap, ◌∙◌, subst, ℤ, pos, length, option_map}
 use Rattle.std.proofs.lemmas.Bool.{and_right}
-use Rattle.std.proofs.lemmas.List.Sums.{sum_by-cons}
 use Rattle.std.specs.Prelude.{◌&&◌, is_some}
 use Rattle.arrayvec.specs.ArrayVec.{ArrayVec}
 use Rattle.rv_text_laws.specs.Expression.{Primary, Leaf, Here}
@@ -25,21 +24,22 @@ use Rattle.rv_pseudo_laws.specs.Filled.{are_closed, code_bytes}
 use Rattle.rv_pseudo.specs.declared.template.Form.{Form}
 use Rattle.rv_pseudo.specs.declared.template.Template.{Template}
 use Rattle.rv_pseudo.specs.declared.template.Worth.{Worth}
-use Rattle.rv_pseudo.specs.Faults.{worth_of, constant_in, known_as, takes_target, is_bad_scratch, faults_of}
-use Rattle.rv_pseudo.specs.Templates.{all_templates, form_templates, constants_of, worths_of, faults_by, statement_with, number_operand, asked_bytes, Answers, AreTemplates}
+use Rattle.rv_pseudo.specs.Faults.{worth_of, constant_in, known_as, takes_target, is_placed, is_written, is_bad_scratch, faults_of}
+use Rattle.rv_pseudo.specs.Templates.{all_templates, form_templates, constants_of, worths_of, faults_by, statement_with, number_operand, asked_bytes, Answers, AnswersBare, AreTemplates}
 use Rattle.rv_pseudo.specs.Templates as pseudo
 use Rattle.rv_pseudo.proofs.InRangeLemmas.{is_taken, sound_taken, good_away, good_scratch, target_alone}
 use Rattle.rv_pseudo.proofs.LowestLemmas.{none_of_its_own}
 use Rattle.rv_pseudo.proofs.RowsLemmas.{away_operand}
-use Rattle.rv_pseudo.proofs.TableLemmas.{part_statement, has_rows, plain_faults, with_faults, row_placed}
+use Rattle.rv_pseudo.proofs.TableLemmas.{part_statement, has_rows, with_faults, row_placed}
 use Rattle.rv_source_laws.specs.Lines as lines
-use Rattle.rv_assemble_laws.specs.Coded.{constants, joined, part_instructions, instructions_in, AreCodedParts}
-use Rattle.rv_pseudo_laws.specs.InstructionFaults.{else_unplaced}
+use Rattle.rv_source_laws.specs.Lines.{form_in}
+use Rattle.rv_assemble_laws.specs.Coded.{constants, joined, AreCodedParts}
+use Rattle.rv_pseudo_laws.specs.InstructionFaults.{Number, else_unplaced}
 use Rattle.rv_assemble_laws.specs.InstructionFaults.{instruction_faults, worths}
 use Rattle.rv_instruction.specs.declared.encoded.Coded.{Coded}
-use Rattle.rv_instruction.specs.Code.{coded_by, encoded_instructions, instructions_of, shape_in, shape_of, parts_in, asks_label, worth_for, near_forms_of, OffersAny, MayHave, AreCodable, HasCode, Codes, HasTemplates, IsExpanded}
-use Rattle.rv_instruction.proofs.EncodingLemmas.{coded_bytes, one_instruction, sum_both}
-use Rattle.rv_instruction.proofs.KnownRowsLemmas.{row_same, rows_by, row_back, row_closed, plain_closed, plain_same}
+use Rattle.rv_instruction.specs.Code.{coded_by, shape_in, shape_of, parts_in, asks_label, worth_for, near_forms_of, OffersAny, MayHave, AreCodable, HasCode, Codes, HasTemplates, IsExpanded}
+use Rattle.rv_instruction.proofs.EncodingLemmas.{coded_bytes, counted}
+use Rattle.rv_instruction.proofs.KnownRowsLemmas.{row_same, rows_by, row_back, row_closed, plain_closed, plain_same, taken_known}
 use Rattle.rv_instruction.proofs.OpenRowsLemmas.{OpenRow, asked_of, open_row}
 use Rattle.rv_instruction.proofs.WorthsLemmas.{same_worth, constant_worth}
 
@@ -88,14 +88,21 @@ pub plain_row : (p : Plain) (rvc : Bool) (found : List Template) → ((bytes : �
     → (c : Constants) (bytes : ℕ) → lines.parts_of c rvc bytes (plain_of p) ≡ Some (parts_in found)
 plain_row p rvc found are c bytes = plain_same p c rvc bytes ∙ row_back _ found (plain_closed p c rvc bytes) (are bytes c)
 
+pub bare_templates : (p : Plain) (rvc : Bool) (found : ArrayVec Template) → AnswersBare rvc (plain_of p) (Ok found) → (bytes : ℕ) → AreTemplates rvc bytes (plain_of p) found.items
+bare_templates p rvc found are bytes c = (are c (λ e. Number (pos 0)) bytes).1
+
 pub plain_expanded : (p : Plain) (s : Statement) (bytes : ℕ) (v : Expression → values.Value) (l : Primary → Bool) (rvc : Bool) (found : ArrayVec Template)
-    → s.kind ≡ plain_of p → ((size : ℕ) → AreTemplates rvc size (plain_of p) found.items) → IsExpanded rvc bytes v l s (Ok found)
+    → s.kind ≡ plain_of p → AnswersBare rvc (plain_of p) (Ok found) → IsExpanded rvc bytes v l s (Ok found)
 plain_expanded p s bytes v l rvc found e are = (
-  ap (instruction_faults v l) e ∙ plain_faults p (constants v) (worths v l),
+  ap (instruction_faults v l) e ∙ (are (constants v) (worths v l) bytes).0,
   subst (λ k. HasTemplates v rvc bytes k found.items) (sym e)
       (has_row (plain_of p) v rvc bytes found.items (plain_instruction p)
-      (steady (plain_of p) v rvc bytes (parts_in found.items) (plain_near p rvc) (plain_row p rvc found.items are (constants v)))),
+      (steady (plain_of p) v rvc bytes (parts_in found.items) (plain_near p rvc) (plain_row p rvc found.items (bare_templates p rvc found are) (constants v)))),
 )
+
+pub plain_refused : (p : Plain) (s : Statement) (bytes line : ℕ) (v : Expression → values.Value) (l : Primary → Bool) (rvc : Bool) (code : SourceCode)
+    → s.kind ≡ plain_of p → s.line ≡ line → AnswersBare rvc (plain_of p) (Err code) → IsExpanded rvc bytes v l s (Err (At code line))
+plain_refused p s bytes line v l rvc code e at are = (ap lowest (ap (instruction_faults v l) e) ∙ are (constants v) (worths v l) bytes, sym at)
 
 -- ---- with an operand
 
@@ -109,6 +116,7 @@ operand_instruction _ (Some f) e = refl
 pub record IsOfNumber (operation : Operation) (function : Option Function) (number : Option ℤ) (rvc : Bool) (bytes : ℕ) (found : ArrayVec Template) : Type 0 where
   pub taken : is_taken operation function number ≡ true
   pub scratch : takes_target operation ≡ true → is_bad_scratch operation ≡ false
+  pub written : takes_target operation ≡ true → is_written operation ≡ true
   pub rows : (e : Expression) → option_map all_templates (pseudo.parts_of (λ t. number) rvc bytes (statement_with operation function e)) ≡ Some found.items
 
 abbrev pub form_with : Worth → Bool → ℕ → Form
@@ -119,6 +127,10 @@ AreAnswers operation function told rvc bytes r =
     (e : Expression)
     → Answers (faults_by (form_with told rvc bytes) (statement_with operation function e)) (form_templates (form_with told rvc bytes) (statement_with operation function e)) r
 
+placed_written : (operation : Operation) (function : Option Function) → is_placed operation function ≡ true → function ≡ None → is_written (known_as operation function) ≡ true
+placed_written operation None placed alone = placed
+placed_written operation (Some f) placed alone = absurd (cc)
+
 pub answered : (operation : Operation) (function : Option Function) (told : Worth) (rvc : Bool) (bytes : ℕ) (found : ArrayVec Template) → AreAnswers operation function told rvc bytes (Ok found)
     → IsOfNumber (known_as operation function) function (constant_in (worth_of told)) rvc bytes found
 answered operation function told rvc bytes found answers =
@@ -126,9 +138,11 @@ answered operation function told rvc bytes found answers =
     let x = Leaf Here in
     let own = none_of_its_own (has_rows (constants_of form) (statement_with operation function x)) (faults_of operation function (worth_of told))
     (sym (with_faults operation function x (constants_of form) (worths_of form)) ∙ (answers x).0) in
-    let taken = sound_taken operation function (worth_of told) own.1 (row_placed operation function (constants_of form) x own.0) in
+    let placed = row_placed operation function (constants_of form) x own.0 in
+    let taken = sound_taken operation function (worth_of told) own.1 placed in
     record {
       taken = taken;
+      written = λ target. placed_written operation function placed (target_alone (known_as operation function) function _ taken target);
       scratch = λ target. good_scratch operation function (worth_of told) own.1 (target_alone (known_as operation function) function _ taken target) target;
       rows = λ e. ap (form_templates form) (part_statement operation function e) ∙ (answers e).1;
     }
@@ -143,7 +157,7 @@ constant_row operation function k rvc bytes found is c e other size constant =
     let spelled = ap (with_operand operation) (away_operand operation function e away) in
     ap (lines.parts_of c other size) spelled ∙ row_same operation function c other size rvc bytes e away
     ∙ ap (λ o. pseudo.parts_of (λ t. o) rvc bytes (with_operand operation (number_operand function e))) constant
-    ∙ row_back _ found.items (row_closed operation function k rvc bytes e is.taken away)
+    ∙ row_back _ found.items (row_closed operation function (Some k) rvc bytes e (taken_known operation function k is.taken) away)
     (ap (λ s. option_map all_templates (pseudo.parts_of (λ t. Some k) rvc bytes s)) (sym spelled) ∙ is.rows e)
 
 known_row : (operation : Operation) (function : Option Function) (k : ℤ) (rvc : Bool) (bytes : ℕ) (found : ArrayVec Template) → IsOfNumber (known_as operation function) function (Some k) rvc bytes found
@@ -165,6 +179,7 @@ away_near (operations.Jalr rd rs1) None rvc e away = refl
 away_near (operations.JalrThen rd rs1) None rvc e away = refl
 away_near (operations.JalrLinked rs1) None rvc e away = refl
 away_near (operations.Jr rs) None rvc e away = refl
+away_near (operations.Parcel operation a b) None rvc e away = refl
 away_near (operations.Li rd) (Some f) rvc e away = refl
 away_near (operations.Registers operation rd rs1) (Some f) rvc e away = refl
 away_near (operations.Immediate operation rd rs1) (Some f) rvc e away = refl
@@ -176,6 +191,7 @@ away_near (operations.Jalr rd rs1) (Some f) rvc e away = refl
 away_near (operations.JalrThen rd rs1) (Some f) rvc e away = refl
 away_near (operations.JalrLinked rs1) (Some f) rvc e away = refl
 away_near (operations.Jr rs) (Some f) rvc e away = refl
+away_near (operations.Parcel operation a b) (Some f) rvc e away = refl
 away_near _ function rvc e away = absurd (cc)
 
 constant_rows : (operation : Operation) (function : Option Function) (k : ℤ) (rvc : Bool) (bytes : ℕ) (found : ArrayVec Template) → IsOfNumber (known_as operation function) function (Some k) rvc bytes found
@@ -228,7 +244,7 @@ open_rows_at kind v rvc bytes e row none = record {
 -- the row of an operation with an address
 pub open_row_of : (operation : Operation) (function : Option Function) (rvc : Bool) (bytes : ℕ) (found : ArrayVec Template) (e : Expression) → IsOfNumber operation function None rvc bytes found
     → OpenRow (statement_with operation function e) e (near_forms_of rvc (statement_with operation function e)) (asked_of (statement_with operation function e) bytes)
-open_row_of operation function rvc bytes found e is = open_row operation function rvc bytes e is.scratch is.taken
+open_row_of operation function rvc bytes found e is = open_row operation function rvc bytes e is.scratch is.written is.taken
 
 pub address_found : (operation : Operation) (function : Option Function) (rvc : Bool) (bytes : ℕ) (found : ArrayVec Template) (e : Expression) → (is : IsOfNumber operation function None rvc bytes found)
     → parts_in found.items ≡ (open_row_of operation function rvc bytes found e is).F (asked_of (statement_with operation function e) bytes)
@@ -280,45 +296,36 @@ module _ (operation : Operation) (function : Option Function) (x : Expression) (
 
 -- ---- as it lies in memory
 
-counted : (c : Bool) (ps : List Part) (found : List Coded) → map shape_in found ≡ map shape_of ps → instructions_of found ≡ instructions_in ps
-counted c [] [] same = refl
-counted c [] (e ∷ es) same = absurd (cc)
-counted c (p ∷ ps) [] same = absurd (cc)
-counted c (p ∷ ps) (e ∷ es) same =
-    let one : shape_in e ≡ shape_of p = cc in
-    let rest : map shape_in es ≡ map shape_of ps = cc in
-    sum_by-cons (λ (x : Coded). encoded_instructions x.encoded) e es
-    ∙ sum_both _ _ _ _ (ap (λ s. s.instructions) one ∙ one_instruction p) (counted c ps es rest) ∙ sym (sum_by-cons part_instructions p ps)
-
 nothing : (ps : List Part) (found : List Coded) → ps ≡ [] → map shape_in found ≡ map shape_of ps → found ≡ []
 nothing ps [] e same = refl
 nothing [] (c ∷ cs) e same = absurd (cc)
 nothing (p ∷ ps) (c ∷ cs) e same = absurd (cc)
 
-has_code : (kind : StatementKind) (v : Expression → values.Value) (rvc : Bool) (bytes : ℕ) (ts : List Template) (found : List Coded) → HasTemplates v rvc bytes kind ts → MayHave rvc kind bytes → AreCodable ts
-    → AreCodedParts (rvc && are_closed (parts_in ts)) (parts_in ts) (coded_by found) → map shape_in found ≡ map shape_of (parts_in ts) → HasCode v rvc bytes kind found
-has_code (Instruction mnemonic operands) v rvc bytes ts found rows offers codable coded shapes =
+has_code : (kind : StatementKind) (v : Expression → values.Value) (rvc : Bool) (bytes : ℕ) (ts : List Template) (found : List Coded) → HasTemplates v rvc bytes kind ts → MayHave rvc kind bytes → AreCodable ts → form_in (constants v) kind ≡ None
+    → AreCodedParts None (rvc && are_closed (parts_in ts)) (parts_in ts) (coded_by found) → map shape_in found ≡ map shape_of (parts_in ts) → HasCode v rvc bytes kind found
+has_code (Instruction mnemonic operands) v rvc bytes ts found rows offers codable unnamed coded shapes =
     let size : are_closed (parts_in ts) ≡ false → length (joined (coded_by found)) ≡ code_bytes (parts_in ts) = λ left. coded_bytes _ (parts_in ts) (coded_by found) (and_right rvc _ left) codable coded in
     record {
       is = record {
         ps = parts_in ts;
         parts = rows.own (length (joined (coded_by found))) size;
-        coded_as = coded;
+        coded_as = subst (λ n. AreCodedParts n (rvc && are_closed (parts_in ts)) (parts_in ts) (coded_by found)) (sym unnamed) coded;
         size = refl;
-        count = counted rvc (parts_in ts) found shapes;
+        count = counted (parts_in ts) found shapes;
       };
       asked = rows.asked;
       shapes = shapes;
       near = λ some. let near = rows.near offers some in size near.0 ∙ near.1;
     }
-has_code (Label name) v rvc bytes ts found none offers codable coded shapes = nothing (parts_in ts) found (ap parts_in none) shapes
-has_code (Numbered number) v rvc bytes ts found none offers codable coded shapes = nothing (parts_in ts) found (ap parts_in none) shapes
-has_code (Directs directive) v rvc bytes ts found none offers codable coded shapes = nothing (parts_in ts) found (ap parts_in none) shapes
+has_code (Label name) v rvc bytes ts found none offers codable unnamed coded shapes = nothing (parts_in ts) found (ap parts_in none) shapes
+has_code (Numbered number) v rvc bytes ts found none offers codable unnamed coded shapes = nothing (parts_in ts) found (ap parts_in none) shapes
+has_code (Directs directive) v rvc bytes ts found none offers codable unnamed coded shapes = nothing (parts_in ts) found (ap parts_in none) shapes
 
 pub codes_of : (rvc : Bool) (bytes : ℕ) (v : Expression → values.Value) (l : Primary → Bool) (s : Statement) (ts : ArrayVec Template) (found : ArrayVec Coded)
-    → IsExpanded rvc bytes v l s (Ok ts) → MayHave rvc s.kind bytes → AreCodable ts.items → AreCodedParts (rvc && are_closed (parts_in ts.items)) (parts_in ts.items) (coded_by found.items)
+    → IsExpanded rvc bytes v l s (Ok ts) → MayHave rvc s.kind bytes → AreCodable ts.items → form_in (constants v) s.kind ≡ None
+    → AreCodedParts None (rvc && are_closed (parts_in ts.items)) (parts_in ts.items) (coded_by found.items)
     → map shape_in found.items ≡ map shape_of (parts_in ts.items) → Codes rvc bytes v l s (Ok found)
-codes_of rvc bytes v l s ts found (sound, has) offers codable coded shapes = (sound, has_code s.kind v rvc bytes ts.items found.items has offers codable coded shapes)
+codes_of rvc bytes v l s ts found (sound, has) offers codable unnamed coded shapes = (sound, has_code s.kind v rvc bytes ts.items found.items has offers codable unnamed coded shapes)
 
 pub refused_codes : (rvc : Bool) (bytes : ℕ) (v : Expression → values.Value) (l : Primary → Bool) (s : Statement) (f : SourceFault) → IsExpanded rvc bytes v l s (Err f) → Codes rvc bytes v l s (Err f)
 refused_codes rvc bytes v l s (At code at) is = is

@@ -1,6 +1,6 @@
 -- What a scope gives the statement that is next.
 
-use Rattle.std.specs.Prelude.{◌≡◌, ℕ, ◌+◌, Bool, true, List, Result}
+use Rattle.std.specs.Prelude.{◌≡◌, ℕ, ◌+◌, Bool, true, List, Option, Result}
 use Rattle.rv_text_laws.specs.Expression.{Primary}
 use Rattle.rv_text_laws.specs.Values as values
 use Rattle.rv_lexer.specs.declared.fault.SourceFault.{SourceFault}
@@ -12,13 +12,20 @@ use Rattle.rv_unit_tables.specs.declared.section_offset.SectionOffset.{SectionOf
 use Rattle.rv_unit_tables.specs.Sections.{offset_of}
 use Rattle.rv_unit.specs.declared.scope.Scope.{Scope}
 use Rattle.rv_unit.specs.Unit.{said, passed, IsFilled, IsScope}
+use Rattle.rv_compress.specs.declared.form.Compressed.{Compressed}
 use Rattle.rv_source_laws.specs.Located.{is_placed}
+use Rattle.rv_source_laws.specs.Lines.{form_in}
+use Rattle.rv_assemble_laws.specs.Coded.{constants}
 use Rattle.rv_assemble_laws.specs.InstructionFaults.{instruction_faults, is_label}
 
 -- the values of expressions in the statement at this index from 0, which stands at this offset
 abbrev pub values_at : Scope → ℕ → SectionOffset → Expression → values.Value
 values_at scope index place e =
     value (tables (said scope.unit.now)) true (index + 1) (offset_of place) e
+
+-- the form of a parcel that the statement at this index names
+abbrev pub named_at : Scope → ℕ → SectionOffset → StatementKind → Option Compressed
+named_at scope index place kind = form_in (constants (values_at scope index place)) kind
 
 -- which symbols are labels of the source
 abbrev pub labels_at : Scope → ℕ → Primary → Bool

@@ -3,26 +3,28 @@
 //! There are two ways to ask: `code` gives a list of parts, and `one_code` the one instruction that most statements
 //! are. The second makes no list, so that a large source is assembled faster.
 
-ghost use Rattle.std.specs.Prelude.{◌≡◌, ◌≤◌, ℕ, Bool, Ok, length, IfOk, IfSome};
+ghost use Rattle.std.specs.Prelude.{◌≡◌, ◌≤◌, ℕ, Bool, Ok, None, length, IfOk, IfSome};
 ghost use Rattle.rv_isa.specs.Ranges.{IsValid};
+ghost use Rattle.rv_text_laws.specs.Expression.{Primary};
 ghost use Rattle.rv_text_laws.specs.Values as values;
 ghost use Rattle.rv_text.specs.Eval.{IsOutcome};
 ghost use Rattle.rv_text.specs.Expr.{tree_of_expr};
 ghost use Rattle.rv_statement.specs.Statement.{Expression, Statement as Said};
-ghost use Rattle.rv_statement.specs.View.{statement_of};
+ghost use Rattle.rv_statement.specs.View.{plain_of, statement_of};
 ghost use Rattle.rv_unit.specs.Unit.{IsFilled, IsScope};
 ghost use Rattle.rv_pseudo.specs.Templates.{statement_with};
 ghost use Rattle.rv_instruction.specs.Code as laws;
 ghost use Rattle.rv_instruction.specs.Code.{encoded_instructions, Codes, AreCodable, IsExpanded, IsNumber, IsOneOf, MayHave};
-ghost use Rattle.rv_instruction.specs.Scoped.{values_at, labels_at};
+ghost use Rattle.rv_instruction.specs.Scoped.{values_at, labels_at, named_at, AtNext};
 
-use crate::encoded::{Code, Encoded, encode_all, in_least_form};
+use crate::encoded::{Code, Encoded, encode_all, in_least_form, in_named_form, one_part};
 use crate::known::{operation_in_range, plain, plain_one, with_one};
+use crate::named::{named_form, names_parcel};
 use crate::worth::{Outcome, worth};
 use arrayvec::ArrayVec;
 use rv_isa::Inst;
 use rv_pseudo::{Form, Templates, takes_target, with_operand};
-use rv_statement::{Function, Operation, Statement, StatementKind};
+use rv_statement::{Function, Operation, Plain, Statement, StatementKind};
 use rv_text::{Expr, SourceCode, SourceFault, Value};
 use rv_unit::{Scope, SectionOffset};
 
@@ -71,6 +73,18 @@ fn with_value<'a>(
     }
 }
 
+/// The instructions of a statement without an expression at a line, or the code of its fault.
+fn bare(statement: Plain, compressed: bool, line: u32) -> Result<Templates, SourceFault>
+    ensures codable { IfOk result (λ t. AreCodable t.items) }
+    ensures built { (s : Said) (bytes : ℕ) (v : Expression → values.Value) (l : Primary → Bool)
+        → s.kind ≡ plain_of statement → s.line ≡ line → IsExpanded compressed bytes v l s result }
+{
+    match plain(statement, compressed) {
+        Ok(templates) => Ok(templates),
+        Err(code) => Err(SourceFault::At { code, line }),
+    }
+}
+
 /// The instructions of the statement that is next, none where it is no instruction, or the lowest
 /// code of its faults as code; a branch or a jump has so many bytes.
 fn expanded<'a>(
@@ -88,7 +102,7 @@ fn expanded<'a>(
 {
     let line = statement.line;
     match &statement.kind {
-        StatementKind::Plain(statement) => Ok(plain(*statement, compressed)),
+        StatementKind::Plain(statement) => bare(*statement, compressed, line),
         StatementKind::With(operation, expression) => {
             let value = scope.value(place, expression, line);
             with_value(scope, *operation, None, &value, compressed, bytes, line)
@@ -122,6 +136,9 @@ pub fn code<'a>(
         → Codes compressed bytes (values_at scope.now index place)
         (labels_at scope.now index) (statement_of statement.now) result }
 {
+    if let Some(encoded) = named_one(statement, scope, place) {
+        return Ok(one_part(encoded));
+    }
     match expanded(statement, scope, place, compressed, bytes) {
         Ok(templates) => Ok(encode_all(templates, compressed)),
         Err(fault) => Err(fault),
@@ -173,6 +190,25 @@ fn expanded_one<'a>(
     }
 }
 
+/// The parcel of the form that the statement that is next names, if it names one.
+fn named_one<'a>(
+    statement: &Statement<'a>,
+    scope: &Scope<'_, 'a>,
+    place: SectionOffset,
+) -> Option<Encoded>
+    ensures unnamed { result ≡ None → AtNext scope.now (λ index.
+        named_at scope.now index place (statement_of statement.now).kind ≡ None) }
+    ensures one { IfSome result (λ e. encoded_instructions e ≡ 1) }
+    ensures codes { IfSome result (λ e. AtNext scope.now (λ index. (rvc : Bool) (bytes : ℕ)
+        → Codes rvc bytes (values_at scope.now index place) (labels_at scope.now index)
+        (statement_of statement.now) (Ok (laws.alone_coded e)))) }
+{
+    match named_form(statement, scope, place) {
+        Some(form) => Some(in_named_form(form)),
+        None => None,
+    }
+}
+
 /// The code of the statement that is next, where it is one instruction and leaves no field open, as
 /// most are; `code` gives the same, and that of others.
 pub fn one_code<'a>(
@@ -188,6 +224,9 @@ pub fn one_code<'a>(
         → Codes compressed bytes (values_at scope.now index place) (labels_at scope.now index)
         (statement_of statement.now) (Ok (laws.alone_coded e))) }
 {
+    if names_parcel(&statement.kind) {
+        return named_one(statement, scope, place);
+    }
     match expanded_one(statement, scope, place) {
         Some(inst) => Some(in_least_form(inst, compressed)),
         None => None,

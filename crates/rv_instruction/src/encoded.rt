@@ -3,9 +3,9 @@
 //! Source: RISC-V Unprivileged ISA 20191213, section 1.5 and chapter 16; RISC-V ELF psABI,
 //! "Relocations".
 
-ghost use Rattle.std.specs.Prelude.{◌≡◌, ◌≤◌, ◌&&◌, ◌∷◌, [], ℕ, Bool, true, false, MatchOption, length, map};
+ghost use Rattle.std.specs.Prelude.{◌≡◌, ◌≤◌, ◌&&◌, ◌∷◌, [], ℕ, Bool, true, false, None, Some, MatchOption, length, map};
 ghost use Rattle.rv_isa.specs.Ranges.{IsValid};
-ghost use Rattle.rv_compress.specs.Parcel.{IsShortOf};
+ghost use Rattle.rv_compress.specs.Parcel.{IsLine, IsShortOf, expansion};
 ghost use Rattle.rv_compress.specs.Encoded.{HasShort};
 ghost use Rattle.rv_pseudo_laws.specs.Code.{Closed, Open};
 ghost use Rattle.rv_pseudo_laws.specs.Filled.{are_closed};
@@ -14,7 +14,7 @@ ghost use Rattle.rv_instruction.specs.Code as laws;
 ghost use Rattle.rv_instruction.specs.Code.{encoded_bytes, encoded_instructions, coded_by, shape_in, shape_of, part_of, part_by, parts_in, IsCodable, AreCodable};
 
 use arrayvec::ArrayVec;
-use rv_compress::shrink;
+use rv_compress::{Compressed, shrink, write};
 use rv_encode::encode;
 use rv_isa::{Inst, Kind};
 use rv_pseudo::{Template, Templates};
@@ -65,7 +65,7 @@ fn shortened(inst: &Inst, compressed: bool) -> Option<u16>
 #[tactic(auto, using(crate::proofs::EncodingLemmas::as_parcel, crate::proofs::EncodingLemmas::as_word))]
 pub(crate) fn in_least_form(inst: Inst, compressed: bool) -> Encoded
     requires { IsValid inst }
-    ensures is { IsCodedPart compressed (Closed inst) (encoded_bytes result) }
+    ensures is { IsCodedPart None compressed (Closed inst) (encoded_bytes result) }
     ensures one { encoded_instructions result ≡ 1 }
 {
     match shortened(&inst, compressed) {
@@ -74,13 +74,24 @@ pub(crate) fn in_least_form(inst: Inst, compressed: bool) -> Encoded
     }
 }
 
+/// The parcel of a form that a statement names, compressed code or not.
+#[tactic(auto, using(crate::proofs::EncodingLemmas::as_named))]
+pub(crate) fn in_named_form(form: Compressed) -> Encoded
+    requires { IsLine form }
+    ensures is { (compressed : Bool)
+        → IsCodedPart (Some form) compressed (Closed (expansion form)) (encoded_bytes result) }
+    ensures one { encoded_instructions result ≡ 1 }
+{
+    Encoded::Parcel(write(form))
+}
+
 /// An instruction with an open field in a parcel.
 #[tactic(auto, using(crate::proofs::EncodingLemmas::open_parcel, crate::proofs::EncodingLemmas::no_parcel))]
 fn as_parcel(inst: Inst, kind: Kind) -> Encoded
     requires codable { IsCodable (Open kind inst) }
     requires short { laws.is_short kind ≡ true }
     ensures is { (compressed : Bool)
-        → IsCodedPart compressed (Open kind inst) (encoded_bytes result) }
+        → IsCodedPart None compressed (Open kind inst) (encoded_bytes result) }
     ensures one { encoded_instructions result ≡ 1 }
 {
     match shrink(inst) {
@@ -95,7 +106,7 @@ fn as_word(inst: Inst, kind: Kind) -> Encoded
     requires codable { IsCodable (Open kind inst) }
     requires whole { laws.is_short kind ≡ false }
     ensures is { (compressed : Bool)
-        → IsCodedPart compressed (Open kind inst) (encoded_bytes result) }
+        → IsCodedPart None compressed (Open kind inst) (encoded_bytes result) }
     ensures one { encoded_instructions result ≡ 1 }
 {
     Encoded::Word(encode(inst))
@@ -112,7 +123,7 @@ fn is_short(kind: &Kind) -> bool
 fn in_open_form(inst: Inst, kind: Kind) -> Encoded
     requires { IsCodable (Open kind inst) }
     ensures is { (compressed : Bool)
-        → IsCodedPart compressed (Open kind inst) (encoded_bytes result) }
+        → IsCodedPart None compressed (Open kind inst) (encoded_bytes result) }
     ensures one { encoded_instructions result ≡ 1 }
 {
     if is_short(&kind) {
@@ -125,7 +136,7 @@ fn in_open_form(inst: Inst, kind: Kind) -> Encoded
 /// An instruction as a part of its own.
 fn in_form(inst: Inst, reloc: Option<Kind>, compressed: bool) -> Encoded
     requires { IsCodable (part_by inst reloc) }
-    ensures is { IsCodedPart compressed (part_by inst reloc) (encoded_bytes result) }
+    ensures is { IsCodedPart None compressed (part_by inst reloc) (encoded_bytes result) }
     ensures one { encoded_instructions result ≡ 1 }
 {
     match reloc {
@@ -135,6 +146,18 @@ fn in_form(inst: Inst, reloc: Option<Kind>, compressed: bool) -> Encoded
 }
 
 // ---- all parts
+
+/// A part that leaves no field open, by itself.
+pub(crate) fn one_part(encoded: Encoded) -> Code
+    ensures { result.items ≡ (laws.alone_coded encoded).items }
+{
+    let mut code = ArrayVec::new();
+    code.push(Coded {
+        encoded,
+        kind: None,
+    });
+    code
+}
 
 /// Whether no field is open.
 fn is_closed(template: &Template) -> bool
@@ -171,7 +194,7 @@ fn is_pair(templates: &[Template]) -> bool
 fn encode_each(templates: &[Template], compressed: bool) -> Code
     requires codable { laws.AreCodableEach templates.now }
     requires few { length templates.now ≤ 8 }
-    ensures parts { AreCodedParts compressed (map part_of templates.now) (coded_by result.items) }
+    ensures parts { AreCodedParts None compressed (map part_of templates.now) (coded_by result.items) }
     ensures shapes { map shape_in result.items ≡ map (λ t. shape_of (part_of t)) templates.now }
     ensures few { length result.items ≤ 8 }
 {
@@ -190,7 +213,7 @@ fn encode_each(templates: &[Template], compressed: bool) -> Code
 fn encode_pair(first: Inst, second: Inst) -> Code
     requires { IsCodable (laws.call_of first second) }
     ensures parts { (compressed : Bool)
-        → AreCodedParts compressed (laws.call_of first second ∷ []) (coded_by result.items) }
+        → AreCodedParts None compressed (laws.call_of first second ∷ []) (coded_by result.items) }
     ensures shapes { map shape_in result.items ≡ shape_of (laws.call_of first second) ∷ [] }
     ensures few { length result.items ≤ 8 }
 {
@@ -205,7 +228,7 @@ fn encode_pair(first: Inst, second: Inst) -> Code
 /// The instructions of a statement, each in its least form where no field is open.
 pub(crate) fn encode_all(templates: Templates, compressed: bool) -> Code
     requires { AreCodable templates.items }
-    ensures parts { AreCodedParts (compressed && are_closed (parts_in templates.items))
+    ensures parts { AreCodedParts None (compressed && are_closed (parts_in templates.items))
         (parts_in templates.items) (coded_by result.items) }
     ensures shapes { map shape_in result.items ≡ map shape_of (parts_in templates.items) }
     ensures few { length result.items ≤ 8 }

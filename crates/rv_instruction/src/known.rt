@@ -1,6 +1,6 @@
 //! The instructions of a statement, with their operands in range.
 
-ghost use Rattle.std.specs.Prelude.{ℕ, Bool, IfSome};
+ghost use Rattle.std.specs.Prelude.{Bool, Ok, IfOk, IfSome};
 ghost use Rattle.rv_isa.specs.Ranges.{IsValid};
 ghost use Rattle.rv_isa_laws.specs.Arithmetic.{signed};
 ghost use Rattle.rv_text_laws.specs.Values as values;
@@ -10,7 +10,7 @@ ghost use Rattle.rv_statement.specs.View.{plain_of, with_operand};
 ghost use Rattle.rv_pseudo_laws.specs.Code.{Constants};
 ghost use Rattle.rv_pseudo_laws.specs.Valid.{IsOperandOf};
 ghost use Rattle.rv_pseudo.specs.Faults.{mnemonic_of};
-ghost use Rattle.rv_pseudo.specs.Templates.{AreTemplates, IsOne};
+ghost use Rattle.rv_pseudo.specs.Templates.{AnswersBare, IsOne};
 ghost use Rattle.rv_unit.specs.Faults.{ForValue};
 ghost use Rattle.rv_instruction.specs.Code as laws;
 ghost use Rattle.rv_instruction.specs.Code.{AreInRange, AreCodable, IsOneOf};
@@ -19,7 +19,7 @@ use crate::worth::{Outcome, signed};
 use rv_isa::Inst;
 use rv_pseudo::{Templates, single, single_bare, without_operand};
 use rv_statement::{Operation, Plain};
-use rv_text::Value;
+use rv_text::{SourceCode, Value};
 
 /// The registers of a statement without an expression are x0 to x31.
 fn plain_registers(statement: Plain)
@@ -47,20 +47,21 @@ pub(crate) fn operation_in_range(operation: &Operation)
     operation_registers(*operation);
 }
 
-/// The instructions of a statement without an expression.
-pub(crate) fn plain(statement: Plain, compressed: bool) -> Templates
-    ensures codable { AreCodable result.items }
-    ensures is { (bytes : ℕ) → AreTemplates compressed bytes (plain_of statement) result.items }
+/// The instructions of a statement without an expression, or the code of its fault.
+pub(crate) fn plain(statement: Plain, compressed: bool) -> Result<Templates, SourceCode>
+    ensures codable { IfOk result (λ t. AreCodable t.items) }
+    ensures is { AnswersBare compressed (plain_of statement) result }
 {
     plain_in_range(&statement);
     without_operand(statement, compressed)
 }
 
-/// The one instruction of a statement without an expression; none where it may have two.
+/// The one instruction of a statement without an expression; none where it may have two, or names a
+/// parcel.
 pub(crate) fn plain_one(statement: &Plain) -> Option<Inst>
     ensures valid { IfSome result (λ i. IsValid i) }
-    ensures is { IfSome result (λ i. (rvc : Bool) (bytes : ℕ)
-        → AreTemplates rvc bytes (plain_of statement.now) (laws.alone i).items) }
+    ensures is { IfSome result (λ i. (rvc : Bool)
+        → AnswersBare rvc (plain_of statement.now) (Ok (laws.alone i))) }
 {
     plain_in_range(statement);
     single_bare(statement)

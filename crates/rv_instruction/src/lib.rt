@@ -25,6 +25,7 @@
 mod coding;
 mod encoded;
 mod known;
+mod named;
 mod near;
 mod opened;
 mod worth;

@@ -5,11 +5,12 @@ use Rattle.std.specs.Prelude.{◌&&◌, ◌==◌, if◌then◌else◌}
 use Rattle.rv_isa.specs.declared.instruction.Inst.{Inst}
 use Rattle.rv_isa.specs.declared.kind.Kind.TheVariants as kind
 use Rattle.rv_statement.specs.declared.mnemonic.Mnemonic.{Mnemonic}
-use Rattle.rv_statement.specs.declared.mnemonic.Mnemonic.TheVariants.{Registers, Immediate, Shift, Upper, Load, Store, Branch, Jal, Jalr, LoadReserved, Atomic, Fence, FenceTso, Ecall, Ebreak, Nop, Unary, Compare, ZeroBranch, SwappedBranch, J, Jr, Ret, La, Li, Call, Tail, Jump}
+use Rattle.rv_statement.specs.declared.mnemonic.Mnemonic.TheVariants.{Registers, Immediate, Shift, Upper, Load, Store, Branch, Jal, Jalr, LoadReserved, Atomic, Fence, FenceTso, Ecall, Ebreak, Nop, Unary, Compare, ZeroBranch, SwappedBranch, J, Jr, Ret, La, Li, Call, Tail, Jump, Parcel}
 use Rattle.rv_statement.specs.declared.pseudo.ZeroBranchOperation.TheVariants.{Beqz, Bnez, Bgez, Bltz, Blez, Bgtz}
 use Rattle.rv_statement.specs.Statement.{Operand, Register, Target, Accesses}
 use Rattle.rv_layout_laws.specs.declared.item.Forms.{Forms}
 use Rattle.rv_pseudo_laws.specs.Code.{Open, Constants, jal, code}
+use Rattle.rv_pseudo_laws.proofs.ParcelsLemmas.{parcel_code}
 use Rattle.rv_source_laws.specs.Sizes.{jump_forms, near_forms}
 
 jump_fixed : (b : Bool) (f : Forms) (x y : Bool) (i : Inst) → (if b then Some f else None) ≡ None
@@ -65,4 +66,5 @@ code_fixed v rvc n k Call (Register rd ∷ Target x ∷ []) e = absurd (cc)
 code_fixed v rvc n k Call (Target x ∷ []) e = absurd (cc)
 code_fixed v rvc n k Tail (Target x ∷ []) e = absurd (cc)
 code_fixed v rvc n k Jump (Target x ∷ Register rt ∷ []) e = absurd (cc)
+code_fixed v rvc n k (Parcel operation) os e = parcel_code v rvc rvc n k operation os
 code_fixed v rvc n k m os e = refl

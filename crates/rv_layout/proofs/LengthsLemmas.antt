@@ -1,12 +1,13 @@
 -- How long the code of a statement is: two codes of one statement have as many bytes.
 
-use Rattle.std.proofs.Common.{◌≡◌, ℕ, zero, suc, ◌+◌, Bool, true, false, List, [], ◌∷◌, ◌++◌, length, Some, None, Err, inl, inr, refl, sym, ap, ◌∙◌, subst, arith, length-append}
+use Rattle.std.proofs.Common.{◌≡◌, ℕ, zero, suc, ◌+◌, Bool, true, false, List, [], ◌∷◌, ◌++◌, length, Option, Some, None, Err, inl, inr, refl, sym, ap, ◌∙◌, subst, arith, length-append}
 use Rattle.std.specs.Prelude.{◌&&◌, unwrap_or}
 use Rattle.rv_isa.specs.declared.instruction.Inst.{Inst}
 use Rattle.rv_isa.specs.Kinds.{width_of}
 use Rattle.rv_isa_laws.specs.Bytes.{little_endian}
 use Rattle.rv_encode.specs.Word.{word, form}
-use Rattle.rv_compress.specs.Encoded.{IsLeast, IsEncodedIn}
+use Rattle.rv_compress.specs.declared.form.Compressed.{Compressed}
+use Rattle.rv_compress.specs.Encoded.{IsLeast, IsLeastAs, IsEncodedIn}
 use Rattle.rv_text_laws.specs.Values.{Value}
 use Rattle.rv_text_laws.specs.Expression.{Primary}
 use Rattle.rv_lexer.specs.declared.fault.SourceFault.{SourceFault}
@@ -14,7 +15,7 @@ use Rattle.rv_lexer.specs.declared.fault.SourceFault.TheVariants.{At, OutOfMemor
 use Rattle.rv_lexer.specs.Fault.{number_of}
 use Rattle.rv_statement.specs.declared.mnemonic.Mnemonic.{Mnemonic}
 use Rattle.rv_statement.specs.Statement.{StatementKind, Label, Numbered, Instruction, Directs, Statement, Expression, Operand}
-use Rattle.rv_pseudo_laws.specs.Code.{Part, Closed, Open, Joined, code}
+use Rattle.rv_pseudo_laws.specs.Code.{Part, Closed, Open, Joined, named_form, code}
 use Rattle.rv_pseudo_laws.specs.Filled.{are_closed}
 use Rattle.rv_text_laws.specs.Codes.{lowest}
 use Rattle.rv_source_laws.specs.Sizes.{near_forms}
@@ -42,6 +43,10 @@ least_one true i m n (inr (e, h)) (inl (f, g)) = absurd (h g)
 least_one true i m n (inr (e, h)) (inr (f, g)) = e ∙ sym f
 least_one false i m n e f = e ∙ sym f
 
+least_one_as : (named : Option Compressed) (rvc : Bool) (i : Inst) (m n : ℕ) → IsLeastAs named rvc i m → IsLeastAs named rvc i n → m ≡ n
+least_one_as (Some form) rvc i m n e f = e ∙ sym f
+least_one_as None rvc i m n e f = least_one rvc i m n e f
+
 pair_long : (i j : Inst) (bytes first second : List ℕ) → IsEncodedIn i 4 first → IsEncodedIn j 4 second → bytes ≡ first ++ second → length bytes ≡ 8
 pair_long i j bytes first second a b e =
     let all : length bytes ≡ length first + length second = ap length e ∙ length-append first second in
@@ -49,10 +54,10 @@ pair_long i j bytes first second a b e =
     let two : length second ≡ 4 = encoded_long j 4 second b in
     omega (arith, all, one, two)
 
-pub part_long : (rvc : Bool) (p : Part) (a b : List ℕ) → IsCodedPart rvc p a → IsCodedPart rvc p b → length a ≡ length b
-part_long rvc (Closed i) a b (v, m, x) (w, n, y) = least_one rvc i (length a) (length b) m n
-part_long rvc (Open k i) a b (v, x) (w, y) = encoded_long i (width_of k) a x ∙ sym (encoded_long i (width_of k) b y)
-part_long rvc (Joined k i j) a b (v, w, (f, (s, x, y, e))) (v', w', (f', (s', x', y', e'))) =
+pub part_long : (named : Option Compressed) (rvc : Bool) (p : Part) (a b : List ℕ) → IsCodedPart named rvc p a → IsCodedPart named rvc p b → length a ≡ length b
+part_long named rvc (Closed i) a b (v, m, x) (w, n, y) = least_one_as named rvc i (length a) (length b) m n
+part_long named rvc (Open k i) a b (v, x) (w, y) = encoded_long i (width_of k) a x ∙ sym (encoded_long i (width_of k) b y)
+part_long named rvc (Joined k i j) a b (v, w, (f, (s, x, y, e))) (v', w', (f', (s', x', y', e'))) =
     pair_long i j a f s x y e ∙ sym (pair_long i j b f' s' x' y' e')
 
 -- ---- two codes of a statement
@@ -60,15 +65,15 @@ part_long rvc (Joined k i j) a b (v, w, (f, (s, x, y, e))) (v', w', (f', (s', x'
 pub some_parts : (ps qs : List Part) → Some ps ≡ Some qs → ps ≡ qs
 some_parts ps qs e = ap (λ o. unwrap_or o []) e
 
-parts_long : (rvc : Bool) (ps : List Part) (xs ys : List (List ℕ)) → AreCodedParts rvc ps xs → AreCodedParts rvc ps ys → length (joined xs) ≡ length (joined ys)
-parts_long rvc [] [] [] h k = refl
-parts_long rvc [] [] (y ∷ ys) h k = absurd k
-parts_long rvc [] (x ∷ xs) ys h k = absurd h
-parts_long rvc (p ∷ ps) [] ys h k = absurd h
-parts_long rvc (p ∷ ps) (x ∷ xs) [] h k = absurd k
-parts_long rvc (p ∷ ps) (x ∷ xs) (y ∷ ys) (h, hs) (k, ks) =
-    let one : length x ≡ length y = part_long rvc p x y h k in
-    let rest : length (joined xs) ≡ length (joined ys) = parts_long rvc ps xs ys hs ks in
+parts_long : (named : Option Compressed) (rvc : Bool) (ps : List Part) (xs ys : List (List ℕ)) → AreCodedParts named rvc ps xs → AreCodedParts named rvc ps ys → length (joined xs) ≡ length (joined ys)
+parts_long named rvc [] [] [] h k = refl
+parts_long named rvc [] [] (y ∷ ys) h k = absurd k
+parts_long named rvc [] (x ∷ xs) ys h k = absurd h
+parts_long named rvc (p ∷ ps) [] ys h k = absurd h
+parts_long named rvc (p ∷ ps) (x ∷ xs) [] h k = absurd k
+parts_long named rvc (p ∷ ps) (x ∷ xs) (y ∷ ys) (h, hs) (k, ks) =
+    let one : length x ≡ length y = part_long named rvc p x y h k in
+    let rest : length (joined xs) ≡ length (joined ys) = parts_long named rvc ps xs ys hs ks in
     length-append x (joined xs) ∙ ap (λ n. n + length (joined xs)) one ∙ ap (λ n. length y + n) rest ∙ sym (length-append y (joined ys))
 
 pub code_long : (v : Expression → Value) (rvc : Bool) (n k : ℕ) (m : Mnemonic) (os : List Operand) (found coded : List Coded) → near_forms rvc m os ≡ None
@@ -77,8 +82,9 @@ code_long v rvc n k m os found coded none f g =
     let fixed : code (constants v) rvc (length (bytes_coded found)) m os ≡ code (constants v) rvc (length (bytes_coded coded)) m os =
     code_fixed (constants v) rvc (length (bytes_coded found)) (length (bytes_coded coded)) m os none in
     let same : f.is.ps ≡ g.is.ps = some_parts f.is.ps g.is.ps (sym f.is.parts ∙ fixed ∙ g.is.parts) in
-    parts_long (rvc && are_closed g.is.ps) g.is.ps (coded_by found) (coded_by coded)
-    (subst (λ ps. AreCodedParts (rvc && are_closed ps) ps (coded_by found)) same f.is.coded_as) g.is.coded_as
+    let named = named_form (constants v) m os in
+    parts_long named (rvc && are_closed g.is.ps) g.is.ps (coded_by found) (coded_by coded)
+    (subst (λ ps. AreCodedParts named (rvc && are_closed ps) ps (coded_by found)) same f.is.coded_as) g.is.coded_as
 
 none_long : (found coded : List Coded) → found ≡ [] → coded ≡ [] → length (bytes_coded found) ≡ length (bytes_coded coded)
 none_long found coded e f = ap (λ l. length (bytes_coded l)) (e ∙ sym f)

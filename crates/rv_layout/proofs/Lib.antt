@@ -7,3 +7,4 @@ pub mod LengthsLemmas
 pub mod SeenLemmas
 pub mod StandingLemmas
 pub mod WordsLemmas
+pub mod ParcelLengthsLemmas

@@ -24,14 +24,14 @@ use Rattle.rv_statement.specs.View.{plain_of, statement_kind}
 use Rattle.rv_layout_laws.specs.declared.item.Forms.{Forms}
 use Rattle.rv_layout_laws.specs.declared.item.Forms.TheVariants.{Settled, Branch as FullBranch}
 use Rattle.rv_parse_laws.specs.Syntax.{with_constant}
-use Rattle.rv_pseudo_laws.specs.Code.{Part, Closed, Open, Joined, Constants, code, signed_12, upper_20, number_of, by_number, by_part, by_amount, by_constant, i_type, s_type, u_type, shift_by, jal, jalr}
+use Rattle.rv_pseudo_laws.specs.Code.{Part, Closed, Open, Joined, Constants, code, signed_12, upper_20, number_of, by_number, by_part, by_amount, by_constant, i_type, s_type, u_type, shift_by, jal, jalr, named_form}
 use Rattle.rv_pseudo_laws.specs.Filled.{are_closed}
 use Rattle.rv_source_laws.specs.Sizes.{near_forms, branch_forms, jump_forms, is_short_branch, is_short_register}
 use Rattle.rv_assemble_laws.specs.Coded.{AreCodedParts, constants, joined}
 use Rattle.rv_instruction.specs.declared.encoded.Coded.{Coded}
 use Rattle.rv_instruction.specs.Code.{coded_by, near_forms_of}
 use Rattle.rv_layout.specs.Code.{bytes_coded, is_instruction}
-use Rattle.rv_layout.specs.Measure.{HasOneLength, HasLengthWith, is_unary, is_word, is_jal, is_longer}
+use Rattle.rv_layout.specs.Measure.{HasOneLength, HasLengthWith, is_bare_parcel, is_parcel, is_unary, is_word, is_jal, is_longer}
 use Rattle.rv_layout.proofs.LengthsLemmas.{encoded_long}
 
 -- ---- one word
@@ -60,50 +60,51 @@ IsOpenWord (Some []) = ⊥
 IsOpenWord (Some (p ∷ [])) = IsOpenPart p
 IsOpenWord (Some (p ∷ q ∷ ps)) = ⊥
 
-one_joined : (x : List ℕ) → length (joined (x ∷ [])) ≡ length x
+pub one_joined : (x : List ℕ) → length (joined (x ∷ [])) ≡ length x
 one_joined x = ap length (append-nil x)
 
-open_long : (b : Bool) (k : Kind) (i : Inst) (coded : List (List ℕ)) → width_of k ≡ 4 → AreCodedParts b (Open k i ∷ []) coded → length (joined coded) ≡ 4
+open_long : (b : Bool) (k : Kind) (i : Inst) (coded : List (List ℕ)) → width_of k ≡ 4 → AreCodedParts None b (Open k i ∷ []) coded → length (joined coded) ≡ 4
 open_long b k i [] wide h = absurd h
 open_long b k i (x ∷ y ∷ ys) wide (h, hs) = absurd hs
 open_long b k i (x ∷ []) wide ((o, h), hs) = one_joined x ∙ encoded_long i (width_of k) x h ∙ wide
 
-closed_long : (i : Inst) (coded : List (List ℕ)) → AreCodedParts false (Closed i ∷ []) coded → length (joined coded) ≡ 4
+closed_long : (i : Inst) (coded : List (List ℕ)) → AreCodedParts None false (Closed i ∷ []) coded → length (joined coded) ≡ 4
 closed_long i [] h = absurd h
 closed_long i (x ∷ y ∷ ys) (h, hs) = absurd hs
 closed_long i (x ∷ []) ((valid, least, h), hs) = one_joined x ∙ least
 
-word_part_long : (p : Part) (coded : List (List ℕ)) → IsWordPart p → AreCodedParts false (p ∷ []) coded → length (joined coded) ≡ 4
+word_part_long : (p : Part) (coded : List (List ℕ)) → IsWordPart p → AreCodedParts None false (p ∷ []) coded → length (joined coded) ≡ 4
 word_part_long (Closed i) coded w h = closed_long i coded h
 word_part_long (Open k i) coded w h = open_long false k i coded w h
 word_part_long (Joined k i j) coded w h = absurd w
 
-open_part_long : (b : Bool) (p : Part) (coded : List (List ℕ)) → IsOpenPart p → AreCodedParts b (p ∷ []) coded → length (joined coded) ≡ 4
+open_part_long : (b : Bool) (p : Part) (coded : List (List ℕ)) → IsOpenPart p → AreCodedParts None b (p ∷ []) coded → length (joined coded) ≡ 4
 open_part_long b (Closed i) coded w h = absurd w
 open_part_long b (Open k i) coded w h = open_long b k i coded w h
 open_part_long b (Joined k i j) coded w h = absurd w
 
-word_long : (o : Option (List Part)) (ps : List Part) (coded : List (List ℕ)) → o ≡ Some ps → IsWord o → AreCodedParts false ps coded → length (joined coded) ≡ 4
+word_long : (o : Option (List Part)) (ps : List Part) (coded : List (List ℕ)) → o ≡ Some ps → IsWord o → AreCodedParts None false ps coded → length (joined coded) ≡ 4
 word_long o ps coded e word h = go ps (subst IsWord e word) h
   where
-    go : (ps : List Part) → IsWord (Some ps) → AreCodedParts false ps coded → length (joined coded) ≡ 4
+    go : (ps : List Part) → IsWord (Some ps) → AreCodedParts None false ps coded → length (joined coded) ≡ 4
     go [] w h = absurd w
     go (p ∷ []) w h = word_part_long p coded w h
     go (p ∷ q ∷ ps) w h = absurd w
 
-open_word_long : (b : Bool) (o : Option (List Part)) (ps : List Part) (coded : List (List ℕ)) → o ≡ Some ps → IsOpenWord o → AreCodedParts b ps coded → length (joined coded) ≡ 4
+open_word_long : (b : Bool) (o : Option (List Part)) (ps : List Part) (coded : List (List ℕ)) → o ≡ Some ps → IsOpenWord o → AreCodedParts None b ps coded → length (joined coded) ≡ 4
 open_word_long b o ps coded e word h = go ps (subst IsOpenWord e word) h
   where
-    go : (ps : List Part) → IsOpenWord (Some ps) → AreCodedParts b ps coded → length (joined coded) ≡ 4
+    go : (ps : List Part) → IsOpenWord (Some ps) → AreCodedParts None b ps coded → length (joined coded) ≡ 4
     go [] w h = absurd w
     go (p ∷ []) w h = open_part_long b p coded w h
     go (p ∷ q ∷ ps) w h = absurd w
 
 -- a statement of one word where compressed code is off
-word_told : (m : Mnemonic) (os : List Operand) → ((v : Constants) (n : ℕ) → IsWord (code v false n m os)) → HasOneLength false (Instruction m os) 4
-word_told m os word = λ none v found is.
+word_told : (m : Mnemonic) (os : List Operand) → ((v : Constants) → named_form v m os ≡ None) → ((v : Constants) (n : ℕ) → IsWord (code v false n m os)) → HasOneLength false (Instruction m os) 4
+word_told m os unnamed word = λ none v found is.
     let bytes = length (bytes_coded found) in
-    word_long (code (constants v) false bytes m os) is.1.is.ps (coded_by found) is.1.is.parts (word (constants v) bytes) is.1.is.coded_as
+    word_long (code (constants v) false bytes m os) is.1.is.ps (coded_by found) is.1.is.parts (word (constants v) bytes)
+    (subst (λ named. AreCodedParts named false is.1.is.ps (coded_by found)) (unnamed (constants v)) is.1.is.coded_as)
 
 -- ---- its rows
 
@@ -145,76 +146,79 @@ constant_word v form rd rs1 o = tt
 
 -- ---- statements without an expression
 
-pub plain_told : (p : Plain) → is_unary p ≡ false → HasOneLength false (plain_of p) 4
-plain_told (plains.Registers operation rd rs1 rs2) e = word_told (mnemonics.Registers operation) (Register rd ∷ Register rs1 ∷ Register rs2 ∷ []) (λ v n. tt)
-plain_told (plains.Load operation rd rs1) e = word_told (mnemonics.Load operation) (Register rd ∷ Register rs1 ∷ []) (λ v n. tt)
-plain_told (plains.Store operation rs2 rs1) e = word_told (mnemonics.Store operation) (Register rs2 ∷ Register rs1 ∷ []) (λ v n. tt)
-plain_told (plains.Jalr rd rs1) e = word_told mnemonics.Jalr (Register rd ∷ Register rs1 ∷ []) (λ v n. tt)
-plain_told (plains.JalrLinked rs1) e = word_told mnemonics.Jalr (Register rs1 ∷ []) (λ v n. tt)
-plain_told (plains.LoadReserved form rd rs1) e = word_told (mnemonics.LoadReserved form) (Register rd ∷ Register rs1 ∷ []) (λ v n. tt)
-plain_told (plains.Atomic operation form rd rs2 rs1) e = word_told (mnemonics.Atomic operation form) (Register rd ∷ Register rs2 ∷ Register rs1 ∷ []) (λ v n. tt)
-plain_told plains.Fence e = word_told mnemonics.Fence [] (λ v n. tt)
-plain_told (plains.FenceBetween before after) e = word_told mnemonics.Fence (Accesses before ∷ Accesses after ∷ []) (λ v n. tt)
-plain_told plains.FenceTso e = word_told mnemonics.FenceTso [] (λ v n. tt)
-plain_told plains.Ecall e = word_told mnemonics.Ecall [] (λ v n. tt)
-plain_told plains.Ebreak e = word_told mnemonics.Ebreak [] (λ v n. tt)
-plain_told plains.Nop e = word_told mnemonics.Nop [] (λ v n. tt)
-plain_told (plains.Unary operation rd rs) e = absurd (cc)
-plain_told (plains.Compare operation rd rs1 rs2) e = word_told (mnemonics.Compare operation) (Register rd ∷ Register rs1 ∷ Register rs2 ∷ []) (λ v n. tt)
-plain_told (plains.Jr rs) e = word_told mnemonics.Jr (Register rs ∷ []) (λ v n. tt)
-plain_told plains.Ret e = word_told mnemonics.Ret [] (λ v n. tt)
+pub plain_told : (p : Plain) → is_bare_parcel p ≡ false → is_unary p ≡ false → HasOneLength false (plain_of p) 4
+plain_told (plains.Registers operation rd rs1 rs2) f e = word_told (mnemonics.Registers operation) (Register rd ∷ Register rs1 ∷ Register rs2 ∷ []) (λ v. refl) (λ v n. tt)
+plain_told (plains.Load operation rd rs1) f e = word_told (mnemonics.Load operation) (Register rd ∷ Register rs1 ∷ []) (λ v. refl) (λ v n. tt)
+plain_told (plains.Store operation rs2 rs1) f e = word_told (mnemonics.Store operation) (Register rs2 ∷ Register rs1 ∷ []) (λ v. refl) (λ v n. tt)
+plain_told (plains.Jalr rd rs1) f e = word_told mnemonics.Jalr (Register rd ∷ Register rs1 ∷ []) (λ v. refl) (λ v n. tt)
+plain_told (plains.JalrLinked rs1) f e = word_told mnemonics.Jalr (Register rs1 ∷ []) (λ v. refl) (λ v n. tt)
+plain_told (plains.LoadReserved form rd rs1) f e = word_told (mnemonics.LoadReserved form) (Register rd ∷ Register rs1 ∷ []) (λ v. refl) (λ v n. tt)
+plain_told (plains.Atomic operation form rd rs2 rs1) f e = word_told (mnemonics.Atomic operation form) (Register rd ∷ Register rs2 ∷ Register rs1 ∷ []) (λ v. refl) (λ v n. tt)
+plain_told plains.Fence f e = word_told mnemonics.Fence [] (λ v. refl) (λ v n. tt)
+plain_told (plains.FenceBetween before after) f e = word_told mnemonics.Fence (Accesses before ∷ Accesses after ∷ []) (λ v. refl) (λ v n. tt)
+plain_told plains.FenceTso f e = word_told mnemonics.FenceTso [] (λ v. refl) (λ v n. tt)
+plain_told plains.Ecall f e = word_told mnemonics.Ecall [] (λ v. refl) (λ v n. tt)
+plain_told plains.Ebreak f e = word_told mnemonics.Ebreak [] (λ v. refl) (λ v n. tt)
+plain_told plains.Nop f e = word_told mnemonics.Nop [] (λ v. refl) (λ v n. tt)
+plain_told (plains.Unary operation rd rs) f e = absurd (cc)
+plain_told (plains.Parcel operation a b) f e = absurd (cc)
+plain_told (plains.Compare operation rd rs1 rs2) f e = word_told (mnemonics.Compare operation) (Register rd ∷ Register rs1 ∷ Register rs2 ∷ []) (λ v. refl) (λ v n. tt)
+plain_told (plains.Jr rs) f e = word_told mnemonics.Jr (Register rs ∷ []) (λ v. refl) (λ v n. tt)
+plain_told plains.Ret f e = word_told mnemonics.Ret [] (λ v. refl) (λ v n. tt)
 
 -- ---- operations of one word
 
 pub words_told : (operation : Operation) → is_word operation ≡ true → HasLengthWith operation false 4
 words_told (operations.Registers operation rd rs1) h = λ e. (
-  word_told (mnemonics.Registers operation) (Register rd ∷ Register rs1 ∷ Value e ∷ []) (λ v n. constant_word v (with_constant operation) rd rs1 (Value e)),
-  λ f. word_told (mnemonics.Registers operation) (Register rd ∷ Register rs1 ∷ Applied f e ∷ []) (λ v n. constant_word v (with_constant operation) rd rs1 (Applied f e)),
+  word_told (mnemonics.Registers operation) (Register rd ∷ Register rs1 ∷ Value e ∷ []) (λ v. refl) (λ v n. constant_word v (with_constant operation) rd rs1 (Value e)),
+  λ f. word_told (mnemonics.Registers operation) (Register rd ∷ Register rs1 ∷ Applied f e ∷ []) (λ v. refl) (λ v n. constant_word v (with_constant operation) rd rs1 (Applied f e)),
 )
 words_told (operations.Immediate operation rd rs1) h = λ e. (
-  word_told (mnemonics.Immediate operation) (Register rd ∷ Register rs1 ∷ Value e ∷ []) (λ v n. signed_word v false (λ k. of_immediate operation (i_type rd rs1 k)) (Value e)),
-  λ f. word_told (mnemonics.Immediate operation) (Register rd ∷ Register rs1 ∷ Applied f e ∷ []) (λ v n. signed_word v false (λ k. of_immediate operation (i_type rd rs1 k)) (Applied f e)),
+  word_told (mnemonics.Immediate operation) (Register rd ∷ Register rs1 ∷ Value e ∷ []) (λ v. refl) (λ v n. signed_word v false (λ k. of_immediate operation (i_type rd rs1 k)) (Value e)),
+  λ f. word_told (mnemonics.Immediate operation) (Register rd ∷ Register rs1 ∷ Applied f e ∷ []) (λ v. refl) (λ v n. signed_word v false (λ k. of_immediate operation (i_type rd rs1 k)) (Applied f e)),
 )
 words_told (operations.Shift operation rd rs1) h = λ e. (
-  word_told (mnemonics.Shift operation) (Register rd ∷ Register rs1 ∷ Value e ∷ []) (λ v n. amount_word v (λ n. of_shift operation (shift_by rd rs1 n)) (Value e)),
-  λ f. word_told (mnemonics.Shift operation) (Register rd ∷ Register rs1 ∷ Applied f e ∷ []) (λ v n. amount_word v (λ n. of_shift operation (shift_by rd rs1 n)) (Applied f e)),
+  word_told (mnemonics.Shift operation) (Register rd ∷ Register rs1 ∷ Value e ∷ []) (λ v. refl) (λ v n. amount_word v (λ n. of_shift operation (shift_by rd rs1 n)) (Value e)),
+  λ f. word_told (mnemonics.Shift operation) (Register rd ∷ Register rs1 ∷ Applied f e ∷ []) (λ v. refl) (λ v n. amount_word v (λ n. of_shift operation (shift_by rd rs1 n)) (Applied f e)),
 )
 words_told (operations.Upper operation rd) h = λ e. (
-  word_told (mnemonics.Upper operation) (Register rd ∷ Value e ∷ []) (λ v n. upper_word v (λ n. of_upper operation (u_type rd n)) (Value e)),
-  λ f. word_told (mnemonics.Upper operation) (Register rd ∷ Applied f e ∷ []) (λ v n. upper_word v (λ n. of_upper operation (u_type rd n)) (Applied f e)),
+  word_told (mnemonics.Upper operation) (Register rd ∷ Value e ∷ []) (λ v. refl) (λ v n. upper_word v (λ n. of_upper operation (u_type rd n)) (Value e)),
+  λ f. word_told (mnemonics.Upper operation) (Register rd ∷ Applied f e ∷ []) (λ v. refl) (λ v n. upper_word v (λ n. of_upper operation (u_type rd n)) (Applied f e)),
 )
 words_told (operations.Load operation rd rs1) h = λ e. (
-  word_told (mnemonics.Load operation) (Register rd ∷ Value e ∷ Register rs1 ∷ []) (λ v n. signed_word v false (λ k. of_load operation (i_type rd rs1 k)) (Value e)),
-  λ f. word_told (mnemonics.Load operation) (Register rd ∷ Applied f e ∷ Register rs1 ∷ []) (λ v n. signed_word v false (λ k. of_load operation (i_type rd rs1 k)) (Applied f e)),
+  word_told (mnemonics.Load operation) (Register rd ∷ Value e ∷ Register rs1 ∷ []) (λ v. refl) (λ v n. signed_word v false (λ k. of_load operation (i_type rd rs1 k)) (Value e)),
+  λ f. word_told (mnemonics.Load operation) (Register rd ∷ Applied f e ∷ Register rs1 ∷ []) (λ v. refl) (λ v n. signed_word v false (λ k. of_load operation (i_type rd rs1 k)) (Applied f e)),
 )
 words_told (operations.Store operation rs2 rs1) h = λ e. (
-  word_told (mnemonics.Store operation) (Register rs2 ∷ Value e ∷ Register rs1 ∷ []) (λ v n. signed_word v true (λ k. of_store operation (s_type rs2 rs1 k)) (Value e)),
-  λ f. word_told (mnemonics.Store operation) (Register rs2 ∷ Applied f e ∷ Register rs1 ∷ []) (λ v n. signed_word v true (λ k. of_store operation (s_type rs2 rs1 k)) (Applied f e)),
+  word_told (mnemonics.Store operation) (Register rs2 ∷ Value e ∷ Register rs1 ∷ []) (λ v. refl) (λ v n. signed_word v true (λ k. of_store operation (s_type rs2 rs1 k)) (Value e)),
+  λ f. word_told (mnemonics.Store operation) (Register rs2 ∷ Applied f e ∷ Register rs1 ∷ []) (λ v. refl) (λ v n. signed_word v true (λ k. of_store operation (s_type rs2 rs1 k)) (Applied f e)),
 )
 words_told (operations.Jalr rd rs1) h = λ e. (
-  word_told mnemonics.Jalr (Register rd ∷ Value e ∷ Register rs1 ∷ []) (λ v n. signed_word v false (jalr rd rs1) (Value e)),
-  λ f. word_told mnemonics.Jalr (Register rd ∷ Applied f e ∷ Register rs1 ∷ []) (λ v n. signed_word v false (jalr rd rs1) (Applied f e)),
+  word_told mnemonics.Jalr (Register rd ∷ Value e ∷ Register rs1 ∷ []) (λ v. refl) (λ v n. signed_word v false (jalr rd rs1) (Value e)),
+  λ f. word_told mnemonics.Jalr (Register rd ∷ Applied f e ∷ Register rs1 ∷ []) (λ v. refl) (λ v n. signed_word v false (jalr rd rs1) (Applied f e)),
 )
 words_told (operations.JalrThen rd rs1) h = λ e. (
-  word_told mnemonics.Jalr (Register rd ∷ Register rs1 ∷ Value e ∷ []) (λ v n. signed_word v false (jalr rd rs1) (Value e)),
-  λ f. word_told mnemonics.Jalr (Register rd ∷ Register rs1 ∷ Applied f e ∷ []) (λ v n. signed_word v false (jalr rd rs1) (Applied f e)),
+  word_told mnemonics.Jalr (Register rd ∷ Register rs1 ∷ Value e ∷ []) (λ v. refl) (λ v n. signed_word v false (jalr rd rs1) (Value e)),
+  λ f. word_told mnemonics.Jalr (Register rd ∷ Register rs1 ∷ Applied f e ∷ []) (λ v. refl) (λ v n. signed_word v false (jalr rd rs1) (Applied f e)),
 )
 words_told (operations.JalrLinked rs1) h = λ e. (
-  word_told mnemonics.Jalr (Value e ∷ Register rs1 ∷ []) (λ v n. signed_word v false (jalr 1 rs1) (Value e)),
-  λ f. word_told mnemonics.Jalr (Applied f e ∷ Register rs1 ∷ []) (λ v n. signed_word v false (jalr 1 rs1) (Applied f e)),
+  word_told mnemonics.Jalr (Value e ∷ Register rs1 ∷ []) (λ v. refl) (λ v n. signed_word v false (jalr 1 rs1) (Value e)),
+  λ f. word_told mnemonics.Jalr (Applied f e ∷ Register rs1 ∷ []) (λ v. refl) (λ v n. signed_word v false (jalr 1 rs1) (Applied f e)),
 )
 words_told (operations.Jr rs) h = λ e. (
-  word_told mnemonics.Jr (Value e ∷ Register rs ∷ []) (λ v n. signed_word v false (jalr 0 rs) (Value e)),
-  λ f. word_told mnemonics.Jr (Applied f e ∷ Register rs ∷ []) (λ v n. signed_word v false (jalr 0 rs) (Applied f e)),
+  word_told mnemonics.Jr (Value e ∷ Register rs ∷ []) (λ v. refl) (λ v n. signed_word v false (jalr 0 rs) (Value e)),
+  λ f. word_told mnemonics.Jr (Applied f e ∷ Register rs ∷ []) (λ v. refl) (λ v n. signed_word v false (jalr 0 rs) (Applied f e)),
 )
 words_told operation h = absurd (cc)
 
 -- ---- jumps that write where they came from
 
-open_told : (rvc : Bool) (m : Mnemonic) (os : List Operand) → (near_forms rvc m os ≡ None → (v : Constants) (n : ℕ) → IsOpenWord (code v rvc n m os)) → HasOneLength rvc (Instruction m os) 4
-open_told rvc m os word = λ none v found is.
+open_told : (rvc : Bool) (m : Mnemonic) (os : List Operand) → ((v : Constants) → named_form v m os ≡ None) → (near_forms rvc m os ≡ None → (v : Constants) (n : ℕ) → IsOpenWord (code v rvc n m os)) → HasOneLength rvc (Instruction m os) 4
+open_told rvc m os unnamed word = λ none v found is.
     let bytes = length (bytes_coded found) in
-    open_word_long (rvc && are_closed is.1.is.ps) (code (constants v) rvc bytes m os) is.1.is.ps (coded_by found) is.1.is.parts (word none (constants v) bytes) is.1.is.coded_as
+    let c = rvc && are_closed is.1.is.ps in
+    open_word_long c (code (constants v) rvc bytes m os) is.1.is.ps (coded_by found) is.1.is.parts (word none (constants v) bytes)
+    (subst (λ named. AreCodedParts named c is.1.is.ps (coded_by found)) (unnamed (constants v)) is.1.is.coded_as)
 
 jal_word : (b : Bool) (f : Forms) (x : Bool) (i : Inst) → (if b then Some f else None) ≡ None → IsOpenWord (Some (Open (if b && x then relocations.RvcJump else relocations.Jal) i ∷ []))
 jal_word true f x i e = absurd (cc)
@@ -222,12 +226,12 @@ jal_word false f x i e = refl
 
 pub jals_told : (operation : Operation) (rvc : Bool) → is_jal operation ≡ true → HasLengthWith operation rvc 4
 jals_told (operations.Jal rd) rvc h = λ e. (
-  open_told rvc mnemonics.Jal (Register rd ∷ Target e ∷ []) (λ none v n. jal_word (rd == 0) (jump_forms rvc) (n == 2) (jal rd) none),
-  λ f. open_told rvc mnemonics.Jal (Register rd ∷ Applied f e ∷ []) (λ none v n. tt),
+  open_told rvc mnemonics.Jal (Register rd ∷ Target e ∷ []) (λ v. refl) (λ none v n. jal_word (rd == 0) (jump_forms rvc) (n == 2) (jal rd) none),
+  λ f. open_told rvc mnemonics.Jal (Register rd ∷ Applied f e ∷ []) (λ v. refl) (λ none v n. tt),
 )
 jals_told operations.JalLinked rvc h = λ e. (
-  open_told rvc mnemonics.Jal (Target e ∷ []) (λ none v n. refl),
-  λ f. open_told rvc mnemonics.Jal (Applied f e ∷ []) (λ none v n. tt),
+  open_told rvc mnemonics.Jal (Target e ∷ []) (λ v. refl) (λ none v n. refl),
+  λ f. open_told rvc mnemonics.Jal (Applied f e ∷ []) (λ v. refl) (λ none v n. tt),
 )
 jals_told operation rvc h = absurd (cc)
 
@@ -236,60 +240,60 @@ jals_told operation rvc h = absurd (cc)
 forms_told : (rvc : Bool) (kind : StatementKind) (f : Forms) → near_forms_of rvc kind ≡ Some f → HasOneLength rvc kind 0
 forms_told rvc kind f e = λ none v found is. absurd (let both : Some f ≡ None = sym e ∙ none in cc)
 
-pub others_told : (operation : Operation) (rvc : Bool) → is_word operation ≡ false → is_jal operation ≡ false → is_longer operation ≡ false → HasLengthWith operation rvc 0
-others_told (operations.Branch operation rs1 rs2) rvc a b c = λ e. (
+pub others_told : (operation : Operation) (rvc : Bool) → is_word operation ≡ false → is_jal operation ≡ false → is_longer operation ≡ false → is_parcel operation ≡ false → HasLengthWith operation rvc 0
+others_told (operations.Branch operation rs1 rs2) rvc a b c d = λ e. (
   forms_told rvc (Instruction (mnemonics.Branch operation) (Register rs1 ∷ Register rs2 ∷ Target e ∷ [])) (branch_forms (rvc && is_short_branch operation rs1 rs2)) refl,
   λ f. forms_told rvc (Instruction (mnemonics.Branch operation) (Register rs1 ∷ Register rs2 ∷ Applied f e ∷ [])) (branch_forms (rvc && is_short_branch operation rs1 rs2)) refl,
 )
-others_told (operations.ZeroBranch Beqz rs) rvc a b c = λ e. (
+others_told (operations.ZeroBranch Beqz rs) rvc a b c d = λ e. (
   forms_told rvc (Instruction (mnemonics.ZeroBranch Beqz) (Register rs ∷ Target e ∷ [])) (branch_forms (rvc && is_short_register rs)) refl,
   λ f. forms_told rvc (Instruction (mnemonics.ZeroBranch Beqz) (Register rs ∷ Applied f e ∷ [])) (branch_forms (rvc && is_short_register rs)) refl,
 )
-others_told (operations.ZeroBranch Bnez rs) rvc a b c = λ e. (
+others_told (operations.ZeroBranch Bnez rs) rvc a b c d = λ e. (
   forms_told rvc (Instruction (mnemonics.ZeroBranch Bnez) (Register rs ∷ Target e ∷ [])) (branch_forms (rvc && is_short_register rs)) refl,
   λ f. forms_told rvc (Instruction (mnemonics.ZeroBranch Bnez) (Register rs ∷ Applied f e ∷ [])) (branch_forms (rvc && is_short_register rs)) refl,
 )
-others_told (operations.ZeroBranch Bgez rs) rvc a b c = λ e. (
+others_told (operations.ZeroBranch Bgez rs) rvc a b c d = λ e. (
   forms_told rvc (Instruction (mnemonics.ZeroBranch Bgez) (Register rs ∷ Target e ∷ [])) FullBranch refl,
   λ f. forms_told rvc (Instruction (mnemonics.ZeroBranch Bgez) (Register rs ∷ Applied f e ∷ [])) FullBranch refl,
 )
-others_told (operations.ZeroBranch Bltz rs) rvc a b c = λ e. (
+others_told (operations.ZeroBranch Bltz rs) rvc a b c d = λ e. (
   forms_told rvc (Instruction (mnemonics.ZeroBranch Bltz) (Register rs ∷ Target e ∷ [])) FullBranch refl,
   λ f. forms_told rvc (Instruction (mnemonics.ZeroBranch Bltz) (Register rs ∷ Applied f e ∷ [])) FullBranch refl,
 )
-others_told (operations.ZeroBranch Blez rs) rvc a b c = λ e. (
+others_told (operations.ZeroBranch Blez rs) rvc a b c d = λ e. (
   forms_told rvc (Instruction (mnemonics.ZeroBranch Blez) (Register rs ∷ Target e ∷ [])) FullBranch refl,
   λ f. forms_told rvc (Instruction (mnemonics.ZeroBranch Blez) (Register rs ∷ Applied f e ∷ [])) FullBranch refl,
 )
-others_told (operations.ZeroBranch Bgtz rs) rvc a b c = λ e. (
+others_told (operations.ZeroBranch Bgtz rs) rvc a b c d = λ e. (
   forms_told rvc (Instruction (mnemonics.ZeroBranch Bgtz) (Register rs ∷ Target e ∷ [])) FullBranch refl,
   λ f. forms_told rvc (Instruction (mnemonics.ZeroBranch Bgtz) (Register rs ∷ Applied f e ∷ [])) FullBranch refl,
 )
-others_told (operations.SwappedBranch operation rs1 rs2) rvc a b c = λ e. (
+others_told (operations.SwappedBranch operation rs1 rs2) rvc a b c d = λ e. (
   forms_told rvc (Instruction (mnemonics.SwappedBranch operation) (Register rs1 ∷ Register rs2 ∷ Target e ∷ [])) FullBranch refl,
   λ f. forms_told rvc (Instruction (mnemonics.SwappedBranch operation) (Register rs1 ∷ Register rs2 ∷ Applied f e ∷ [])) FullBranch refl,
 )
-others_told operations.J rvc a b c = λ e. (
+others_told operations.J rvc a b c d = λ e. (
   forms_told rvc (Instruction mnemonics.J (Target e ∷ [])) (jump_forms rvc) refl,
   λ f. forms_told rvc (Instruction mnemonics.J (Applied f e ∷ [])) (jump_forms rvc) refl,
 )
-others_told (operations.Call rd) rvc a b c = λ e. (
+others_told (operations.Call rd) rvc a b c d = λ e. (
   forms_told rvc (Instruction mnemonics.Call (Register rd ∷ Target e ∷ [])) (Settled 8) refl,
   λ f. forms_told rvc (Instruction mnemonics.Call (Register rd ∷ Applied f e ∷ [])) (Settled 8) refl,
 )
-others_told operations.CallLinked rvc a b c = λ e. (
+others_told operations.CallLinked rvc a b c d = λ e. (
   forms_told rvc (Instruction mnemonics.Call (Target e ∷ [])) (Settled 8) refl,
   λ f. forms_told rvc (Instruction mnemonics.Call (Applied f e ∷ [])) (Settled 8) refl,
 )
-others_told operations.Tail rvc a b c = λ e. (
+others_told operations.Tail rvc a b c d = λ e. (
   forms_told rvc (Instruction mnemonics.Tail (Target e ∷ [])) (Settled 8) refl,
   λ f. forms_told rvc (Instruction mnemonics.Tail (Applied f e ∷ [])) (Settled 8) refl,
 )
-others_told (operations.Jump rt) rvc a b c = λ e. (
+others_told (operations.Jump rt) rvc a b c d = λ e. (
   forms_told rvc (Instruction mnemonics.Jump (Target e ∷ Register rt ∷ [])) (Settled 8) refl,
   λ f. forms_told rvc (Instruction mnemonics.Jump (Applied f e ∷ Register rt ∷ [])) (Settled 8) refl,
 )
-others_told operation rvc a b c = absurd (cc)
+others_told operation rvc a b c d = absurd (cc)
 
 -- ---- what is no instruction
 

@@ -8,7 +8,7 @@ use Rattle.rv_statement.specs.declared.pseudo.Function.{Function}
 use Rattle.rv_statement.specs.declared.statement.Operation.{Operation}
 use Rattle.rv_statement.specs.declared.statement.Operation.TheVariants as operations
 use Rattle.rv_statement.specs.declared.statement.Plain.{Plain}
-use Rattle.rv_statement.specs.declared.statement.Plain.TheVariants.{Unary}
+use Rattle.rv_statement.specs.declared.statement.Plain.TheVariants.{Unary, Parcel}
 use Rattle.rv_layout_laws.specs.declared.item.Item.{Item}
 use Rattle.rv_unit_laws.specs.Tables.{Tables, at_start, tables}
 use Rattle.rv_unit_tables.specs.declared.section_offset.SectionOffset.{SectionOffset}
@@ -76,6 +76,15 @@ AreSizes t (s ∷ ss) (bytes ∷ sizes) = IsSize t s bytes × AreSizes t ss size
 abbrev pub is_unary : Plain → Bool
 is_unary (Unary operation rd rs) = true
 is_unary _ = false
+
+-- a parcel, compressed code or not
+abbrev pub is_bare_parcel : Plain → Bool
+is_bare_parcel (Parcel operation a b) = true
+is_bare_parcel _ = false
+
+abbrev pub is_parcel : Operation → Bool
+is_parcel (operations.Parcel operation a b) = true
+is_parcel _ = false
 
 -- one instruction, of four bytes where compressed code is off
 abbrev pub is_word : Operation → Bool

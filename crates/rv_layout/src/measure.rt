@@ -28,6 +28,20 @@ fn is_unary(statement: &Plain) -> bool
     matches!(statement, Plain::Unary(..))
 }
 
+/// Whether a statement without an expression names a parcel.
+fn is_bare_parcel(statement: &Plain) -> bool
+    ensures { result ≡ laws.is_bare_parcel statement.now }
+{
+    matches!(statement, Plain::Parcel(..))
+}
+
+/// Whether an operation with an expression names a parcel.
+fn is_parcel(operation: &Operation) -> bool
+    ensures { result ≡ laws.is_parcel operation.now }
+{
+    matches!(operation, Operation::Parcel(..))
+}
+
 /// Whether an operation with an expression is one instruction, which may have a form of two bytes.
 fn is_word(operation: &Operation) -> bool
     ensures { result ≡ laws.is_word operation.now }
@@ -68,6 +82,9 @@ fn is_longer(operation: &Operation) -> bool
 fn plain_length(statement: &Plain, compressed: bool) -> Option<u8>
     ensures { IfSome result (λ n. HasOneLength compressed (plain_of statement.now) n) }
 {
+    if is_bare_parcel(statement) {
+        return Some(2);
+    }
     if compressed {
         return None;
     }
@@ -102,6 +119,9 @@ fn operation_length(operation: &Operation, compressed: bool) -> Option<u8>
     }
     if is_longer(operation) {
         return None;
+    }
+    if is_parcel(operation) {
+        return Some(2);
     }
     Some(0)
 }

@@ -1,6 +1,6 @@
 -- The code of a statement in so many bytes is one.
 
-use Rattle.std.proofs.Common.{◌≡◌, ℕ, Bool, true, false, List, [], ◌∷◌, ◌++◌, length, refl, sym, ap, ◌∙◌, subst, arith, Some, inl, inr}
+use Rattle.std.proofs.Common.{◌≡◌, ℕ, Bool, true, false, List, [], ◌∷◌, ◌++◌, length, refl, sym, ap, ◌∙◌, subst, arith, Option, Some, None, inl, inr}
 use Rattle.std.specs.Prelude.{◌&&◌, unwrap_or}
 use Rattle.rv_isa.specs.declared.instruction.Inst.{Inst}
 use Rattle.rv_isa.specs.Kinds.{width_of}
@@ -8,9 +8,10 @@ use Rattle.rv_isa_laws.specs.Bytes.{little_endian}
 use Rattle.rv_text_laws.specs.Values.{Value}
 use Rattle.rv_statement.specs.declared.mnemonic.Mnemonic.{Mnemonic}
 use Rattle.rv_statement.specs.Statement.{Operand, Expression}
-use Rattle.rv_pseudo_laws.specs.Code.{Part, Closed, Open, Joined, code}
+use Rattle.rv_pseudo_laws.specs.Code.{Part, Closed, Open, Joined, named_form, code}
 use Rattle.rv_pseudo_laws.specs.Filled.{are_closed}
-use Rattle.rv_compress.specs.Encoded.{IsLeast, IsEncodedIn}
+use Rattle.rv_compress.specs.declared.form.Compressed.{Compressed}
+use Rattle.rv_compress.specs.Encoded.{IsLeast, IsEncodedIn, IsLeastAs, IsEncodedAs}
 use Rattle.rv_assemble_laws.specs.Coded.{constants, IsCodedPart, AreCodedParts, joined, instructions_in, IsCode}
 use Rattle.rv_unique_object_laws.proofs.ParcelsLemmas.{one_parcel}
 
@@ -29,21 +30,26 @@ least_one true i m n (inr (e, h)) (inl (f, g)) = absurd (h g)
 least_one true i m n (inr (e, h)) (inr (f, g)) = e ∙ sym f
 least_one false i m n e f = e ∙ sym f
 
-part_one : (rvc : Bool) (p : Part) (a b : List ℕ) → IsCodedPart rvc p a → IsCodedPart rvc p b → a ≡ b
-part_one rvc (Closed i) a b (v, m, x) (w, n, y) =
-    encoded_one i (length b) a b (subst (λ k. IsEncodedIn i k a) (least_one rvc i (length a) (length b) m n) x) y
-part_one rvc (Open k i) a b (v, x) (w, y) = encoded_one i (width_of k) a b x y
-part_one rvc (Joined k i j) a b (v, w, (f, (s, x, y, e))) (v', w', (g, (u, x', y', h))) =
+-- one instruction, in the form of a parcel that is named, if one is
+closed_one : (named : Option Compressed) (rvc : Bool) (i : Inst) (a b : List ℕ) → IsLeastAs named rvc i (length a) → IsEncodedAs named i (length a) a
+    → IsLeastAs named rvc i (length b) → IsEncodedAs named i (length b) b → a ≡ b
+closed_one (Some form) rvc i a b m (two, line, same, x) n (two', line', same', y) = x ∙ sym y
+closed_one None rvc i a b m x n y = encoded_one i (length b) a b (subst (λ k. IsEncodedIn i k a) (least_one rvc i (length a) (length b) m n) x) y
+
+part_one : (named : Option Compressed) (rvc : Bool) (p : Part) (a b : List ℕ) → IsCodedPart named rvc p a → IsCodedPart named rvc p b → a ≡ b
+part_one named rvc (Closed i) a b (v, m, x) (w, n, y) = closed_one named rvc i a b m x n y
+part_one named rvc (Open k i) a b (v, x) (w, y) = encoded_one i (width_of k) a b x y
+part_one named rvc (Joined k i j) a b (v, w, (f, (s, x, y, e))) (v', w', (g, (u, x', y', h))) =
     e ∙ ap (λ l. l ++ s) (encoded_one i 4 f g x x') ∙ ap (λ l. g ++ l) (encoded_one j 4 s u y y') ∙ sym h
 
-parts_one : (rvc : Bool) (ps : List Part) (xs bs : List (List ℕ)) → AreCodedParts rvc ps xs → AreCodedParts rvc ps bs → xs ≡ bs
-parts_one rvc [] [] [] h k = refl
-parts_one rvc [] [] (b ∷ bs) h k = absurd k
-parts_one rvc [] (a ∷ xs) bs h k = absurd h
-parts_one rvc (p ∷ ps) [] bs h k = absurd h
-parts_one rvc (p ∷ ps) (a ∷ xs) [] h k = absurd k
-parts_one rvc (p ∷ ps) (a ∷ xs) (b ∷ bs) (h, hs) (k, ks) =
-    ap (λ x. x ∷ xs) (part_one rvc p a b h k) ∙ ap (λ l. b ∷ l) (parts_one rvc ps xs bs hs ks)
+parts_one : (named : Option Compressed) (rvc : Bool) (ps : List Part) (xs bs : List (List ℕ)) → AreCodedParts named rvc ps xs → AreCodedParts named rvc ps bs → xs ≡ bs
+parts_one named rvc [] [] [] h k = refl
+parts_one named rvc [] [] (b ∷ bs) h k = absurd k
+parts_one named rvc [] (a ∷ xs) bs h k = absurd h
+parts_one named rvc (p ∷ ps) [] bs h k = absurd h
+parts_one named rvc (p ∷ ps) (a ∷ xs) [] h k = absurd k
+parts_one named rvc (p ∷ ps) (a ∷ xs) (b ∷ bs) (h, hs) (k, ks) =
+    ap (λ x. x ∷ xs) (part_one named rvc p a b h k) ∙ ap (λ l. b ∷ l) (parts_one named rvc ps xs bs hs ks)
 
 -- ---- the code of a statement
 
@@ -59,7 +65,8 @@ pub code_one : (v : Expression → Value) (rvc : Bool) (m : Mnemonic) (os : List
     → code (constants v) rvc n m os ≡ code (constants v) rvc k m os → IsCode v rvc m os n a x → IsCode v rvc m os k b y → IsOneCode n k a b x y
 code_one v rvc m os n k a b x y e f g =
     let ps : f.ps ≡ g.ps = some_parts f.ps g.ps (sym f.parts ∙ e ∙ g.parts) in
-    let coded : a ≡ b = parts_one (rvc && are_closed g.ps) g.ps a b (subst (λ l. AreCodedParts (rvc && are_closed l) l a) ps f.coded_as) g.coded_as in
+    let named = named_form (constants v) m os in
+    let coded : a ≡ b = parts_one named (rvc && are_closed g.ps) g.ps a b (subst (λ l. AreCodedParts named (rvc && are_closed l) l a) ps f.coded_as) g.coded_as in
     record {
       bytes = f.size ∙ ap (λ l. length (joined l)) coded ∙ sym g.size;
       coded = coded;

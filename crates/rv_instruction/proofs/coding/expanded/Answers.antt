@@ -2,15 +2,13 @@ use Rattle.std.proofs.Common.{ap, refl}
 use Rattle.rv_text.specs.Expr.{tree_of_expr}
 use Rattle.rv_statement.specs.View.{statement_of, statement_kind}
 use Rattle.rv_instruction.specs.Scoped.{values_at, labels_at}
-use Rattle.rv_instruction.proofs.StatementKindsLemmas.{plain_expanded}
 use Rattle.rv_instruction.proofs.coding.expanded.Goals as goal
 
 pub returns-in-Plain-clause-built : goal.returns-in-Plain-clause-built
 returns-in-Plain-clause-built c = λ index filled stands.
     let v = values_at c.args.scope.now index c.args.place in
     let l = labels_at c.args.scope.now index in
-    plain_expanded c.in-Plain.statement (statement_of c.args.statement.now) c.args.bytes v l c.args.compressed c.plain.result
-    (ap statement_kind c.in-Plain.is) c.plain.ensures.is
+    c.bare.ensures.built (statement_of c.args.statement.now) c.args.bytes v l (ap statement_kind c.in-Plain.is) refl
 
 pub returns-in-With-clause-built : goal.returns-in-With-clause-built
 returns-in-With-clause-built c = λ index filled stands.

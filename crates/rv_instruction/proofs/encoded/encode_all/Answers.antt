@@ -1,4 +1,4 @@
-use Rattle.std.proofs.Common.{sym, subst, ap, ◌∙◌, ◌≡◌, true, false, map}
+use Rattle.std.proofs.Common.{sym, subst, ap, ◌∙◌, ◌≡◌, true, false, map, None}
 use Rattle.std.specs.Prelude.{◌&&◌}
 use Rattle.rv_pseudo_laws.specs.Filled.{are_closed}
 use Rattle.rv_assemble_laws.specs.Coded.{AreCodedParts}
@@ -10,7 +10,7 @@ pub returns-then-is_pair-clause-parts : goal.returns-then-is_pair-clause-parts
 returns-then-is_pair-clause-parts c =
     let ts = c.as_slice-all.result.now in
     let pair : is_pair ts ≡ true = sym c.is_pair.ensures ∙ c.if-is_pair.true in
-    subst (λ all. AreCodedParts (c.args.compressed && are_closed (parts_in all)) (parts_in all) (coded_by c.encode_pair.result.items)) c.as_slice-all.ensures.value
+    subst (λ all. AreCodedParts None (c.args.compressed && are_closed (parts_in all)) (parts_in all) (coded_by c.encode_pair.result.items)) c.as_slice-all.ensures.value
     (pair_coded (c.args.compressed && are_closed (parts_in ts)) ts c.index-all-0.result c.index-all-1.result (coded_by c.encode_pair.result.items) pair (c.encode_pair.ensures.parts (c.args.compressed && are_closed (parts_in ts))))
 
 pub returns-then-is_pair-clause-shapes : goal.returns-then-is_pair-clause-shapes
@@ -30,9 +30,9 @@ pub returns-clause-parts : goal.returns-clause-parts
 returns-clause-parts c =
     let ts = c.as_slice-all.result.now in
     let none : is_pair ts ≡ false = sym c.is_pair.ensures ∙ c.if-is_pair.false in
-    subst (λ all. AreCodedParts (c.args.compressed && are_closed (parts_in all)) (parts_in all) (coded_by c.encode_each.result.items)) c.as_slice-all.ensures.value
+    subst (λ all. AreCodedParts None (c.args.compressed && are_closed (parts_in all)) (parts_in all) (coded_by c.encode_each.result.items)) c.as_slice-all.ensures.value
     (each_coded c.args.compressed ts (coded_by c.encode_each.result.items) none
-    (subst (λ b. AreCodedParts b (map part_of ts) (coded_by c.encode_each.result.items)) c.may_compress.ensures c.encode_each.ensures.parts))
+    (subst (λ b. AreCodedParts None b (map part_of ts) (coded_by c.encode_each.result.items)) c.may_compress.ensures c.encode_each.ensures.parts))
 
 pub returns-clause-shapes : goal.returns-clause-shapes
 returns-clause-shapes c =
