@@ -8,12 +8,13 @@ use Rattle.std.proofs.Math.ListN.{get_or-eq_default}
 use Rattle.std.specs.Prelude.{◌&&◌, ◌||◌, ◌==◌, not, nat_lt, if◌then◌else◌, slice_index, slice_index_or, flat_map, option_map, option_and_then, bytes_eq, codes, IsTrue, max}
 use Rattle.std.specs.List.{AllByRecursion, find, list_any}
 use Rattle.rv_layout_laws.specs.Alignment.{aligned}
-use Rattle.rv_isa_laws.specs.Bytes.{zeros}
+use Rattle.rv_isa_laws.specs.Bytes.{little_endian, zeros}
 use Rattle.rv_isa.specs.declared.instruction.Inst.{Inst}
 use Rattle.rv_isa.specs.Ranges.{IsValid}
 use Rattle.rv_isa_laws.specs.Memory.{Mem, Read, Write, Execute}
-use Rattle.rv_encode.specs.Word.{Spells}
-use Rattle.rv_compress.specs.Parcel.{StandsFor}
+use Rattle.rv_encode.specs.Word.{form, word, Spells}
+use Rattle.rv_compress.specs.declared.form.Compressed.{Compressed}
+use Rattle.rv_compress.specs.Parcel.{parcel, StandsFor}
 use Rattle.rv_isa_laws.specs.Reader.{Reader}
 use Rattle.rv_isa_laws.specs.Run.{NoInstruction, Got, fetch}
 use Rattle.rv_statement.specs.Statement.{StatementKind, Label, Numbered, Instruction, Directs, Statement, Expression, Directive, Sets}
@@ -37,7 +38,7 @@ use Rattle.rv_source_laws.specs.Located.{located, left, without_address}
 use Rattle.rv_source_laws.specs.Exports.{names_where}
 use Rattle.rv_source_laws.specs.Program.{MaybeMapped, Mapped, Program, Export, export, exports_at, exports_where, candidates, chosen, program, number, seated, mapped_of, address_of, tables_in}
 use Rattle.rv_source_laws.specs.Resolves.{is_label, run_start}
-use Rattle.rv_source_laws.specs.Lines.{parts, Line, Lie, expansion}
+use Rattle.rv_source_laws.specs.Lines.{parts, form_at, Line, Lie, expansion}
 use Rattle.rv_source_laws.specs.Fits.{IsRowOf, CodeFits, IsPaddingIn, ContributionFits, SizeFits, InputSection, input_section, input_sections, input_sections_of_file, input_sections_of, greatest, Holds, Stand, layout_end}
 use Rattle.rv_source_laws.specs.Start.{is_within, is_in, right_at, first_byte, byte_of, spelled, spelled_contribution}
 use Rattle.rv_source_laws.specs.SourceRun.{Starts, Gap, Outside, starts_or_inside, place, found}
@@ -60,37 +61,49 @@ use Rattle.rv_chain_laws.proofs.LaidOutLemmas.{AreRegions, apart, rights-are, te
 abbrev instructions_of : List Line → List Inst
 instructions_of ls = map (λ (l : Line). l.instruction) ls
 
-pub line_length : (l : Line) (bytes : List ℕ) → IsEncoded l bytes → length bytes ≡ l.bytes
+-- the bytes of a line are its word, or a parcel that stands for its instruction
+abbrev pub IsSpelled : Line → List ℕ → Type 0
+IsSpelled l bytes =
+    ((l.bytes ≡ 4) × (bytes ≡ little_endian 4 (word (form l.instruction))))
+    ⊎ ((l.bytes ≡ 2) × ((q : ℕ) × StandsFor q l.instruction × (bytes ≡ little_endian 2 q)))
+
+pub line_spelled : (named : Option Compressed) (l : Line) (bytes : List ℕ) → IsEncoded named l bytes → IsSpelled l bytes
+line_spelled (Some c) l bytes (two, line, is, same) = inr (two, (parcel c, record { form = c; spells = record { line = line; sum = refl }; same = is }, same))
+line_spelled None l bytes (inl word_of) = inl word_of
+line_spelled None l bytes (inr (two, (q, short, same))) = inr (two, (q, record { form = short.form; spells = short.spells; same = short.same }, same))
+
+pub line_length : (l : Line) (bytes : List ℕ) → IsSpelled l bytes → length bytes ≡ l.bytes
 line_length l bytes (inl (four, same)) = ap (λ b. length b) same ∙ sym four
-line_length l bytes (inr (two, (q, short, same))) = ap (λ b. length b) same ∙ sym two
+line_length l bytes (inr (two, (q, stands, same))) = ap (λ b. length b) same ∙ sym two
 
 -- a statement has as many bytes as its lines
-pub lines_length : (ls : List Line) (a stop : ℕ) (bytes : List ℕ) → Lie a ls stop → AreEncoded ls bytes → a + length bytes ≡ stop
-lines_length [] a stop bytes lie none = let e : length bytes ≡ 0 = ap (λ b. length b) none in omega arith
-lines_length (l ∷ ls) a stop bytes (at, lie) (front, (rest, joined, one, more)) =
-    let here : length front ≡ l.bytes = line_length l front one in
-    let next : a + l.bytes + length rest ≡ stop = lines_length ls (a + l.bytes) stop rest lie more in
+pub lines_length : (named : Option Compressed) (ls : List Line) (a stop : ℕ) (bytes : List ℕ) → Lie a ls stop → AreEncoded named ls bytes → a + length bytes ≡ stop
+lines_length named [] a stop bytes lie none = let e : length bytes ≡ 0 = ap (λ b. length b) none in omega arith
+lines_length named (l ∷ ls) a stop bytes (at, lie) (front, (rest, joined, one, more)) =
+    let here : length front ≡ l.bytes = line_length l front (line_spelled named l front one) in
+    let next : a + l.bytes + length rest ≡ stop = lines_length named ls (a + l.bytes) stop rest lie more in
     let whole : length bytes ≡ length front + length rest = ap (λ b. length b) joined ∙ length-append front rest in
     omega arith
 
 module _ (reader : Reader Spells StandsFor) (m : Mem) (stop : ℕ) (room : stop < 2 ^ 64) where
-  line_stands : (l : Line) (bytes : List ℕ) → IsValid l.instruction → IsEncoded l bytes → HasBytes m l.address bytes → Runs m l.address stop → l.address + l.bytes ≤ stop → StandsIn reader m l
+  line_stands : (l : Line) (bytes : List ℕ) → IsValid l.instruction → IsSpelled l bytes → HasBytes m l.address bytes → Runs m l.address stop → l.address + l.bytes ≤ stop → StandsIn reader m l
   line_stands l bytes valid (inl (four, same)) h runs fits =
       let got : fetch reader m l.address ≡ Got l.instruction 4 = fetch-word reader m l.address l.instruction valid (omega arith) (may_all m 4 l.address (λ x low up. runs x low (omega arith)) (omega arith)) (subst (HasBytes m l.address) same h) in
       (got ∙ ap (λ n. Got l.instruction n) (sym four), valid)
-  line_stands l bytes valid (inr (two, (q, short, same))) h runs fits =
-      let got : fetch reader m l.address ≡ Got l.instruction 2 = fetch-parcel reader m l.address l.instruction q short (omega arith) (may_all m 2 l.address (λ x low up. runs x low (omega arith)) (omega arith)) (subst (HasBytes m l.address) same h) in
+  line_stands l bytes valid (inr (two, (q, stands, same))) h runs fits =
+      let got : fetch reader m l.address ≡ Got l.instruction 2 = fetch-parcel reader m l.address l.instruction q stands (omega arith) (may_all m 2 l.address (λ x low up. runs x low (omega arith)) (omega arith)) (subst (HasBytes m l.address) same h) in
       (got ∙ ap (λ n. Got l.instruction n) (sym two), valid)
 
-  lines_stand : (ls : List Line) (a : ℕ) (bytes : List ℕ) → Lie a ls (a + length bytes) → AreEncoded ls bytes → AllByRecursion IsValid (instructions_of ls) → HasBytes m a bytes → Runs m a stop → a + length bytes ≤ stop → AllByRecursion (StandsIn reader m) ls
-  lines_stand [] a bytes lie e valid h runs fits = tt
-  lines_stand (l ∷ ls) a bytes (at, lie) (front, (rest, joined, one, more)) (v, vs) h runs fits =
-      let here : length front ≡ l.bytes = line_length l front one in
+  lines_stand : (named : Option Compressed) (ls : List Line) (a : ℕ) (bytes : List ℕ) → Lie a ls (a + length bytes) → AreEncoded named ls bytes → AllByRecursion IsValid (instructions_of ls) → HasBytes m a bytes → Runs m a stop → a + length bytes ≤ stop → AllByRecursion (StandsIn reader m) ls
+  lines_stand named [] a bytes lie e valid h runs fits = tt
+  lines_stand named (l ∷ ls) a bytes (at, lie) (front, (rest, joined, one, more)) (v, vs) h runs fits =
+      let spelled : IsSpelled l front = line_spelled named l front one in
+      let here : length front ≡ l.bytes = line_length l front spelled in
       let whole : length bytes ≡ length front + length rest = ap (λ b. length b) joined ∙ length-append front rest in
       let both : HasBytes m a (front ++ rest) = subst (HasBytes m a) joined h in
       let ends : a + length bytes ≡ a + l.bytes + length rest = omega arith in (
-        line_stands l front v one (subst (λ x. HasBytes m x front) (sym at) (bytes_front m a front rest both)) (subst (λ x. Runs m x stop) (sym at) runs) (omega arith),
-        lines_stand ls (a + l.bytes) rest (subst (Lie (a + l.bytes) ls) ends lie) more vs
+        line_stands l front v spelled (subst (λ x. HasBytes m x front) (sym at) (bytes_front m a front rest both)) (subst (λ x. Runs m x stop) (sym at) runs) (omega arith),
+        lines_stand named ls (a + l.bytes) rest (subst (Lie (a + l.bytes) ls) ends lie) more vs
             (subst (λ n. HasBytes m (a + n) rest) here (bytes_behind m a front rest both)) (λ x low up. runs x (omega arith) up) (omega arith),
       )
 
@@ -98,12 +111,12 @@ module _ (reader : Reader Spells StandsFor) (m : Mem) (stop : ℕ) (room : stop 
   holds_written p s bytes written h runs fits size row =
       let a = s.row.address in
       let lines = written.lines in
-      let ends : a + length bytes ≡ a + s.row.bytes = lines_length lines a (a + s.row.bytes) bytes written.are_lines.1 written.encoded in
+      let ends : a + length bytes ≡ a + s.row.bytes = lines_length (form_at p s) lines a (a + s.row.bytes) bytes written.are_lines.1 written.encoded in
       let valid : AllByRecursion IsValid (instructions_of lines) = (subst (λ o. IsRowOf o s.row) written.are_lines.0 row).0 in
       record {
         lines = lines;
         are_lines = written.are_lines;
-        stand = lines_stand lines a bytes (subst (Lie a lines) (sym ends) written.are_lines.1) written.encoded valid h runs (omega arith);
+        stand = lines_stand (form_at p s) lines a bytes (subst (Lie a lines) (sym ends) written.are_lines.1) written.encoded valid h runs (omega arith);
         below = omega arith;
         fits = size;
         row = row;
@@ -248,7 +261,7 @@ gap_when true false None e = absurd (cc)
 gap_when false g o e = absurd (cc)
 
 -- what is found passes the test, and has what all have
-all_found : {X : Type 0} (P : X → Type 0) (test : X → Bool) (xs : List X) (x : X) → find test xs ≡ Some x → AllByRecursion P xs → P x × (test x ≡ true)
+pub all_found : {X : Type 0} (P : X → Type 0) (test : X → Bool) (xs : List X) (x : X) → find test xs ≡ Some x → AllByRecursion P xs → P x × (test x ≡ true)
 all_found P test [] x e ps = absurd (cc)
 all_found P test (y ∷ ys) x e (p, ps) = go (test y) refl (λ f. all_found P test ys x f ps)
   where
@@ -312,7 +325,7 @@ all_where P test p (e ∷ es) (h, hs) =
     all_join (λ (x : Export). P x.statement) (exports_at test p e) (flat_map (exports_at test p) es)
     (all_exports P e (names_where test (tables_in p e.located.file) e.located) h) (all_where P test p es hs)
 
-all_candidates : (P : MaybeMapped → Type 0) (p : Program) → AllByRecursion P p.statements → AllByRecursion (λ (x : Export). P x.statement) (candidates p)
+pub all_candidates : (P : MaybeMapped → Type 0) (p : Program) → AllByRecursion P p.statements → AllByRecursion (λ (x : Export). P x.statement) (candidates p)
 all_candidates P p h =
     all_join (λ (x : Export). P x.statement) (exports_where is_global p) (exports_where is_weak p)
     (all_where P is_global p p.statements h) (all_where P is_weak p p.statements h)
@@ -366,7 +379,7 @@ module _ (sources : List (List Statement)) (a : ℕ) (relax gc : Bool) (l : Link
 
   written_sized : (s : Mapped) → IsWritten p s (code s) → Sized code s
   written_sized s written =
-      let ends : s.row.address + length (code s) ≡ s.row.address + s.row.bytes = lines_length written.lines s.row.address (s.row.address + s.row.bytes) (code s) written.are_lines.1 written.encoded in
+      let ends : s.row.address + length (code s) ≡ s.row.address + s.row.bytes = lines_length (form_at p s) written.lines s.row.address (s.row.address + s.row.bytes) (code s) written.are_lines.1 written.encoded in
       omega arith
 
   code_sized : AllIn (Sized code) (region goes_to_text)

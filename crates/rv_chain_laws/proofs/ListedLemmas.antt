@@ -20,6 +20,7 @@ use Rattle.rv_image.specs.Executable.{linked_image}
 use Rattle.rv_image.specs.Memory.{mem_of}
 use Rattle.rv_source_laws.specs.Located.{left, has_row}
 use Rattle.rv_source_laws.specs.Program.{Mapped, Program, program}
+use Rattle.rv_source_laws.specs.Lines.{form_at}
 use Rattle.rv_source_laws.specs.Fits.{IsRowOf, identity_of, identity_of_row}
 use Rattle.rv_source_laws.proofs.HomesLemmas.{all_map}
 use Rattle.rv_disasm.specs.Listing.{IsListing, row_text, row_bytes, entry, statement}
@@ -79,7 +80,7 @@ module _ (sources : List (List Statement)) (start : ℕ) (relax gc : Bool) (l : 
   code_shown s (lie, (has, (written, row))) some =
       let a = s.row.address in
       let stop = a + s.row.bytes in
-      let long = lines_length written.lines a stop (h.code s) written.are_lines.1 written.encoded in
+      let long = lines_length (form_at p s) written.lines a stop (h.code s) written.are_lines.1 written.encoded in
       let fills = (are_regions sources start relax gc l h).text in
       let same : row_bytes (linked_image l).segments s.row ≡ h.code s =
       bytes_in_text l s.row m (h.code s) (text_held l (are_regions sources start relax gc l h)) has (omega (arith, long)) lie.0 (omega (arith, lie.1, fills)) some in
@@ -93,7 +94,7 @@ module _ (sources : List (List Statement)) (start : ℕ) (relax gc : Bool) (l : 
         shows =
             ap (entry reader s.row) same
             ∙ entry_some reader s.row (h.code s) (omega (arith, long, some))
-            ∙ ap (λ t. statement s.row ++ t) (lines_shown reader written.lines a stop (h.code s) written.are_lines.1 written.encoded valid);
+            ∙ ap (λ t. statement s.row ++ t) (lines_shown reader (form_at p s) written.lines a stop (h.code s) written.are_lines.1 written.encoded valid);
       }
 
   listed_shown : (s : Mapped) → (s.located.home.executable ≡ true → StandsInText sources start relax gc l h reader s) → is_listed s ≡ true → IsEntry p s (shown s)

@@ -196,7 +196,7 @@ pub row_jump : (rd target : ℕ) (f : FieldValue) (address size : ℕ) (lines : 
     → Leads f address target → Does (λ h. jumps size h rd target) (λ h. length (insts lines)) address lines
 row_jump rd target f address size lines r to = jump_by ((rd == 0) && (size == 2)) rd target f address size lines r to
 
-branch_with : (operation : BranchOperation) (x : BType) (v : ℤ) → with_value v (of_branch operation x) ≡ of_branch operation (branch_to x v)
+pub branch_with : (operation : BranchOperation) (x : BType) (v : ℤ) → with_value v (of_branch operation x) ≡ of_branch operation (branch_to x v)
 branch_with Beq x v = refl
 branch_with Bne x v = refl
 branch_with Blt x v = refl

@@ -18,22 +18,33 @@ use Rattle.rv_isa.specs.declared.operation.LoadOperation.{LoadOperation}
 use Rattle.rv_isa.specs.declared.operation.LoadOperation.TheVariants.{Lb, Lh, Lw, Ld, Lbu, Lhu, Lwu}
 use Rattle.rv_isa.specs.declared.operation.StoreOperation.{StoreOperation}
 use Rattle.rv_isa.specs.declared.operation.StoreOperation.TheVariants.{Sb, Sh, Sw, Sd}
-use Rattle.rv_isa.specs.Operations.{of_immediate, of_shift, of_upper, of_load, of_store}
+use Rattle.rv_isa.specs.declared.operation.BranchOperation.{BranchOperation}
+use Rattle.rv_isa.specs.declared.operation.BranchOperation.TheVariants.{Beq, Bne}
+use Rattle.rv_isa.specs.Operations.{of_immediate, of_shift, of_upper, of_load, of_store, of_branch}
 use Rattle.rv_isa.specs.Ranges.{IsValid}
 use Rattle.rv_isa_laws.specs.Arithmetic.{wrapped, signed}
 use Rattle.rv_isa_laws.specs.Halves.{hi, lo}
 use Rattle.rv_reloc.specs.Operands.{with_value, immediate_of, store_of, upper_of}
+use Rattle.rv_compress.specs.declared.form.Compressed.{Compressed}
+use Rattle.rv_compress.specs.declared.parcel.ParcelOperation.{ParcelOperation}
+use Rattle.rv_compress.specs.declared.parcel.ParcelOperation.TheVariants as parcels
+use Rattle.rv_compress.specs.declared.parcel.RegisterSet.TheVariants.{Short}
+use Rattle.rv_compress.specs.declared.parcel.OperandShape.{OperandShape}
+use Rattle.rv_compress.specs.declared.parcel.OperandShape.TheVariants as shapes
+use Rattle.rv_compress.specs.Mnemonics.{is_in, are_in, register_sets, shape_of, takes_number, form_with, form_of}
+use Rattle.rv_compress.specs.Parcel.{expansion}
 use Rattle.rv_statement.specs.declared.mnemonic.Mnemonic.{Mnemonic}
-use Rattle.rv_statement.specs.declared.mnemonic.Mnemonic.TheVariants.{Registers, Immediate, Shift, Upper, Load, Store, Branch, Jal, Jalr, LoadReserved, Atomic, Fence, FenceTso, Ecall, Ebreak, Nop, Unary, Compare, ZeroBranch, SwappedBranch, J, Jr, Ret, La, Li, Call, Tail, Jump}
+use Rattle.rv_statement.specs.declared.mnemonic.Mnemonic.TheVariants.{Registers, Immediate, Shift, Upper, Load, Store, Branch, Jal, Jalr, LoadReserved, Atomic, Fence, FenceTso, Ecall, Ebreak, Nop, Unary, Compare, ZeroBranch, SwappedBranch, J, Jr, Ret, La, Li, Call, Tail, Jump, Parcel}
 use Rattle.rv_statement.specs.declared.pseudo.Function.TheVariants.{Hi, Lo, PcrelHi, PcrelLo}
 use Rattle.rv_statement.specs.Statement.{Operand, Register, Value, Applied, Target, Accesses, Word, Quoted, Expression}
 use Rattle.rv_parse_laws.specs.Syntax.{with_constant}
-use Rattle.rv_pseudo_laws.specs.Code.{Part, Open, Constants, opened, by_number, by_part, signed_12, upper_20, number_of, by_amount, by_constant, i_type, s_type, u_type, shift_by, jal, jalr, code}
+use Rattle.rv_pseudo_laws.specs.Code.{Part, Closed, Open, Constants, opened, by_number, by_part, signed_12, upper_20, number_of, by_amount, by_constant, by_form, parcel_form, branch, i_type, s_type, b_type, u_type, shift_by, jal, jalr, code}
 use Rattle.rv_pseudo_laws.specs.Filled.{FieldValue, filled}
 use Rattle.rv_source_laws.specs.Lines.{other_operand, operand_number, distance, operand_gives, is_low_part}
-use Rattle.rv_source_laws.specs.Holes.{constant_hole}
+use Rattle.rv_source_laws.specs.Holes.{constant_hole, form_hole, parcel_hole}
 use Rattle.rv_source_laws.specs.Meaning.{one_instruction}
 use Rattle.rv_chain_laws.proofs.NumbersLemmas.{modulo_20}
+use Rattle.rv_chain_laws.proofs.RowsLemmas.{branch_with}
 
 -- ---- what an open field makes of an instruction
 
@@ -234,6 +245,53 @@ module _ (v : Expression → ℕ) (pair : Expression → ℤ) (c : Constants) (f
   said_constant (Some (Shift operation)) rd rs1 q o other takes = said_amount (λ n. of_shift operation (shift_by rd rs1 n)) q o other
   said_constant m rd rs1 q o other takes = tt
 
+  -- ---- parcels
+
+  -- the parts of a form that is named, if there is one
+  abbrev parts_of_form : Option Compressed → Option (List Part)
+  parts_of_form o = option_map (λ form. Closed (expansion form) ∷ []) o
+
+  abbrev SaidForm : Option (ℤ → Inst) → ℤ → Option Compressed → Type 0
+  SaidForm hole n o = IsSaid f address (option_map (λ make. make n) hole) (parts_of_form o)
+
+  said_taken : (t : Bool) (o : Option (ℤ → Compressed)) (k n : ℤ) → k ≡ n
+      → SaidForm (option_map (λ make. λ k. expansion (make k)) o) n (if t then option_map (λ make. make k) o else None)
+  said_taken true None k n same = tt
+  said_taken true (Some make) k n same = λ valid. ap (λ x. Some (expansion (make x) ∷ [])) (sym same)
+  said_taken false o k n same = tt
+
+  said_form : (operation : ParcelOperation) (rs : List ℕ) (k n : ℤ) → k ≡ n → SaidForm (form_hole operation rs) n (form_of operation rs k)
+  said_form operation rs k n same = said_taken (are_in (register_sets operation) rs && takes_number operation k) (form_with operation rs) k n same
+
+  said_by_form : (operation : ParcelOperation) (rs : List ℕ) (n : ℤ) (o : Option ℤ) → ((k : ℤ) → o ≡ Some k → k ≡ n) → SaidForm (form_hole operation rs) n (by_form (form_of operation rs) o)
+  said_by_form operation rs n None same = tt
+  said_by_form operation rs n (Some k) same = said_form operation rs k n (same k refl)
+
+  said_numbered : (operation : ParcelOperation) (rs : List ℕ) (q : Option Operand) (o : Operand) → Other q o
+      → SaidForm (form_hole operation rs) (Given q) (by_form (form_of operation rs) (number_of c o))
+  said_numbered operation rs q o other = said_by_form operation rs (Given q) (number_of c o) (amount_is q o other)
+
+  said_parcel : (operation : ParcelOperation) (shape : OperandShape) (operands : List Operand)
+      → SaidForm (parcel_hole operation shape operands) (Given (other_operand operands)) (parcel_form c operation shape operands)
+  -- by the operation first, as a hole is told
+  said_parcel parcels.J shapes.Registers (Target e ∷ []) = tt
+  said_parcel operation shapes.Registers [] = said_form operation [] (pos 0) (pos 0) refl
+  said_parcel operation shapes.Registers (Register a ∷ []) = said_form operation (a ∷ []) (pos 0) (pos 0) refl
+  said_parcel operation shapes.Registers (Register a ∷ Register b ∷ []) = said_form operation (a ∷ b ∷ []) (pos 0) (pos 0) refl
+  said_parcel operation shapes.Number (Register a ∷ Register b ∷ o ∷ []) = said_numbered operation (a ∷ b ∷ []) (other_operand (o ∷ [])) o (first_other o [])
+  said_parcel operation shapes.Number (Register a ∷ o ∷ []) = said_numbered operation (a ∷ []) (other_operand (o ∷ [])) o (first_other o [])
+  said_parcel operation shapes.Address (Register a ∷ Register b ∷ []) = said_form operation (a ∷ b ∷ []) (pos 0) (pos 0) refl
+  said_parcel operation shapes.Address (Register a ∷ o ∷ Register b ∷ []) =
+      said_numbered operation (a ∷ b ∷ []) (other_operand (o ∷ Register b ∷ [])) o (first_other o (Register b ∷ []))
+  said_parcel operation shape operands = tt
+
+  said_short_branch : (t : Bool) (operation : BranchOperation) (rs : ℕ) (e : Expression) → Takes (Some (Target e))
+      → Said (of_branch operation (b_type rs 0 (distance address (v e)))) (if t then Some (branch 2 operation rs 0) else None)
+  said_short_branch true operation rs e takes =
+      said_open kind.RvcBranch (of_branch operation (b_type rs 0 (pos 0))) _
+      (branch_with operation (b_type rs 0 (pos 0)) (f kind.RvcBranch address) ∙ ap (λ w. of_branch operation (b_type rs 0 w)) (takes kind.RvcBranch address))
+  said_short_branch false operation rs e takes = tt
+
   -- ---- all rows
 
   pub said_code : (rvc : Bool) (bytes : ℕ) (mnemonic : Mnemonic) (operands : List Operand) → IsPlain mnemonic operands → TakesOperand v pair f address (other_operand operands)
@@ -284,4 +342,8 @@ module _ (v : Expression → ℕ) (pair : Expression → ℤ) (c : Constants) (f
   said_code rvc bytes Ecall [] p takes = λ valid. refl
   said_code rvc bytes Ebreak [] p takes = λ valid. refl
   said_code rvc bytes Nop [] p takes = λ valid. refl
+  said_code rvc bytes (Parcel parcels.J) (Target e ∷ []) p takes = said_jump true 0 e takes
+  said_code rvc bytes (Parcel parcels.Beqz) (Register rs ∷ Target e ∷ []) p takes = said_short_branch (is_in Short rs) Beq rs e takes
+  said_code rvc bytes (Parcel parcels.Bnez) (Register rs ∷ Target e ∷ []) p takes = said_short_branch (is_in Short rs) Bne rs e takes
+  said_code rvc bytes (Parcel operation) operands p takes = said_parcel operation (shape_of operation) operands
   said_code rvc bytes mnemonic operands p takes = tt

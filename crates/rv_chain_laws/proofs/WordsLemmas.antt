@@ -8,7 +8,7 @@ use Rattle.rv_isa.specs.Ranges.{IsValid}
 use Rattle.rv_isa_laws.specs.Bytes.{little_endian}
 use Rattle.rv_isa_laws.specs.Memory.{Mem, Execute, may, number_at}
 use Rattle.rv_encode.specs.Word.{form, word, Spells}
-use Rattle.rv_compress.specs.Parcel.{IsShortOf, StandsFor}
+use Rattle.rv_compress.specs.Parcel.{StandsFor}
 use Rattle.rv_isa_laws.specs.Reader.{Reader}
 use Rattle.rv_isa_laws.specs.Run.{NoRight, NoInstruction, Got, spelled, length_at, fetch}
 use Rattle.rv_chain_laws.proofs.WideLemmas.{valid_wide}
@@ -47,10 +47,10 @@ module _ (reader : Reader Spells StandsFor) (m : Mem) where
       ∙ ap (λ o. spelled 2 o) read
 
   -- a parcel that lies in memory is fetched
-  pub fetch-parcel : (a : ℕ) (i : Inst) (p : ℕ) → IsShortOf i p → a + 2 < 2 ^ 64 → may m a 2 Execute ≡ true → HasBytes m a (little_endian 2 p) → fetch reader m a ≡ Got i 2
-  fetch-parcel a i p short fits runs h =
-      let n : IsNarrow p = narrow p short.form short.spells in
-      parcel_at a p (Some i) fits runs n.below n.low h ((reader.parcels p i).1 (record { form = short.form; spells = short.spells; same = short.same }))
+  pub fetch-parcel : (a : ℕ) (i : Inst) (p : ℕ) → StandsFor p i → a + 2 < 2 ^ 64 → may m a 2 Execute ≡ true → HasBytes m a (little_endian 2 p) → fetch reader m a ≡ Got i 2
+  fetch-parcel a i p stands fits runs h =
+      let n : IsNarrow p = narrow p stands.form stands.spells in
+      parcel_at a p (Some i) fits runs n.below n.low h ((reader.parcels p i).1 stands)
 
   -- zeros spell no instruction
   pub fetch-zeros : (a : ℕ) → a + 2 < 2 ^ 64 → may m a 2 Execute ≡ true → m.byte a ≡ 0 → m.byte (a + 1) ≡ 0 → fetch reader m a ≡ NoInstruction

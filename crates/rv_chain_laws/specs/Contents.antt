@@ -1,20 +1,21 @@
 -- What a linked program holds: the bytes of its regions are those of the statements that stand
 -- there.
 
-use Rattle.std.specs.Prelude.{◌≡◌, ℕ, ◌+◌, ◌-◌, ◌≤◌, ◌⊎◌, ⊤, Bool, ◌&&◌, IsTrue, List, [], ◌∷◌, ◌++◌, flat_map, Some}
+use Rattle.std.specs.Prelude.{◌≡◌, ℕ, ◌+◌, ◌-◌, ◌≤◌, ◌⊎◌, ⊤, Bool, ◌&&◌, IsTrue, Option, List, [], ◌∷◌, ◌++◌, flat_map, Some}
 use Rattle.std.specs.List.{AllByRecursion}
 use Rattle.rv_layout_laws.specs.Alignment.{aligned}
 use Rattle.rv_isa_laws.specs.Bytes.{zeros}
 use Rattle.rv_isa.specs.Kinds.{width_of}
 use Rattle.rv_isa_laws.specs.Platform.{stack_start}
-use Rattle.rv_compress.specs.Encoded.{IsLeast, IsEncodedIn}
+use Rattle.rv_compress.specs.declared.form.Compressed.{Compressed}
+use Rattle.rv_compress.specs.Encoded.{IsLeastAs, IsEncodedAs}
 use Rattle.rv_statement.specs.Statement.{Statement, StatementKind, Directs}
 use Rattle.rv_pseudo_laws.specs.Code.{Part, Closed, Open, Joined}
 use Rattle.rv_pseudo_laws.specs.Filled.{are_closed}
 use Rattle.rv_image.specs.Linked.{Linked}
 use Rattle.rv_unit_laws.specs.Sections.{goes_to_text, goes_to_rodata, goes_to_data}
 use Rattle.rv_source_laws.specs.Program.{Mapped, Program, program}
-use Rattle.rv_source_laws.specs.Lines.{parts, Line, AreLines}
+use Rattle.rv_source_laws.specs.Lines.{parts, form_at, Line, AreLines}
 use Rattle.rv_source_laws.specs.Fits.{Fits, InputSection, rows_of, input_sections, size}
 use Rattle.rv_collect_laws.specs.Graph.{AreDrops}
 use Rattle.rv_source_laws.specs.Collected.{graph_of}
@@ -25,16 +26,16 @@ use Rattle.rv_source_laws.specs.Shortened.{Shortened}
 
 -- ---- instructions as they lie in memory
 
--- each line of a statement's parts has its bytes
-abbrev pub AreSized : Bool → List Part → List Line → Type 0
-AreSized compressed [] [] = ⊤
-AreSized compressed (Closed i ∷ ps) (l ∷ ls) =
-    IsLeast compressed l.instruction l.bytes × AreSized compressed ps ls
-AreSized compressed (Open k i ∷ ps) (l ∷ ls) =
-    (l.bytes ≡ width_of k) × AreSized compressed ps ls
-AreSized compressed (Joined k i j ∷ ps) (l ∷ m ∷ ls) =
-    (l.bytes ≡ 4) × (m.bytes ≡ 4) × AreSized compressed ps ls
-AreSized compressed _ _ = ⊥
+-- each line of a statement's parts has its bytes, those of the form that is named, if one is
+abbrev pub AreSized : Option Compressed → Bool → List Part → List Line → Type 0
+AreSized named compressed [] [] = ⊤
+AreSized named compressed (Closed i ∷ ps) (l ∷ ls) =
+    IsLeastAs named compressed l.instruction l.bytes × AreSized named compressed ps ls
+AreSized named compressed (Open k i ∷ ps) (l ∷ ls) =
+    (l.bytes ≡ width_of k) × AreSized named compressed ps ls
+AreSized named compressed (Joined k i j ∷ ps) (l ∷ m ∷ ls) =
+    (l.bytes ≡ 4) × (m.bytes ≡ 4) × AreSized named compressed ps ls
+AreSized named compressed _ _ = ⊥
 
 -- a padding is instructions of four bytes, and of two at its end where two are left
 abbrev pub ArePadding : List Line → Type 0
@@ -43,21 +44,22 @@ ArePadding (l ∷ []) = (l.bytes ≡ 2) ⊎ (l.bytes ≡ 4)
 ArePadding (l ∷ ls) = (l.bytes ≡ 4) × ArePadding ls
 
 -- of a statement: it is compressed where compressed code is on and none of its operands is open,
--- and where a field is open, as its kind says
-abbrev pub HasSizes : Bool → List Part → StatementKind → List Line → Type 0
-HasSizes rvc ps (Directs directive) lines = ArePadding lines
-HasSizes rvc ps kind lines = AreSized (rvc && are_closed ps) ps lines
+-- where a field is open, as its kind says, and wherever it names the form of a parcel
+abbrev pub HasSizes : Option Compressed → Bool → List Part → StatementKind → List Line → Type 0
+HasSizes named rvc ps (Directs directive) lines = ArePadding lines
+HasSizes named rvc ps kind lines = AreSized named (rvc && are_closed ps) ps lines
 
--- the bytes of a line: the word of its instruction, or the parcel that is chosen for it
-abbrev pub IsEncoded : Line → List ℕ → Type 0
-IsEncoded l bytes = IsEncodedIn l.instruction l.bytes bytes
+-- the bytes of a line: the parcel that is named, if one is, else the word of its instruction, or the
+-- parcel that is chosen for it
+abbrev pub IsEncoded : Option Compressed → Line → List ℕ → Type 0
+IsEncoded named l bytes = IsEncodedAs named l.instruction l.bytes bytes
 
-abbrev pub AreEncoded : List Line → List ℕ → Type 0
-AreEncoded [] bytes = bytes ≡ []
-AreEncoded (l ∷ ls) bytes =
+abbrev pub AreEncoded : Option Compressed → List Line → List ℕ → Type 0
+AreEncoded named [] bytes = bytes ≡ []
+AreEncoded named (l ∷ ls) bytes =
     (front : List ℕ)
     × ((rest : List ℕ)
-    × (bytes ≡ front ++ rest) × IsEncoded l front × AreEncoded ls rest)
+    × (bytes ≡ front ++ rest) × IsEncoded named l front × AreEncoded named ls rest)
 
 -- a statement of code is written by its lines, each in its bytes
 pub record IsWritten (p : Program) (s : Mapped) (bytes : List ℕ) : Type 0 where
@@ -65,8 +67,8 @@ pub record IsWritten (p : Program) (s : Mapped) (bytes : List ℕ) : Type 0 wher
   pub are_parts : parts p s ≡ Some ps
   pub lines : List Line
   pub are_lines : AreLines p s lines
-  pub sizes : HasSizes s.located.options.rvc ps s.located.kind lines
-  pub encoded : AreEncoded lines bytes
+  pub sizes : HasSizes (form_at p s) s.located.options.rvc ps s.located.kind lines
+  pub encoded : AreEncoded (form_at p s) lines bytes
 
 -- so is each statement of code
 abbrev pub IsCodeWritten : Program → (Mapped → List ℕ) → Type 0

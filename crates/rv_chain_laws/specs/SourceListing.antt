@@ -9,7 +9,7 @@ use Rattle.rv_isa.specs.Operations.{format_of}
 use Rattle.rv_map.specs.Text.{hexadecimal}
 use Rattle.rv_pseudo_laws.specs.Code.{Part}
 use Rattle.rv_source_laws.specs.Program.{Mapped, Program}
-use Rattle.rv_source_laws.specs.Lines.{Line, AreLines, parts}
+use Rattle.rv_source_laws.specs.Lines.{Line, AreLines, parts, form_at}
 use Rattle.rv_disasm.specs.Instruction.{text_of}
 use Rattle.rv_disasm.specs.Listing.{statement}
 use Rattle.rv_disasm.specs.Order.{compared}
@@ -38,13 +38,13 @@ line_text l =
     hexadecimal l.address ++ codes ": " ++ text_of l.address (format_of l.instruction) ++ 10 ∷ []
 
 -- `@ FILE LINE ORDINAL`, and the base instructions that stand for the statement, one after another
--- over its row, each of its least bytes where it may be compressed
+-- over its row, each of its least bytes where it may be compressed, and of two where it names a parcel
 pub record IsEntry (p : Program) (s : Mapped) (text : List ℕ) : Type 0 where
   pub ps : List Part
   pub are_parts : parts p s ≡ Some ps
   pub lines : List Line
   pub are_lines : AreLines p s lines
-  pub sizes : HasSizes s.located.options.rvc ps s.located.kind lines
+  pub sizes : HasSizes (form_at p s) s.located.options.rvc ps s.located.kind lines
   pub shows : text ≡ statement s.row ++ flat_map line_text lines
 
 -- the entries of statements, one after another, and nothing else

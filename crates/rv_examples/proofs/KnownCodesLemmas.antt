@@ -1,6 +1,6 @@
 -- Worked code: why each instruction has its bytes.
 
-use Rattle.std.proofs.Common.{◌≡◌, true, false, [], ◌∷◌, refl, ap, subst, lit<, arith, inl, inr, ℤ, pos, negsuc}
+use Rattle.std.proofs.Common.{◌≡◌, Bool, true, false, [], ◌∷◌, refl, ap, subst, lit<, arith, inl, inr, ℤ, pos, negsuc}
 use Rattle.std.proofs.lemmas.Int.{ints}
 use Rattle.std.specs.Prelude.{◌≤ℤ◌}
 use Rattle.rv_isa.specs.Ranges.{IsValid}
@@ -9,16 +9,21 @@ use Rattle.rv_isa.specs.declared.instruction.Inst.TheVariants as isa
 use Rattle.rv_isa.specs.declared.operation.ImmediateOperation.TheVariants.{Addi as Of_addi}
 use Rattle.rv_compress.specs.declared.form.Compressed.{Compressed}
 use Rattle.rv_compress.specs.declared.form.Compressed.TheVariants.{Addi, Addiw, Lui}
+use Rattle.rv_compress.specs.declared.parcel.ParcelOperation.TheVariants as parcels
 use Rattle.rv_compress.specs.Parcel.{IsLine, IsShortOf, expansion}
 use Rattle.rv_compress.specs.Encoded.{HasShort}
-use Rattle.rv_statement.specs.declared.mnemonic.Mnemonic.TheVariants.{Immediate, Li}
+use Rattle.rv_statement.specs.declared.mnemonic.Mnemonic.TheVariants.{Immediate, Li, Parcel}
 use Rattle.rv_pseudo_laws.specs.Li.{addi, addiw, lui}
 use Rattle.rv_pseudo_laws.specs.Code.{Closed}
 use Rattle.rv_assemble_laws.specs.Coded.{IsCode}
 use Rattle.rv_examples.specs.KnownCode.{without_names, own, number, adds_word, adds_parcel, loads_words, loads_both}
+use Rattle.rv_examples.specs.Parcels.{step, own_step, steps_named, steps_chosen}
 
 abbrev adds : Inst
 adds = addi 10 10 (pos 5)
+
+abbrev steps : Inst
+steps = addi 2 2 (pos 16)
 
 abbrev upper : Inst
 upper = lui 10 1
@@ -29,6 +34,9 @@ low = addiw 10 10 (negsuc 2047)
 adds_valid : IsValid adds
 adds_valid = (lit< tt, lit< tt, (omega (arith, ints), omega (arith, ints)))
 
+steps_valid : IsValid steps
+steps_valid = (lit< tt, lit< tt, (omega (arith, ints), omega (arith, ints)))
+
 upper_valid : IsValid upper
 upper_valid = (lit< tt, lit< tt)
 
@@ -37,9 +45,20 @@ low_valid = (lit< tt, lit< tt, (omega (arith, ints), omega (arith, ints)))
 
 -- ---- parcels
 
+adds_line : IsLine (Addi 10 (pos 5))
+adds_line = ((lit< tt, lit< tt), (omega (arith, ints), omega (arith, ints)))
+
 adds_short : IsShortOf adds 0x515
 adds_short = record {
   form = Addi 10 (pos 5);
+  spells = record { line = adds_line; sum = refl };
+  chosen = λ e. absurd (cc);
+  same = refl;
+}
+
+steps_short : IsShortOf steps 0x141
+steps_short = record {
+  form = Addi 2 (pos 16);
   spells = record { line = ((lit< tt, lit< tt), (omega (arith, ints), omega (arith, ints))); sum = refl };
   chosen = λ e. absurd (cc);
   same = refl;
@@ -84,6 +103,33 @@ parcel = record {
   ps = Closed adds ∷ [];
   parts = refl;
   coded_as = ((adds_valid, inl (refl, (0x515, adds_short)), inr (refl, (0x515, adds_short, refl))), tt);
+  size = refl;
+  count = refl;
+}
+
+pub named : (rvc : Bool) → IsCode without_names rvc (Parcel parcels.Addi) (number 5) 2 adds_parcel 1
+named rvc = record {
+  ps = Closed adds ∷ [];
+  parts = refl;
+  coded_as = ((adds_valid, refl, (refl, adds_line, refl, refl)), tt);
+  size = refl;
+  count = refl;
+}
+
+pub steps_by_name : IsCode without_names true (Parcel parcels.Addi16sp) step 2 steps_named 1
+steps_by_name = record {
+  ps = Closed steps ∷ [];
+  parts = refl;
+  coded_as = ((steps_valid, refl, (refl, (omega (arith, ints), omega (arith, ints), refl, λ e. absurd (cc)), refl, refl)), tt);
+  size = refl;
+  count = refl;
+}
+
+pub steps_by_choice : IsCode without_names true (Immediate Of_addi) own_step 2 steps_chosen 1
+steps_by_choice = record {
+  ps = Closed steps ∷ [];
+  parts = refl;
+  coded_as = ((steps_valid, inl (refl, (0x141, steps_short)), inr (refl, (0x141, steps_short, refl))), tt);
   size = refl;
   count = refl;
 }

@@ -1,14 +1,15 @@
 -- Worked code with open operands: why each instruction has its bytes.
 
-use Rattle.std.proofs.Common.{Bool, true, [], ◌∷◌, refl, lit<, arith, inl, inr, pos}
+use Rattle.std.proofs.Common.{Bool, true, false, [], ◌∷◌, refl, lit<, arith, inl, inr, pos}
 use Rattle.std.proofs.lemmas.Int.{ints}
 use Rattle.rv_isa.specs.Ranges.{IsValid}
 use Rattle.rv_isa.specs.declared.instruction.Inst.{Inst}
 use Rattle.rv_isa.specs.declared.instruction.Inst.TheVariants.{Beq as Of_beq, Bne as Of_bne}
 use Rattle.rv_isa.specs.declared.kind.Kind.TheVariants as kind
 use Rattle.rv_compress.specs.declared.form.Compressed.TheVariants.{Beqz as Of_parcel}
+use Rattle.rv_compress.specs.declared.parcel.ParcelOperation.TheVariants as parcels
 use Rattle.rv_compress.specs.Parcel.{IsShortOf}
-use Rattle.rv_statement.specs.declared.mnemonic.Mnemonic.TheVariants.{Call, La, ZeroBranch}
+use Rattle.rv_statement.specs.declared.mnemonic.Mnemonic.TheVariants.{Call, La, ZeroBranch, Parcel}
 use Rattle.rv_statement.specs.declared.pseudo.ZeroBranchOperation.TheVariants.{Beqz}
 use Rattle.rv_pseudo_laws.specs.Li.{addi}
 use Rattle.rv_pseudo_laws.specs.Code.{Closed, Open, Joined, b_type, auipc, jal, jalr}
@@ -80,6 +81,15 @@ address rvc = record {
 
 pub short : IsCode with_symbols true (ZeroBranch Beqz) own_to_x 2 branches_short 1
 short = record {
+  ps = Open kind.RvcBranch equal ∷ [];
+  parts = refl;
+  coded_as = (((equal_valid, refl), inr (refl, (0xc101, equal_short, refl))), tt);
+  size = refl;
+  count = refl;
+}
+
+pub named : IsCode with_symbols false (Parcel parcels.Beqz) own_to_x 2 branches_short 1
+named = record {
   ps = Open kind.RvcBranch equal ∷ [];
   parts = refl;
   coded_as = (((equal_valid, refl), inr (refl, (0xc101, equal_short, refl))), tt);

@@ -7,3 +7,4 @@ pub mod Regions
 pub mod KnownCode
 pub mod OpenCode
 pub mod BranchSizes
+pub mod Parcels

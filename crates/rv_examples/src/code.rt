@@ -2,12 +2,14 @@
 
 ghost use Rattle.std.specs.Prelude.{true, false};
 ghost use Rattle.rv_isa.specs.declared.operation.ImmediateOperation.TheVariants.{Addi};
-ghost use Rattle.rv_statement.specs.declared.mnemonic.Mnemonic.TheVariants.{Immediate, Li, Call, La, ZeroBranch};
+ghost use Rattle.rv_compress.specs.declared.parcel.ParcelOperation.TheVariants as parcels;
+ghost use Rattle.rv_statement.specs.declared.mnemonic.Mnemonic.TheVariants.{Immediate, Li, Call, La, ZeroBranch, Parcel};
 ghost use Rattle.rv_statement.specs.declared.pseudo.ZeroBranchOperation.TheVariants.{Beqz};
 ghost use Rattle.rv_assemble_laws.specs.Coded.{IsCode};
 ghost use Rattle.rv_examples.specs.KnownCode.{without_names, own, number, adds_word, adds_parcel, loads_words, loads_both};
 ghost use Rattle.rv_examples.specs.Refused.{jumps};
 ghost use Rattle.rv_examples.specs.BranchSizes.{beyond, branches, IsLeastSize};
+ghost use Rattle.rv_examples.specs.Parcels.{step, own_step, steps_named, steps_chosen};
 ghost use Rattle.rv_examples.specs.OpenCode.{with_symbols, to_x, own_to_x, calls_x, loads_x, branches_short, branches_word, branches_over};
 
 /// `addi a0, a0, 5` is a word, and a parcel where compressed code is on.
@@ -38,6 +40,17 @@ pub fn branches_have_three_sizes()
     ensures compressed_word { IsCode with_symbols true (ZeroBranch Beqz) own_to_x 4
         branches_word 1 }
     ensures over { IsCode with_symbols true (ZeroBranch Beqz) own_to_x 8 branches_over 2 }
+{}
+
+/// A `c.` statement is the parcel that it names, with compressed code on or off, and also where another one is chosen for
+/// its instruction.
+pub fn parcels_are_named()
+    ensures adds { IsCode without_names false (Parcel parcels.Addi) (number 5) 2 adds_parcel 1 }
+    ensures compressed { IsCode without_names true (Parcel parcels.Addi) (number 5) 2
+        adds_parcel 1 }
+    ensures steps { IsCode without_names true (Parcel parcels.Addi16sp) step 2 steps_named 1 }
+    ensures chosen { IsCode without_names true (Immediate Addi) own_step 2 steps_chosen 1 }
+    ensures branch { IsCode with_symbols false (Parcel parcels.Beqz) own_to_x 2 branches_short 1 }
 {}
 
 /// A jump reaches less than 2048 bytes in 2, and takes 4 from there on.

@@ -4,11 +4,13 @@ ghost use Rattle.std.specs.Prelude.{◌≡◌, [], ◌∷◌, None, false, codes
 ghost use Rattle.rv_text_laws.specs.Codes.{immediate_range, not_constant, division_by_zero, duplicate_label, scratch_register, undefined_local, wrong_section};
 ghost use Rattle.rv_text_laws.specs.declared.operator.BinaryOperator.TheVariants.{Divide};
 ghost use Rattle.rv_text_laws.specs.Expression.{Leaf, Binary, Reference};
+ghost use Rattle.rv_compress.specs.declared.parcel.ParcelOperation.TheVariants.{Addi, Lui, Slli};
 ghost use Rattle.rv_statement.specs.declared.pseudo.Function.TheVariants.{Lo, PcrelLo};
 ghost use Rattle.rv_statement.specs.Statement.{Directs, Values};
 ghost use Rattle.rv_examples.specs.Exit7.{exit7, load, constant};
 ghost use Rattle.rv_examples.specs.Data.{hello, figures, differences, symbol};
 ghost use Rattle.rv_examples.specs.Refused.{fault, alone, adds, minus, shifts, shifts_word, ands, uppers, loads, x, away, jumps, moves, extends, loads_address, loads_symbol, stores_symbol, calls, jumps_by, adds_part, shifts_part, li_part, upper_part, upper_distance, jumps_back, after_set, before_set, before_label, after_location, compressed, after_padding, padding_without_bytes, options, two_faults, directive_later};
+ghost use Rattle.rv_examples.specs.Parcels.{parcel, parcel_of_part, loads_short, jumps_short, parcel7};
 ghost use Rattle.rv_assemble_laws.specs.Refusals.{statements_fault};
 
 /// The worked programs have no fault, in compressed code or not.
@@ -122,6 +124,28 @@ pub fn known_code_is_sound()
     ensures extends { statements_fault (alone (extends 10 11)) ≡ None }
     ensures offset { statements_fault (alone (jumps_back 2047)) ≡ None }
     ensures far { statements_fault (alone (jumps_back 2048)) ≡ fault immediate_range 2 }
+{}
+
+/// A `c.` statement has the numbers of its parcel, none of which makes it a hint, and no open one.
+pub fn parcels_end()
+    ensures worked { statements_fault parcel7 ≡ None }
+    ensures high { statements_fault (alone (parcel Addi (constant 31))) ≡ None }
+    ensures above { statements_fault (compressed (parcel Addi (constant 32)))
+        ≡ fault immediate_range 1 }
+    ensures low { statements_fault (alone (parcel Addi (minus 32))) ≡ None }
+    ensures hint { statements_fault (alone (parcel Addi (constant 0))) ≡ fault immediate_range 2 }
+    ensures shift { statements_fault (alone (parcel Slli (constant 64))) ≡ fault immediate_range 2 }
+    ensures upper { statements_fault (alone (parcel Lui (constant 0xfffe0))) ≡ None }
+    ensures between { statements_fault (alone (parcel Lui (constant 32)))
+        ≡ fault immediate_range 2 }
+    ensures offset { statements_fault (alone (loads_short 124)) ≡ None }
+    ensures odd { statements_fault (alone (loads_short 126)) ≡ fault immediate_range 2 }
+    ensures symbol { statements_fault (alone (parcel Addi x)) ≡ fault not_constant 2 }
+    ensures part { statements_fault (alone (parcel_of_part Addi Lo (constant 4097))) ≡ None }
+    ensures open_part { statements_fault (alone (parcel_of_part Addi Lo x))
+        ≡ fault not_constant 2 }
+    ensures label { statements_fault (before_label (jumps_short x)) ≡ None }
+    ensures number { statements_fault (after_set (jumps_short x)) ≡ fault immediate_range 3 }
 {}
 
 /// An operand that is a symbol is open, and its code has a place, in compressed code too; a distance

@@ -1,6 +1,6 @@
 //! Worked programs, as contracts that the check computes.
 
-ghost use Rattle.std.specs.Prelude.{◌≡◌, Bool, [], ◌∷◌, Some, None, length, map, codes};
+ghost use Rattle.std.specs.Prelude.{◌≡◌, Bool, true, false, [], ◌∷◌, Some, None, length, map, codes};
 ghost use Rattle.rv_isa_laws.specs.Hart.{Limit};
 ghost use Rattle.rv_examples.specs.Exit7.{exit7, exit7_map, exit7_text, exit7_listing, exit255, exit255_map, first_file, second_file, two_files_map, exits};
 ghost use Rattle.rv_examples.specs.Exit7Executable.{exit7_file, exit7_image, exit7_linked};
@@ -16,12 +16,14 @@ ghost use Rattle.rv_isa_laws.specs.Run.{machine_run};
 ghost use Rattle.rv_chain_laws.specs.Contents.{IsLinked};
 ghost use Rattle.rv_chain_laws.specs.SourceListing.{IsSourceListing};
 ghost use Rattle.rv_examples.specs.Data.{hello, hello_map, says_hello, hello_text, figures, figures_map, figures_data, differences, differences_map, differences_data};
+ghost use Rattle.rv_examples.specs.Parcels.{parcel7, parcel7_map};
 ghost use Rattle.rv_examples.specs.CodeAlignment.{two_sections, with_gap, without_gap};
 ghost use Rattle.rv_examples.specs.Regions.{text_sections, text_bytes, rodata_bytes, data_bytes};
 ghost use Rattle.rv_statement.specs.declared.directive.Binding.TheVariants.{Local, Global};
 ghost use Rattle.rv_unit_laws.specs.declared.section_type.SectionType.TheVariants.{Progbits, Nobits, Note};
 ghost use Rattle.rv_unit_laws.specs.Sections.{section_of};
 ghost use Rattle.rv_unit_laws.specs.Bindings.{bindings_of};
+ghost use Rattle.rv_source_laws.specs.Compressed.{is_compressed};
 ghost use Rattle.rv_source_laws.specs.Fits.{Fits, Holds, gaps_of};
 ghost use Rattle.rv_source_laws.specs.Program.{program};
 ghost use Rattle.rv_source_laws.specs.Resolves.{Resolves};
@@ -42,6 +44,16 @@ pub fn exit7_is_limited()
 /// With 8 taken off a0 it exits with 255, which is -1 modulo 256.
 pub fn exit255_runs()
     ensures { source_run (exit255 ∷ []) exit255_map [] 1000000 ≡ exits 255 }
+{}
+
+/// The program that loads 7 by a parcel where compressed code is off: its map fits it, it exits with 7, and it is flagged
+/// as compressed code.
+pub fn parcel7_runs()
+    ensures fits { Fits (parcel7 ∷ []) parcel7_map 0x10000 }
+    ensures resolves { Resolves (parcel7 ∷ []) parcel7_map }
+    ensures runs { source_run (parcel7 ∷ []) parcel7_map [] 1000000 ≡ exits 7 }
+    ensures flagged { is_compressed (parcel7 ∷ []) ≡ true }
+    ensures whole { is_compressed (exit7 ∷ []) ≡ false }
 {}
 
 /// The map of the program fits it.

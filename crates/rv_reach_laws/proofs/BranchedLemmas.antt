@@ -1,20 +1,24 @@
 -- The fields of the branches and jumps of sources whose form is below its largest take their values where their text is placed.
 
 use Rattle.std.proofs.Common.{◌≡◌, ℕ, suc, ◌+◌, ◌%◌, ◌^◌, ◌≤◌, ◌<◌, ◌⊎◌, inl, inr, Bool, true, false, cond, ◌&&◌, List, [], ◌∷◌, map, pos, ◌-ℤ◌, Option, Some, None, option_map, refl, sym, ap, ◌∙◌, subst, arith}
-use Rattle.std.specs.Prelude.{◌==◌, filter, not, nat_lt, if◌then◌else◌, option_and_then}
-use Rattle.std.specs.List.{AllByRecursion, slice_get}
-use Rattle.std.proofs.lemmas.Bool.{and_parts, eq-eqb}
+use Rattle.std.specs.Prelude.{◌==◌, ◌-◌, filter, not, nat_le, nat_lt, if◌then◌else◌, option_and_then}
+use Rattle.std.specs.List.{AllByRecursion, list_any, slice_get}
+use Rattle.std.proofs.lemmas.Bool.{and_parts, and_from, or_cases, or_left, or_right, eqb-true, eq-eqb}
 use Rattle.std.proofs.lemmas.Option.{slice_get-map}
 use Rattle.rv_isa.specs.declared.kind.Kind.{Kind}
 use Rattle.rv_isa.specs.declared.kind.Kind.TheVariants as kinds
 use Rattle.rv_map.specs.declared.map.SectionId.{SectionId}
-use Rattle.rv_statement.specs.Statement.{Statement}
+use Rattle.rv_collect_laws.specs.Graph.{is_dropped}
+use Rattle.rv_statement.specs.Statement.{Statement, StatementKind, Label, Numbered, Instruction, Directs}
+use Rattle.rv_source_laws.specs.Located.{Located}
+use Rattle.rv_source_laws.specs.Compressed.{names_parcel}
 use Rattle.rv_layout_laws.specs.Offsets.{Reaches}
 use Rattle.rv_layout_laws.specs.Calls.{IsGreatestClosed}
 use Rattle.rv_layout_laws.proofs.ReachingLemmas.{Nearer, reaches_nearer}
 use Rattle.rv_unit_laws.specs.Sections.{Section as SourceSection}
 use Rattle.rv_unit_laws.specs.Tables.{Tables, tables, opened_of, longest_section}
 use Rattle.rv_object.specs.declared.symbol.Definition.TheVariants as definitions
+use Rattle.rv_object.specs.declared.row.Row.{Row}
 use Rattle.rv_object.specs.Object.{Relocation, Section, Symbol, Object, size_of}
 use Rattle.rv_object.specs.View.{object_of}
 use Rattle.rv_object_laws.specs.Moves.{Move, moves, new_offset}
@@ -36,7 +40,7 @@ use Rattle.rv_resolve.specs.Shown.{outer_in}
 use Rattle.rv_link.specs.Refusals.{IsTextStart}
 use Rattle.rv_link.specs.Filled.{IsTaken}
 use Rattle.rv_assemble_laws.specs.Sites.{Site, form, parts, sites_in, end_of, HasSize}
-use Rattle.rv_assemble_laws.specs.IsObjectOf.{Numbering, relocations_from, IsSectionOf, IsObjectOf}
+use Rattle.rv_assemble_laws.specs.IsObjectOf.{Numbering, row_of, relocations_from, IsSectionOf, IsObjectOf}
 use Rattle.rv_source_laws.proofs.HomesLemmas.{all_filter}
 use Rattle.rv_sources_link_laws.specs.Joins.{AreObjectsOf}
 use Rattle.rv_sources_link_laws.proofs.sections.AssembledLemmas as assembled
@@ -44,17 +48,18 @@ use Rattle.rv_sources_link_laws.proofs.sections.FiledLemmas.{offsets_low}
 use Rattle.rv_sources_link_laws.proofs.statements.OrderedLemmas.{its_section, its_source, in_order}
 use Rattle.rv_sources_link_laws.proofs.moves.PiecesOfLemmas.{size_is}
 use Rattle.rv_sources_link_laws.proofs.fields.RangesLemmas.{even_bytes}
-use Rattle.rv_sources_link_laws.proofs.statements.SettledLemmas.{IsSettled, settled as settled_all, IsSiteIn, sites_are_in}
+use Rattle.rv_sources_link_laws.proofs.statements.SettledLemmas.{IsInstructed, IsSettled, settled as settled_all, IsSiteIn, sites_are_in}
 use Rattle.rv_sources_link_laws.proofs.calls.UncutLemmas.{IsUncut, uncut, sections_same}
 use Rattle.rv_shorten.specs.Cutting.{In}
 use Rattle.rv_unique_link_laws.proofs.FoundLemmas.{EachOf, all_of}
-use Rattle.rv_reach_laws.specs.Reach.{is_short_branch, ForEachLeft, ShortBranchesReach}
+use Rattle.rv_reach_laws.specs.Reach.{is_short_branch, is_named, is_in_row, is_of_parcel, is_chosen_branch, ForEachLeft, ShortBranchesReach}
 use Rattle.rv_reach_laws.proofs.MovingLemmas.{IsPaddedText, rises}
 use Rattle.rv_reach_laws.proofs.SpansLemmas.{left_input, lefts, IsPlain, address}
 use Rattle.rv_reach_laws.proofs.TargetsLemmas.{defined_at}
 use Rattle.rv_reach_laws.proofs.ShorterLemmas.{all_at, IsLow, lows}
 use Rattle.rv_reach_laws.proofs.ReachedLemmas.{HasFrame, frame_at, all_frames, plains, address_low}
-use Rattle.rv_reach_laws.proofs.FieldingLemmas.{IsFine, IsBranchOf, branches}
+use Rattle.rv_reach_laws.proofs.FieldingLemmas.{IsFine, IsBranchOf, IsParcelOf, Sort, branches}
+use Rattle.rv_reach_laws.proofs.ParcelsLemmas.{named_at, in_located, in_all, row_found, in_row}
 use Rattle.rv_reach_laws.proofs.NearsLemmas.{half_of, IsNear, near}
 use Rattle.rv_reach_laws.proofs.NearbyLemmas.{closer, taken_by}
 
@@ -94,6 +99,15 @@ evens_in t number j s code multiple q (z ∷ zs) even (i, inside) (off, bytes, t
     let own = even_bytes t number j s code multiple z i bytes size in
     (ap (λ n. n % 2) off ∙ even, evens_in t number j s code multiple (q + z.bytes) zs (omega (arith, even, own)) inside tile sizes)
 
+named_placed : (l : Located) → IsInstructed l → names_parcel l.kind ≡ true → l.placed ≡ true
+named_placed l h named = by l.kind refl named
+  where
+    by : (kind : StatementKind) → l.kind ≡ kind → names_parcel kind ≡ true → l.placed ≡ true
+    by (Instruction m os) e named = h m os e
+    by (Label name) e named = absurd (cc)
+    by (Numbered number) e named = absurd (cc)
+    by (Directs d) e named = absurd (cc)
+
 -- ---- the branches of sources
 
 pub record IsNearIn (i : InputSection) (r : Relocation) : Type 0 where
@@ -112,8 +126,9 @@ pub record IsNearIn (i : InputSection) (r : Relocation) : Type 0 where
   pub low_from : from ≤ size_of i.section.contents
   pub reaches : Reaches (half_of r.kind) r.addend (pos to -ℤ pos from)
 
-abbrev pub HasNear : InputSection → Type 0
-HasNear i = (n : ℕ) (r : Relocation) → slice_get i.section.relocations n ≡ Some r → is_short_branch r.kind ≡ true → IsNearIn i r
+-- each that has a form that was chosen
+abbrev pub HasNear : List (List Statement) → InputSection → Type 0
+HasNear sources i = (n : ℕ) (r : Relocation) → slice_get i.section.relocations n ≡ Some r → is_chosen_branch sources i r ≡ true → IsNearIn i r
 
 module _ (ss : List Statement) (o : Object) (is : IsObjectOf ss o) (index : ℕ) (x : Section) (there : slice_get o.sections index ≡ Some x) (text : goes_to_text x ≡ true) where
   abbrev t : Tables
@@ -125,23 +140,12 @@ module _ (ss : List Statement) (o : Object) (is : IsObjectOf ss o) (index : ℕ)
       (in_order t is.sites is.number o.symbols 0 (opened_of (tables ss)).sections o.sections is.sections) there
 
   in_source : (s : SourceSection) → slice_get (opened_of (tables ss)).sections index ≡ Some s → IsSectionOf t is.sites is.number o.symbols index s (sites_in index is.sites) x
-      → (n : ℕ) (r : Relocation) → slice_get x.relocations n ≡ Some r → is_short_branch r.kind ≡ true → (file : ℕ) → IsNearIn (record { file = file; object = o; index = index; section = x }) r
-  in_source s at h n r at_r short file = record {
-    symbol = it.symbol;
-    symbol_is = it.symbol_is;
-    x = it.x;
-    there = it.there;
-    strong = it.strong;
-    to = it.to.offset;
-    from = it.from.offset;
-    at = it.at;
-    place_is = it.place_is;
-    even_to = all_in (λ (z : Site). z.offset % 2 ≡ 0) zs it.to evens in_to;
-    even_from = all_in (λ (z : Site). z.offset % 2 ≡ 0) zs it.from evens it.in_from;
-    low_to = subst (λ m. it.to.offset ≤ m) (sym size) (all_in (λ (z : Site). z.offset ≤ end_of 0 zs) zs it.to low in_to);
-    low_from = subst (λ m. it.from.offset ≤ m) (sym size) (all_in (λ (z : Site). z.offset ≤ end_of 0 zs) zs it.from low it.in_from);
-    reaches = it.reaches;
-  }
+      → (n : ℕ) (r : Relocation) → slice_get x.relocations n ≡ Some r → is_short_branch r.kind ≡ true → (file : ℕ)
+      → IsNearIn (record { file = file; object = o; index = index; section = x }) r ⊎ ((sources : List (List Statement)) → slice_get sources (file - 1) ≡ Some ss → is_of_parcel sources (record { file = file; object = o; index = index; section = x }) r ≡ true)
+  in_source s at h n r at_r short file = elim (all_at Sorts x.relocations n r all_branches at_r short) [
+    | inl branch ↦ inl (near_by (it branch))
+    | inr parcel ↦ inr (λ sources there. parcelled sources there parcel)
+  ]
     where
       zs : List Site
       zs = sites_in index is.sites
@@ -189,8 +193,11 @@ module _ (ss : List Statement) (o : Object) (is : IsObjectOf ss o) (index : ℕ)
       rels : x.relocations ≡ relocations_from is.number 0 (parts (tables ss) (sites_in index is.sites))
       rels = h.relocations ∙ ap (λ b. if b then relocations_from is.number 0 (parts (tables ss) (sites_in index is.sites)) else []) loaded
 
-      all_branches : AllByRecursion (λ r. is_short_branch r.kind ≡ true → IsBranchOf (tables ss) is.sites is.number o.symbols (sites_in index is.sites) r) x.relocations
-      all_branches = subst (AllByRecursion (λ r. is_short_branch r.kind ≡ true → IsBranchOf (tables ss) is.sites is.number o.symbols (sites_in index is.sites) r)) (sym rels)
+      Sorts : Relocation → Type 0
+      Sorts r = is_short_branch r.kind ≡ true → Sort (tables ss) is.sites is.number o.symbols (sites_in index is.sites) r
+
+      all_branches : AllByRecursion Sorts x.relocations
+      all_branches = subst (AllByRecursion Sorts) (sym rels)
           (branches (tables ss) is.sites is.number o.symbols (sites_in index is.sites) 0 (sites_in index is.sites) (λ z i. i) h.tile fine (h.numbered loaded))
 
       bound : (z : Site) → In z is.sites → z.located.section ≡ index → z.offset ≤ longest_section
@@ -198,34 +205,112 @@ module _ (ss : List Statement) (o : Object) (is : IsObjectOf ss o) (index : ℕ)
           let a = all_in (λ (z : Site). z.offset ≤ end_of 0 (sites_in index is.sites)) (sites_in index is.sites) z low (in_section index z is.sites i e) in
           let b = h.short code in omega (arith, a, b)
 
-      it : IsNear ss o is index r
-      it = near ss o is index s at code settled h.tile bound r (kinds_of r.kind short)
-          (all_at_r (λ r. is_short_branch r.kind ≡ true → IsBranchOf (tables ss) is.sites is.number o.symbols (sites_in index is.sites) r) x.relocations n r all_branches at_r short)
-        where
-          all_at_r : (P : Relocation → Type 0) (xs : List Relocation) (k : ℕ) (y : Relocation) → AllByRecursion P xs → slice_get xs k ≡ Some y → P y
-          all_at_r P xs k y h e = all_at P xs k y h e
+      it : IsBranchOf (tables ss) is.sites is.number o.symbols (sites_in index is.sites) r → IsNear ss o is index r
+      it branch = near ss o is index s at code settled h.tile bound r (kinds_of r.kind short) branch
 
-      in_to : In it.to (sites_in index is.sites)
-      in_to = in_section index it.to is.sites it.in_to.0 it.in_to.1
+      in_to : (it : IsNear ss o is index r) → In it.to (sites_in index is.sites)
+      in_to it = in_section index it.to is.sites it.in_to.0 it.in_to.1
 
-  pub branch_in : (file : ℕ) → HasNear (record { file = file; object = o; index = index; section = x })
-  branch_in file n r at_r short =
-      in_source found.0 found.1 found.2 n r at_r short file
+      near_by : IsNear ss o is index r → IsNearIn (record { file = file; object = o; index = index; section = x }) r
+      near_by it = record {
+        symbol = it.symbol;
+        symbol_is = it.symbol_is;
+        x = it.x;
+        there = it.there;
+        strong = it.strong;
+        to = it.to.offset;
+        from = it.from.offset;
+        at = it.at;
+        place_is = it.place_is;
+        even_to = all_in (λ (z : Site). z.offset % 2 ≡ 0) zs it.to evens (in_to it);
+        even_from = all_in (λ (z : Site). z.offset % 2 ≡ 0) zs it.from evens it.in_from;
+        low_to = subst (λ m. it.to.offset ≤ m) (sym size) (all_in (λ (z : Site). z.offset ≤ end_of 0 zs) zs it.to low (in_to it));
+        low_from = subst (λ m. it.from.offset ≤ m) (sym size) (all_in (λ (z : Site). z.offset ≤ end_of 0 zs) zs it.from low it.in_from);
+        reaches = it.reaches;
+      }
 
-each_near : (file : ℕ) (sources : List (List Statement)) (us : List Object) → AreObjectsOf sources us → EachOf goes_to_text HasNear file us
-each_near file [] [] h = tt
-each_near file [] (o ∷ us) h = absurd h
-each_near file (ss ∷ sources) [] h = absurd h
-each_near file (ss ∷ sources) (o ∷ us) (is, h) = ((λ index x at text. branch_in ss o is index x at text file), each_near (suc file) sources us h)
+      parcelled : (sources : List (List Statement)) → slice_get sources (file - 1) ≡ Some ss → IsParcelOf (tables ss) is.sites is.number o.symbols (sites_in index is.sites) r
+          → is_of_parcel sources (record { file = file; object = o; index = index; section = x }) r ≡ true
+      parcelled sources there parcel =
+          let z = parcel.z in
+          let inside = all_in (IsSiteIn index s) (sites_in index is.sites) z inside parcel.inside in
+          let everywhere = in_all index z is.sites parcel.inside in
+          let placed = named_placed z.located inside.instructed parcel.named in
+          let home_loaded = ap (λ (q : SourceSection). q.loaded) inside.home ∙ loaded in
+          ap (list_any (λ q. is_in_row index r.place q && is_named sources file q.ordinal)) is.rows
+          ∙ row_found (λ q. is_in_row index r.place q && is_named sources file q.ordinal) z is.sites everywhere (and_from z.located.placed z.located.home.loaded placed home_loaded)
+          (and_from (is_in_row index r.place (row_of z)) (is_named sources file z.located.ordinal)
+          (ap (λ n. is_in_row index n (row_of z)) parcel.place_is ∙ in_row z index inside.stands parcel.some)
+          (named_at sources file ss z.located there (subst (In z.located) is.located (in_located z is.sites everywhere)) parcel.named))
 
-all_near : (sources : List (List Statement)) (us : List Object) → AreObjectsOf sources us → AllByRecursion HasNear (inputs goes_to_text us)
-all_near sources us h = all_of goes_to_text HasNear 1 us (each_near 1 sources us h)
+  pub branch_in : (sources : List (List Statement)) (file : ℕ) → slice_get sources (file - 1) ≡ Some ss → HasNear sources (record { file = file; object = o; index = index; section = x })
+  branch_in sources file there n r at_r chosen =
+      let parts = and_parts (is_short_branch r.kind) (not (is_of_parcel sources (record { file = file; object = o; index = index; section = x }) r)) chosen in
+      elim (in_source found.0 found.1 found.2 n r at_r parts.0 file) [
+        | inl near ↦ near
+        | inr parcel ↦ let e : not true ≡ true = ap not (sym (parcel sources there)) ∙ parts.1 in absurd (cc)
+      ]
+
+-- behind so many others
+each_near : (sources : List (List Statement)) (file : ℕ) (later : List (List Statement)) (us : List Object) → ((j : ℕ) → slice_get sources (suc file + j - 1) ≡ slice_get later j) → AreObjectsOf later us
+    → EachOf goes_to_text (HasNear sources) (suc file) us
+each_near sources file [] [] same h = tt
+each_near sources file [] (o ∷ us) same h = absurd h
+each_near sources file (ss ∷ later) [] same h = absurd h
+each_near sources file (ss ∷ later) (o ∷ us) same (is, h) = (
+  (λ index x at text. branch_in ss o is index x at text sources (suc file) (ap (slice_get sources) (let e : suc file - 1 ≡ suc file + 0 - 1 = omega arith in e) ∙ same 0)),
+  each_near sources (suc file) later us (λ j. ap (slice_get sources) (let e : suc (suc file) + j - 1 ≡ suc file + suc j - 1 = omega arith in e) ∙ same (suc j)) h,
+)
+
+all_near : (sources : List (List Statement)) (us : List Object) → AreObjectsOf sources us → AllByRecursion (HasNear sources) (inputs goes_to_text us)
+all_near sources us h = all_of goes_to_text (HasNear sources) 1 us (each_near sources 0 sources us (λ j. ap (slice_get sources) (let e : 1 + j - 1 ≡ j = omega arith in e)) h)
 
 -- ---- of what collection leaves
 
-near_left : (drops : List SectionId) (i : InputSection) → HasNear i → HasNear (left_of drops i)
-near_left drops i h n r at short =
-    let it = h n r at short in
+-- a section that is left keeps the rows of its statements
+rows_left : (sources : List (List Statement)) (drops : List SectionId) (i : InputSection) (place : ℕ) (rows : List Row) → is_dropped drops i.file i.index ≡ false
+    → list_any (λ q. is_in_row i.index place q && is_named sources i.file q.ordinal) rows ≡ true
+    → list_any (λ q. is_in_row i.index place q && is_named sources i.file q.ordinal) (filter (λ q. not (is_dropped drops i.file q.section)) rows) ≡ true
+rows_left sources drops i place [] left h = h
+rows_left sources drops i place (q ∷ qs) left h = by (is_dropped drops i.file q.section) refl (q.section == i.index) refl (rows_left sources drops i place qs left) h
+  where
+    P : Row → Bool
+    P q = is_in_row i.index place q && is_named sources i.file q.ordinal
+
+    kept : List Row
+    kept = filter (λ q. not (is_dropped drops i.file q.section)) qs
+
+    by : (dropped : Bool) → is_dropped drops i.file q.section ≡ dropped → (own : Bool) → (q.section == i.index) ≡ own → (list_any P qs ≡ true → list_any P kept ≡ true) → list_any P (q ∷ qs) ≡ true
+        → list_any P (cond (not dropped) (q ∷ kept) kept) ≡ true
+    by false d own e further h = elim (or_cases (P q) (list_any P qs) h) [
+      | inl one ↦ or_left (P q) (list_any P kept) one
+      | inr more ↦ or_right (P q) (list_any P kept) (further more)
+    ]
+    by true d true e further h =
+        let same : q.section ≡ i.index = eqb-true q.section i.index e in
+        let no : true ≡ false = sym d ∙ ap (is_dropped drops i.file) same ∙ left in absurd (cc)
+    by true d false e further h = further (elim (or_cases (P q) (list_any P qs) h) [
+      | inl one ↦
+          let no : false ≡ true = sym e ∙ (and_parts (q.section == i.index) (nat_le q.offset place)
+          (and_parts ((q.section == i.index) && nat_le q.offset place) (nat_lt place (q.offset + q.bytes)) (and_parts (is_in_row i.index place q) (is_named sources i.file q.ordinal) one).0).0).0 in absurd (cc)
+      | inr more ↦ more
+    ])
+
+chosen_before : (sources : List (List Statement)) (drops : List SectionId) (i : InputSection) (r : Relocation) → is_dropped drops i.file i.index ≡ false → is_chosen_branch sources (left_of drops i) r ≡ true
+    → is_chosen_branch sources i r ≡ true
+chosen_before sources drops i r left h =
+    let parts = and_parts (is_short_branch r.kind) (not (is_of_parcel sources (left_of drops i) r)) h in
+    and_from (is_short_branch r.kind) (not (is_of_parcel sources i r)) parts.0 (by (is_of_parcel sources i r) refl)
+  where
+    by : (b : Bool) → is_of_parcel sources i r ≡ b → not b ≡ true
+    by false e = refl
+    by true e =
+        let parts = and_parts (is_short_branch r.kind) (not (is_of_parcel sources (left_of drops i) r)) h in
+        let no : not true ≡ true = ap not (sym (rows_left sources drops i r.place i.object.rows left e)) ∙ parts.1 in absurd (cc)
+
+near_left : (sources : List (List Statement)) (drops : List SectionId) (i : InputSection) → is_dropped drops i.file i.index ≡ false → HasNear sources i → HasNear sources (left_of drops i)
+near_left sources drops i left h n r at chosen =
+    let it = h n r at (chosen_before sources drops i r left chosen) in
     record {
       symbol = it.symbol;
       symbol_is = it.symbol_is;
@@ -243,16 +328,17 @@ near_left drops i h n r at short =
       reaches = it.reaches;
     }
 
-nears_left : (drops : List SectionId) (is : List InputSection) → AllByRecursion HasNear is → AllByRecursion HasNear (map (left_of drops) (filter (is_left drops) is))
-nears_left drops [] h = tt
-nears_left drops (i ∷ is) (one, h) = by (is_left drops i) (nears_left drops is h)
+nears_left : (sources : List (List Statement)) (drops : List SectionId) (is : List InputSection) → AllByRecursion (HasNear sources) is → AllByRecursion (HasNear sources) (map (left_of drops) (filter (is_left drops) is))
+nears_left sources drops [] h = tt
+nears_left sources drops (i ∷ is) (one, h) = by (is_dropped drops i.file i.index) refl (nears_left sources drops is h)
   where
-    by : (b : Bool) → AllByRecursion HasNear (map (left_of drops) (filter (is_left drops) is)) → AllByRecursion HasNear (map (left_of drops) (cond b (i ∷ filter (is_left drops) is) (filter (is_left drops) is)))
-    by true more = (near_left drops i one, more)
-    by false more = more
+    by : (b : Bool) → is_dropped drops i.file i.index ≡ b → AllByRecursion (HasNear sources) (map (left_of drops) (filter (is_left drops) is))
+        → AllByRecursion (HasNear sources) (map (left_of drops) (cond (not b) (i ∷ filter (is_left drops) is) (filter (is_left drops) is)))
+    by false left more = (near_left sources drops i left one, more)
+    by true left more = more
 
-all_near_left : (sources : List (List Statement)) (drops : List SectionId) (us : List Object) → AreObjectsOf sources us → AllByRecursion HasNear (inputs goes_to_text (without drops us))
-all_near_left sources drops us h = subst (AllByRecursion HasNear) (sym (inputs_left goes_to_text text_is drops us)) (nears_left drops (inputs goes_to_text us) (all_near sources us h))
+all_near_left : (sources : List (List Statement)) (drops : List SectionId) (us : List Object) → AreObjectsOf sources us → AllByRecursion (HasNear sources) (inputs goes_to_text (without drops us))
+all_near_left sources drops us h = subst (AllByRecursion (HasNear sources)) (sym (inputs_left goes_to_text text_is drops us)) (nears_left sources drops (inputs goes_to_text us) (all_near sources us h))
 
 -- ---- where calls are shortened
 
@@ -305,12 +391,15 @@ relaxed_one os whole kept greatest start p begins placed k i there q it short =
             ∙ subst (λ (u : Object). defined_address (starts_of p i.file) (shortened_object (sizes_by os kept i.file) u) (shortened_definition (sizes_by os kept i.file) u (definitions.InSection i.index it.to)) ≡ Some (address os kept start starts i it.to % 2 ^ 64)) input.at
             (defined_at os kept starts i.file i.index it.to i.section (subst (λ (u : Object). slice_get u.sections i.index ≡ Some i.section) (sym input.at) input.there) input.text)
 
-abbrev Reaching : List Object → Placement → (before now : Relocation) → InputSection → Type 0
-Reaching left p before now i = is_short_branch before.kind ≡ true → IsTaken left p i now
+abbrev Reaching : List (List Statement) → List Object → Placement → (before now : Relocation) → (of to : InputSection) → Type 0
+Reaching sources left p before now i j = is_chosen_branch sources i before ≡ true → IsTaken left p j now
 
-short_reach : (os : List Object) → AllByRecursion IsWhole os → AllByRecursion HasNear (inputs goes_to_text os) → (kept : List ℕ) → IsGreatestClosed (sites_of os) kept → (start : ℕ) (p : Placement) → IsTextStart start
-    → IsPlacement (shortened kept os) start p → ForEachLeft os (shortened kept os) (Reaching (shortened kept os) p)
-short_reach os whole nears kept greatest start p begins placed section place i j before now at_i at_j at_before at_now short =
+short_of : (sources : List (List Statement)) (i : InputSection) (q : Relocation) → is_chosen_branch sources i q ≡ true → is_short_branch q.kind ≡ true
+short_of sources i q chosen = (and_parts (is_short_branch q.kind) (not (is_of_parcel sources i q)) chosen).0
+
+short_reach : (sources : List (List Statement)) (os : List Object) → AllByRecursion IsWhole os → AllByRecursion (HasNear sources) (inputs goes_to_text os) → (kept : List ℕ) → IsGreatestClosed (sites_of os) kept → (start : ℕ) (p : Placement) → IsTextStart start
+    → IsPlacement (shortened kept os) start p → ForEachLeft os (shortened kept os) (Reaching sources (shortened kept os) p)
+short_reach sources os whole nears kept greatest start p begins placed section place i j before now at_i at_j at_before at_now short =
     let sizes = sizes_by os kept i.file i.index in
     let ms = cuts sizes i.section in
     let left_j : ◌≡◌ {A = Option InputSection} (Some (left_input os kept i)) (Some j) =
@@ -323,7 +412,7 @@ short_reach os whole nears kept greatest start p begins placed section place i j
     subst (λ x. IsTaken (shortened kept os) p x now) here
     (subst (λ x. IsTaken (shortened kept os) p (left_input os kept i) x) one
     (relaxed_one os whole kept greatest start p begins placed section i at_i before
-    (all_at HasNear (inputs goes_to_text os) section i nears at_i place before at_before short) short))
+    (all_at (HasNear sources) (inputs goes_to_text os) section i nears at_i place before at_before short) (short_of sources i before short)))
 
 -- ---- where they are not
 
@@ -369,11 +458,11 @@ whole_one os whole start p placed k i there q it short =
         ∙ ap (offset_address (starts_of p i.file i.index) it.to) input.there
         ∙ ap (λ b. if b then Some (stands it.to % 2 ^ 64) else None) (and_parts i.section.loaded i.section.executable input.text).0
 
-same_reach : (os us : List Object) (start : ℕ) (p : Placement) → AllByRecursion IsWhole os → AllByRecursion HasNear (inputs goes_to_text os) → us ≡ os → IsPlacement us start p
-    → ForEachLeft os us (Reaching us p)
-same_reach os us start p whole nears same placed = subst (λ u. IsPlacement u start p → ForEachLeft os u (Reaching u p)) (sym same) go placed
+same_reach : (sources : List (List Statement)) (os us : List Object) (start : ℕ) (p : Placement) → AllByRecursion IsWhole os → AllByRecursion (HasNear sources) (inputs goes_to_text os) → us ≡ os → IsPlacement us start p
+    → ForEachLeft os us (Reaching sources us p)
+same_reach sources os us start p whole nears same placed = subst (λ u. IsPlacement u start p → ForEachLeft os u (Reaching sources u p)) (sym same) go placed
   where
-    go : IsPlacement os start p → ForEachLeft os os (Reaching os p)
+    go : IsPlacement os start p → ForEachLeft os os (Reaching sources os p)
     go placed section place i j before now at_i at_j at_before at_now short =
         let both : ◌≡◌ {A = Option InputSection} (Some i) (Some j) = sym at_i ∙ at_j in
         let here : i ≡ j = cc in
@@ -381,16 +470,16 @@ same_reach os us start p whole nears same placed = subst (λ u. IsPlacement u st
         let one : before ≡ now = cc in
         subst (λ x. IsTaken os p x now) here
         (subst (λ x. IsTaken os p i x) one
-        (whole_one os whole start p placed section i at_i before (all_at HasNear (inputs goes_to_text os) section i nears at_i place before at_before short) short))
+        (whole_one os whole start p placed section i at_i before (all_at (HasNear sources) (inputs goes_to_text os) section i nears at_i place before at_before short) (short_of sources i before short)))
 
-relaxed_reach : (short : Bool) (os us : List Object) (start : ℕ) (p : Placement) → AllByRecursion IsWhole os → AllByRecursion HasNear (inputs goes_to_text os) → IsRelaxed short os us → IsTextStart start
-    → IsPlacement us start p → ForEachLeft os us (Reaching us p)
-relaxed_reach false os us start p whole nears same begins placed = same_reach os us start p whole nears same placed
-relaxed_reach true os us start p whole nears (kept, greatest, same) begins placed =
-    subst (λ u. IsPlacement u start p → ForEachLeft os u (Reaching u p)) (sym same) (short_reach os whole nears kept greatest start p begins) placed
+relaxed_reach : (sources : List (List Statement)) (short : Bool) (os us : List Object) (start : ℕ) (p : Placement) → AllByRecursion IsWhole os → AllByRecursion (HasNear sources) (inputs goes_to_text os) → IsRelaxed short os us → IsTextStart start
+    → IsPlacement us start p → ForEachLeft os us (Reaching sources us p)
+relaxed_reach sources false os us start p whole nears same begins placed = same_reach sources os us start p whole nears same placed
+relaxed_reach sources true os us start p whole nears (kept, greatest, same) begins placed =
+    subst (λ u. IsPlacement u start p → ForEachLeft os u (Reaching sources u p)) (sym same) (short_reach sources os whole nears kept greatest start p begins) placed
 
 pub short_branches_reach : ShortBranchesReach
 short_branches_reach sources ds drops us start false p h same begins placed =
-    same_reach (without drops (map object_of ds)) us start p (whole_left drops (map object_of ds) (are_whole ds)) (all_near_left sources drops (map object_of ds) h) same placed
+    same_reach sources (without drops (map object_of ds)) us start p (whole_left drops (map object_of ds) (are_whole ds)) (all_near_left sources drops (map object_of ds) h) same placed
 short_branches_reach sources ds drops us start true p h relaxed begins placed =
-    relaxed_reach (is_short_text (without drops (map object_of ds))) (without drops (map object_of ds)) us start p (whole_left drops (map object_of ds) (are_whole ds)) (all_near_left sources drops (map object_of ds) h) relaxed begins placed
+    relaxed_reach sources (is_short_text (without drops (map object_of ds))) (without drops (map object_of ds)) us start p (whole_left drops (map object_of ds) (are_whole ds)) (all_near_left sources drops (map object_of ds) h) relaxed begins placed

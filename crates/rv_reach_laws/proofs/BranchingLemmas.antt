@@ -1,6 +1,6 @@
 -- Which statements have a branch or a jump in a form below the largest, and in which.
 
-use Rattle.std.proofs.Common.{◌≡◌, ℕ, Bool, true, false, List, [], ◌∷◌, refl, sym, ap, subst, pos, Option, Some, None, ◌⊎◌, inl, inr}
+use Rattle.std.proofs.Common.{◌≡◌, ℕ, Bool, true, false, List, [], ◌∷◌, refl, sym, ap, subst, pos, Option, Some, None, option_map, ◌⊎◌, inl, inr}
 use Rattle.std.specs.Prelude.{⊤, ◌&&◌, ◌==◌, if◌then◌else◌}
 use Rattle.std.specs.List.{AllByRecursion}
 use Rattle.rv_isa.specs.declared.instruction.Inst.{Inst}
@@ -9,12 +9,18 @@ use Rattle.rv_isa.specs.declared.kind.Kind.TheVariants as kind
 use Rattle.rv_isa.specs.declared.operation.BranchOperation.{BranchOperation}
 use Rattle.rv_isa.specs.declared.operation.BranchOperation.TheVariants.{Beq, Bne, Blt, Bge, Bltu, Bgeu}
 use Rattle.rv_isa.specs.Operations.{of_branch}
+use Rattle.rv_compress.specs.declared.form.Compressed.{Compressed}
+use Rattle.rv_compress.specs.declared.parcel.ParcelOperation.{ParcelOperation}
+use Rattle.rv_compress.specs.declared.parcel.ParcelOperation.TheVariants as parcels
+use Rattle.rv_compress.specs.declared.parcel.RegisterSet.TheVariants.{Short}
+use Rattle.rv_compress.specs.Mnemonics.{is_in}
+use Rattle.rv_compress.specs.Parcel.{expansion}
 use Rattle.rv_statement.specs.declared.mnemonic.Mnemonic.{Mnemonic}
-use Rattle.rv_statement.specs.declared.mnemonic.Mnemonic.TheVariants.{Registers, Branch, Jal, ZeroBranch, SwappedBranch, J, Call, Tail, Jump}
+use Rattle.rv_statement.specs.declared.mnemonic.Mnemonic.TheVariants.{Registers, Branch, Jal, ZeroBranch, SwappedBranch, J, Call, Tail, Jump, Parcel}
 use Rattle.rv_statement.specs.declared.pseudo.ZeroBranchOperation.TheVariants.{Beqz, Bnez, Bgez, Bltz, Blez, Bgtz}
 use Rattle.rv_statement.specs.declared.pseudo.SwappedBranchOperation.TheVariants.{Bgt, Ble, Bgtu, Bleu}
 use Rattle.rv_statement.specs.Statement.{Operand, Register, Target, Expression}
-use Rattle.rv_pseudo_laws.specs.Code.{Part, Closed, Open, Joined, Constants, b_type, jal, inverted, branch, far, code}
+use Rattle.rv_pseudo_laws.specs.Code.{Part, Closed, Open, Joined, Constants, b_type, jal, inverted, branch, far, named_form, short_branch, code}
 use Rattle.rv_source_laws.specs.Lines.{other_operand}
 use Rattle.rv_layout_laws.specs.declared.item.Forms.{Forms}
 use Rattle.rv_layout_laws.specs.declared.item.Forms.TheVariants.{Settled, CompressedBranch, Branch as FullBranch, CompressedJump}
@@ -66,8 +72,16 @@ pub record IsAlone (rvc : Bool) (bytes : ℕ) (m : Mnemonic) (os : List Operand)
   pub is : ps ≡ Open kind instruction ∷ []
   pub branching : IsBranching rvc bytes m os kind
 
+-- the field of a parcel that the statement names
+pub record IsParcelled (m : Mnemonic) (ps : List Part) : Type 0 where
+  pub operation : ParcelOperation
+  pub named : m ≡ Parcel operation
+  pub kind : Kind
+  pub instruction : Inst
+  pub is : ps ≡ Open kind instruction ∷ []
+
 abbrev pub Sorted : Bool → ℕ → Mnemonic → List Operand → List Part → Type 0
-Sorted rvc bytes m os ps = AreUnshort ps ⊎ IsAlone rvc bytes m os ps
+Sorted rvc bytes m os ps = AreUnshort ps ⊎ (IsAlone rvc bytes m os ps ⊎ IsParcelled m ps)
 
 abbrev SortedIn : Bool → ℕ → Mnemonic → List Operand → Option (List Part) → Type 0
 SortedIn rvc bytes m os None = ⊤
@@ -90,39 +104,55 @@ module _ (rvc : Bool) (bytes : ℕ) (m : Mnemonic) (os : List Operand) (to : Exp
           (if two then Open kind.RvcBranch (of_branch operation (b_type rs1 rs2 (pos 0))) ∷ []
           else if eight then Closed (of_branch (inverted operation) (b_type rs1 rs2 (pos 8))) ∷ Open kind.Jal (jal 0) ∷ []
           else Open kind.Branch (of_branch operation (b_type rs1 rs2 (pos 0))) ∷ [])
-      by true a eight b = inr (record {
+      by true a eight b = inr (inl (record {
         kind = kind.RvcBranch;
         instruction = of_branch operation (b_type rs1 rs2 (pos 0));
         is = refl;
         branching = record { forms = forms; chosen = chosen; to = to; operand = operand; target = target; has = (a, is) };
-      })
+      }))
       by false a true b = inl (tt, (refl, tt))
-      by false a false b = inr (record {
+      by false a false b = inr (inl (record {
         kind = kind.Branch;
         instruction = of_branch operation (b_type rs1 rs2 (pos 0));
         is = refl;
         branching = record { forms = forms; chosen = chosen; to = to; operand = operand; target = target; has = (a, b, is) };
-      })
+      }))
 
   a_jump : (zero : Bool) (rd : ℕ) → (zero ≡ true → near_forms rvc m os ≡ Some (jump_forms rvc)) → Sorted rvc bytes m os (Open (if zero && (bytes == 2) then kind.RvcJump else kind.Jal) (jal rd) ∷ [])
   a_jump false rd chosen = inl (refl, tt)
   a_jump true rd chosen = by (bytes == 2) refl
     where
       by : (two : Bool) → (bytes == 2) ≡ two → Sorted rvc bytes m os (Open (if two then kind.RvcJump else kind.Jal) (jal rd) ∷ [])
-      by true a = inr (record {
+      by true a = inr (inl (record {
         kind = kind.RvcJump;
         instruction = jal rd;
         is = refl;
         branching = record { forms = jump_forms rvc; chosen = chosen refl; to = to; operand = operand; target = target; has = (a, jump_form rvc) };
-      })
+      }))
       by false a = inl (refl, tt)
 
 far_sorted : (rvc : Bool) (bytes : ℕ) (m : Mnemonic) (os : List Operand) (link by : ℕ) → bytes ≡ 8 → Sorted rvc bytes m os (far bytes link by)
-far_sorted rvc bytes m os link by eight = subst (λ n. AreUnshort (far n link by) ⊎ IsAlone rvc bytes m os (far n link by)) (sym eight) (inl (refl, tt))
+far_sorted rvc bytes m os link by eight = subst (λ n. AreUnshort (far n link by) ⊎ (IsAlone rvc bytes m os (far n link by) ⊎ IsParcelled m (far n link by))) (sym eight) (inl (refl, tt))
 
 unless_sorted : (t rvc : Bool) (bytes : ℕ) (m : Mnemonic) (os : List Operand) (ps : List Part) → Sorted rvc bytes m os ps → SortedIn rvc bytes m os (if t then None else Some ps)
 unless_sorted true rvc bytes m os ps h = tt
 unless_sorted false rvc bytes m os ps h = h
+
+-- ---- parcels
+
+parcelled : (rvc : Bool) (bytes : ℕ) (operation : ParcelOperation) (os : List Operand) (k : Kind) (i : Inst) → Sorted rvc bytes (Parcel operation) os (Open k i ∷ [])
+parcelled rvc bytes operation os k i = inr (inr (record { operation = operation; named = refl; kind = k; instruction = i; is = refl }))
+
+short_sorted : (rvc : Bool) (bytes : ℕ) (operation : ParcelOperation) (os : List Operand) (b : BranchOperation) (rs : ℕ) → SortedIn rvc bytes (Parcel operation) os (short_branch b rs)
+short_sorted rvc bytes operation os b rs = go (is_in Short rs)
+  where
+    go : (t : Bool) → SortedIn rvc bytes (Parcel operation) os (if t then Some (branch 2 b rs 0) else None)
+    go true = parcelled rvc bytes operation os kind.RvcBranch (of_branch b (b_type rs 0 (pos 0)))
+    go false = tt
+
+form_sorted : (rvc : Bool) (bytes : ℕ) (m : Mnemonic) (os : List Operand) (form : Option Compressed) → SortedIn rvc bytes m os (option_map (λ f. Closed (expansion f) ∷ []) form)
+form_sorted rvc bytes m os None = tt
+form_sorted rvc bytes m os (Some f) = inl (tt, tt)
 
 sorted_jump : (v : Constants) (rvc : Bool) (bytes : ℕ) (m : Mnemonic) (os : List Operand) → is_branching m ≡ true → (is_call m ≡ true → bytes ≡ 8) → SortedIn rvc bytes m os (code v rvc bytes m os)
 sorted_jump v rvc bytes (Branch operation) (Register rs1 ∷ Register rs2 ∷ Target x ∷ []) e c =
@@ -149,6 +179,10 @@ sorted_jump v rvc bytes Call (Target x ∷ []) e c = far_sorted rvc bytes Call (
 sorted_jump v rvc bytes Tail (Target x ∷ []) e c = far_sorted rvc bytes Tail (Target x ∷ []) 0 6 (c refl)
 sorted_jump v rvc bytes Jump (Target x ∷ Register rt ∷ []) e c =
     unless_sorted (rt == 0) rvc bytes Jump (Target x ∷ Register rt ∷ []) (far bytes 0 rt) (far_sorted rvc bytes Jump (Target x ∷ Register rt ∷ []) 0 rt (c refl))
+sorted_jump v rvc bytes (Parcel parcels.J) (Target x ∷ []) e c = parcelled rvc bytes parcels.J (Target x ∷ []) kind.RvcJump (jal 0)
+sorted_jump v rvc bytes (Parcel parcels.Beqz) (Register rs ∷ Target x ∷ []) e c = short_sorted rvc bytes parcels.Beqz (Register rs ∷ Target x ∷ []) Beq rs
+sorted_jump v rvc bytes (Parcel parcels.Bnez) (Register rs ∷ Target x ∷ []) e c = short_sorted rvc bytes parcels.Bnez (Register rs ∷ Target x ∷ []) Bne rs
+sorted_jump v rvc bytes (Parcel operation) os e c = form_sorted rvc bytes (Parcel operation) os (named_form v (Parcel operation) os)
 sorted_jump v rvc bytes (Branch operation) os e c = tt
 sorted_jump v rvc bytes (ZeroBranch operation) os e c = tt
 sorted_jump v rvc bytes (SwappedBranch operation) os e c = tt

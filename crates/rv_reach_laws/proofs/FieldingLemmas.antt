@@ -1,6 +1,6 @@
 -- The fields of branches and jumps in an object of a source: each is that of its statement alone, with the statement's target.
 
-use Rattle.std.proofs.Common.{◌≡◌, ℕ, zero, suc, ◌+◌, Bool, true, false, List, [], ◌∷◌, ◌++◌, length, map, refl, sym, ap, ◌∙◌, subst, arith, Option, Some, None, inl, inr}
+use Rattle.std.proofs.Common.{◌≡◌, ℕ, zero, suc, ◌+◌, Bool, true, false, List, [], ◌∷◌, ◌++◌, length, map, refl, sym, ap, ◌∙◌, subst, arith, Option, Some, None, ◌⊎◌, inl, inr, ◌<◌, ◌&&◌}
 use Rattle.std.specs.Prelude.{⊤, ◌==◌, if◌then◌else◌, flat_map, unwrap_or}
 use Rattle.std.specs.List.{AllByRecursion}
 use Rattle.rv_isa.specs.declared.instruction.Inst.{Inst}
@@ -11,15 +11,18 @@ use Rattle.rv_text_laws.specs.Values.{Meaning, Value, Constant, Symbolic, Differ
 use Rattle.rv_statement.specs.declared.mnemonic.Mnemonic.{Mnemonic}
 use Rattle.rv_statement.specs.declared.pseudo.Function.TheVariants.{Hi, Lo, PcrelHi, PcrelLo}
 use Rattle.rv_statement.specs.Statement.{StatementKind, Label, Numbered, Instruction, Directs, Operand, Value as Of_value, Applied, Target, Expression}
-use Rattle.rv_pseudo_laws.specs.Code.{Part as CodePart, Closed, Open as Open_part, Joined, code}
+use Rattle.rv_pseudo_laws.specs.Code.{Part as CodePart, Closed, Open as Open_part, Joined, named_form, code}
+use Rattle.rv_pseudo_laws.specs.Filled.{are_closed}
 use Rattle.rv_unit_laws.specs.Contributions.{Numbers, Texts, Contribution, Nothing, Bytes, Zero_bytes, Alignment, contribution}
 use Rattle.rv_unit_laws.specs.Tables.{Tables, Definition, definition}
 use Rattle.rv_source_laws.specs.Located.{Located}
 use Rattle.rv_source_laws.specs.Lines.{operand_of, is_low_part}
+use Rattle.rv_source_laws.specs.Compressed.{names_parcel}
 use Rattle.rv_source_laws.specs.Shortened.{calls}
 use Rattle.rv_object.specs.Object.{Relocation, Symbol}
 use Rattle.rv_assemble_laws.specs.CodeFields.{symbol_field, low_field, low_field_at, label_field, field_of, relax_fields, part_fields}
-use Rattle.rv_assemble_laws.specs.Coded.{constants, IsCode}
+use Rattle.rv_compress.specs.declared.form.Compressed.{Compressed}
+use Rattle.rv_assemble_laws.specs.Coded.{constants, AreCodedParts, joined, IsCode}
 use Rattle.rv_assemble_laws.specs.Templates.{Template, Fixed, Datum, Coded, Open, open_at, value_fields, template_fields, absolute_kind, add_kind, subtract_kind, padding_templates, contribution_templates}
 use Rattle.rv_assemble_laws.specs.Sites.{Site, Part, form, part_of, part_bytes, coded_templates, templates, parts_of, parts, Tile}
 use Rattle.rv_assemble_laws.specs.Symbols.{use_of, references_in}
@@ -29,7 +32,7 @@ use Rattle.rv_sources_link_laws.proofs.sections.SectionsLemmas.{split, join}
 use Rattle.rv_sources_link_laws.proofs.calls.UncutLemmas.{IsUncut}
 use Rattle.rv_shorten.specs.Cutting.{In}
 use Rattle.rv_reach_laws.specs.Reach.{is_short_branch}
-use Rattle.rv_reach_laws.proofs.BranchingLemmas.{IsUnshort, IsBranching, Sorted, sorted}
+use Rattle.rv_reach_laws.proofs.BranchingLemmas.{IsUnshort, IsBranching, IsParcelled, Sorted, sorted}
 
 -- ---- fields of no branch
 
@@ -155,8 +158,19 @@ module _ (t : Tables) (all : List Site) (number : Numbering) (symbols : List Sym
     pub numbered : IsNumbered t all number symbols (record { ordinal = z.located.ordinal; symbol = name })
     pub is : r ≡ relocation_at number z.offset (open_at r.kind z.located.ordinal (Some name) plus)
 
+  -- the field of a parcel that its statement names
+  pub record IsParcelOf (r : Relocation) : Type 0 where
+    pub z : Site
+    pub inside : In z zs
+    pub named : names_parcel z.located.kind ≡ true
+    pub place_is : r.place ≡ z.offset
+    pub some : 0 < z.bytes
+
+  abbrev pub Sort : Relocation → Type 0
+  Sort r = IsBranchOf r ⊎ IsParcelOf r
+
   abbrev Goal : List Relocation → Type 0
-  Goal rs = AllByRecursion (λ r. is_short_branch r.kind ≡ true → IsBranchOf r) rs
+  Goal rs = AllByRecursion (λ r. is_short_branch r.kind ≡ true → Sort r) rs
 
   never : {A : Type 0} (b : Bool) → b ≡ false → b ≡ true → A
   never true e f = absurd (cc)
@@ -169,7 +183,7 @@ module _ (t : Tables) (all : List Site) (number : Numbering) (symbols : List Sym
   calm_parts : (o ordinal : ℕ) (ts : List Template) → AllByRecursion IsCalm ts → Goal (relocations_from number o (map (part_of ordinal) ts))
   calm_parts o ordinal [] h = tt
   calm_parts o ordinal (q ∷ ts) (h, hs) =
-      join (λ r. is_short_branch r.kind ≡ true → IsBranchOf r) (map (relocation_at number o) (template_fields ordinal q)) (relocations_from number (o + length (part_bytes (part_of ordinal q))) (map (part_of ordinal) ts))
+      join (λ r. is_short_branch r.kind ≡ true → Sort r) (map (relocation_at number o) (template_fields ordinal q)) (relocations_from number (o + length (part_bytes (part_of ordinal q))) (map (part_of ordinal) ts))
       (calm_fields o (template_fields ordinal q) (template_calm ordinal q h)) (calm_parts (o + length (part_bytes (part_of ordinal q))) ordinal ts hs)
 
   abbrev AreNumbered : List Part → Type 0
@@ -189,7 +203,7 @@ module _ (t : Tables) (all : List Site) (number : Numbering) (symbols : List Sym
       by_value (Difference q r plus) e h = tt
       by_value (Faulty c) e h = tt
       by_value (Symbolic q at plus) e (h, hs) = (
-        (λ short. record {
+        (λ short. inl (record {
           z = z;
           inside = inside;
           m = m;
@@ -202,7 +216,7 @@ module _ (t : Tables) (all : List Site) (number : Numbering) (symbols : List Sym
           value_is = e;
           numbered = h;
           is = refl;
-        }),
+        })),
         tt,
       )
 
@@ -226,14 +240,29 @@ module _ (t : Tables) (all : List Site) (number : Numbering) (symbols : List Sym
         → Goal (relocations_from number z.offset (map (part_of z.located.ordinal) (coded_templates (part_fields t v z.located) (p ∷ []) coded)))
     one_part p k i e branching [] h = tt
     one_part p k i e branching (bytes ∷ coded) (h, hs) =
-        join (λ r. is_short_branch r.kind ≡ true → IsBranchOf r) (map (relocation_at number z.offset) (part_fields t v z.located p)) []
+        join (λ r. is_short_branch r.kind ≡ true → Sort r) (map (relocation_at number z.offset) (part_fields t v z.located p)) []
         (by_field k branching (part_fields t v z.located p) (ap (part_fields t v z.located) e) h) tt
 
-    by_sort : (ps : List CodePart) → Sorted z.located.options.rvc z.bytes m os ps → (coded : List (List ℕ))
+    -- of a parcel that the statement names
+    all_named : names_parcel z.located.kind ≡ true → 0 < z.bytes → (fs : List Open) → Goal (map (relocation_at number z.offset) fs)
+    all_named named some [] = tt
+    all_named named some (f ∷ fs) = ((λ short. inr (record { z = z; inside = inside; named = named; place_is = refl; some = some })), all_named named some fs)
+
+    parcel_parts : (ps : List CodePart) (h : IsParcelled m ps) → 0 < z.bytes → (coded : List (List ℕ)) → Goal (relocations_from number z.offset (map (part_of z.located.ordinal) (coded_templates (part_fields t v z.located) ps coded)))
+    parcel_parts ps h some coded = subst (λ qs. Goal (relocations_from number z.offset (map (part_of z.located.ordinal) (coded_templates (part_fields t v z.located) qs coded)))) (sym h.is) (one coded)
+      where
+        one : (coded : List (List ℕ)) → Goal (relocations_from number z.offset (map (part_of z.located.ordinal) (coded_templates (part_fields t v z.located) (Open_part h.kind h.instruction ∷ []) coded)))
+        one [] = tt
+        one (bytes ∷ coded) =
+            join (λ r. is_short_branch r.kind ≡ true → Sort r) (map (relocation_at number z.offset) (part_fields t v z.located (Open_part h.kind h.instruction))) []
+            (all_named (ap names_parcel (is_kind ∙ ap (λ n. Instruction n os) h.named)) some (part_fields t v z.located (Open_part h.kind h.instruction))) tt
+
+    by_sort : (ps : List CodePart) → Sorted z.located.options.rvc z.bytes m os ps → (IsParcelled m ps → 0 < z.bytes) → (coded : List (List ℕ))
         → AreNumbered (map (part_of z.located.ordinal) (coded_templates (part_fields t v z.located) ps coded))
         → Goal (relocations_from number z.offset (map (part_of z.located.ordinal) (coded_templates (part_fields t v z.located) ps coded)))
-    by_sort ps (inl calm) coded h = calm_parts z.offset z.located.ordinal (coded_templates (part_fields t v z.located) ps coded) (code_calm t v z.located ps coded calm)
-    by_sort ps (inr alone) coded h =
+    by_sort ps (inl calm) some coded h = calm_parts z.offset z.located.ordinal (coded_templates (part_fields t v z.located) ps coded) (code_calm t v z.located ps coded calm)
+    by_sort ps (inr (inr parcel)) some coded h = parcel_parts ps parcel (some parcel) coded
+    by_sort ps (inr (inl alone)) some coded h =
         subst (λ qs. AreNumbered (map (part_of z.located.ordinal) (coded_templates (part_fields t v z.located) qs coded))
         → Goal (relocations_from number z.offset (map (part_of z.located.ordinal) (coded_templates (part_fields t v z.located) qs coded)))) (sym alone.is)
         (one_part (Open_part alone.kind alone.instruction) alone.kind alone.instruction refl alone.branching coded) h
@@ -244,6 +273,20 @@ module _ (t : Tables) (all : List Site) (number : Numbering) (symbols : List Sym
   pub record IsFine (z : Site) : Type 0 where
     pub uncut : IsUncut z
     pub sized : (m : Mnemonic) (os : List Operand) → z.located.kind ≡ Instruction m os → IsCode (form t z.located) z.located.options.rvc m os z.bytes z.coded z.instructions
+
+  -- its bytes
+  part_some : (named : Option Compressed) (c : Bool) (k : Kind) (i : Inst) (coded : List (List ℕ)) → AreCodedParts named c (Open_part k i ∷ []) coded → 0 < length (joined coded)
+  part_some named c k i [] h = absurd h
+  part_some named c k i (bytes ∷ b ∷ more) (h, none) = absurd none
+  part_some named c k i (bytes ∷ []) ((open_one, inl (four, is)), h) = let e : length (bytes ++ []) ≡ 4 = ap (λ l. length (l ++ [])) is in omega (arith, e)
+  part_some named c k i (bytes ∷ []) ((open_one, inr (two, (q, short, is))), h) = let e : length (bytes ++ []) ≡ 2 = ap (λ l. length (l ++ [])) is in omega (arith, e)
+
+  parcel_some : (z : Site) (m : Mnemonic) (os : List Operand) (c : IsCode (form t z.located) z.located.options.rvc m os z.bytes z.coded z.instructions) → IsParcelled m c.ps → 0 < z.bytes
+  parcel_some z m os c h =
+      let named = named_form (constants (form t z.located)) m os in
+      let compressed = z.located.options.rvc && are_closed c.ps in
+      let some : 0 < length (joined z.coded) = part_some named compressed h.kind h.instruction z.coded (subst (λ ps. AreCodedParts named compressed ps z.coded) h.is c.coded_as) in
+      let size = c.size in omega (arith, some, size)
 
   own : (z : Site) → In z zs → IsFine z → (kind : StatementKind) → z.located.kind ≡ kind → AreNumbered (map (part_of z.located.ordinal) (templates t z kind))
       → Goal (relocations_from number z.offset (map (part_of z.located.ordinal) (templates t z kind)))
@@ -256,13 +299,13 @@ module _ (t : Tables) (all : List Site) (number : Numbering) (symbols : List Sym
       let c = fine.sized m os e in
       subst (λ o. AreNumbered (map (part_of z.located.ordinal) (coded_templates (part_fields t (form t z.located) z.located) (unwrap_or o []) z.coded))
       → Goal (relocations_from number z.offset (map (part_of z.located.ordinal) (coded_templates (part_fields t (form t z.located) z.located) (unwrap_or o []) z.coded)))) (sym c.parts)
-      (by_sort z inside m os e c.ps (sorted (constants (form t z.located)) z.located.options.rvc z.bytes m os c.ps (λ call. fine.uncut (ap calls e ∙ call)) c.parts) z.coded) h
+      (by_sort z inside m os e c.ps (sorted (constants (form t z.located)) z.located.options.rvc z.bytes m os c.ps (λ call. fine.uncut (ap calls e ∙ call)) c.parts) (parcel_some z m os c) z.coded) h
 
   pub branches : (q : ℕ) (ys : List Site) → ((z : Site) → In z ys → In z zs) → Tile t q ys → AllByRecursion IsFine ys → AreNumbered (parts t ys) → Goal (relocations_from number q (parts t ys))
   branches q [] inside tile fine h = tt
   branches q (z ∷ ys) inside (off, bytes, tile) (one, fine) h =
       let both = split (λ p. AllByRecursion (IsNumbered t all number symbols) (references_in p)) (parts_of t z) (parts t ys) h in
       subst (λ l. Goal l) (ap (λ n. relocations_from number q (parts_of t z) ++ relocations_from number (q + n) (parts t ys)) bytes ∙ sym (relocations_join t number q (parts_of t z) (parts t ys)))
-      (join (λ r. is_short_branch r.kind ≡ true → IsBranchOf r) (relocations_from number q (parts_of t z)) (relocations_from number (q + z.bytes) (parts t ys))
+      (join (λ r. is_short_branch r.kind ≡ true → Sort r) (relocations_from number q (parts_of t z)) (relocations_from number (q + z.bytes) (parts t ys))
       (subst (λ n. Goal (relocations_from number n (parts_of t z))) off (own z (inside z (inl refl)) one z.located.kind refl both.0))
       (branches (q + z.bytes) ys (λ x i. inside x (inr i)) tile fine both.1))

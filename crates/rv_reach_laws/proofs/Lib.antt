@@ -8,4 +8,5 @@ pub mod BranchingLemmas
 pub mod FieldingLemmas
 pub mod NearsLemmas
 pub mod NearbyLemmas
+pub mod ParcelsLemmas
 pub mod BranchedLemmas

@@ -416,8 +416,8 @@ was_shortened sizes q h = by (is_shortened sizes q) refl h
     by true e k = e
     by false e k = e ∙ never (is_call q.kind) k
 
-abbrev Reaches_in : List Object → Placement → (before now : Relocation) → InputSection → Type 0
-Reaches_in left p before now i = is_short_call before.kind now.kind ≡ true → IsTaken left p i now
+abbrev Reaches_in : List Object → Placement → (before now : Relocation) → (of to : InputSection) → Type 0
+Reaches_in left p before now i j = is_short_call before.kind now.kind ≡ true → IsTaken left p j now
 
 same_reach : (os left : List Object) (p : Placement) → left ≡ os → ForEachLeft os left (Reaches_in left p)
 same_reach os left p same section place i j before now at_i at_j at_before at_now short =

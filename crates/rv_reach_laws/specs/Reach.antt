@@ -3,15 +3,17 @@
 -- largest (RISC-V ELF psABI, "Linker Relaxation", function call relaxation, and "Relocations"; ISA,
 -- "Conditional Branches", "Unconditional Jumps").
 
-use Rattle.std.specs.Prelude.{◌≡◌, ℕ, Bool, true, false, not, ◌&&◌, ◌||◌, List, map, Some}
-use Rattle.std.specs.List.{slice_get}
+use Rattle.std.specs.Prelude.{◌≡◌, ◌==◌, ℕ, ◌+◌, ◌-◌, nat_le, nat_lt, Bool, true, false, not, ◌&&◌, ◌||◌, List, map, Option, Some, None, option_and_then}
+use Rattle.std.specs.List.{slice_get, list_any}
 use Rattle.rv_isa.specs.declared.kind.Kind.{Kind}
 use Rattle.rv_isa.specs.declared.kind.Kind.TheVariants as kinds
 use Rattle.rv_map.specs.declared.map.SectionId.{SectionId}
 use Rattle.rv_statement.specs.Statement.{Statement}
 use Rattle.rv_object.specs.declared.object.Object.{Object as DeclaredObject}
+use Rattle.rv_object.specs.declared.row.Row.{Row}
 use Rattle.rv_object.specs.Object.{Relocation, Object}
 use Rattle.rv_object.specs.View.{object_of}
+use Rattle.rv_source_laws.specs.Compressed.{names_parcel}
 use Rattle.rv_object_laws.specs.Inputs.{InputSection, goes_to_text, inputs}
 use Rattle.rv_object_laws.specs.CallSites.{is_call}
 use Rattle.rv_object_laws.specs.Shortened.{Relaxes}
@@ -34,17 +36,40 @@ is_short_branch kinds.RvcBranch = true
 is_short_branch kinds.RvcJump = true
 is_short_branch _ = false
 
+-- the statement of a file that has an ordinal names a parcel: that is its one form, within reach or
+-- not
+abbrev pub is_named : List (List Statement) → (file ordinal : ℕ) → Bool
+is_named sources file ordinal =
+    elim (option_and_then (λ ss. slice_get ss (ordinal - 1)) (slice_get sources (file - 1))) [
+      | None ↦ false
+      | Some s ↦ names_parcel s.kind
+    ]
+
+-- a place of a section is in the bytes of a row
+abbrev pub is_in_row : (section place : ℕ) → Row → Bool
+is_in_row section place r =
+    (r.section == section) && nat_le r.offset place && nat_lt place (r.offset + r.bytes)
+
+-- a relocation is one of a statement that names a parcel
+abbrev pub is_of_parcel : List (List Statement) → InputSection → Relocation → Bool
+is_of_parcel sources i q =
+    list_any (λ r. is_in_row i.index q.place r && is_named sources i.file r.ordinal) i.object.rows
+
+-- a field has a form that was chosen because it reaches
+abbrev pub is_chosen_branch : List (List Statement) → InputSection → Relocation → Bool
+is_chosen_branch sources i q = is_short_branch q.kind && not (is_of_parcel sources i q)
+
 -- this holds of each relocation of the text, as it was before relaxation and as it is now, and of
--- the section that it is in now
+-- the sections that it was in and is in
 abbrev pub ForEachLeft : List Object → List Object →
-    ((before now : Relocation) → InputSection → Type 0) → Type 0
+    ((before now : Relocation) → (of to : InputSection) → Type 0) → Type 0
 ForEachLeft os left P =
     (section place : ℕ) (i j : InputSection) (before now : Relocation)
     → slice_get (inputs goes_to_text os) section ≡ Some i
     → slice_get (inputs goes_to_text left) section ≡ Some j
     → slice_get i.section.relocations place ≡ Some before
     → slice_get j.section.relocations place ≡ Some now
-    → P before now j
+    → P before now i j
 
 -- where what relaxation leaves of objects without some of their sections is placed, the field of
 -- each such call takes its value
@@ -55,9 +80,10 @@ ShortCallsReach =
     → Relaxes relax (without drops (map object_of objects)) left
     → IsTextStart start → IsPlacement left start p
     → ForEachLeft (without drops (map object_of objects)) left
-    (λ before now i. is_short_call before.kind now.kind ≡ true → IsTaken left p i now)
+    (λ before now i j. is_short_call before.kind now.kind ≡ true → IsTaken left p j now)
 
--- and so does the field of each branch and jump of sources that has a form below its largest
+-- and so does the field of each branch and jump of sources that has a form below its largest, unless
+-- its statement names it
 abbrev pub ShortBranchesReach : Type 0
 ShortBranchesReach =
     (sources : List (List Statement)) (objects : List DeclaredObject) (drops : List SectionId)
@@ -66,12 +92,14 @@ ShortBranchesReach =
     → Relaxes relax (without drops (map object_of objects)) left
     → IsTextStart start → IsPlacement left start p
     → ForEachLeft (without drops (map object_of objects)) left
-    (λ before now i. is_short_branch before.kind ≡ true → IsTaken left p i now)
+    (λ before now i j. is_chosen_branch sources i before ≡ true → IsTaken left p j now)
 
--- both, where what relaxation leaves of objects is placed: a build has no fault at such a field
-abbrev pub ShortFormsReach : List Object → List Object → ℕ → Type 0
-ShortFormsReach os left start =
+-- both, where what relaxation leaves of objects of sources is placed: a build has no fault at such a
+-- field
+abbrev pub ShortFormsReach : List (List Statement) → List Object → List Object → ℕ → Type 0
+ShortFormsReach sources os left start =
     (p : Placement) → IsPlacement left start p
     → ForEachLeft os left
-    (λ before now i. (is_short_call before.kind now.kind || is_short_branch before.kind) ≡ true
-    → IsTaken left p i now)
+    (λ before now i j.
+    (is_short_call before.kind now.kind || is_chosen_branch sources i before) ≡ true
+    → IsTaken left p j now)

@@ -1,19 +1,22 @@
 -- The code of calls, whole and shortened, and that no other statement has a call.
 
-use Rattle.std.proofs.Common.{◌≡◌, ℕ, ◌<◌, Bool, true, false, List, [], ◌∷◌, length, refl, sym, ap, subst, arith, pos, Some, None, ◌⊎◌, inl, inr}
+use Rattle.std.proofs.Common.{◌≡◌, ℕ, ◌<◌, Bool, true, false, List, [], ◌∷◌, length, refl, sym, ap, subst, arith, pos, Option, Some, None, ◌⊎◌, inl, inr}
 use Rattle.std.proofs.lemmas.Int.{ints}
 use Rattle.std.specs.Prelude.{⊤, ◌&&◌, ◌==◌, if◌then◌else◌}
 use Rattle.std.specs.List.{AllByRecursion}
 use Rattle.rv_isa.specs.declared.kind.Kind.{Kind}
 use Rattle.rv_isa.specs.declared.kind.Kind.TheVariants as kind
 use Rattle.rv_isa.specs.declared.operation.BranchOperation.{BranchOperation}
+use Rattle.rv_isa.specs.declared.operation.BranchOperation.TheVariants.{Beq, Bne}
 use Rattle.rv_isa.specs.Operations.{of_branch}
+use Rattle.rv_compress.specs.declared.form.Compressed.{Compressed}
 use Rattle.rv_compress.specs.declared.form.Compressed.TheVariants.{J as ShortJump}
+use Rattle.rv_compress.specs.declared.parcel.ParcelOperation.TheVariants as parcels
 use Rattle.rv_compress.specs.Parcel.{IsShortOf}
 use Rattle.rv_statement.specs.declared.mnemonic.Mnemonic.{Mnemonic}
-use Rattle.rv_statement.specs.declared.mnemonic.Mnemonic.TheVariants.{Registers, Branch, Jal, ZeroBranch, SwappedBranch, J, Call, Tail, Jump}
+use Rattle.rv_statement.specs.declared.mnemonic.Mnemonic.TheVariants.{Registers, Branch, Jal, ZeroBranch, SwappedBranch, J, Call, Tail, Jump, Parcel}
 use Rattle.rv_statement.specs.Statement.{Operand, Register, Target, Expression}
-use Rattle.rv_pseudo_laws.specs.Code.{Part, Closed, Open, Joined, Constants, b_type, jal, inverted, branch, jump, far, code}
+use Rattle.rv_pseudo_laws.specs.Code.{Part, Closed, Open, Joined, Constants, b_type, jal, inverted, branch, jump, far, named_form, code}
 use Rattle.rv_pseudo_laws.specs.Valid.{IsOpen}
 use Rattle.rv_object_laws.specs.CallSites as objects
 use Rattle.rv_object_laws.specs.Shortened.{empty_jump, short_call}
@@ -22,7 +25,7 @@ use Rattle.rv_source_laws.specs.Lines.{other_operand}
 use Rattle.rv_source_laws.specs.Sizes.{target_in}
 use Rattle.rv_source_laws.specs.Sized.{is_call}
 use Rattle.rv_source_laws.specs.Shortened.{link_register}
-use Rattle.rv_sources_link_laws.proofs.statements.QuietLemmas.{IsCalm, InCode, either_kind, quiet, zero_branches, swapped_branches}
+use Rattle.rv_sources_link_laws.proofs.statements.QuietLemmas.{IsCalm, InCode, either_kind, form_quiet, short_quiet, quiet, zero_branches, swapped_branches}
 
 -- ---- statements that are no calls
 
@@ -64,6 +67,10 @@ uncalled_code v rvc bytes Jal (Target x ∷ []) e = jump_quiet bytes 1
 uncalled_code v rvc bytes Jal os e = tt
 uncalled_code v rvc bytes J (Target x ∷ []) e = jump_quiet bytes 0
 uncalled_code v rvc bytes J os e = tt
+uncalled_code v rvc bytes (Parcel parcels.J) (Target x ∷ []) e = jump_quiet 2 0
+uncalled_code v rvc bytes (Parcel parcels.Beqz) (Register rs ∷ Target x ∷ []) e = short_quiet IsUncalled calm Beq rs (branch_quiet 2 Beq rs 0)
+uncalled_code v rvc bytes (Parcel parcels.Bnez) (Register rs ∷ Target x ∷ []) e = short_quiet IsUncalled calm Bne rs (branch_quiet 2 Bne rs 0)
+uncalled_code v rvc bytes (Parcel operation) os e = form_quiet IsUncalled calm (named_form v (Parcel operation) os)
 uncalled_code v rvc bytes Call os e = absurd (cc)
 uncalled_code v rvc bytes Tail os e = absurd (cc)
 uncalled_code v rvc bytes Jump os e = absurd (cc)
@@ -125,18 +132,18 @@ jump_open k (inr e) link low = subst (λ k. IsOpen k (jal link)) (sym e) ((low, 
 abbrev pub short_part : (size link : ℕ) → Part
 short_part size link = Open (if (link == 0) && (size == 2) then kind.RvcJump else kind.Jal) (jal link)
 
-pub short_coded : (c : Bool) (link size : ℕ) → link < 32 → (size ≡ 4) ⊎ ((size ≡ 2) × (link ≡ 0))
-    → IsCodedPart c (short_part size link) (short_call size link) × (length (short_call size link) ≡ size)
-short_coded c link size low (inl four) =
-    subst (λ n. IsCodedPart c (short_part n link) (short_call n link) × (length (short_call n link) ≡ n)) (sym four)
+pub short_coded : (named : Option Compressed) (c : Bool) (link size : ℕ) → link < 32 → (size ≡ 4) ⊎ ((size ≡ 2) × (link ≡ 0))
+    → IsCodedPart named c (short_part size link) (short_call size link) × (length (short_call size link) ≡ size)
+short_coded named c link size low (inl four) =
+    subst (λ n. IsCodedPart named c (short_part n link) (short_call n link) × (length (short_call n link) ≡ n)) (sym four)
     (go (link == 0), refl)
   where
-    go : (b : Bool) → IsCodedPart c (Open (if b && false then kind.RvcJump else kind.Jal) (jal link)) (short_call 4 link)
+    go : (b : Bool) → IsCodedPart named c (Open (if b && false then kind.RvcJump else kind.Jal) (jal link)) (short_call 4 link)
     go true = (jump_open kind.Jal (inl refl) link low, inl (refl, refl))
     go false = (jump_open kind.Jal (inl refl) link low, inl (refl, refl))
-short_coded c link size low (inr (two, none)) =
-    subst (λ n. IsCodedPart c (short_part n link) (short_call n link) × (length (short_call n link) ≡ n)) (sym two)
-    (subst (λ l. IsCodedPart c (short_part 2 l) (short_call 2 l) × (length (short_call 2 l) ≡ 2)) (sym none)
+short_coded named c link size low (inr (two, none)) =
+    subst (λ n. IsCodedPart named c (short_part n link) (short_call n link) × (length (short_call n link) ≡ n)) (sym two)
+    (subst (λ l. IsCodedPart named c (short_part 2 l) (short_call 2 l) × (length (short_call 2 l) ≡ 2)) (sym none)
     ((jump_open kind.RvcJump (inr refl) 0 (omega arith), inr (refl, (empty_jump, jump_short, refl))), refl))
 
 -- which a call of that size is

@@ -1,6 +1,6 @@
 -- The walk over a section of code whose calls are cut.
 
-use Rattle.std.proofs.Common.{◌≡◌, ℕ, ◌+◌, ◌-◌, ◌≤◌, ◌<◌, Bool, true, false, List, [], ◌∷◌, ◌++◌, length, length-append, map, take, drop, refl, sym, ap, ◌∙◌, subst, arith, ◌⊎◌, inl, inr}
+use Rattle.std.proofs.Common.{◌≡◌, ℕ, ◌+◌, ◌-◌, ◌≤◌, ◌<◌, Bool, true, false, List, [], ◌∷◌, ◌++◌, length, length-append, map, take, drop, refl, sym, ap, ◌∙◌, subst, arith, ◌⊎◌, None, inl, inr}
 use Rattle.std.proofs.lemmas.List.{append-nil}
 use Rattle.std.proofs.lemmas.Bool.{le-leb}
 use Rattle.std.proofs.lemmas.List.Sums.{sum_by-cons}
@@ -94,7 +94,7 @@ module _ (t : Tables) (number : Numbering) (sizes : Sizes) (multiple : ℕ) wher
       go (inr (e, none)) = (omega (arith, e), omega (arith, e), ap operations_in e)
 
   text_long : (z : Site) (h : Cut z) → length (short_call (sizes z.offset) (link_of z.located.kind)) ≡ sizes z.offset
-  text_long z h = ap (λ k. length (short_call (sizes z.offset) (link_of k))) h.is_kind ∙ (short_coded false (link_register h.m h.os) (sizes z.offset) h.long.link_low h.short).1
+  text_long z h = ap (λ k. length (short_call (sizes z.offset) (link_of k))) h.is_kind ∙ (short_coded None false (link_register h.m h.os) (sizes z.offset) h.long.link_low h.short).1
 
   -- ---- the walk
 
@@ -299,7 +299,7 @@ module _ (t : Tables) (number : Numbering) (sizes : Sizes) (multiple : ℕ) wher
 
     part_long : (z : Site) (h : Cut z) → length (flat_map part_bytes (short_part z h ∷ [])) ≡ sizes z.offset
     part_long z h =
-        ap length (append-nil (short_call (sizes z.offset) (link_register h.m h.os))) ∙ (short_coded false (link_register h.m h.os) (sizes z.offset) h.long.link_low h.short).1
+        ap length (append-nil (short_call (sizes z.offset) (link_register h.m h.os))) ∙ (short_coded None false (link_register h.m h.os) (sizes z.offset) h.long.link_low h.short).1
 
     next_still : (o gone b : ℕ) → gone ≤ o → o + b - gone ≡ (o - gone) + b
     next_still o gone b low = omega (arith, low)

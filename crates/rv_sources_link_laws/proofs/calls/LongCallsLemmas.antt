@@ -12,7 +12,7 @@ use Rattle.rv_text_laws.specs.Expression.{Primary}
 use Rattle.rv_text_laws.specs.Values.{Value, Meaning, Symbolic}
 use Rattle.rv_statement.specs.declared.mnemonic.Mnemonic.{Mnemonic}
 use Rattle.rv_statement.specs.Statement.{Instruction, Operand, Target, Expression}
-use Rattle.rv_pseudo_laws.specs.Code.{Part as CodePart, Joined, auipc, jalr, code}
+use Rattle.rv_pseudo_laws.specs.Code.{Part as CodePart, Joined, auipc, jalr, named_form, code}
 use Rattle.rv_pseudo_laws.specs.Filled.{are_closed}
 use Rattle.rv_compress.specs.Encoded.{IsEncodedIn}
 use Rattle.rv_unit_laws.specs.Tables.{Tables}
@@ -69,7 +69,7 @@ module _ (t : Tables) (z : Site) (multiple : ℕ) (m : Mnemonic) (os : List Oper
 
   -- of a statement without faults
   pub long_call : HasSize v z multiple (Instruction m os) → z.bytes ≡ 8 → IsSound t z.located → IsLongCall t z m os
-  long_call c eight sound = go z.coded refl (subst (λ ps. AreCodedParts (rvc && are_closed c.ps) ps z.coded) parts_are c.coded_as)
+  long_call c eight sound = go z.coded refl (subst (λ ps. AreCodedParts (named_form (constants v) m os) (rvc && are_closed c.ps) ps z.coded) parts_are c.coded_as)
     where
       g : IsCalled (constants v) rvc m os
       g = called (constants v) rvc z.bytes m os c.ps call c.parts
@@ -86,7 +86,7 @@ module _ (t : Tables) (z : Site) (multiple : ℕ) (m : Mnemonic) (os : List Oper
           other_fault (worths v (is_label t z.located.ordinal)) m os (Target g.to) g.operand
           (none_left (scratch_faults m os) _ (none_of_its_own (has_operands_row (constants v) m os) (own_faults (worths v (is_label t z.located.ordinal)) m os) all)).1
 
-      go : (coded : List (List ℕ)) → z.coded ≡ coded → AreCodedParts (rvc && are_closed c.ps) (Joined kind.CallPlt (auipc g.by) (jalr link g.by (pos 0)) ∷ []) coded → IsLongCall t z m os
+      go : (coded : List (List ℕ)) → z.coded ≡ coded → AreCodedParts (named_form (constants v) m os) (rvc && are_closed c.ps) (Joined kind.CallPlt (auipc g.by) (jalr link g.by (pos 0)) ∷ []) coded → IsLongCall t z m os
       go [] e h = absurd h
       go (bytes ∷ x ∷ coded) e (h, hs) = absurd hs
       go (bytes ∷ []) e ((open_upper, open_lower, (first, (second, a, b, w))), hs) =
@@ -155,7 +155,7 @@ module _ (t : Tables) (z : Site) (multiple : ℕ) (m : Mnemonic) (os : List Oper
 
       pub sized : (n : ℕ) → HasSize v (cut_to n) multiple (Instruction m os)
       sized n =
-          let both = short_coded (rvc && false) link size h.link_low short in
+          let both = short_coded (named_form (constants v) m os) (rvc && false) link size h.link_low short in
           record {
             ps = short_part size link ∷ [];
             parts = codes_short;

@@ -10,14 +10,15 @@ use Rattle.rv_text_laws.specs.Expression.{Here}
 use Rattle.rv_text_laws.specs.Values.{Value, Constant, Symbolic, Difference, Faulty}
 use Rattle.rv_statement.specs.declared.mnemonic.Mnemonic.{Mnemonic}
 use Rattle.rv_statement.specs.Statement.{StatementKind, Label, Numbered, Instruction, Directs, Expression, Operand}
-use Rattle.rv_pseudo_laws.specs.Code.{Part as CodePart, Closed, Open as OpenPart, Joined}
+use Rattle.rv_compress.specs.declared.form.Compressed.{Compressed}
+use Rattle.rv_pseudo_laws.specs.Code.{Part as CodePart, Closed, Open as OpenPart, Joined, named_form}
 use Rattle.rv_unit_laws.specs.Contributions.{Numbers, Texts, Contribution, Nothing, Bytes, Zero_bytes, Alignment, contribution}
 use Rattle.rv_unit_laws.specs.Tables.{Tables}
 use Rattle.rv_source_laws.specs.Lines.{operand_of, other_operand}
 use Rattle.rv_source_laws.specs.Located.{Located}
 use Rattle.rv_source_laws.specs.Program.{Program, tables_in}
 use Rattle.rv_source_laws.specs.Collected.{means, value_refers, operand_refers, contribution_refers, statement_refers}
-use Rattle.rv_assemble_laws.specs.Coded.{AreCodedParts}
+use Rattle.rv_assemble_laws.specs.Coded.{constants, AreCodedParts}
 use Rattle.rv_assemble_laws.specs.CodeFields.{part_fields}
 use Rattle.rv_assemble_laws.specs.Templates.{Open as Field, Template, Datum, template_fields, value_fields, padding_templates, contribution_templates}
 use Rattle.rv_assemble_laws.specs.Sites.{Site, Part, form, part_of, coded_templates, templates, HasSize}
@@ -40,12 +41,12 @@ module _ (p : Program) (T : SectionId) (f : ℕ) where
   parts_are n (x ∷ xs) = ap (λ b. list_any test (template_fields n x) || b) (parts_are n xs)
 
   -- code
-  coded_are : (n : ℕ) (c : Bool) (own : CodePart → List Field) (ps : List CodePart) (coded : List (List ℕ)) → AreCodedParts c ps coded
+  coded_are : (n : ℕ) (named : Option Compressed) (c : Bool) (own : CodePart → List Field) (ps : List CodePart) (coded : List (List ℕ)) → AreCodedParts named c ps coded
       → in_templates n (coded_templates own ps coded) ≡ list_any test (flat_map own ps)
-  coded_are n c own [] [] h = refl
-  coded_are n c own [] (x ∷ xs) h = refl
-  coded_are n c own (q ∷ ps) [] h = absurd h
-  coded_are n c own (q ∷ ps) (x ∷ xs) (h, hs) = ap (λ b. list_any test (own q) || b) (coded_are n c own ps xs hs) ∙ sym (list_any-append test (own q) (flat_map own ps))
+  coded_are n named c own [] [] h = refl
+  coded_are n named c own [] (x ∷ xs) h = refl
+  coded_are n named c own (q ∷ ps) [] h = absurd h
+  coded_are n named c own (q ∷ ps) (x ∷ xs) (h, hs) = ap (λ b. list_any test (own q) || b) (coded_are n named c own ps xs hs) ∙ sym (list_any-append test (own q) (flat_map own ps))
 
   module _ (l : Located) where
     abbrev s : Located
@@ -100,7 +101,7 @@ module _ (p : Program) (T : SectionId) (f : ℕ) where
         → in_templates z.located.ordinal (templates (tables_in p f) z (Instruction m ops)) ≡ list_any (operand_refers p T it) ops
     code_is m ops e h =
         ap (λ o. in_templates z.located.ordinal (coded_templates (part_fields (tables_in p f) v z.located) (unwrap_or o []) z.coded)) h.parts
-        ∙ coded_are z.located.ordinal _ (part_fields (tables_in p f) v z.located) h.ps z.coded h.coded_as
+        ∙ coded_are z.located.ordinal (named_form (constants v) m ops) _ (part_fields (tables_in p f) v z.located) h.ps z.coded h.coded_as
         ∙ ap (list_any test) (own_same (other_operand ops) (ap operand_of e) h.ps)
         ∙ subst (Row p T it z.located.options.relax no_self ops) h.parts (rows_same p T it z.located.options.relax no_self z.located.options.rvc z.bytes m ops)
 

@@ -13,11 +13,18 @@ use Rattle.rv_isa.specs.declared.operation.BranchOperation.TheVariants.{Beq, Bne
 use Rattle.rv_isa.specs.Operations.{of_immediate, of_shift, of_upper, of_load, of_store, of_branch}
 use Rattle.rv_isa_laws.specs.Arithmetic.{wrapped}
 use Rattle.rv_isa_laws.specs.Halves.{hi, lo}
+use Rattle.rv_compress.specs.declared.form.Compressed.{Compressed}
+use Rattle.rv_compress.specs.declared.parcel.ParcelOperation.{ParcelOperation}
+use Rattle.rv_compress.specs.declared.parcel.ParcelOperation.TheVariants as parcels
+use Rattle.rv_compress.specs.declared.parcel.OperandShape.{OperandShape}
+use Rattle.rv_compress.specs.declared.parcel.OperandShape.TheVariants as shapes
+use Rattle.rv_compress.specs.declared.parcel.RegisterSet.TheVariants.{Short}
+use Rattle.rv_compress.specs.Mnemonics.{is_in as is_one_of, shape_of, form_of}
 use Rattle.rv_map.specs.declared.map.SectionId.{SectionId}
 use Rattle.rv_text_laws.specs.Expression.{Primary, Here}
 use Rattle.rv_text_laws.specs.Values.{Value as AnyValue, Constant, Symbolic, Difference, Faulty}
 use Rattle.rv_statement.specs.declared.mnemonic.Mnemonic.{Mnemonic}
-use Rattle.rv_statement.specs.declared.mnemonic.Mnemonic.TheVariants.{Registers, Immediate, Shift, Upper, Load, Store, Branch, Jal, Jalr, LoadReserved, Atomic, Fence, FenceTso, Ecall, Ebreak, Nop, Unary, Compare, ZeroBranch, SwappedBranch, J, Jr, Ret, La, Li, Call, Tail, Jump}
+use Rattle.rv_statement.specs.declared.mnemonic.Mnemonic.TheVariants.{Registers, Immediate, Shift, Upper, Load, Store, Branch, Jal, Jalr, LoadReserved, Atomic, Fence, FenceTso, Ecall, Ebreak, Nop, Unary, Compare, ZeroBranch, SwappedBranch, J, Jr, Ret, La, Li, Call, Tail, Jump, Parcel}
 use Rattle.rv_statement.specs.declared.pseudo.ZeroBranchOperation.{ZeroBranchOperation}
 use Rattle.rv_statement.specs.declared.pseudo.ZeroBranchOperation.TheVariants.{Beqz, Bnez, Bgez, Bltz, Blez, Bgtz}
 use Rattle.rv_statement.specs.declared.pseudo.SwappedBranchOperation.{SwappedBranchOperation}
@@ -26,7 +33,7 @@ use Rattle.rv_statement.specs.declared.pseudo.Function.TheVariants.{Hi, Lo, Pcre
 use Rattle.rv_statement.specs.Statement.{Operand, Register, Value, Applied, Target, Accesses, Expression}
 use Rattle.rv_parse_laws.specs.Syntax.{with_constant}
 use Rattle.rv_pseudo_laws.specs.Li.{addi, li}
-use Rattle.rv_pseudo_laws.specs.Code.{Part, Closed, Open, Joined, i_type, s_type, b_type, u_type, shift_by, jalr, jal, auipc, unary, inverted, branch, jump, near, far, through, zero_branch, swapped_branch, by_number, by_part, signed_12, upper_20, number_of, by_amount, by_constant, code}
+use Rattle.rv_pseudo_laws.specs.Code.{Part, Closed, Open, Joined, i_type, s_type, b_type, u_type, shift_by, jalr, jal, auipc, unary, inverted, branch, jump, near, far, through, zero_branch, swapped_branch, by_number, by_part, signed_12, upper_20, number_of, by_amount, by_constant, by_form, parcel_form, short_branch, code}
 use Rattle.rv_unit_laws.specs.Tables.{Tables, Definition, definition, sure_definition}
 use Rattle.rv_source_laws.specs.Lines.{constant_of, other_operand}
 use Rattle.rv_source_laws.specs.Located.{Located}
@@ -36,6 +43,7 @@ use Rattle.rv_source_laws.specs.Collected.{home_at, is_in, means, means_own, add
 use Rattle.rv_assemble_laws.specs.Coded.{constants}
 use Rattle.rv_assemble_laws.specs.Templates.{Open as Field}
 use Rattle.rv_assemble_laws.specs.CodeFields.{symbol_field, low_field, low_field_at, label_field, field_of, relax_fields}
+use Rattle.rv_sources_link_laws.proofs.statements.QuietLemmas.{formed}
 
 -- what a name at a statement of a file means stands in a section
 abbrev pub names : Program → SectionId → (file ordinal : ℕ) → Option Primary → Bool
@@ -240,6 +248,23 @@ module _ (p : Program) (T : SectionId) (s : Located) (relax : Bool) (no_self : n
       go (Some k) same = closed_none (Some (Applied Lo e)) (li rd (lo k)) ∙ sym (constant_none (v e) k same)
   li_same rd _ = tt
 
+  form_none : (o : Operand) (f : Option Compressed) → operand_refers p T s o ≡ false → Same (Some o) (formed f)
+  form_none o None none = tt
+  form_none o (Some form) none = sym none
+
+  form_same : (make : ℤ → Option Compressed) (o : Operand) → Same (Some o) (formed (by_form make (number_of (constants v) o)))
+  form_same make (Value e) = go (constant_of (v e)) refl
+    where
+      go : (c : Option ℤ) → constant_of (v e) ≡ c → Same (Some (Value e)) (formed (by_form make c))
+      go None same = tt
+      go (Some k) same = form_none (Value e) (make k) (constant_none (v e) k same)
+  form_same make (Applied Lo e) = go (constant_of (v e)) refl
+    where
+      go : (c : Option ℤ) → constant_of (v e) ≡ c → Same (Some (Applied Lo e)) (formed (by_form make (option_map lo c)))
+      go None same = tt
+      go (Some k) same = form_none (Applied Lo e) (make (lo k)) (constant_none (v e) k same)
+  form_same make _ = tt
+
   -- ---- all rows
 
   -- the parts of an operand list's code name what its operands name
@@ -258,6 +283,32 @@ module _ (p : Program) (T : SectionId) (s : Located) (relax : Bool) (no_self : n
   jr_row (Value e) rs = row (Value e ∷ Register rs ∷ []) (Value e) refl refl (signed_12 (constants v) false (jalr 0 rs) (Value e)) (signed_same false (jalr 0 rs) (Value e))
   jr_row (Applied f e) rs = row (Applied f e ∷ Register rs ∷ []) (Applied f e) refl refl (signed_12 (constants v) false (jalr 0 rs) (Applied f e)) (signed_same false (jalr 0 rs) (Applied f e))
   jr_row _ rs = tt
+
+  -- a parcel names nothing, or its target
+  bare_row : (os : List Operand) (f : Option Compressed) → list_any (operand_refers p T s) os ≡ false → Row os (formed f)
+  bare_row os None none = tt
+  bare_row os (Some form) none = sym none
+
+  parcel_row : (operation : ParcelOperation) (shape : OperandShape) (os : List Operand) → Row os (formed (parcel_form (constants v) operation shape os))
+  parcel_row operation shapes.Registers [] = bare_row [] (form_of operation [] (pos 0)) refl
+  parcel_row operation shapes.Registers (Register a ∷ []) = bare_row (Register a ∷ []) (form_of operation (a ∷ []) (pos 0)) refl
+  parcel_row operation shapes.Registers (Register a ∷ Register b ∷ []) = bare_row (Register a ∷ Register b ∷ []) (form_of operation (a ∷ b ∷ []) (pos 0)) refl
+  parcel_row operation shapes.Number (Register a ∷ Register b ∷ Register o ∷ []) = tt
+  parcel_row operation shapes.Number (Register a ∷ Register b ∷ o ∷ []) = row (Register a ∷ Register b ∷ o ∷ []) o refl refl (formed (by_form (form_of operation (a ∷ b ∷ [])) (number_of (constants v) o))) (form_same (form_of operation (a ∷ b ∷ [])) o)
+  parcel_row operation shapes.Number (Register a ∷ Register o ∷ []) = tt
+  parcel_row operation shapes.Number (Register a ∷ o ∷ []) = row (Register a ∷ o ∷ []) o refl refl (formed (by_form (form_of operation (a ∷ [])) (number_of (constants v) o))) (form_same (form_of operation (a ∷ [])) o)
+  parcel_row operation shapes.Address (Register a ∷ Register b ∷ []) = bare_row (Register a ∷ Register b ∷ []) (form_of operation (a ∷ b ∷ []) (pos 0)) refl
+  parcel_row operation shapes.Address (Register a ∷ Register o ∷ Register b ∷ []) = tt
+  parcel_row operation shapes.Address (Register a ∷ o ∷ Register b ∷ []) = row (Register a ∷ o ∷ Register b ∷ []) o refl refl (formed (by_form (form_of operation (a ∷ b ∷ [])) (number_of (constants v) o))) (form_same (form_of operation (a ∷ b ∷ [])) o)
+  parcel_row operation shape os = tt
+
+  short_row : (operation : BranchOperation) (rs : ℕ) (e : Expression) → Row (Register rs ∷ Target e ∷ []) (short_branch operation rs)
+  short_row operation rs e =
+      row (Register rs ∷ Target e ∷ []) (Target e) refl refl (short_branch operation rs) (go (is_one_of Short rs))
+    where
+      go : (t : Bool) → Same (Some (Target e)) (if t then Some (branch 2 operation rs 0) else None)
+      go true = branch_same 2 operation rs 0 e
+      go false = tt
 
   pub rows_same : (rvc : Bool) (bytes : ℕ) (mnemonic : Mnemonic) (operands : List Operand) → Row operands (code (constants v) rvc bytes mnemonic operands)
   rows_same rvc bytes (Registers operation) (Register rd ∷ Register rs1 ∷ Register rs2 ∷ []) = refl
@@ -308,4 +359,8 @@ module _ (p : Program) (T : SectionId) (s : Located) (relax : Bool) (no_self : n
   rows_same rvc bytes Call (Target e ∷ []) = row (Target e ∷ []) (Target e) refl refl (code (constants v) rvc bytes Call (Target e ∷ [])) (far_same bytes 1 1 e)
   rows_same rvc bytes Tail (Target e ∷ []) = row (Target e ∷ []) (Target e) refl refl (code (constants v) rvc bytes Tail (Target e ∷ [])) (far_same bytes 0 6 e)
   rows_same rvc bytes Jump (Target e ∷ Register rt ∷ []) = row (Target e ∷ Register rt ∷ []) (Target e) refl refl (code (constants v) rvc bytes Jump (Target e ∷ Register rt ∷ [])) (through_same (Some (Target e)) rt (far bytes 0 rt) (far_same bytes 0 rt e))
+  rows_same rvc bytes (Parcel parcels.J) (Target e ∷ []) = row (Target e ∷ []) (Target e) refl refl (code (constants v) rvc bytes (Parcel parcels.J) (Target e ∷ [])) (jump_same 2 0 e)
+  rows_same rvc bytes (Parcel parcels.Beqz) (Register rs ∷ Target e ∷ []) = short_row Beq rs e
+  rows_same rvc bytes (Parcel parcels.Bnez) (Register rs ∷ Target e ∷ []) = short_row Bne rs e
+  rows_same rvc bytes (Parcel operation) operands = parcel_row operation (shape_of operation) operands
   rows_same rvc bytes mnemonic operands = tt

@@ -16,7 +16,7 @@ use Rattle.rv_text_laws.specs.Values.{Meaning, Value, Symbolic, add}
 use Rattle.rv_statement.specs.declared.mnemonic.Mnemonic.{Mnemonic}
 use Rattle.rv_statement.specs.declared.pseudo.Function.TheVariants.{Hi, Lo, PcrelHi, PcrelLo}
 use Rattle.rv_statement.specs.Statement.{Instruction, Operand, Register, Value as Of_value, Applied, Target, Accesses, Word, Quoted, Expression}
-use Rattle.rv_pseudo_laws.specs.Code.{Part as CodePart, Closed, Open as Open_part, Joined}
+use Rattle.rv_pseudo_laws.specs.Code.{Part as CodePart, Closed, Open as Open_part, Joined, named_form}
 use Rattle.rv_pseudo_laws.specs.Filled.{FieldValue, are_closed}
 use Rattle.rv_unit_laws.specs.Sections.{Section as SourceSection}
 use Rattle.rv_unit_laws.specs.Tables.{Tables, Definition, definition, Labelled, label_of, first_definition, labelled_definition}
@@ -294,10 +294,10 @@ module _ (p : Program) (os : List Object) (starts : Starts) (file : ℕ) (sites 
 
       first : (q : CodePart) (rest : List CodePart) → c.ps ≡ q ∷ rest → IsFirst q
       first q rest ps_are =
-          go z.coded (subst (λ ps. AreCodedParts (z.located.options.rvc && are_closed c.ps) ps z.coded) ps_are c.coded_as)
+          go z.coded (subst (λ ps. AreCodedParts (named_form (constants (form (tables_in p file) z.located)) mnemonic os') (z.located.options.rvc && are_closed c.ps) ps z.coded) ps_are c.coded_as)
           (ap (λ ps. map (part_of ordinal) (coded_templates fields ps z.coded)) ps_are)
         where
-          go : (coded : List (List ℕ)) → AreCodedParts (z.located.options.rvc && are_closed c.ps) (q ∷ rest) coded
+          go : (coded : List (List ℕ)) → AreCodedParts (named_form (constants (form (tables_in p file) z.located)) mnemonic os') (z.located.options.rvc && are_closed c.ps) (q ∷ rest) coded
               → map (part_of ordinal) (coded_templates fields c.ps z.coded) ≡ map (part_of ordinal) (coded_templates fields (q ∷ rest) coded) → IsFirst q
           go [] a are_same = absurd a
           go (bytes ∷ coded) a are_same = record {
@@ -375,7 +375,7 @@ module _ (p : Program) (os : List Object) (starts : Starts) (file : ℕ) (sites 
         )
 
         -- one of its parts has the field
-        far_known : (ps : List CodePart) (coded : List (List ℕ)) → AreCodedParts (z.located.options.rvc && are_closed c.ps) ps coded → AllByRecursion IsFar ps → are_closed ps ≡ false
+        far_known : (ps : List CodePart) (coded : List (List ℕ)) → AreCodedParts (named_form (constants (form (tables_in p file) z.located)) mnemonic os') (z.located.options.rvc && are_closed c.ps) ps coded → AllByRecursion IsFar ps → are_closed ps ≡ false
             → AllByRecursion (Known p os starts file sites number o sections low are settled all_worths whole plain address index section x is at none loaded relocated) (map (part_of ordinal) (coded_templates fields ps coded)) → is_some (value_in_map p s ex) ≡ true
         far_known [] coded a h' open_one k = absurd (cc)
         far_known (q' ∷ ps) [] a h' open_one k = absurd a

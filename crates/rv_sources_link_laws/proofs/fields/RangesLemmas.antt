@@ -1,6 +1,6 @@
 -- The relocations of statements of code lie within them.
 
-use Rattle.std.proofs.Common.{◌≡◌, ℕ, zero, suc, ◌+◌, ◌%◌, ◌≤◌, ◌<◌, Bool, true, false, List, [], ◌∷◌, ◌++◌, length, length-append, map, refl, sym, ap, ◌∙◌, subst, arith, ◌⊎◌, inl, inr}
+use Rattle.std.proofs.Common.{◌≡◌, ℕ, zero, suc, ◌+◌, ◌%◌, ◌≤◌, ◌<◌, Bool, true, false, Option, List, [], ◌∷◌, ◌++◌, length, length-append, map, refl, sym, ap, ◌∙◌, subst, arith, ◌⊎◌, inl, inr}
 use Rattle.std.specs.Prelude.{⊤, ◌&&◌, flat_map, unwrap_or}
 use Rattle.std.specs.List.{AllByRecursion}
 use Rattle.rv_isa.specs.declared.kind.Kind.{Kind}
@@ -15,6 +15,7 @@ use Rattle.rv_unit_laws.specs.Tables.{Tables}
 use Rattle.rv_source_laws.proofs.HeldLemmas.{IsHeld}
 use Rattle.rv_object.specs.Object.{Relocation}
 use Rattle.rv_object.specs.Padding.{no_operations}
+use Rattle.rv_compress.specs.declared.form.Compressed.{Compressed}
 use Rattle.rv_assemble_laws.specs.Coded.{IsCodedPart, AreCodedParts}
 use Rattle.rv_assemble_laws.specs.Templates.{Template, Fixed, Datum, Coded, Open, template_fields, padding_templates}
 use Rattle.rv_assemble_laws.specs.Sites.{Site, form, part_of, part_bytes, coded_templates, HasSize}
@@ -81,9 +82,9 @@ module _ (number : Numbering) where
 
 -- ---- code
 
-part_solid : (t : Tables) (v : Expression → Value) (z : Site) (c : Bool) (p : CodePart) (bytes : List ℕ) → IsCodedPart c p bytes → IsSolid (Coded bytes (part_fields t v z.located p))
-part_solid t v z c (Closed i) bytes h = tt
-part_solid t v z c (Open_part k i) bytes h =
+part_solid : (t : Tables) (v : Expression → Value) (z : Site) (named : Option Compressed) (c : Bool) (p : CodePart) (bytes : List ℕ) → IsCodedPart named c p bytes → IsSolid (Coded bytes (part_fields t v z.located p))
+part_solid t v z named c (Closed i) bytes h = tt
+part_solid t v z named c (Open_part k i) bytes h =
     part_kinds (λ k. (width_of k ≤ length bytes) × (0 < length bytes)) t v z.located (Open_part k i)
     (λ q j e. (let same : k ≡ q = cc in subst (λ x. (width_of x ≤ length bytes) × (0 < length bytes)) same
     ((let wide = width_of k in let l : length bytes ≡ wide = long in let f : wide ≤ length bytes = omega (arith, l) in f), some (encoded_two_or_four i (width_of k) bytes h.1))))
@@ -95,7 +96,7 @@ part_solid t v z c (Open_part k i) bytes h =
     some : (width_of k ≡ 2) ⊎ (width_of k ≡ 4) → 0 < length bytes
     some (inl e) = omega (arith, long, e)
     some (inr e) = omega (arith, long, e)
-part_solid t v z c (Joined k i j) bytes (fits, also, (first, (second, x, y, is))) =
+part_solid t v z named c (Joined k i j) bytes (fits, also, (first, (second, x, y, is))) =
     let long : length bytes ≡ 8 = joined_long i j bytes first second x y is in
     part_kinds (λ k. (width_of k ≤ length bytes) × (0 < length bytes)) t v z.located (Joined k i j)
     (λ q j e. absurd (cc)) (λ q i j e. (let w = width_low q in (omega (arith, long, w), omega (arith, long)))) (omega arith, omega (arith, long))
@@ -104,11 +105,11 @@ part_solid t v z c (Joined k i j) bytes (fits, also, (first, (second, x, y, is))
     width_low kinds.None = omega arith
     width_low k = omega arith
 
-coded_solid : (t : Tables) (v : Expression → Value) (z : Site) (c : Bool) (ps : List CodePart) (coded : List (List ℕ)) → AreCodedParts c ps coded
+coded_solid : (t : Tables) (v : Expression → Value) (z : Site) (named : Option Compressed) (c : Bool) (ps : List CodePart) (coded : List (List ℕ)) → AreCodedParts named c ps coded
     → AllByRecursion IsSolid (coded_templates (part_fields t v z.located) ps coded)
-coded_solid t v z c [] coded h = tt
-coded_solid t v z c (p ∷ ps) [] h = tt
-coded_solid t v z c (p ∷ ps) (bytes ∷ coded) (h, hs) = (part_solid t v z c p bytes h, coded_solid t v z c ps coded hs)
+coded_solid t v z named c [] coded h = tt
+coded_solid t v z named c (p ∷ ps) [] h = tt
+coded_solid t v z named c (p ∷ ps) (bytes ∷ coded) (h, hs) = (part_solid t v z named c p bytes h, coded_solid t v z named c ps coded hs)
 
 padding_solid : (b : Bool) (ordinal bytes : ℕ) → bytes % 2 ≡ 0 → AllByRecursion IsSolid (padding_templates b ordinal bytes)
 padding_solid true ordinal zero even = tt
@@ -126,7 +127,7 @@ module _ (t : Tables) (section : SourceSection) (multiple : ℕ) (z : Site) (cod
   solid (Numbered number) held size even = tt
   solid (Instruction m os) held size even =
       subst (λ o. AllByRecursion IsSolid (coded_templates (part_fields t (form t z.located) z.located) (unwrap_or o []) z.coded)) (sym size.parts)
-      (coded_solid t (form t z.located) z (z.located.options.rvc && are_closed size.ps) size.ps z.coded size.coded_as)
+      (coded_solid t (form t z.located) z _ (z.located.options.rvc && are_closed size.ps) size.ps z.coded size.coded_as)
   solid (Directs (Values width es)) held size even = no_data held.0
   solid (Directs (Strings ended strings)) held size even = no_data held.0
   solid (Directs (Zeros count)) held size even = no_data held

@@ -13,7 +13,7 @@ use Rattle.rv_text_laws.specs.Values.{Meaning, Value, Constant, Symbolic, Differ
 use Rattle.rv_statement.specs.declared.mnemonic.Mnemonic.{Mnemonic}
 use Rattle.rv_statement.specs.declared.pseudo.Function.TheVariants.{Hi, Lo, PcrelHi, PcrelLo}
 use Rattle.rv_statement.specs.Statement.{StatementKind, Label, Numbered, Instruction, Directs, Operand, Register, Value as Of_value, Applied, Target, Accesses, Word, Quoted, Expression}
-use Rattle.rv_pseudo_laws.specs.Code.{Part as CodePart, Closed, Open as Open_part, Joined}
+use Rattle.rv_pseudo_laws.specs.Code.{Part as CodePart, Closed, Open as Open_part, Joined, named_form}
 use Rattle.rv_pseudo_laws.specs.Filled.{are_closed}
 use Rattle.rv_unit_laws.specs.Contributions.{contribution}
 use Rattle.rv_unit_laws.specs.Sections.{Section as SourceSection}
@@ -259,7 +259,7 @@ module _ (p : Program) (os : List Object) (starts : Starts) (file : ℕ) (sites 
 
           count : 0 < z.bytes
           count =
-              let few = (all_few (z.located.options.rvc && are_closed c.ps) c.ps z.coded c.coded_as).0 in
+              let few = (all_few _ (z.located.options.rvc && are_closed c.ps) c.ps z.coded c.coded_as).0 in
               let size = c.size in
               let one : instructions_in c.ps ≡ 1 + instructions_in rest = ap instructions_in ps_are ∙ sum_by-cons part_instructions (Open_part kind.PcrelHi20 i) rest in
               omega (arith, few, size, one)
@@ -268,7 +268,7 @@ module _ (p : Program) (os : List Object) (starts : Starts) (file : ℕ) (sites 
           shows = ap (λ b. b && z.located.home.loaded) (h.inside.instructed mnemonic os' e) ∙ ap (λ y. y.loaded) h.inside.home ∙ loaded
 
           upper_code : HasUpper z
-          upper_code = go z.coded refl (subst (λ ps. AreCodedParts (z.located.options.rvc && are_closed c.ps) ps z.coded) ps_are c.coded_as)
+          upper_code = go z.coded refl (subst (λ ps. AreCodedParts (named_form (constants (v z)) mnemonic os') (z.located.options.rvc && are_closed c.ps) ps z.coded) ps_are c.coded_as)
             where
               by_bytes : (bytes : List ℕ) (coded : List (List ℕ)) → z.coded ≡ bytes ∷ coded → HasUpper z
               by_bytes bytes coded f =
@@ -294,7 +294,7 @@ module _ (p : Program) (os : List Object) (starts : Starts) (file : ℕ) (sites 
                     shown = shows;
                   }
 
-              go : (coded : List (List ℕ)) → z.coded ≡ coded → AreCodedParts (z.located.options.rvc && are_closed c.ps) (Open_part kind.PcrelHi20 i ∷ rest) coded → HasUpper z
+              go : (coded : List (List ℕ)) → z.coded ≡ coded → AreCodedParts (named_form (constants (v z)) mnemonic os') (z.located.options.rvc && are_closed c.ps) (Open_part kind.PcrelHi20 i ∷ rest) coded → HasUpper z
               go [] f a = absurd a
               go (bytes ∷ coded) f a = by_bytes bytes coded f
 

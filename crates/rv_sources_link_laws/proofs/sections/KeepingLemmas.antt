@@ -14,7 +14,7 @@ use Rattle.rv_unit_laws.specs.Sections.{Section as SourceSection}
 use Rattle.rv_unit_laws.specs.Tables.{Tables, Definition, Assignment, tables, at_start, definition, assigned_ever, opened_of, alignment_of, longest_section}
 use Rattle.rv_pseudo_laws.specs.Code.{Part as CodePart, Closed, Open as Open_part, Joined, code}
 use Rattle.rv_source_laws.specs.Located.{Located, located_from, without_address, masked}
-use Rattle.rv_source_laws.specs.Compressed.{is_code, is_compressed_code}
+use Rattle.rv_source_laws.specs.Compressed.{is_code, names_parcel, is_compressed_code}
 use Rattle.rv_source_laws.specs.Sizes.{AreLeast}
 use Rattle.rv_source_laws.specs.Exports.{names_where}
 use Rattle.rv_source_laws.proofs.LeftLemmas.{text_left}
@@ -305,7 +305,7 @@ module _ (dropped : ℕ → Bool) where
       go false e false l ih = ih
 
   flag_same : (b : Bool) (l : Located) → is_compressed_code (record l { home = without_address b l.home }) ≡ is_compressed_code l
-  flag_same b l = ap (λ x. l.options.rvc && is_code x l.kind) (executable_stays b l.home)
+  flag_same b l = ap (λ x. (l.options.rvc || names_parcel l.kind) && is_code x l.kind) (executable_stays b l.home)
 
   flags_same : (zs : List Site) → list_any (λ s. is_compressed_code s.located) (mask_all zs) ≡ list_any (λ s. is_compressed_code s.located) zs
   flags_same [] = refl

@@ -7,19 +7,24 @@ use Rattle.rv_isa.specs.declared.kind.Kind.{Kind}
 use Rattle.rv_isa.specs.declared.kind.Kind.TheVariants as kind
 use Rattle.rv_isa.specs.declared.instruction.Inst.{Inst}
 use Rattle.rv_isa.specs.declared.operation.BranchOperation.{BranchOperation}
+use Rattle.rv_isa.specs.declared.operation.BranchOperation.TheVariants.{Beq, Bne}
 use Rattle.rv_isa.specs.declared.operation.UpperOperation.{UpperOperation}
 use Rattle.rv_isa.specs.Operations.{of_immediate, of_shift, of_upper, of_load, of_store, of_branch}
 use Rattle.rv_isa_laws.specs.Arithmetic.{wrapped}
 use Rattle.rv_isa_laws.specs.Halves.{hi, lo}
+use Rattle.rv_compress.specs.declared.form.Compressed.{Compressed}
+use Rattle.rv_compress.specs.declared.parcel.ParcelOperation.TheVariants as parcels
+use Rattle.rv_compress.specs.declared.parcel.RegisterSet.TheVariants.{Short}
+use Rattle.rv_compress.specs.Mnemonics.{is_in}
 use Rattle.rv_statement.specs.declared.mnemonic.Mnemonic.{Mnemonic}
-use Rattle.rv_statement.specs.declared.mnemonic.Mnemonic.TheVariants.{Registers, Immediate, Shift, Upper, Load, Store, Branch, Jal, Jalr, LoadReserved, Atomic, Fence, FenceTso, Ecall, Ebreak, Nop, Unary, Compare, ZeroBranch, SwappedBranch, J, Jr, Ret, La, Li, Call, Tail, Jump}
+use Rattle.rv_statement.specs.declared.mnemonic.Mnemonic.TheVariants.{Registers, Immediate, Shift, Upper, Load, Store, Branch, Jal, Jalr, LoadReserved, Atomic, Fence, FenceTso, Ecall, Ebreak, Nop, Unary, Compare, ZeroBranch, SwappedBranch, J, Jr, Ret, La, Li, Call, Tail, Jump, Parcel}
 use Rattle.rv_statement.specs.declared.pseudo.Function.TheVariants.{Hi, Lo, PcrelHi, PcrelLo}
 use Rattle.rv_statement.specs.Statement.{Instruction, Operand, Register, Value, Applied, Target, Accesses}
 use Rattle.rv_parse_laws.specs.Syntax.{with_constant}
 use Rattle.rv_pseudo_laws.specs.Li.{li}
-use Rattle.rv_pseudo_laws.specs.Code.{Part, Closed, Open, Joined, Constants, i_type, s_type, b_type, u_type, shift_by, jalr, jal, auipc, unary, inverted, branch, jump, near, far, by_number, by_part, signed_12, upper_20, number_of, by_constant, code}
+use Rattle.rv_pseudo_laws.specs.Code.{Part, Closed, Open, Joined, Constants, i_type, s_type, b_type, u_type, shift_by, jalr, jal, auipc, unary, inverted, branch, jump, near, far, by_number, by_part, signed_12, upper_20, number_of, by_constant, named_form, code}
 use Rattle.rv_source_laws.specs.Lines.{takes_upper}
-use Rattle.rv_sources_link_laws.proofs.statements.QuietLemmas.{zero_branches, swapped_branches}
+use Rattle.rv_sources_link_laws.proofs.statements.QuietLemmas.{formed, zero_branches, swapped_branches}
 
 -- the upper part of a distance
 abbrev pub is_upper_part : Part → Bool
@@ -100,6 +105,14 @@ unless : (t b : Bool) (o : Option (List Part)) → Have b o → Have b (if t the
 unless true b o h = tt
 unless false b o h = h
 
+when : (t b : Bool) (ps : List Part) → list_any is_upper_part ps ≡ b → Have b (if t then Some ps else None)
+when true b ps h = h
+when false b ps h = tt
+
+none_formed : (f : Option Compressed) → Have false (formed f)
+none_formed None = tt
+none_formed (Some form) = refl
+
 -- ---- all rows
 
 rows : (v : Constants) (rvc : Bool) (bytes : ℕ) (mnemonic : Mnemonic) (os : List Operand) → Have (takes_upper (Instruction mnemonic os)) (code v rvc bytes mnemonic os)
@@ -146,6 +159,10 @@ rows v rvc bytes Call (Register rd ∷ Target e ∷ []) = unless (rd == 0) false
 rows v rvc bytes Call (Target e ∷ []) = none_far bytes 1 1
 rows v rvc bytes Tail (Target e ∷ []) = none_far bytes 0 6
 rows v rvc bytes Jump (Target e ∷ Register rt ∷ []) = unless (rt == 0) false (Some (far bytes 0 rt)) (none_far bytes 0 rt)
+rows v rvc bytes (Parcel parcels.J) (Target e ∷ []) = none_jump 2 0
+rows v rvc bytes (Parcel parcels.Beqz) (Register rs ∷ Target e ∷ []) = when (is_in Short rs) false (branch 2 Beq rs 0) (none_branch 2 Beq rs 0)
+rows v rvc bytes (Parcel parcels.Bnez) (Register rs ∷ Target e ∷ []) = when (is_in Short rs) false (branch 2 Bne rs 0) (none_branch 2 Bne rs 0)
+rows v rvc bytes (Parcel operation) os = none_formed (named_form v (Parcel operation) os)
 rows v rvc bytes mnemonic os = tt
 
 pub begins_upper : (v : Constants) (rvc : Bool) (bytes : ℕ) (mnemonic : Mnemonic) (os : List Operand) (ps : List Part)

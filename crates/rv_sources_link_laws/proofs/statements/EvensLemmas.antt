@@ -32,7 +32,7 @@ pub even_by : (s : Site) (section : SourceSection) (multiple : ℕ) (v : Express
 even_by s section multiple v (Label name) held code home size = none_even s.bytes size.0
 even_by s section multiple v (Numbered number) held code home size = none_even s.bytes size.0
 even_by s section multiple v (Instruction mnemonic operands) held code home size =
-    ap (λ n. n % 2) size.size ∙ (all_few (s.located.options.rvc && are_closed size.ps) size.ps s.coded size.coded_as).2
+    ap (λ n. n % 2) size.size ∙ (all_few _ (s.located.options.rvc && are_closed size.ps) size.ps s.coded size.coded_as).2
 even_by s section multiple v (Directs (Values width es)) held code home size = let e : true ≡ false = sym code ∙ held.0 in absurd (cc)
 even_by s section multiple v (Directs (Strings ended strings)) held code home size = let e : true ≡ false = sym code ∙ held.0 in absurd (cc)
 even_by s section multiple v (Directs (Zeros count)) held code home size = let e : true ≡ false = sym code ∙ held in absurd (cc)

@@ -13,7 +13,8 @@ use Rattle.rv_isa.specs.Operations.{format_of}
 use Rattle.rv_text_laws.specs.Values.{Value, Constant, Symbolic, Difference, Faulty}
 use Rattle.rv_statement.specs.declared.pseudo.Function.TheVariants.{Hi, Lo, PcrelHi, PcrelLo}
 use Rattle.rv_statement.specs.Statement.{StatementKind, Label, Numbered, Instruction, Directs, Expression, Operand, Register, Value as Of_value, Applied, Target, Accesses, Word, Quoted}
-use Rattle.rv_pseudo_laws.specs.Code.{Part as CodePart, Closed, Open as Open_part, Joined}
+use Rattle.rv_compress.specs.declared.form.Compressed.{Compressed}
+use Rattle.rv_pseudo_laws.specs.Code.{Part as CodePart, Closed, Open as Open_part, Joined, named_form}
 use Rattle.rv_pseudo_laws.specs.Filled.{are_closed}
 use Rattle.rv_pseudo_laws.specs.Valid.{fills}
 use Rattle.rv_unit_laws.specs.Contributions.{Numbers, Texts, Contribution, Nothing, Bytes, Zero_bytes, Alignment, contribution}
@@ -23,7 +24,7 @@ use Rattle.rv_source_laws.specs.Lines.{operand_of, is_low_part}
 use Rattle.rv_object.specs.Valid.{is_align}
 use Rattle.rv_assemble_laws.specs.CodeFields.{symbol_field, low_field_at, label_field, field_of, relax_fields}
 use Rattle.rv_sources_link_laws.proofs.statements.MarkedLemmas.{is_marked, part_fields, marked_all}
-use Rattle.rv_assemble_laws.specs.Coded.{IsCodedPart, AreCodedParts}
+use Rattle.rv_assemble_laws.specs.Coded.{constants, IsCodedPart, AreCodedParts}
 use Rattle.rv_assemble_laws.specs.Templates.{Template, Fixed, Datum, Coded, Open}
 use Rattle.rv_assemble_laws.specs.Sites.{Site, form, coded_templates}
 use Rattle.rv_sources_link_laws.proofs.statements.SettledLemmas.{IsBare}
@@ -128,21 +129,21 @@ module _ (P : Template → Type 0) (fixed : (bytes : List ℕ) → P (Fixed byte
   directed b v (Alignment as_form number) bytes = padded b bytes
 
   module _ (t : Tables) (z : Site) (multiple : ℕ)
-      (part : (c : Bool) (p : CodePart) (bytes : List ℕ) → IsCodedPart c p bytes → P (Coded bytes (part_fields t (form t z.located) z.located p))) where
+      (part : (named : Option Compressed) (c : Bool) (p : CodePart) (bytes : List ℕ) → IsCodedPart named c p bytes → P (Coded bytes (part_fields t (form t z.located) z.located p))) where
     abbrev fields : CodePart → List Open
     fields p = part_fields t (form t z.located) z.located p
 
-    coded_each : (c : Bool) (ps : List CodePart) (coded : List (List ℕ)) → AreCodedParts c ps coded → AllByRecursion P (coded_templates fields ps coded)
-    coded_each c [] coded h = tt
-    coded_each c (p ∷ ps) [] h = tt
-    coded_each c (p ∷ ps) (bytes ∷ coded) (h, hs) = (part c p bytes h, coded_each c ps coded hs)
+    coded_each : (named : Option Compressed) (c : Bool) (ps : List CodePart) (coded : List (List ℕ)) → AreCodedParts named c ps coded → AllByRecursion P (coded_templates fields ps coded)
+    coded_each named c [] coded h = tt
+    coded_each named c (p ∷ ps) [] h = tt
+    coded_each named c (p ∷ ps) (bytes ∷ coded) (h, hs) = (part named c p bytes h, coded_each named c ps coded hs)
 
     pub sized_each : (kind : StatementKind) → HasShrunkSize (form t z.located) z multiple kind → AllByRecursion P (shrunk_templates t z kind)
     sized_each (Label name) h = tt
     sized_each (Numbered number) h = tt
     sized_each (Instruction mnemonic operands) h =
         subst (λ o. AllByRecursion P (coded_templates fields (unwrap_or o []) z.coded)) (sym h.parts)
-        (coded_each (z.located.options.rvc && are_closed h.ps) h.ps z.coded h.coded_as)
+        (coded_each (named_form (constants (form t z.located)) mnemonic operands) (z.located.options.rvc && are_closed h.ps) h.ps z.coded h.coded_as)
     sized_each (Directs d) h = directed z.located.home.executable (form t z.located) (contribution d) z.bytes
 
     pub each_template : IsBare z.located → (z.located.placed ≡ true → HasShrunkSize (form t z.located) z multiple z.located.kind) → AllByRecursion P (shrunk_templates t z z.located.kind)
@@ -158,15 +159,15 @@ width_low : (k : Kind) → width_of k ≤ 8
 width_low kind.None = omega arith
 width_low k = omega arith
 
-room_part : (t : Tables) (v : Expression → Value) (s : Located) (c : Bool) (p : CodePart) (bytes : List ℕ) → IsCodedPart c p bytes → HasRoom (Coded bytes (part_fields t v s p))
-room_part t v s c (Closed i) bytes h = tt
-room_part t v s c (Open_part k i) bytes h =
+room_part : (t : Tables) (v : Expression → Value) (s : Located) (named : Option Compressed) (c : Bool) (p : CodePart) (bytes : List ℕ) → IsCodedPart named c p bytes → HasRoom (Coded bytes (part_fields t v s p))
+room_part t v s named c (Closed i) bytes h = tt
+room_part t v s named c (Open_part k i) bytes h =
     let own = by_kind (λ k. width_of k ≤ length bytes) k (field_of t v s.ordinal (operand_of s.kind) k)
     (let long : length bytes ≡ width_of k = encoded_long i (width_of k) bytes h.1 in omega (arith, long)) (field_kind t v s.ordinal (operand_of s.kind) k) in
     marked_all (λ (f : Open). width_of f.kind ≤ length bytes) (is_marked k s) s (field_of t v s.ordinal (operand_of s.kind) k) own
     (joined_all (λ (f : Open). width_of f.kind ≤ length bytes) (field_of t v s.ordinal (operand_of s.kind) k) (relax_fields s.options.relax s.ordinal) own
     (relaxing (λ k. width_of k ≤ length bytes) s.options.relax s.ordinal (omega arith)))
-room_part t v s c (Joined k i j) bytes (fits, also, (first, (second, x, y, is))) =
+room_part t v s named c (Joined k i j) bytes (fits, also, (first, (second, x, y, is))) =
     let long : length bytes ≡ 8 = joined_long i j bytes first second x y is in
     let low = width_low k in
     joined_all (λ (f : Open). width_of f.kind ≤ length bytes) (field_of t v s.ordinal (operand_of s.kind) k) (relax_fields s.options.relax s.ordinal)
@@ -182,14 +183,14 @@ IsPlain (Fixed bytes) = ⊤
 IsPlain (Datum width v) = ⊤
 IsPlain (Coded bytes fields) = AllByRecursion (λ (f : Open). is_align f.kind ≡ false) fields
 
-pub plain_part : (t : Tables) (v : Expression → Value) (s : Located) (c : Bool) (p : CodePart) (bytes : List ℕ) → IsCodedPart c p bytes → IsPlain (Coded bytes (part_fields t v s p))
-plain_part t v s c (Closed i) bytes h = tt
-plain_part t v s c (Open_part k i) bytes h =
+pub plain_part : (t : Tables) (v : Expression → Value) (s : Located) (named : Option Compressed) (c : Bool) (p : CodePart) (bytes : List ℕ) → IsCodedPart named c p bytes → IsPlain (Coded bytes (part_fields t v s p))
+plain_part t v s named c (Closed i) bytes h = tt
+plain_part t v s named c (Open_part k i) bytes h =
     let own = by_kind (λ k. is_align k ≡ false) k (field_of t v s.ordinal (operand_of s.kind) k) (fills_plain (format_of i) k h.0.1) (field_kind t v s.ordinal (operand_of s.kind) k) in
     marked_all (λ (f : Open). is_align f.kind ≡ false) (is_marked k s) s (field_of t v s.ordinal (operand_of s.kind) k) own
     (joined_all (λ (f : Open). is_align f.kind ≡ false) (field_of t v s.ordinal (operand_of s.kind) k) (relax_fields s.options.relax s.ordinal) own
     (relaxing (λ k. is_align k ≡ false) s.options.relax s.ordinal refl))
-plain_part t v s c (Joined k i j) bytes (fits, also, rest) =
+plain_part t v s named c (Joined k i j) bytes (fits, also, rest) =
     joined_all (λ (f : Open). is_align f.kind ≡ false) (field_of t v s.ordinal (operand_of s.kind) k) (relax_fields s.options.relax s.ordinal)
     (by_kind (λ k. is_align k ≡ false) k (field_of t v s.ordinal (operand_of s.kind) k) (fills_plain (format_of i) k fits.1) (field_kind t v s.ordinal (operand_of s.kind) k))
     (relaxing (λ k. is_align k ≡ false) s.options.relax s.ordinal refl)

@@ -12,16 +12,20 @@ use Rattle.rv_layout_laws.specs.Alignment.{aligned}
 use Rattle.rv_isa_laws.specs.Bytes.{little_endian}
 use Rattle.rv_text_laws.specs.Expression.{Primary}
 use Rattle.rv_text_laws.specs.Values.{Value, Constant, Symbolic, Difference, Faulty}
+use Rattle.rv_compress.specs.declared.form.Compressed.{Compressed}
+use Rattle.rv_compress.specs.declared.parcel.ParcelOperation.TheVariants as parcels
+use Rattle.rv_compress.specs.Parcel.{expansion as meant}
 use Rattle.rv_statement.specs.declared.mnemonic.Mnemonic.{Mnemonic}
-use Rattle.rv_statement.specs.Statement.{StatementKind, Label, Numbered, Instruction, Directs, Expression, Operand, Directive, Sets, Aligns_to_power, Aligns_to_bytes, Values, Strings, Zeros}
-use Rattle.rv_pseudo_laws.specs.Code.{Part, code}
+use Rattle.rv_statement.specs.declared.mnemonic.Mnemonic.TheVariants.{Registers, Parcel}
+use Rattle.rv_statement.specs.Statement.{StatementKind, Label, Numbered, Instruction, Directs, Expression, Operand, Register, Target, Directive, Sets, Aligns_to_power, Aligns_to_bytes, Values, Strings, Zeros}
+use Rattle.rv_pseudo_laws.specs.Code.{Part, Closed, Constants, named_form, code}
 use Rattle.rv_pseudo_laws.specs.Filled.{FieldValue, filled, are_closed, AreTaken}
 use Rattle.rv_unit_laws.specs.Options.{Options}
 use Rattle.rv_unit_laws.specs.Sections.{Section}
 use Rattle.rv_unit_laws.specs.Tables.{alignment_of, padding}
 use Rattle.rv_map.specs.declared.map.Row.{Row}
 use Rattle.rv_source_laws.specs.Program.{Mapped, Program, form, address, resolved, number, has_values, expressions}
-use Rattle.rv_source_laws.specs.Lines.{Line, parts, padding_parts, field_value, expansion, other_operand}
+use Rattle.rv_source_laws.specs.Lines.{Line, parts, form_at, padding_parts, field_value, expansion, other_operand}
 use Rattle.rv_source_laws.specs.Fits.{SizeFits, CodeFits, IsRowOf, IsPaddingIn, IsPaired}
 use Rattle.rv_chain_laws.specs.Contents.{HasSizes, IsWritten}
 use Rattle.rv_assemble_laws.specs.Coded.{is_constant, constants, AreCodedParts, IsCode}
@@ -30,6 +34,7 @@ use Rattle.rv_sources_link_laws.proofs.statements.CodingLemmas.{coded_bytes, Are
 use Rattle.rv_source_laws.specs.Fits.{is_low}
 use Rattle.rv_source_laws.proofs.HeldLemmas.{IsHeld, DirectiveHeld}
 use Rattle.rv_object.specs.Padding.{no_operations}
+use Rattle.rv_sources_link_laws.proofs.statements.QuietLemmas.{formed}
 use Rattle.rv_sources_link_laws.proofs.statements.NopsLemmas.{padding_row, padding_lines, padding_said, padding_lies, padding_sized, padding_encoded}
 use Rattle.rv_sources_link_laws.proofs.statements.SuitsLemmas.{IsMultiple, SuitsPadding, SuitsDirective, Suits, directive_said, code_said}
 
@@ -87,11 +92,30 @@ true_false false e f = absurd (cc)
 
 -- ---- lines
 
-none_sized : (rvc : Bool) (says : StatementKind) → HasSizes rvc [] says []
-none_sized rvc (Label name) = tt
-none_sized rvc (Numbered digits) = tt
-none_sized rvc (Instruction m os) = tt
-none_sized rvc (Directs d) = tt
+-- where a form is named all is closed, and where a field is open nothing is compressed
+closed_or_unnamed : (named : Option Compressed) (closed rvc : Bool) → ((x : Compressed) → named ≡ Some x → closed ≡ true) → (closed ≡ true) ⊎ ((named ≡ None) × ((rvc && closed) ≡ false))
+closed_or_unnamed (Some x) closed rvc h = inl (h x refl)
+closed_or_unnamed None true rvc h = inl refl
+closed_or_unnamed None false true h = inr (refl, refl)
+closed_or_unnamed None false false h = inr (refl, refl)
+
+formed_closed : (o : Option Compressed) (ps : List Part) → formed o ≡ Some ps → are_closed ps ≡ true
+formed_closed None ps e = absurd (cc)
+formed_closed (Some form) ps e = let same : Closed (meant form) ∷ [] ≡ ps = cc in subst (λ q. are_closed q ≡ true) same refl
+
+named_closed : (v : Constants) (rvc : Bool) (bytes : ℕ) (m : Mnemonic) (os : List Operand) (x : Compressed) (ps : List Part) → named_form v m os ≡ Some x → code v rvc bytes m os ≡ Some ps → are_closed ps ≡ true
+named_closed v rvc bytes (Parcel parcels.J) (Target t ∷ []) x ps e f = absurd (cc)
+named_closed v rvc bytes (Parcel parcels.Beqz) (Register rs ∷ Target t ∷ []) x ps e f = absurd (cc)
+named_closed v rvc bytes (Parcel parcels.Bnez) (Register rs ∷ Target t ∷ []) x ps e f = absurd (cc)
+named_closed v rvc bytes (Parcel operation) os x ps e f = formed_closed (named_form v (Parcel operation) os) ps f
+named_closed v rvc bytes (Registers operation) os x ps e f = absurd (cc)
+named_closed v rvc bytes m os x ps e f = absurd (cc)
+
+none_sized : (named : Option Compressed) (rvc : Bool) (says : StatementKind) → HasSizes named rvc [] says []
+none_sized named rvc (Label name) = tt
+none_sized named rvc (Numbered digits) = tt
+none_sized named rvc (Instruction m os) = tt
+none_sized named rvc (Directs d) = tt
 
 -- a statement without instructions
 nothing_written : (p : Program) (s : Mapped) → parts p s ≡ Some [] → expansion p s ≡ Some [] → s.row.bytes ≡ 0 → IsWritten p s []
@@ -100,7 +124,7 @@ nothing_written p s is none bytes = record {
   are_parts = is;
   lines = [];
   are_lines = (none, (let e : s.row.address ≡ s.row.address + s.row.bytes = omega (arith, bytes) in e));
-  sizes = none_sized s.located.options.rvc s.located.kind;
+  sizes = none_sized (form_at p s) s.located.options.rvc s.located.kind;
   encoded = refl;
 }
 
@@ -130,7 +154,7 @@ module _ (p : Program) (file ordinal section offset line : ℕ) (options : Optio
 
   abbrev pub IsFilled : StatementKind → Type 0
   IsFilled (Instruction m os) =
-      (ps : List Part) → code (constants f) options.rvc row.bytes m os ≡ Some ps → AreCodedParts (options.rvc && are_closed ps) ps coded → IsFilledCode m os ps
+      (ps : List Part) → code (constants f) options.rvc row.bytes m os ≡ Some ps → AreCodedParts (named_form (constants f) m os) (options.rvc && are_closed ps) ps coded → IsFilledCode m os ps
   IsFilled says = ⊤
 
   module _ (m : Mnemonic) (os : List Operand) (h : IsCode f options.rvc m os row.bytes coded row.instructions) (k : IsFilledCode m os h.ps) where
@@ -143,6 +167,9 @@ module _ (p : Program) (file ordinal section offset line : ℕ) (options : Optio
     abbrev ps : List Part
     ps = h.ps
 
+    abbrev named : Option Compressed
+    named = named_form (constants f) m os
+
     abbrev compressed : Bool
     compressed = options.rvc && are_closed ps
 
@@ -150,45 +177,36 @@ module _ (p : Program) (file ordinal section offset line : ℕ) (options : Optio
     lines = lines_of v fields value row.address ps coded
 
     -- where a field is open nothing is compressed
-    closed_or_not : (are_closed ps ≡ true) ⊎ (compressed ≡ false)
-    closed_or_not = go (are_closed ps) options.rvc
-      where
-        go : (b c : Bool) → (b ≡ true) ⊎ ((c && b) ≡ false)
-        go true c = inl refl
-        go false true = inr refl
-        go false false = inr refl
+    closed_or_not : (are_closed ps ≡ true) ⊎ ((named ≡ None) × (compressed ≡ false))
+    closed_or_not = closed_or_unnamed named (are_closed ps) options.rvc (λ x e. named_closed (constants f) options.rvc row.bytes m os x ps e h.parts)
 
-    open_whole : are_closed ps ≡ false → compressed ≡ false
-    open_whole e = ap (λ b. options.rvc && b) e ∙ go options.rvc
-      where
-        go : (c : Bool) → (c && false) ≡ false
-        go true = refl
-        go false = refl
+    open_whole : are_closed ps ≡ false → (named ≡ None) × (compressed ≡ false)
+    open_whole e = elim closed_or_not [ inl closed ↦ true_false (are_closed ps) closed e | inr w ↦ w ]
 
     say : filled value row.address ps ≡ map (λ l. l.instruction) lines
     say = go closed_or_not
       where
-        go : (are_closed ps ≡ true) ⊎ (compressed ≡ false) → filled value row.address ps ≡ map (λ l. l.instruction) lines
-        go (inl e) = closed_say v fields value row.address row.address compressed ps coded h.coded_as e
-        go (inr e) = lines_say v fields value row.address compressed ps coded h.coded_as before k.filled_parts e
+        go : (are_closed ps ≡ true) ⊎ ((named ≡ None) × (compressed ≡ false)) → filled value row.address ps ≡ map (λ l. l.instruction) lines
+        go (inl e) = closed_say v fields value row.address row.address named compressed ps coded h.coded_as e
+        go (inr e) = lines_say v fields value row.address named compressed ps coded h.coded_as before k.filled_parts e
 
     taken : AreTaken value row.address ps
     taken = go closed_or_not
       where
-        go : (are_closed ps ≡ true) ⊎ (compressed ≡ false) → AreTaken value row.address ps
+        go : (are_closed ps ≡ true) ⊎ ((named ≡ None) × (compressed ≡ false)) → AreTaken value row.address ps
         go (inl e) = closed_taken v fields value row.address ps e
-        go (inr e) = lines_taken v fields value before row.address compressed ps coded h.coded_as k.filled_parts e
+        go (inr e) = lines_taken v fields value before row.address named compressed ps coded h.coded_as k.filled_parts e
 
     instructions_are : expansion p s ≡ Some (map (λ l. l.instruction) lines)
     instructions_are = expansion_is s ps k.valued h.parts ∙ ap (λ l. Some l) say
 
     row_fits : IsRowOf (Some (map (λ l. l.instruction) lines)) row
     row_fits =
-        let few = all_few compressed ps coded h.coded_as in
+        let few = all_few named compressed ps coded h.coded_as in
         let size = h.size in
         let count = h.count in (
-          lines_valid v fields value before row.address compressed ps coded h.coded_as k.filled_parts,
-          count ∙ lines_counted v fields value row.address compressed ps coded h.coded_as,
+          lines_valid v fields value before row.address named compressed ps coded h.coded_as k.filled_parts,
+          count ∙ lines_counted v fields value row.address named compressed ps coded h.coded_as,
           omega (arith, few.0, size, count),
           omega (arith, few.1, size, count),
           ap (λ n. n % 2) size ∙ few.2,
@@ -201,7 +219,7 @@ module _ (p : Program) (file ordinal section offset line : ℕ) (options : Optio
           paired = k.is_paired;
           taken = taken;
           row = subst (λ o. IsRowOf o row) (sym instructions_are) row_fits;
-          whole = λ e. h.size ∙ lines_whole v fields value before row.address compressed ps coded h.coded_as k.filled_parts (open_whole e);
+          whole = λ e. h.size ∙ lines_whole v fields value before row.address named compressed ps coded h.coded_as k.filled_parts (open_whole e);
         })
 
     instruction_written : IsWritten p s (coded_bytes v fields before ps coded)
@@ -209,9 +227,9 @@ module _ (p : Program) (file ordinal section offset line : ℕ) (options : Optio
       ps = ps;
       are_parts = h.parts;
       lines = lines;
-      are_lines = (instructions_are, lines_lie v fields value row.address (row.address + row.bytes) compressed ps coded h.coded_as (ap (λ n. row.address + n) (sym h.size)));
-      sizes = lines_sized v fields value row.address compressed ps coded h.coded_as closed_or_not;
-      encoded = lines_encoded v fields value before row.address compressed ps coded h.coded_as k.filled_parts;
+      are_lines = (instructions_are, lines_lie v fields value row.address (row.address + row.bytes) named compressed ps coded h.coded_as (ap (λ n. row.address + n) (sym h.size)));
+      sizes = lines_sized v fields value row.address named compressed ps coded h.coded_as closed_or_not;
+      encoded = lines_encoded v fields value before row.address named compressed ps coded h.coded_as k.filled_parts closed_or_not;
     }
 
   valued_alone : (e : Expression) (d : Directive) → expressions (Directs d) ≡ e ∷ [] → is_constant (f e) ≡ true → has_values p (at (Directs d)) ≡ true

@@ -1,6 +1,6 @@
 -- A padding in code is instructions without effect, of four bytes each and of two at its end.
 
-use Rattle.std.proofs.Common.{◌≡◌, ℕ, zero, suc, ◌+◌, ◌*◌, ◌/◌, ◌%◌, Bool, true, false, List, [], ◌∷◌, ◌++◌, length, length-append, map, refl, sym, ap, ◌∙◌, subst, arith, Some, pos, inl, inr, lit<}
+use Rattle.std.proofs.Common.{◌≡◌, ℕ, zero, suc, ◌+◌, ◌*◌, ◌/◌, ◌%◌, Bool, true, false, List, [], ◌∷◌, ◌++◌, length, length-append, map, refl, sym, ap, ◌∙◌, subst, arith, Some, pos, inl, inr, lit<, None}
 use Rattle.std.proofs.lemmas.List.{length-replicate}
 use Rattle.std.proofs.lemmas.Int.{ints}
 use Rattle.std.proofs.lemmas.Bool.{leb-true, leb-false}
@@ -82,12 +82,12 @@ sized_by address (suc (suc n)) b = (refl, sized_by (address + 4) (suc n) b)
 pub padding_sized : (address bytes : ℕ) → ArePadding (padding_lines address bytes)
 padding_sized address bytes = sized_by address (bytes / 4) (nat_le 2 (bytes % 4))
 
-encoded_by : (address n : ℕ) (b : Bool) → AreEncoded (lines_by address n b) (four_each n ++ (if b then 0x01 ∷ 0 ∷ [] else []))
+encoded_by : (address n : ℕ) (b : Bool) → AreEncoded None (lines_by address n b) (four_each n ++ (if b then 0x01 ∷ 0 ∷ [] else []))
 encoded_by address zero true = (1 ∷ 0 ∷ [], ([], refl, in_two, refl))
 encoded_by address zero false = refl
 encoded_by address (suc n) b = (0x13 ∷ 0 ∷ 0 ∷ 0 ∷ [], (four_each n ++ (if b then 0x01 ∷ 0 ∷ [] else []), refl, in_four, encoded_by (address + 4) n b))
 
-pub padding_encoded : (address bytes : ℕ) → AreEncoded (padding_lines address bytes) (no_operations bytes)
+pub padding_encoded : (address bytes : ℕ) → AreEncoded None (padding_lines address bytes) (no_operations bytes)
 padding_encoded address bytes = encoded_by address (bytes / 4) (nat_le 2 (bytes % 4))
 
 -- ---- instructions

@@ -13,7 +13,11 @@ use Rattle.rv_isa.specs.Operations.{of_immediate, of_shift, of_upper, of_load, o
 use Rattle.rv_isa_laws.specs.Arithmetic.{wrapped}
 use Rattle.rv_isa_laws.specs.Halves.{hi, lo}
 use Rattle.rv_statement.specs.declared.mnemonic.Mnemonic.{Mnemonic}
-use Rattle.rv_statement.specs.declared.mnemonic.Mnemonic.TheVariants.{Registers, Immediate, Shift, Upper, Load, Store, Branch, Jal, Jalr, LoadReserved, Atomic, Fence, FenceTso, Ecall, Ebreak, Nop, Unary, Compare, ZeroBranch, SwappedBranch, J, Jr, Ret, La, Li, Call, Tail, Jump}
+use Rattle.rv_statement.specs.declared.mnemonic.Mnemonic.TheVariants.{Registers, Immediate, Shift, Upper, Load, Store, Branch, Jal, Jalr, LoadReserved, Atomic, Fence, FenceTso, Ecall, Ebreak, Nop, Unary, Compare, ZeroBranch, SwappedBranch, J, Jr, Ret, La, Li, Call, Tail, Jump, Parcel}
+use Rattle.rv_compress.specs.declared.parcel.RegisterSet.TheVariants.{Short}
+use Rattle.rv_compress.specs.Mnemonics.{is_in}
+use Rattle.rv_compress.specs.declared.form.Compressed.{Compressed}
+use Rattle.rv_compress.specs.Parcel.{expansion}
 use Rattle.rv_statement.specs.declared.pseudo.ZeroBranchOperation.{ZeroBranchOperation}
 use Rattle.rv_statement.specs.declared.pseudo.ZeroBranchOperation.TheVariants.{Beqz, Bnez, Bgez, Bltz, Blez, Bgtz}
 use Rattle.rv_statement.specs.declared.pseudo.SwappedBranchOperation.{SwappedBranchOperation}
@@ -22,7 +26,7 @@ use Rattle.rv_statement.specs.declared.pseudo.Function.TheVariants.{Hi, Lo, Pcre
 use Rattle.rv_statement.specs.Statement.{Operand, Register, Value, Applied, Target, Accesses}
 use Rattle.rv_parse_laws.specs.Syntax.{with_constant}
 use Rattle.rv_pseudo_laws.specs.Li.{addi, li}
-use Rattle.rv_pseudo_laws.specs.Code.{Part, Closed, Open, Constants, i_type, s_type, u_type, shift_by, jalr, auipc, unary, branch, near, zero_branch, swapped_branch, by_number, by_part, signed_12, upper_20, number_of, by_amount, by_constant, code}
+use Rattle.rv_pseudo_laws.specs.Code.{Part, Closed, Open, Constants, i_type, s_type, u_type, shift_by, jalr, auipc, unary, branch, near, zero_branch, swapped_branch, by_number, by_part, signed_12, upper_20, number_of, by_amount, by_constant, short_branch, code}
 
 -- ---- branches
 
@@ -43,7 +47,7 @@ module _ (Q : List Part → Type 0) (bytes : ℕ) (each : (operation : BranchOpe
 
 -- ---- all others
 
--- a branch, or a jump to a target
+-- a branch, a jump to a target, or a parcel, which may be one
 abbrev pub is_branching : Mnemonic → Bool
 is_branching (Branch operation) = true
 is_branching (ZeroBranch operation) = true
@@ -53,6 +57,7 @@ is_branching J = true
 is_branching Call = true
 is_branching Tail = true
 is_branching Jump = true
+is_branching (Parcel operation) = true
 is_branching _ = false
 
 -- holds of a part that is closed, and of one with a field for a part of an address
@@ -73,6 +78,10 @@ InCode P (Some ps) = AllByRecursion P ps
 pub either_kind : (P : Part → Type 0) (b : Bool) (k q : Kind) → ((i : Inst) → P (Open k i)) → ((i : Inst) → P (Open q i)) → (i : Inst) → P (Open (if b then k else q) i)
 either_kind P true k q e f i = e i
 either_kind P false k q e f i = f i
+
+-- the code of a parcel, by its form
+abbrev pub formed : Option Compressed → Option (List Part)
+formed f = option_map (λ form. Closed (expansion form) ∷ []) f
 
 module _ (P : Part → Type 0) (calm : IsCalm P) where
   closed_quiet : (xs : List Inst) → AllByRecursion P (map Closed xs)
@@ -118,6 +127,18 @@ module _ (P : Part → Type 0) (calm : IsCalm P) where
   near_quiet : (rd : ℕ) (k : Kind) (i : Inst) → P (Open k i) → AllByRecursion P (near rd k i)
   near_quiet rd k i e = (calm.pcrel_upper (auipc rd), (e, tt))
 
+  -- of parcels
+  pub short_quiet : (operation : BranchOperation) (rs : ℕ) → AllByRecursion P (branch 2 operation rs 0) → InCode P (short_branch operation rs)
+  short_quiet operation rs h = go (is_in Short rs)
+    where
+      go : (t : Bool) → InCode P (if t then Some (branch 2 operation rs 0) else None)
+      go true = h
+      go false = tt
+
+  pub form_quiet : (f : Option Compressed) → InCode P (formed f)
+  form_quiet None = tt
+  form_quiet (Some form) = (calm.closed (expansion form), tt)
+
   pub quiet : (v : Constants) (rvc : Bool) (bytes : ℕ) (mnemonic : Mnemonic) (os : List Operand) → is_branching mnemonic ≡ false → InCode P (code v rvc bytes mnemonic os)
   quiet v rvc bytes (Registers operation) (Register rd ∷ Register rs1 ∷ Register rs2 ∷ []) e = (calm.closed _, tt)
   quiet v rvc bytes (Registers operation) (Register rd ∷ Register rs1 ∷ o ∷ []) e = constant_quiet v (with_constant operation) rd rs1 o
@@ -160,4 +181,5 @@ module _ (P : Part → Type 0) (calm : IsCalm P) where
   quiet v rvc bytes Call os e = absurd (cc)
   quiet v rvc bytes Tail os e = absurd (cc)
   quiet v rvc bytes Jump os e = absurd (cc)
+  quiet v rvc bytes (Parcel operation) os e = absurd (cc)
   quiet v rvc bytes mnemonic os e = tt

@@ -7,22 +7,31 @@ use Rattle.rv_isa.specs.declared.kind.Kind.{Kind}
 use Rattle.rv_isa.specs.declared.kind.Kind.TheVariants as kind
 use Rattle.rv_isa.specs.declared.instruction.Inst.{Inst}
 use Rattle.rv_isa.specs.declared.operation.BranchOperation.{BranchOperation}
+use Rattle.rv_isa.specs.declared.operation.BranchOperation.TheVariants.{Beq, Bne}
 use Rattle.rv_isa.specs.Operations.{of_immediate, of_shift, of_upper, of_load, of_store, of_branch}
 use Rattle.rv_isa_laws.specs.Arithmetic.{wrapped}
 use Rattle.rv_isa_laws.specs.Halves.{hi, lo}
 use Rattle.rv_statement.specs.declared.mnemonic.Mnemonic.{Mnemonic}
-use Rattle.rv_statement.specs.declared.mnemonic.Mnemonic.TheVariants.{Registers, Immediate, Shift, Upper, Load, Store, Branch, Jal, Jalr, LoadReserved, Atomic, Fence, FenceTso, Ecall, Ebreak, Nop, Unary, Compare, ZeroBranch, SwappedBranch, J, Jr, Ret, La, Li, Call, Tail, Jump}
+use Rattle.rv_statement.specs.declared.mnemonic.Mnemonic.TheVariants.{Registers, Immediate, Shift, Upper, Load, Store, Branch, Jal, Jalr, LoadReserved, Atomic, Fence, FenceTso, Ecall, Ebreak, Nop, Unary, Compare, ZeroBranch, SwappedBranch, J, Jr, Ret, La, Li, Call, Tail, Jump, Parcel}
+use Rattle.rv_compress.specs.declared.parcel.ParcelOperation.{ParcelOperation}
+use Rattle.rv_compress.specs.declared.parcel.ParcelOperation.TheVariants as parcels
+use Rattle.rv_compress.specs.declared.form.Compressed.{Compressed}
+use Rattle.rv_compress.specs.declared.parcel.OperandShape.{OperandShape}
+use Rattle.rv_compress.specs.declared.parcel.OperandShape.TheVariants as shapes
+use Rattle.rv_compress.specs.declared.parcel.RegisterSet.TheVariants.{Short}
+use Rattle.rv_compress.specs.Mnemonics.{is_in, shape_of, form_of}
+use Rattle.rv_compress.specs.Parcel.{expansion}
 use Rattle.rv_statement.specs.declared.pseudo.Function.TheVariants.{Hi, Lo, PcrelHi, PcrelLo}
 use Rattle.rv_statement.specs.Statement.{Operand, Register, Value, Applied, Target, Accesses, Word, Quoted, Expression}
 use Rattle.rv_parse_laws.specs.Syntax.{with_constant}
 use Rattle.rv_pseudo_laws.specs.Li.{li}
-use Rattle.rv_pseudo_laws.specs.Code.{Part, Closed, Open, Joined, Constants, i_type, s_type, b_type, u_type, shift_by, jalr, jal, auipc, unary, inverted, branch, jump, near, far, through, zero_branch, swapped_branch, by_number, by_part, signed_12, upper_20, number_of, by_amount, by_constant, code}
+use Rattle.rv_pseudo_laws.specs.Code.{Part, Closed, Open, Joined, Constants, i_type, s_type, b_type, u_type, shift_by, jalr, jal, auipc, unary, inverted, branch, jump, near, far, through, zero_branch, swapped_branch, by_number, by_part, signed_12, upper_20, number_of, by_amount, by_constant, by_form, parcel_form, short_branch, code}
 use Rattle.rv_pseudo_laws.specs.Filled.{are_closed}
 use Rattle.rv_source_laws.specs.Program.{in_operand}
 use Rattle.rv_source_laws.specs.Lines.{other_operand, is_low_part}
 use Rattle.rv_filling_laws.specs.Parts.{is_call}
 use Rattle.rv_isa.specs.Operations.{format_of}
-use Rattle.rv_sources_link_laws.proofs.statements.QuietLemmas.{zero_branches, swapped_branches}
+use Rattle.rv_sources_link_laws.proofs.statements.QuietLemmas.{formed, zero_branches, swapped_branches}
 
 -- ---- shapes
 
@@ -150,6 +159,29 @@ module _ (v : Constants) (C : Operand → List Operand)
       (_, (make (pos 0), lower_kind store, refl))
   signed_row store make _ = tt
 
+  form_shaped : (o : Operand) (f : Option Compressed) → ((form : Compressed) → Shape v (Some o) (Closed (expansion form) ∷ [])) → AreShaped v o (formed f)
+  form_shaped o None h = tt
+  form_shaped o (Some form) h = h form
+
+  number_form : (make : ℤ → Option Compressed) (e : Expression) → AreShaped v (Value e) (formed (by_form make (v e)))
+  number_form make e = go (v e) refl
+    where
+      go : (n : Option ℤ) → v e ≡ n → AreShaped v (Value e) (formed (by_form make n))
+      go None is = tt
+      go (Some k) is = form_shaped (Value e) (make k) (λ form. (refl, ap is_some is))
+
+  low_form : (make : ℤ → Option Compressed) (e : Expression) → AreShaped v (Applied Lo e) (formed (by_form make (option_map lo (v e))))
+  low_form make e = go (v e) refl
+    where
+      go : (n : Option ℤ) → v e ≡ n → AreShaped v (Applied Lo e) (formed (by_form make (option_map lo n)))
+      go None is = tt
+      go (Some k) is = form_shaped (Applied Lo e) (make (lo k)) (λ form. inl (refl, ap is_some is))
+
+  form_row : (make : ℤ → Option Compressed) (o : Operand) → AreRow v (C o) (formed (by_form make (number_of v o)))
+  form_row make (Value e) = row_by (Value e) tt (formed (by_form make (v e))) (number_form make e)
+  form_row make (Applied Lo e) = row_by (Applied Lo e) tt (formed (by_form make (option_map lo (v e)))) (low_form make e)
+  form_row make _ = tt
+
   amount_row : (make : ℕ → Inst) (o : Operand) → AreRow v (C o) (by_amount v make o)
   amount_row make (Value e) = row_by (Value e) tt (by_number (λ k. make (wrapped k)) (v e)) (number_shaped (λ k. make (wrapped k)) e)
   amount_row make (Applied Lo e) = row_by (Applied Lo e) tt (by_number (λ k. make (wrapped k)) (option_map lo (v e))) (low_number (λ k. make (wrapped k)) e)
@@ -271,6 +303,31 @@ module _ (v : Constants) (os : List Operand) (e : Expression) (alone : flat_map 
   through_row : (register : ℕ) (ps : List Part) → IsAim ps → AreRow v os (through register ps)
   through_row register ps h = unless_so (register == 0) (Some ps) (aimed ps h)
 
+-- ---- parcels
+
+-- of registers alone
+bare_row : (v : Constants) (os : List Operand) (f : Option Compressed) → flat_map in_operand os ≡ in_maybe (other_operand os)
+    → ((form : Compressed) → Shape v (other_operand os) (Closed (expansion form) ∷ [])) → AreRow v os (formed f)
+bare_row v os None alone shape = tt
+bare_row v os (Some form) alone shape = record { alone = alone; shape = shape form }
+
+parcel_row : (v : Constants) (operation : ParcelOperation) (shape : OperandShape) (os : List Operand) → AreRow v os (formed (parcel_form v operation shape os))
+parcel_row v operation shapes.Registers [] = bare_row v [] (form_of operation [] (pos 0)) refl (λ form. refl)
+parcel_row v operation shapes.Registers (Register a ∷ []) = bare_row v (Register a ∷ []) (form_of operation (a ∷ []) (pos 0)) refl (λ form. refl)
+parcel_row v operation shapes.Registers (Register a ∷ Register b ∷ []) = bare_row v (Register a ∷ Register b ∷ []) (form_of operation (a ∷ b ∷ []) (pos 0)) refl (λ form. refl)
+parcel_row v operation shapes.Number (Register a ∷ Register b ∷ o ∷ []) = form_row v (λ o. Register a ∷ Register b ∷ o ∷ []) (third a b) (form_of operation (a ∷ b ∷ [])) o
+parcel_row v operation shapes.Number (Register a ∷ o ∷ []) = form_row v (λ o. Register a ∷ o ∷ []) (at_end a) (form_of operation (a ∷ [])) o
+parcel_row v operation shapes.Address (Register a ∷ Register b ∷ []) = bare_row v (Register a ∷ Register b ∷ []) (form_of operation (a ∷ b ∷ []) (pos 0)) refl (λ form. refl)
+parcel_row v operation shapes.Address (Register a ∷ o ∷ Register b ∷ []) = form_row v (λ o. Register a ∷ o ∷ Register b ∷ []) (between a b) (form_of operation (a ∷ b ∷ [])) o
+parcel_row v operation shape os = tt
+
+short_row : (v : Constants) (operation : BranchOperation) (rs : ℕ) (e : Expression) → AreRow v (Register rs ∷ Target e ∷ []) (short_branch operation rs)
+short_row v operation rs e = go (is_in Short rs)
+  where
+    go : (t : Bool) → AreRow v (Register rs ∷ Target e ∷ []) (if t then Some (branch 2 operation rs 0) else None)
+    go true = aimed v (Register rs ∷ Target e ∷ []) e refl refl (branch 2 operation rs 0) (inl (branch_far 2 operation rs 0))
+    go false = tt
+
 -- ---- all rows
 
 rows : (v : Constants) (rvc : Bool) (bytes : ℕ) (mnemonic : Mnemonic) (os : List Operand) → AreRow v os (code v rvc bytes mnemonic os)
@@ -326,6 +383,10 @@ rows v rvc bytes Call (Register rd ∷ Target e ∷ []) = through_row v (Registe
 rows v rvc bytes Call (Target e ∷ []) = aimed v (Target e ∷ []) e refl refl (far bytes 1 1) (inl (far_far bytes 1 1))
 rows v rvc bytes Tail (Target e ∷ []) = aimed v (Target e ∷ []) e refl refl (far bytes 0 6) (inl (far_far bytes 0 6))
 rows v rvc bytes Jump (Target e ∷ Register rt ∷ []) = through_row v (Target e ∷ Register rt ∷ []) e refl refl rt (far bytes 0 rt) (inl (far_far bytes 0 rt))
+rows v rvc bytes (Parcel parcels.J) (Target e ∷ []) = aimed v (Target e ∷ []) e refl refl (jump 2 0) (inl (jump_far 2 0))
+rows v rvc bytes (Parcel parcels.Beqz) (Register rs ∷ Target e ∷ []) = short_row v Beq rs e
+rows v rvc bytes (Parcel parcels.Bnez) (Register rs ∷ Target e ∷ []) = short_row v Bne rs e
+rows v rvc bytes (Parcel operation) os = parcel_row v operation (shape_of operation) os
 rows v rvc bytes mnemonic os = tt
 
 pub row_of : (v : Constants) (rvc : Bool) (bytes : ℕ) (mnemonic : Mnemonic) (os : List Operand) (ps : List Part)
