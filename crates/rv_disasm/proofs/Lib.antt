@@ -1,6 +1,9 @@
+pub mod CodesLemmas
 pub mod DumpLinesLemmas
 pub mod FrontsLemmas
 pub mod HeldLemmas
 pub mod LinesOnLemmas
+pub mod OneFormLemmas
 pub mod OrderedLemmas
+pub mod RawLemmas
 pub mod RegistersLemmas

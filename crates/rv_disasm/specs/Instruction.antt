@@ -2,7 +2,7 @@
 -- "Instruction Aliases" and "Pseudoinstructions" for the names; RISC-V Unprivileged ISA 20191213,
 -- chapters 2, 5, 7 and 8).
 
-use Rattle.std.specs.Prelude.{ℕ, ℤ, ◌/◌, ◌%◌, Bool, true, false, not, ◌&&◌, ◌==◌, if◌then◌else◌, List, [], ◌∷◌, ◌++◌, flat_map, codes, decimal, slice_index_or}
+use Rattle.std.specs.Prelude.{ℕ, suc, ℤ, pos, negsuc, ◌/◌, ◌%◌, Bool, true, false, not, ◌&&◌, ◌==◌, if◌then◌else◌, List, [], ◌∷◌, ◌++◌, flat_map, codes, decimal, slice_index_or}
 use Rattle.std.specs.Fmt.{signed_decimal}
 use Rattle.rv_isa.specs.declared.instruction.Fence.{Fence as FenceOperands}
 use Rattle.rv_isa.specs.declared.instruction.Format.{Format}
@@ -10,6 +10,8 @@ use Rattle.rv_isa.specs.declared.instruction.Format.TheVariants.{Registers, Imme
 use Rattle.rv_isa.specs.Operations.{register_name, immediate_name, shift_name, upper_name, load_name, store_name, branch_name, atomic_name}
 use Rattle.rv_isa.specs.RegisterNames.{abi_names}
 use Rattle.rv_isa_laws.specs.Arithmetic.{wrapped, sum_of}
+use Rattle.rv_disasm.specs.declared.instruction.Targets.{Targets}
+use Rattle.rv_disasm.specs.declared.instruction.Targets.TheVariants.{Addresses, Distances}
 use Rattle.rv_disasm.specs.Numbers.{prefixed}
 
 -- ---- operands
@@ -29,6 +31,16 @@ based offset r = signed_decimal offset ++ in_parentheses r
 -- the address to which a branch or a jump at this address leads (ISA, 2.5)
 abbrev pub target : ℕ → ℤ → List ℕ
 target address offset = prefixed (sum_of address (wrapped offset))
+
+-- how far a target is from its instruction: .+4, .-4
+abbrev pub distant : ℤ → List ℕ
+distant (pos n) = codes ".+" ++ decimal n
+distant (negsuc n) = codes ".-" ++ decimal (suc n)
+
+-- the one or the other
+abbrev pub shown_target : Targets → ℤ → List ℕ
+shown_target (Addresses address) = target address
+shown_target Distances = distant
 
 -- a blank before the first operand, and a comma before each other
 abbrev pub operands : List (List ℕ) → List ℕ
@@ -74,34 +86,37 @@ fence_text x =
     then codes "fence" ++ operands (accesses x.pred ∷ accesses x.succ ∷ [])
     else codes "unknown"
 
--- ---- an instruction at an address, by its format
+-- ---- an instruction, by its format, with its target shown as `to` says
 
-abbrev pub text_of : ℕ → Format → List ℕ
-text_of address (Registers operation x) =
+abbrev pub text_with : (ℤ → List ℕ) → Format → List ℕ
+text_with to (Registers operation x) =
     register_name operation ++ operands (register x.rd ∷ register x.rs1 ∷ register x.rs2 ∷ [])
-text_of address (Immediate operation x) =
+text_with to (Immediate operation x) =
     immediate_name operation
     ++ operands (register x.rd ∷ register x.rs1 ∷ signed_decimal x.immediate ∷ [])
-text_of address (Shift operation x) =
+text_with to (Shift operation x) =
     shift_name operation ++ operands (register x.rd ∷ register x.rs1 ∷ decimal x.amount ∷ [])
-text_of address (Upper operation x) =
+text_with to (Upper operation x) =
     upper_name operation ++ operands (register x.rd ∷ prefixed x.immediate ∷ [])
-text_of address (Load operation x) =
+text_with to (Load operation x) =
     load_name operation ++ operands (register x.rd ∷ based x.immediate x.rs1 ∷ [])
-text_of address (Store operation x) =
+text_with to (Store operation x) =
     store_name operation ++ operands (register x.rs2 ∷ based x.immediate x.rs1 ∷ [])
-text_of address (Branch operation x) =
-    branch_name operation
-    ++ operands (register x.rs1 ∷ register x.rs2 ∷ target address x.offset ∷ [])
-text_of address (Jal x) = codes "jal" ++ operands (register x.rd ∷ target address x.offset ∷ [])
-text_of address (Jalr x) =
+text_with to (Branch operation x) =
+    branch_name operation ++ operands (register x.rs1 ∷ register x.rs2 ∷ to x.offset ∷ [])
+text_with to (Jal x) = codes "jal" ++ operands (register x.rd ∷ to x.offset ∷ [])
+text_with to (Jalr x) =
     codes "jalr" ++ operands (register x.rd ∷ based x.immediate x.rs1 ∷ [])
-text_of address (LoadReserved double x) =
+text_with to (LoadReserved double x) =
     load_reserved_name double ++ ordering x.acquire x.release
     ++ operands (register x.rd ∷ in_parentheses x.rs1 ∷ [])
-text_of address (Atomic operation double x) =
+text_with to (Atomic operation double x) =
     atomic_name operation double ++ ordering x.acquire x.release
     ++ operands (register x.rd ∷ register x.rs2 ∷ in_parentheses x.rs1 ∷ [])
-text_of address (Fence x) = fence_text x
-text_of address Ecall = codes "ecall"
-text_of address Ebreak = codes "ebreak"
+text_with to (Fence x) = fence_text x
+text_with to Ecall = codes "ecall"
+text_with to Ebreak = codes "ebreak"
+
+-- with the address of the target, from its own
+abbrev pub text_of : ℕ → Format → List ℕ
+text_of address format = text_with (target address) format

@@ -4,3 +4,6 @@ pub mod Lines
 pub mod Listing
 pub mod Numbers
 pub mod Order
+pub mod Parcels
+pub mod Raw
+pub mod RawParts

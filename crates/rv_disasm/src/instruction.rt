@@ -9,18 +9,27 @@ ghost use Rattle.rv_isa_laws.specs.Arithmetic.{wrapped, sum_of};
 ghost use Rattle.rv_disasm.specs.Numbers.{prefixed};
 ghost use Rattle.rv_disasm.specs.Instruction as shows;
 
-use crate::numbers::{put_decimal, put_prefixed, put_signed};
+use crate::numbers::{put_decimal, put_distance, put_prefixed, put_signed};
 use rv_isa::{Atomic, BType, Fence, Format, IType, Inst, JType, RType, Reg, Reserve, Shift, UType};
 use std::alloc::AllocError;
 
-/// Adds the text of an instruction that stands at this address.
+/// How the targets of branches and jumps are shown.
+#[derive(Clone, Copy, Drop)]
+pub(crate) enum Targets {
+    /// By their addresses, from that of the instruction: `0x10004`.
+    Addresses(u64),
+    /// By how far they are from the instruction: `.+4`.
+    Distances,
+}
+
+/// Adds the text of an instruction.
 pub(crate) fn put_instruction(
     text: &mut Vec<u8>,
-    address: u64,
+    targets: Targets,
     inst: Inst,
 ) -> Result<(), AllocError>
-    ensures { OnOk result
-        (text.new.items ≡ text.old.items ++ shows.text_of address (format_of inst)) }
+    ensures { OnOk result (text.new.items
+        ≡ text.old.items ++ shows.text_with (shows.shown_target targets) (format_of inst)) }
 {
     match inst.format() {
         Format::Registers(operation, x) => put_registers(text, operation.name(), x),
@@ -33,8 +42,8 @@ pub(crate) fn put_instruction(
         Format::Store(operation, x) => {
             put_access(text, operation.name(), x.rs2, x.immediate, x.rs1)
         }
-        Format::Branch(operation, x) => put_branch(text, address, operation.name(), x),
-        Format::Jal(x) => put_jump(text, address, x),
+        Format::Branch(operation, x) => put_branch(text, targets, operation.name(), x),
+        Format::Jal(x) => put_jump(text, targets, x),
         Format::Jalr(x) => put_access(text, "jalr", x.rd, x.immediate, x.rs1),
         Format::LoadReserved(double, x) => put_load_reserved(text, double, x),
         Format::Atomic(operation, double, x) => put_atomic(text, operation.name(double), x),
@@ -44,7 +53,7 @@ pub(crate) fn put_instruction(
     }
 }
 
-fn put(text: &mut Vec<u8>, name: &str) -> Result<(), AllocError>
+pub(crate) fn put(text: &mut Vec<u8>, name: &str) -> Result<(), AllocError>
     ensures { OnOk result (text.new.items ≡ text.old.items ++ name.now) }
 {
     text.extend_from_slice(name.as_bytes())?;
@@ -53,7 +62,7 @@ fn put(text: &mut Vec<u8>, name: &str) -> Result<(), AllocError>
 
 /// Adds a register by its ABI name, after a byte.
 #[tactic(auto, using(crate::proofs::RegistersLemmas::register_is))]
-fn put_register(text: &mut Vec<u8>, before: u8, reg: Reg) -> Result<(), AllocError>
+pub(crate) fn put_register(text: &mut Vec<u8>, before: u8, reg: Reg) -> Result<(), AllocError>
     ensures { OnOk result (text.new.items ≡ text.old.items ++ before ∷ shows.register reg) }
 {
     text.push(before)?;
@@ -62,7 +71,7 @@ fn put_register(text: &mut Vec<u8>, before: u8, reg: Reg) -> Result<(), AllocErr
 }
 
 /// Adds a register in parentheses.
-fn put_in_parentheses(text: &mut Vec<u8>, reg: Reg) -> Result<(), AllocError>
+pub(crate) fn put_in_parentheses(text: &mut Vec<u8>, reg: Reg) -> Result<(), AllocError>
     ensures { OnOk result (text.new.items ≡ text.old.items ++ shows.in_parentheses reg) }
 {
     put_register(text, b'(', reg)?;
@@ -70,11 +79,15 @@ fn put_in_parentheses(text: &mut Vec<u8>, reg: Reg) -> Result<(), AllocError>
     Ok(())
 }
 
-/// Adds the address to which a branch or a jump leads, after a comma.
-fn put_target(text: &mut Vec<u8>, address: u64, offset: i32) -> Result<(), AllocError>
-    ensures { OnOk result (text.new.items ≡ text.old.items ++ 44 ∷ shows.target address offset) }
+/// Adds where a branch or a jump leads, after a comma.
+fn put_target(text: &mut Vec<u8>, targets: Targets, offset: i32) -> Result<(), AllocError>
+    ensures { OnOk result
+        (text.new.items ≡ text.old.items ++ 44 ∷ shows.shown_target targets offset) }
 {
-    put_prefixed(text, b',', target(address, offset))
+    match targets {
+        Targets::Addresses(address) => put_prefixed(text, b',', target(address, offset)),
+        Targets::Distances => put_distance(text, b',', offset),
+    }
 }
 
 /// The address `offset` bytes on, modulo 2^64.
@@ -147,25 +160,26 @@ fn put_access(
     Ok(())
 }
 
-fn put_branch(text: &mut Vec<u8>, address: u64, name: &str, x: BType) -> Result<(), AllocError>
+fn put_branch(text: &mut Vec<u8>, targets: Targets, name: &str, x: BType) -> Result<(), AllocError>
     ensures { OnOk result (text.new.items ≡ text.old.items ++ name.now
         ++ shows.operands
-        (shows.register x.rs1 ∷ shows.register x.rs2 ∷ shows.target address x.offset ∷ [])) }
+        (shows.register x.rs1 ∷ shows.register x.rs2
+        ∷ shows.shown_target targets x.offset ∷ [])) }
 {
     put(text, name)?;
     put_register(text, b' ', x.rs1)?;
     put_register(text, b',', x.rs2)?;
-    put_target(text, address, x.offset)?;
+    put_target(text, targets, x.offset)?;
     Ok(())
 }
 
-fn put_jump(text: &mut Vec<u8>, address: u64, x: JType) -> Result<(), AllocError>
+fn put_jump(text: &mut Vec<u8>, targets: Targets, x: JType) -> Result<(), AllocError>
     ensures { OnOk result (text.new.items ≡ text.old.items ++ codes "jal"
-        ++ shows.operands (shows.register x.rd ∷ shows.target address x.offset ∷ [])) }
+        ++ shows.operands (shows.register x.rd ∷ shows.shown_target targets x.offset ∷ [])) }
 {
     put(text, "jal")?;
     put_register(text, b' ', x.rd)?;
-    put_target(text, address, x.offset)?;
+    put_target(text, targets, x.offset)?;
     Ok(())
 }
 
@@ -218,14 +232,14 @@ fn put_atomic(text: &mut Vec<u8>, name: &str, x: Atomic) -> Result<(), AllocErro
 }
 
 /// Whether `fence.tso` spells it.
-fn is_tso(x: &Fence) -> bool
+pub(crate) fn is_tso(x: &Fence) -> bool
     ensures { result ≡ shows.is_tso x.now }
 {
     x.fm == 8 && x.pred == 3 && x.succ == 3 && x.rs1.number() == 0 && x.rd.number() == 0
 }
 
 /// Whether `fence` with two sets of accesses spells it.
-fn is_between(x: &Fence) -> bool
+pub(crate) fn is_between(x: &Fence) -> bool
     ensures { result ≡ shows.is_between x.now }
 {
     x.fm == 0 && x.pred != 0 && x.succ != 0 && x.rs1.number() == 0 && x.rd.number() == 0

@@ -7,9 +7,16 @@ ghost use Rattle.rv_isa_laws.specs.Reader.{Reader};
 ghost use Rattle.rv_map.specs.Map.{Map};
 ghost use Rattle.rv_image.specs.Image.{Image};
 ghost use Rattle.rv_disasm.specs.Listing.{IsListing};
+ghost use Rattle.rv_disasm.specs.Raw.{IsRawListing};
 
 /// An image with a map has one listing.
 pub fn one_listing()
     ensures { (reader : Reader Spells StandsFor) (image : Image) (m : Map) (text other : List ℕ) →
         IsListing reader image m text → IsListing reader image m other → text ≡ other }
+{}
+
+/// An image has one raw listing at most.
+pub fn one_raw_listing()
+    ensures { (image : Image) (text other : List ℕ) →
+        IsRawListing image text → IsRawListing image other → text ≡ other }
 {}

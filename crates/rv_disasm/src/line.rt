@@ -8,7 +8,7 @@ ghost use Rattle.rv_compress.specs.Parcel.{StandsFor};
 ghost use Rattle.rv_isa_laws.specs.Reader.{Reader};
 ghost use Rattle.rv_disasm.specs.Lines.{front, shown, taken, line, lines};
 
-use crate::instruction::put_instruction;
+use crate::instruction::{Targets, put_instruction};
 use rv_compress::next_inst;
 use rv_map::put_hexadecimal;
 use std::alloc::AllocError;
@@ -52,7 +52,7 @@ fn put_front(text: &mut Vec<u8>, address: u64, bytes: &[u8]) -> Result<usize, Al
 {
     match next_inst(bytes) {
         Some((inst, count)) => {
-            put_instruction(text, address, inst)?;
+            put_instruction(text, Targets::Addresses(address), inst)?;
             Ok(count)
         }
         None => {

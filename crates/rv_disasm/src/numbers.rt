@@ -2,6 +2,7 @@
 
 ghost use Rattle.std.specs.Prelude.{◌≡◌, ◌++◌, ◌∷◌, OnOk, decimal};
 ghost use Rattle.std.specs.Fmt.{signed_decimal};
+ghost use Rattle.rv_disasm.specs.Instruction.{distant};
 ghost use Rattle.rv_disasm.specs.Numbers.{prefixed};
 
 use itoa::Buffer;
@@ -33,5 +34,16 @@ pub(crate) fn put_prefixed(text: &mut Vec<u8>, before: u8, number: u64) -> Resul
     text.push(before)?;
     text.extend_from_slice(b"0x")?;
     put_hexadecimal(text, number)?;
+    Ok(())
+}
+
+/// Adds how far a target is from its instruction, after a byte.
+pub(crate) fn put_distance(text: &mut Vec<u8>, before: u8, offset: i32) -> Result<(), AllocError>
+    ensures { OnOk result (text.new.items ≡ text.old.items ++ before ∷ distant offset) }
+{
+    text.push(before)?;
+    text.push(b'.')?;
+    let sign = if offset < 0 { b'-' } else { b'+' };
+    put_decimal(text, sign, u64::from(offset.unsigned_abs()))?;
     Ok(())
 }

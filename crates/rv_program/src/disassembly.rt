@@ -1,9 +1,9 @@
-//! What the program shows of files: the listing of an executable, and the bytes of any file.
+//! What the program shows of files: the listings of an executable, and the bytes of any file.
 
 use crate::error::CliError;
 use crate::jobs::{contents, image_in, print};
 use crate::system::System;
-use rv_disasm::{hex_dump, listing};
+use rv_disasm::{hex_dump, listing, raw_listing};
 use rv_map::{Map, read};
 use std::alloc::Global;
 
@@ -26,6 +26,20 @@ pub(crate) fn objdump<S: System>(
     let text = listing(alloc, &image, &map)?;
     print(system, text.as_slice())?;
     Ok(0)
+}
+
+/// Prints the raw listing of an executable, if it has one; the exit status.
+pub(crate) fn raw<S: System>(system: &mut S, name: &str) -> Result<u8, CliError> {
+    let alloc: Global = system.alloc();
+    let exe = contents(alloc, name, system.file(name))?;
+    let image = image_in(alloc, name, exe.as_slice())?;
+    match raw_listing(alloc, &image)? {
+        Some(text) => {
+            print(system, text.as_slice())?;
+            Ok(0)
+        }
+        None => Err(CliError::Line(format!(in alloc; "{name}: no raw listing")?)),
+    }
 }
 
 /// Prints the bytes of a file; the exit status.

@@ -6,7 +6,7 @@
 ghost use Rattle.std.specs.Prelude.{◌≡◌};
 ghost use Rattle.rv_program.specs.Status.{run_status};
 
-use crate::disassembly::{dump, objdump};
+use crate::disassembly::{dump, objdump, raw};
 use crate::error::CliError;
 use crate::messages::{end_line, fault_line, run_line};
 use crate::system::{FILE_LIMIT, GuestInput, Purpose, System};
@@ -57,6 +57,10 @@ pub(crate) enum Job<'a> {
         exe: &'a str,
         map_first: bool,
     },
+    /// Prints a source that builds the text of an executable again.
+    Raw {
+        exe: &'a str,
+    },
     /// Prints the bytes of a file.
     Dump {
         file: &'a str,
@@ -90,6 +94,7 @@ pub(crate) fn run_job<S: System>(system: &mut S, job: &Job<'_>) -> Result<u8, Cl
             exe,
             map_first,
         } => objdump(system, map, exe, *map_first),
+        Job::Raw { exe } => raw(system, exe),
         Job::Dump { file } => dump(system, file),
     }
 }

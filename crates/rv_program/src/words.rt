@@ -26,6 +26,7 @@ const HELP: &str = "Examples:
   rv ld -o prog prog.o other.o              links objects
   rv map prog.s                             shows where each statement stands
   rv objdump --map prog.map prog            shows the instructions of each statement
+  rv objdump --raw prog                     shows the text as a source that builds it again
   rv dump prog                              shows the bytes of a file
 
 Without words rv does the same as 'rv run -'.
@@ -51,8 +52,9 @@ const LD_HELP: &str = "Example:
 const MAP_HELP: &str = "Example:
   rv map --text-start 0x20000 prog.s";
 
-const OBJDUMP_HELP: &str = "Example:
-  rv objdump --map prog.map prog";
+const OBJDUMP_HELP: &str = "Examples:
+  rv objdump --map prog.map prog
+  rv objdump --raw prog > again.s";
 
 const DUMP_HELP: &str = "Example:
   rv dump prog";
@@ -162,16 +164,21 @@ fn objdump_command<'a>(alloc: Global) -> Result<Command<'a>, Error> {
     let map = Arg::new(alloc, "map")
         .long("map")
         .value_name("F")
-        .required(true)
-        .help("The map of the executable");
+        .help("The map of the executable")
+        .required_unless_present("raw")?;
+    let raw = Arg::new(alloc, "raw")
+        .long("raw")
+        .action(ArgAction::SetTrue)
+        .help("Prints a source that builds the same text again")
+        .conflicts_with("map")?;
     let exe = Arg::new(alloc, "exe")
         .value_name("EXE")
         .required(true)
         .help("The executable");
     let objdump = Command::new(alloc, "objdump")
-        .about("Prints the instructions of an executable, statement by statement")
+        .about("Prints the instructions of an executable, statement by statement or as a source")
         .after_help(OBJDUMP_HELP);
-    Ok(objdump.arg(map)?.arg(exe)?)
+    Ok(objdump.arg(map)?.arg(raw)?.arg(exe)?)
 }
 
 fn dump_command<'a>(alloc: Global) -> Result<Command<'a>, Error> {
@@ -285,9 +292,13 @@ fn parse_map<'a>(
 }
 
 fn parse_objdump<'a>(found: &ArgMatches<'a>) -> Job<'a> {
+    let exe = found.get_str("exe").unwrap_or("");
+    if found.get_flag("raw") {
+        return Job::Raw { exe };
+    }
     Job::Objdump {
         map: found.get_str("map").unwrap_or(""),
-        exe: found.get_str("exe").unwrap_or(""),
+        exe,
         map_first: found.index_of("map") < found.index_of("exe"),
     }
 }

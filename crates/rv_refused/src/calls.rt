@@ -3,7 +3,8 @@
 use crate::error::Failed;
 use crate::given::Given;
 use crate::library::{
-    built, image_in, linked, listing, map_in, map_text, object_file, object_in, written,
+    built, image_in, linked, listing, map_in, map_text, object_file, object_in, raw_listing,
+    written,
 };
 use crate::marks::{mark, marked};
 use crate::runs::{run_file, run_over_streams, step_machine};
@@ -19,6 +20,7 @@ pub(crate) fn answer(rt: &HostRuntime, given: &Given<'_>) -> Result<(), Failed> 
         b"run_io" => run_over_streams(rt, given),
         b"step" => step_machine(rt, given),
         b"listing" => list(rt, given),
+        b"raw_listing" => list_raw(rt, given),
         b"read_object" => read_object(rt, given),
         b"write_object" => write_object(rt, given),
         b"read_map" => read_map(rt, given),
@@ -53,6 +55,14 @@ fn list(rt: &HostRuntime, given: &Given<'_>) -> Result<(), Failed> {
     let image = image_in(alloc, built.exe.as_slice())?;
     let map = map_in(alloc, built.map.as_slice())?;
     let text = marked(rt, || listing(alloc, &image, &map))?;
+    mark(rt, text.as_slice())
+}
+
+fn list_raw(rt: &HostRuntime, given: &Given<'_>) -> Result<(), Failed> {
+    let alloc: Global = rt.alloc();
+    let built = built(alloc, given)?;
+    let image = image_in(alloc, built.exe.as_slice())?;
+    let text = marked(rt, || raw_listing(alloc, &image))?;
     mark(rt, text.as_slice())
 }
 

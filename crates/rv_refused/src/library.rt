@@ -76,6 +76,14 @@ pub(crate) fn listing(alloc: Global, image: &Image, map: &Map) -> Result<Vec<u8>
     Ok(rv_disasm::listing(alloc, image, map)?)
 }
 
+/// The raw listing of an image that has one.
+pub(crate) fn raw_listing(alloc: Global, image: &Image) -> Result<Vec<u8>, Failed> {
+    match rv_disasm::raw_listing(alloc, image)? {
+        Some(text) => Ok(text),
+        None => Err(Failed::NoAnswer),
+    }
+}
+
 /// The map that a text is of.
 pub(crate) fn map_in(alloc: Global, text: &[u8]) -> Result<Map, Failed> {
     match rv_map::read(alloc, text)? {
