@@ -24,7 +24,7 @@ use Rattle.rv_link.specs.declared.fault.LinkFault.{LinkFault}
 use Rattle.rv_link.specs.declared.fault.LinkFault.TheVariants as faults
 use Rattle.rv_chain.specs.Fault.{of_link}
 use Rattle.rv_link.specs.Refusals.{IsTextStart}
-use Rattle.rv_reach_laws.specs.Reach.{is_short_call, is_short_branch, ShortCallsReach, ShortBranchesReach, ShortFormsReach}
+use Rattle.rv_reach_laws.specs.Reach.{is_short_call, is_chosen_branch, ShortCallsReach, ShortBranchesReach, ShortFormsReach}
 use Rattle.rv_chain.specs.Refusals.{IsRefusedAt, IsFirstRefused, IsRefusedIn, AreUnlinked, IsRefusedFor}
 
 pub one_more : (Is : List ℕ → Object → Type 0) (all : List (List ℕ)) (os : List Object) (bytes : List ℕ) (o : Object) → AreEach Is all os → Is bytes o → AreEach Is (all ++ bytes ∷ []) (os ++ o ∷ [])
@@ -89,9 +89,9 @@ refused_there texts i os fault number h good is refused = record {
 -- no short form is out of reach in what is left of the objects of sources
 pub short_forms_reach : ShortCallsReach → ShortBranchesReach → (sources : List (List Statement)) (objects : List DeclaredObject) (drops : List SectionId) (left : List Object) (start : ℕ)
     (relax : Bool) → AreObjectsOf sources (map object_of objects) → Relaxes relax (without drops (map object_of objects)) left → IsTextStart start
-    → ShortFormsReach (without drops (map object_of objects)) left start
+    → ShortFormsReach sources (without drops (map object_of objects)) left start
 short_forms_reach calls branches sources objects drops left start relax of relaxed at p placed section place i j before now ii jj was is short =
-    elim (or_cases (is_short_call before.kind now.kind) (is_short_branch before.kind) short) [
+    elim (or_cases (is_short_call before.kind now.kind) (is_chosen_branch sources i before) short) [
       | inl call ↦ calls objects drops left start relax p relaxed at placed section place i j before now ii jj was is call
       | inr branch ↦ branches sources objects drops left start relax p of relaxed at placed section place i j before now ii jj was is branch
     ]

@@ -9,3 +9,5 @@ pub mod SoundLemmas
 pub mod SourcesLemmas
 pub mod UnreadLemmas
 pub mod WrittenLemmas
+pub mod ReassembledLemmas
+pub mod AcceptedLemmas

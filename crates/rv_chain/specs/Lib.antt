@@ -6,5 +6,6 @@ pub mod Listed
 pub mod LinkRefusals
 pub mod Objects
 pub mod OneFault
+pub mod Reassembled
 pub mod Refusals
 pub mod Running

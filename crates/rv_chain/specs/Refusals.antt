@@ -3,6 +3,7 @@
 
 use Rattle.std.specs.Prelude.{◌≡◌, ℕ, ◌+◌, Bool, ⊤, ◌⊎◌, List, ◌∷◌, ◌++◌, length, map}
 use Rattle.rv_lexer.specs.declared.fault.SourceFault.{SourceFault}
+use Rattle.rv_statement.specs.Statement.{Statement}
 use Rattle.rv_object.specs.declared.object.Object.{Object as DeclaredObject}
 use Rattle.rv_object.specs.Object.{Object}
 use Rattle.rv_object.specs.View.{object_of}
@@ -10,6 +11,7 @@ use Rattle.rv_object_laws.specs.Without.{without}
 use Rattle.rv_assemble.specs.FirstFault.{IsFirstFault}
 use Rattle.rv_link.specs.declared.fault.LinkFault.{LinkFault}
 use Rattle.rv_link.specs.Refusals.{AreWithin, ArePast, HasNoProgram}
+use Rattle.rv_chain_laws.specs.Headline.{AllRead}
 use Rattle.rv_reach_laws.specs.Reach.{ShortFormsReach}
 use Rattle.rv_chain.specs.declared.fault.Fault.{Fault}
 use Rattle.rv_chain.specs.declared.fault.Fault.TheVariants.{Source, File, Link, Memory}
@@ -53,8 +55,10 @@ pub record AreUnlinked (texts : List (List ℕ)) (start : ℕ) (relax gc : Bool)
   pub objects : List DeclaredObject
   pub are : AreObjectsFrom texts (map object_of objects)
   pub unlinked : HasNoProgram (map object_of objects) start relax gc fault
+  pub sources : List (List Statement)
+  pub read : AllRead texts sources
   pub reached :
-      ShortFormsReach (without unlinked.drops (map object_of objects)) unlinked.left start
+      ShortFormsReach sources (without unlinked.drops (map object_of objects)) unlinked.left start
 
 -- files and a start of the text that can be linked, and sources without a fault
 abbrev pub AreGood : List (List ℕ) → ℕ → Type 0

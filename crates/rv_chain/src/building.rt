@@ -10,6 +10,7 @@ ghost use Rattle.rv_chain.specs.Building.{IsProgramFrom, IsExecutableOf};
 ghost use Rattle.rv_chain.specs.Linking.{AreBuilt, IsProgramOfObjectsFrom};
 ghost use Rattle.rv_chain.specs.Listed.{IsListedAs};
 ghost use Rattle.rv_chain.specs.Objects.{IsObjectFrom, AreObjectsFrom};
+ghost use Rattle.rv_chain.specs.Reassembled.{Reassembles};
 ghost use Rattle.rv_chain.specs.Refusals.{AreGood, IsRefusedFor, IsRefusedIn, IsRefusedAt};
 
 use crate::built::Built;
@@ -19,6 +20,7 @@ use rv_image::{Linked, write_exec};
 use rv_link::{LinkOptions, link, within_limits};
 use rv_object::Object;
 use rv_reach_laws::{short_branches_reach, short_calls_reach};
+use rv_reassembly_laws::raw_listings_reassemble;
 use rv_sources_link_laws::{linked_objects_are_flagged, objects_of_sources_link};
 use rv_text::SourceFault;
 use std::alloc::Global;
@@ -41,6 +43,9 @@ pub fn build(alloc: Global, sources: &[&[u8]], options: LinkOptions) -> Result<B
     ensures links { IfOk result
         (λ built. AreBuilt (map now_of sources.now)
         options.text_start options.relax options.gc built.exe.items built.map.items) }
+    // a source that is a raw listing has the bytes that were listed, and the entry
+    ensures reassembles { IfOk result
+        (λ built. Reassembles (map now_of sources.now) options.text_start built.exe.items) }
     ensures good { IfOk result (λ _. AreGood (map now_of sources.now) options.text_start) }
     // The first fault: too many files, the text's start, then the sources one by one, then the link, where no form that
     // was chosen because it reaches is out of reach.
@@ -48,6 +53,7 @@ pub fn build(alloc: Global, sources: &[&[u8]], options: LinkOptions) -> Result<B
         (IsRefusedFor (map now_of sources.now) options.text_start options.relax options.gc) }
 {
     let linked = linked(alloc, sources, options)?;
+    raw_listings_reassemble();
     let built = Built::of(alloc, &linked)?;
     Ok(built)
 }
@@ -57,11 +63,14 @@ pub fn build_exe(alloc: Global, sources: &[&[u8]], options: LinkOptions) -> Resu
     ensures headline { IfOk result
         (λ exe. IsExecutableOf
         (map now_of sources.now) options.text_start options.relax options.gc exe.items) }
+    ensures reassembles { IfOk result
+        (λ exe. Reassembles (map now_of sources.now) options.text_start exe.items) }
     ensures good { IfOk result (λ _. AreGood (map now_of sources.now) options.text_start) }
     ensures refuses { IfErr result
         (IsRefusedFor (map now_of sources.now) options.text_start options.relax options.gc) }
 {
     let linked = linked(alloc, sources, options)?;
+    raw_listings_reassemble();
     let exe = write_exec(alloc, &linked)?;
     Ok(exe)
 }

@@ -1,11 +1,14 @@
-//! Sources are built as their objects are linked, and refused for one fault.
+//! Sources are built as their objects are linked, and refused for one fault; raw listings are not refused.
 
 ghost use Rattle.rv_chain.specs.Agreement.{BuildsAsItLinks};
 ghost use Rattle.rv_chain.specs.OneFault.{SourcesHaveOneFault, FilesHaveOneFault};
+ghost use Rattle.rv_chain.specs.Reassembled.{RawListingsAreAccepted};
 
 use rv_assemble_laws::names_are_shown;
 use rv_object_file_laws::{one_object, written_object_is_read};
 use rv_parse_laws::{not_both, one_fault, one_reading};
+use rv_raw_laws::listing_reads;
+use rv_raw_link_laws::{raw_listings_have_no_fault, raw_objects_have_a_program};
 use rv_unique_link_laws::{
     objects_keep_it, one_program, refused_for_one_reason, refused_has_no_program,
 };
@@ -65,4 +68,16 @@ pub fn files_have_one_fault()
     refused_has_no_program();
     refused_for_one_reason();
     objects_keep_it();
+}
+
+/// What `build` says of a refusal says of a raw listing, built for the address of the segment that it lists: it is too
+/// long for a source, or memory ran out.
+pub fn raw_listings_are_accepted()
+    ensures { RawListingsAreAccepted }
+{
+    raw_listings_have_no_fault();
+    raw_objects_have_a_program();
+    listing_reads();
+    one_reading();
+    not_both();
 }

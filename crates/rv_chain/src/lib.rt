@@ -38,7 +38,9 @@ pub use assembling::assemble_object;
 pub use building::{build, build_exe};
 pub use built::Built;
 pub use fault::Fault;
-pub use law::{builds_as_it_links, files_have_one_fault, sources_have_one_fault};
+pub use law::{
+    builds_as_it_links, files_have_one_fault, raw_listings_are_accepted, sources_have_one_fault,
+};
 pub use linking::link_objects;
 pub use running::run_exec;
 pub use rv_image::FileFault;

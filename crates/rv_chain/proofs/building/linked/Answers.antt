@@ -22,6 +22,8 @@ returns-in_err-linked-clause-refuses c =
       objects = c.in_ok-objects.objects.items;
       are = c.in_ok-objects.ensures.objects;
       unlinked = refused;
+      sources = g.0;
+      read = g.1;
       reached = short_forms_reach c.short_calls_reach.ensures c.short_branches_reach.ensures g.0 c.in_ok-objects.objects.items refused.drops refused.left start relax g.2 refused.leaves.relaxed c.in_ok-within_limits.ensures.within.1;
     } in
     err_given c.from_residual-in_err-linked.result (IsRefusedFor texts start relax gc) _ c.from_residual-in_err-linked.ensures.1

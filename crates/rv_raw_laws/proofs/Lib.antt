@@ -1,0 +1,13 @@
+pub mod LexemesLemmas
+pub mod NumbersLemmas
+pub mod NamesLemmas
+pub mod OperandsLemmas
+pub mod WordsLemmas
+pub mod HeaderLemmas
+pub mod LinesLemmas
+pub mod ParcelsLemmas
+pub mod ListingLemmas
+pub mod ValuesLemmas
+pub mod FormsLemmas
+pub mod MeaningLemmas
+pub mod SizesLemmas

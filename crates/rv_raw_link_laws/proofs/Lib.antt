@@ -1,0 +1,17 @@
+pub mod ValuesLemmas
+pub mod CodesLemmas
+pub mod StatementsLemmas
+pub mod FaultsLemmas
+pub mod LengthsLemmas
+pub mod TooLongLemmas
+pub mod ItemsLemmas
+pub mod ObjectsLemmas
+pub mod FieldsLemmas
+pub mod SymbolsLemmas
+pub mod LeavesLemmas
+pub mod PlacesLemmas
+pub mod NamedLemmas
+pub mod EntriesLemmas
+pub mod RoomLemmas
+pub mod TakenLemmas
+pub mod ProgramsLemmas
