@@ -152,6 +152,11 @@ def written(at, texts, options):
     return *files, made(at, "objdump", "--map", "map", "exe")
 
 
+def raw_listing(at):
+    """The raw listing of what ./rv made of sources, or nothing where it has none."""
+    return subprocess.run([RV, "objdump", "--raw", "exe"], cwd=at, timeout=SECONDS, stdout=subprocess.PIPE, stderr=subprocess.PIPE).stdout
+
+
 def commands(name, source, at, texts):
     """The cases of a source's commands, each with files that are wanted of it, and output."""
     *objects, exe, map_, listing = written(at, texts, source.options)
@@ -172,6 +177,8 @@ def commands(name, source, at, texts):
         (f"map {name}", ["map", *paths], shown(map_)),
         (f"dump {name}", ["dump", str(at / "exe")], shown(dump)),
     ]
+    raw = raw_listing(at)
+    calls += [(f"objdump --raw {name}", ["objdump", "--raw", str(at / "exe")], shown(raw))] if raw else []
     calls += [(f"run of a source {name}", ["run", *paths], ran)] if len(texts) == 1 else []
     for called, words, wanted in calls:
         yield Case(called, [RV, *words], at, source.given if wanted is ran else b"", wanted)
@@ -207,6 +214,8 @@ def of_library(name, source, at, texts):
     left = f"{max(len(source.given) - len(source.console), 0)} bytes of input left\n".encode()
     wanted = {"build": built, "link_objects": built, "run_exec": end, "run_io": left + end, "listing": listing,
         "read_map": map_, "write_map": map_}
+    raw = raw_listing(at)
+    wanted.update({"raw_listing": raw} if raw else {})
     # a step asks for memory where it writes to the console
     wanted.update({"step": end} if source.console else {})
     calls = [(call, name, source.files, held) for call, held in wanted.items()]
