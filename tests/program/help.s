@@ -28,7 +28,7 @@ Commands:
   as       Assembles a source to an object
   ld       Links objects to an executable
   map      Prints the map of what the sources build
-  objdump  Prints the instructions of an executable, statement by statement
+  objdump  Prints the instructions of an executable, statement by statement or as a source
   dump     Prints the bytes of a file in hexadecimal
   help     Print this message or the help of the given subcommand(s)
 
@@ -43,6 +43,7 @@ Examples:
   rv ld -o prog prog.o other.o              links objects
   rv map prog.s                             shows where each statement stands
   rv objdump --map prog.map prog            shows the instructions of each statement
+  rv objdump --raw prog                     shows the text as a source that builds it again
   rv dump prog                              shows the bytes of a file
 
 Without words rv does the same as 'rv run -'.
@@ -133,19 +134,21 @@ Options:
 Example:
   rv map --text-start 0x20000 prog.s
 #--- objdump.txt
-Prints the instructions of an executable, statement by statement
+Prints the instructions of an executable, statement by statement or as a source
 
-Usage: rv objdump --map <F> <EXE>
+Usage: rv objdump [OPTIONS] <EXE>
 
 Arguments:
   <EXE>  The executable
 
 Options:
       --map <F>  The map of the executable
+      --raw      Prints a source that builds the same text again
   -h, --help     Print help
 
-Example:
+Examples:
   rv objdump --map prog.map prog
+  rv objdump --raw prog > again.s
 #--- dump.txt
 Prints the bytes of a file in hexadecimal
 
