@@ -95,7 +95,11 @@ def gnu(code, at):
     for line in run(GNU + "objdump", *words, at=at).stdout.splitlines():
         read = re.match(r" *([0-9a-f]+):\t([0-9a-f ]+?) *\t(\S+)(?:\t(.*))?$", line)
         if read:
-            found.append((int(read[1], 16), len(read[2].replace(" ", "")) // 2, read[3], (read[4] or "").split(" #")[0].split(" <")[0]))
+            name, operands = read[3], (read[4] or "").split(" #")[0].split(" <")[0]
+            # (without aliases it shows c.nop so)
+            if (name, operands) == ("c.addi", "zero,0"):
+                name, operands = "c.nop", ""
+            found.append((int(read[1], 16), len(read[2].replace(" ", "")) // 2, name, operands))
     return found
 
 
@@ -125,8 +129,6 @@ def is_hint(name, operands):
     parts = operands.split(",")
     if name == "c.addi16sp":
         return parts[-1] == "0"
-    if name == "c.nop":
-        return parts[0] not in ("", "0")
     if name in ("c.li", "c.lui", "c.mv", "c.add"):
         return parts[0] == "zero"
     if name == "c.addi":
@@ -292,14 +294,17 @@ def main(count=20_000, seeds=70):
                 passed += not found
         print(f"{len(good)} parcels and {count} words printed and built again, {len(others)} parcels refused", flush=True)
         of_one = [case for case in cases([]) if [Path(it).suffix for it in case[1]] == [".s"]]
-        of_each = [functools.partial(of_case, case) for case in of_one]
-        of_each += [functools.partial(of_programs, seed) for seed in range(1, seeds + 1)]
-        counts = collections.Counter()
-        for found, ends in pool.map(try_all, of_each):
-            failed += found
-            passed += len(ends) - len(found)
-            counts.update(ends)
-    print("executables: " + ", ".join(f"{count} {end}" for end, count in counts.most_common()))
+        of_each = {
+            "cases": [functools.partial(of_case, case) for case in of_one],
+            "C programs": [functools.partial(of_programs, seed) for seed in range(1, seeds + 1)],
+        }
+        for kind, makes in of_each.items():
+            counts = collections.Counter()
+            for found, ends in pool.map(try_all, makes):
+                failed += found
+                passed += len(ends) - len(found)
+                counts.update(ends)
+            print(f"{kind}: " + ", ".join(f"{number} {end}" for end, number in counts.most_common()), flush=True)
     for each in failed[:40]:
         print(each)
     print(f"{passed} passed, {len(failed)} failed")
