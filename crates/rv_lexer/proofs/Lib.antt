@@ -2,6 +2,7 @@ pub mod NumbersLemmas
 pub mod EscapesLemmas
 pub mod ScansLemmas
 pub mod InsideLemmas
+pub mod PlainBytesLemmas
 pub mod StepsLemmas
 pub mod FeedsLemmas
 pub mod BlanksLemmas

@@ -6,7 +6,7 @@
 
 ghost use Rattle.std.specs.Prelude.{◌≡◌, ◌+◌, ◌≤◌, ◌<◌, ◌^◌, ◌∷◌, slice_index, true, false, MatchOption, IfSome, length, option_map, if◌then◌else◌};
 ghost use Rattle.std.specs.List.{prefix_len};
-ghost use Rattle.rv_text_laws.specs.Bytes.{in_line};
+ghost use Rattle.rv_text_laws.specs.Bytes.{in_line, class as class_of};
 ghost use Rattle.rv_text_laws.specs.Grammar.{Spells};
 ghost use Rattle.rv_text_laws.specs.Lexing.{newlines, is_gap};
 ghost use Rattle.rv_text_laws.specs.Front.{close_at, lexeme_at, lexeme_by, after_slash, after_less, after_greater, with_equal};
@@ -278,17 +278,16 @@ fn frequent_by<'a>(class: Class, bytes: &'a [u8], rest: &'a [u8]) -> Option<Freq
     }
 }
 
-/// The frequent token at the front of bytes, where one stands there.
+/// The frequent token at the front of bytes, of which the first has this class, where one stands there.
 #[inline(always)]
 #[tactic(auto, unfolding(rv_text_laws::specs::Front::lexeme_at))]
-pub(crate) fn frequent_at(bytes: &[u8]) -> Option<Frequent<'_>>
+pub(crate) fn frequent_at(class: Class, bytes: &[u8]) -> Option<Frequent<'_>>
+    requires some { 0 < length bytes.now }
+    requires class { class ≡ class_of (slice_index bytes.now 0) }
     ensures is { IfSome result (λ f. Some (kind_of f.kind, f.length) ≡ lexeme_at bytes.now) }
     ensures feeds { IfSome result
         (λ f. f.feeds ≡ (if has_feeds (kind_of f.kind) then 1 else 0)) }
 {
-    if bytes.is_empty() {
-        return None;
-    }
     let (_, rest) = bytes.split_at(1);
-    frequent_by(class(bytes[0]), bytes, rest)
+    frequent_by(class, bytes, rest)
 }

@@ -4,7 +4,9 @@
 //! function here is `inline(always)`: a token's parts are then built apart and put together again, which cost half as
 //! many instructions again.
 
-ghost use Rattle.std.specs.Prelude.{◌≡◌, ◌+◌, ◌-◌, ◌<◌, ◌≤◌, ◌^◌, ◌∷◌, [], true, length, take, drop, if◌then◌else◌};
+ghost use Rattle.std.specs.Prelude.{◌≡◌, slice_index, ◌+◌, ◌-◌, ◌<◌, ◌≤◌, ◌^◌, ◌∷◌, [], true, length, take, drop, if◌then◌else◌};
+ghost use Rattle.rv_text_laws.specs.Bytes.{class as class_of};
+ghost use Rattle.rv_text_laws.specs.declared.class.Class.TheVariants.{Letter};
 ghost use Rattle.rv_text_laws.specs.Grammar.{Spells};
 ghost use Rattle.rv_text_laws.specs.Lexing.{newlines, is_last, last_kind};
 ghost use Rattle.rv_lexer.specs.Lexeme.{lexeme_kind_of};
@@ -72,8 +74,31 @@ impl<'a> Lexer<'a> {
             tokens_left self.new ≡ tokens_left self.old }
     {
         self.skip_blanks();
-        let Some(frequent) = frequent_at(self.rest) else {
-            *token = self.next_of_all();
+        if self.rest.is_empty() {
+            self.put_of_all(token);
+            return;
+        }
+        let first = class(self.rest[0]);
+        match first {
+            Class::Letter => self.put_name(token),
+            _ => self.put_by(first, token),
+        }
+    }
+
+    /// Puts the token that begins with a byte of this class. Where the class is known, little is left of this: what is
+    /// written then depends on few values, which fit the registers that need not be kept.
+    #[inline(always)]
+    fn put_by(&mut self, class: Class, token: &mut Token<'a>)
+        requires some { 0 < length self.old.rest.now }
+        requires class { class ≡ class_of (slice_index self.old.rest.now 0) }
+        ensures first { tokens_left self.old
+            ≡ token_of token.new ∷
+            (if is_last (token_of token.new).kind then [] else tokens_left self.new) }
+        ensures stays { is_last (token_of token.new).kind ≡ true →
+            tokens_left self.new ≡ tokens_left self.old }
+    {
+        let Some(frequent) = frequent_at(class, self.rest) else {
+            self.put_of_all(token);
             return;
         };
         let (_, rest) = self.rest.split_at(frequent.length);
@@ -91,8 +116,33 @@ impl<'a> Lexer<'a> {
         *self = behind;
     }
 
-    /// The next token, whichever it is, after any blanks and comments.
+    /// Puts the name at the front.
     #[inline(never)]
+    fn put_name(&mut self, token: &mut Token<'a>)
+        requires some { 0 < length self.old.rest.now }
+        requires class { Letter ≡ class_of (slice_index self.old.rest.now 0) }
+        ensures first { tokens_left self.old
+            ≡ token_of token.new ∷
+            (if is_last (token_of token.new).kind then [] else tokens_left self.new) }
+        ensures stays { is_last (token_of token.new).kind ≡ true →
+            tokens_left self.new ≡ tokens_left self.old }
+    {
+        self.put_by(Class::Letter, token);
+    }
+
+    /// Puts the next token, whichever it is.
+    #[inline(never)]
+    fn put_of_all(&mut self, token: &mut Token<'a>)
+        ensures first { tokens_left self.old
+            ≡ token_of token.new ∷
+            (if is_last (token_of token.new).kind then [] else tokens_left self.new) }
+        ensures stays { is_last (token_of token.new).kind ≡ true →
+            tokens_left self.new ≡ tokens_left self.old }
+    {
+        *token = self.next_of_all();
+    }
+
+    /// The next token, whichever it is, after any blanks and comments.
     fn next_of_all(&mut self) -> Token<'a>
         ensures first { tokens_left self.old
             ≡ token_of result ∷

@@ -1,4 +1,6 @@
 //! Strings and characters.
+//!
+//! Most strings have no escape, so the bytes up to the first one are found by `memchr` and taken at once.
 
 ghost use Rattle.std.specs.Prelude.{◌≡◌, ℕ, List, ◌==◌, ◌+◌, ◌%◌, ◌<◌, ◌≤◌, None, false, length, take, option_map, if◌then◌else◌, OnOk, OnErr, ◌++◌};
 ghost use Rattle.std.specs.List.{prefix_len, list_any};
@@ -10,6 +12,7 @@ ghost use Rattle.rv_text_laws.specs.Front.{begins, number_by, escape_at, atom_at
 ghost use Rattle.rv_lexer.specs.Token.{string_bytes};
 
 use crate::word::{is_digit, number_by};
+use memchr::{memchr, memchr3};
 use std::alloc::AllocError;
 
 /// The byte that a letter after a backslash stands for.
@@ -128,12 +131,24 @@ fn atom_at(bytes: &[u8]) -> Option<(u8, usize)>
     }
 }
 
+/// How many bytes at the front stand in a string as they are.
+fn plain_length(bytes: &[u8]) -> usize
+    ensures count { result ≡ prefix_len is_plain bytes.now }
+    ensures within { result ≤ length bytes.now }
+{
+    match memchr3(b'"', b'\\', b'\n', bytes) {
+        Some(length) => length,
+        None => bytes.len(),
+    }
+}
+
 /// The length of a string's inside, where a quote closes it.
 pub(crate) fn string_length(bytes: &[u8]) -> Option<usize>
     ensures { option_map (λ n. (grammar.Text (string_bytes (take n bytes.now)), n + 2)) result
         ≡ closed_string (cut atom_at bytes.now) }
 {
-    let mut rest = bytes;
+    let (_, behind) = bytes.split_at(plain_length(bytes));
+    let mut rest = behind;
     while let Some((_, length)) = atom_at(rest) {
         let (_, after) = rest.split_at(length);
         rest = after;
@@ -145,8 +160,8 @@ pub(crate) fn string_length(bytes: &[u8]) -> Option<usize>
     }
 }
 
-/// Appends the bytes that a string has, by what stands between its quotes; an error leaves the first of them appended.
-pub fn append_string(text: &[u8], bytes: &mut Vec<u8>) -> Result<(), AllocError>
+/// Appends the bytes that a string has, one by one; an error leaves the first of them appended.
+fn append_each(text: &[u8], bytes: &mut Vec<u8>) -> Result<(), AllocError>
     ensures ok { OnOk result (bytes.new.items ≡ bytes.old.items ++ string_bytes text.now) }
     ensures err { OnErr result ((first more : List ℕ)
         × (bytes.new.items ≡ bytes.old.items ++ first) × (string_bytes text.now ≡ first ++ more)) }
@@ -160,11 +175,35 @@ pub fn append_string(text: &[u8], bytes: &mut Vec<u8>) -> Result<(), AllocError>
     Ok(())
 }
 
+/// Appends the bytes that a string has, by what stands between its quotes; an error leaves the first of them appended.
+pub fn append_string(text: &[u8], bytes: &mut Vec<u8>) -> Result<(), AllocError>
+    ensures ok { OnOk result (bytes.new.items ≡ bytes.old.items ++ string_bytes text.now) }
+    ensures err { OnErr result ((first more : List ℕ)
+        × (bytes.new.items ≡ bytes.old.items ++ first) × (string_bytes text.now ≡ first ++ more)) }
+{
+    let (plain, behind) = text.split_at(plain_length(text));
+    bytes.extend_from_slice(plain)?;
+    append_each(behind, bytes)?;
+    Ok(())
+}
+
+/// Whether a byte is among others.
+#[tactic(auto, using(crate::proofs::PlainBytesLemmas::found_any))]
+fn has_byte(bytes: &[u8], wanted: u8) -> bool
+    ensures { result ≡ list_any (λ byte. byte == wanted) bytes.now }
+{
+    memchr(wanted, bytes).is_some()
+}
+
 /// Whether a string has the byte, by what stands between its quotes.
 pub fn string_contains(text: &[u8], wanted: u8) -> bool
     ensures { result ≡ list_any (λ byte. byte == wanted) (string_bytes text.now) }
 {
-    let mut rest = text;
+    let (plain, behind) = text.split_at(plain_length(text));
+    if has_byte(plain, wanted) {
+        return true;
+    }
+    let mut rest = behind;
     while let Some((byte, length)) = atom_at(rest) {
         if byte == wanted {
             return true;
@@ -179,8 +218,10 @@ pub fn string_contains(text: &[u8], wanted: u8) -> bool
 pub fn string_size(text: &[u8]) -> usize
     ensures { result ≡ length (string_bytes text.now) }
 {
-    let mut rest = text;
-    let mut size = 0;
+    let plain = plain_length(text);
+    let (_, behind) = text.split_at(plain);
+    let mut rest = behind;
+    let mut size = plain;
     while let Some((_, length)) = atom_at(rest) {
         let (_, after) = rest.split_at(length);
         rest = after;

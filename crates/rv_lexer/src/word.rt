@@ -120,9 +120,11 @@ fn reference_in(word: &[u8]) -> Option<(&[u8], bool)>
 pub(crate) fn digits_kind(word: &[u8]) -> TokenKind<'_>
     ensures { kind_of result ≡ digits_kind word.now (reference_in word.now) }
 {
-    match (reference_in(word), number_in(word)) {
-        (Some((digits, forward)), _) => TokenKind::Reference(digits, forward),
-        (None, Some(number)) => TokenKind::Number(word, number),
-        (None, None) => TokenKind::BadWord(word),
+    if let Some((digits, forward)) = reference_in(word) {
+        return TokenKind::Reference(digits, forward);
+    }
+    match number_in(word) {
+        Some(number) => TokenKind::Number(word, number),
+        None => TokenKind::BadWord(word),
     }
 }

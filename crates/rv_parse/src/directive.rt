@@ -47,7 +47,7 @@ fn strings<'a>(alloc: Global, cursor: &mut Cursor<'a>) -> Result<Vec<&'a [u8]>, 
     ensures { Answers (λ strings. (map string_of strings.items, left cursor.new)) result
         (items_at A_string (left cursor.old)) }
 {
-    let mut strings = Vec::new(alloc);
+    let mut strings = Vec::with_capacity(alloc, 1)?;
     strings.push(slot::string(cursor)?)?;
     while kinds::is_comma(cursor.next.kind) {
         cursor.advance();

@@ -1,6 +1,6 @@
 -- What the types of words and slots stand for.
 
-use Rattle.std.specs.Prelude.{ℕ, List, Option, None}
+use Rattle.std.specs.Prelude.{ℕ, List, [], ◌∷◌, Option, None}
 use Rattle.std.specs.Borrow.{Bor}
 use Rattle.rv_text_laws.specs.Grammar.{Kind, Name}
 use Rattle.rv_statement.specs.declared.directive.Choice.{Choice}
@@ -40,3 +40,9 @@ word_of name = Word (now_of name)
 
 abbrev pub string_of : Bor (List ℕ) → Operand
 string_of text = Quoted (quoted text)
+
+-- the second byte of a word, and 0 where it has none
+abbrev pub second : List ℕ → ℕ
+second [] = 0
+second (b ∷ []) = 0
+second (b ∷ c ∷ word) = c

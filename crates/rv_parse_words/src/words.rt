@@ -1,8 +1,9 @@
 //! The words that may begin a statement.
 //!
-//! Mnemonics stand in one table for each length, so a look-up compares a word with the few of its length. An atomic has
-//! no row of its own: it is an operation and an ending for its width and its order, since all of them in one table
-//! would be 88 rows that say the same. The tables are data, so one contract on the look-up covers every row.
+//! Mnemonics stand in one table for each length, and directives in one for each second byte: a look-up compares a
+//! word with few. An atomic has no row of its own: it is an operation and an ending for its width and its order, since
+//! all of them in one table would be 88 rows that say the same. The tables are data, so one contract on the look-up
+//! covers every row.
 
 ghost use Rattle.std.specs.Prelude.{◌≡◌, map, ◌||◌, ◌&&◌, take, drop, length, option_map, is_some, codes};
 ghost use Rattle.std.specs.Option.{option_or};
@@ -12,7 +13,7 @@ ghost use Rattle.rv_statement.specs.declared.mnemonic.Mnemonic.TheVariants.{Load
 ghost use Rattle.std.specs.List.{list_all};
 ghost use Rattle.rv_parse_laws.specs.Syntax.{access_sets, with_constant, is_flag};
 ghost use Rattle.rv_parse_laws.specs.Faults.{is_known_flag};
-ghost use Rattle.rv_parse_words.specs.View.{named_of};
+ghost use Rattle.rv_parse_words.specs.View.{named_of, second};
 
 use rv_compress::ParcelOperation;
 use rv_isa::{
@@ -478,44 +479,103 @@ pub fn function_named(word: &[u8]) -> Option<Function>
     named_in(&FUNCTIONS, word)
 }
 
-/// The directives but those of call frames.
-const DIRECTIVES: [(&str, DirectiveWord); 37] = [
+/// The directives with `t` behind their point.
+const DIRECTIVES_T: [(&str, DirectiveWord); 2] = [
     (".text", DirectiveWord::Enters(Standard::Text)),
+    (".type", DirectiveWord::Ignored),
+];
+
+/// The directives with `d` behind their point.
+const DIRECTIVES_D: [(&str, DirectiveWord); 2] = [
     (".data", DirectiveWord::Enters(Standard::Data)),
-    (".rodata", DirectiveWord::Enters(Standard::Rodata)),
+    (".dword", DirectiveWord::Value(Width::Double)),
+];
+
+/// The directives with `r` behind their point.
+const DIRECTIVES_R: [(&str, DirectiveWord); 1] = [(
+    ".rodata",
+    DirectiveWord::Enters(Standard::Rodata),
+)];
+
+/// The directives with `b` behind their point.
+const DIRECTIVES_B: [(&str, DirectiveWord); 3] = [
     (".bss", DirectiveWord::Enters(Standard::Bss)),
-    (".section", DirectiveWord::Section),
-    (".globl", DirectiveWord::Binds(Binding::Global)),
-    (".global", DirectiveWord::Binds(Binding::Global)),
-    (".local", DirectiveWord::Binds(Binding::Local)),
-    (".weak", DirectiveWord::Binds(Binding::Weak)),
-    (".set", DirectiveWord::Set),
-    (".equ", DirectiveWord::Set),
-    (".align", DirectiveWord::AlignToPower),
-    (".p2align", DirectiveWord::AlignToPower),
     (".balign", DirectiveWord::AlignToBytes),
     (".byte", DirectiveWord::Value(Width::Byte)),
-    (".half", DirectiveWord::Value(Width::Half)),
-    (".2byte", DirectiveWord::Value(Width::Half)),
-    (".word", DirectiveWord::Value(Width::Word)),
-    (".4byte", DirectiveWord::Value(Width::Word)),
-    (".dword", DirectiveWord::Value(Width::Double)),
-    (".8byte", DirectiveWord::Value(Width::Double)),
-    (".quad", DirectiveWord::Value(Width::Double)),
-    (".ascii", DirectiveWord::Ascii),
-    (".asciz", DirectiveWord::Asciz),
+];
+
+/// The directives with `s` behind their point.
+const DIRECTIVES_S: [(&str, DirectiveWord); 6] = [
+    (".section", DirectiveWord::Section),
+    (".set", DirectiveWord::Set),
     (".string", DirectiveWord::Asciz),
-    (".zero", DirectiveWord::Zero),
     (".space", DirectiveWord::Zero),
     (".skip", DirectiveWord::Zero),
-    (".option", DirectiveWord::Option),
-    (".file", DirectiveWord::Ignored),
-    (".ident", DirectiveWord::Ignored),
-    (".type", DirectiveWord::Ignored),
     (".size", DirectiveWord::Ignored),
+];
+
+/// The directives with `g` behind their point.
+const DIRECTIVES_G: [(&str, DirectiveWord); 2] = [
+    (".globl", DirectiveWord::Binds(Binding::Global)),
+    (".global", DirectiveWord::Binds(Binding::Global)),
+];
+
+/// The directives with `l` behind their point.
+const DIRECTIVES_L: [(&str, DirectiveWord); 1] = [(".local", DirectiveWord::Binds(Binding::Local))];
+
+/// The directives with `w` behind their point.
+const DIRECTIVES_W: [(&str, DirectiveWord); 2] = [
+    (".weak", DirectiveWord::Binds(Binding::Weak)),
+    (".word", DirectiveWord::Value(Width::Word)),
+];
+
+/// The directives with `e` behind their point.
+const DIRECTIVES_E: [(&str, DirectiveWord); 1] = [(".equ", DirectiveWord::Set)];
+
+/// The directives with `a` behind their point.
+const DIRECTIVES_A: [(&str, DirectiveWord); 4] = [
+    (".align", DirectiveWord::AlignToPower),
+    (".ascii", DirectiveWord::Ascii),
+    (".asciz", DirectiveWord::Asciz),
     (".attribute", DirectiveWord::Ignored),
-    (".hidden", DirectiveWord::Ignored),
+];
+
+/// The directives with `p` behind their point.
+const DIRECTIVES_P: [(&str, DirectiveWord); 2] = [
+    (".p2align", DirectiveWord::AlignToPower),
     (".protected", DirectiveWord::Ignored),
+];
+
+/// The directives with `h` behind their point.
+const DIRECTIVES_H: [(&str, DirectiveWord); 2] = [
+    (".half", DirectiveWord::Value(Width::Half)),
+    (".hidden", DirectiveWord::Ignored),
+];
+
+/// The directives with `2` behind their point.
+const DIRECTIVES_2: [(&str, DirectiveWord); 1] = [(".2byte", DirectiveWord::Value(Width::Half))];
+
+/// The directives with `4` behind their point.
+const DIRECTIVES_4: [(&str, DirectiveWord); 1] = [(".4byte", DirectiveWord::Value(Width::Word))];
+
+/// The directives with `8` behind their point.
+const DIRECTIVES_8: [(&str, DirectiveWord); 1] = [(".8byte", DirectiveWord::Value(Width::Double))];
+
+/// The directives with `q` behind their point.
+const DIRECTIVES_Q: [(&str, DirectiveWord); 1] = [(".quad", DirectiveWord::Value(Width::Double))];
+
+/// The directives with `z` behind their point.
+const DIRECTIVES_Z: [(&str, DirectiveWord); 1] = [(".zero", DirectiveWord::Zero)];
+
+/// The directives with `o` behind their point.
+const DIRECTIVES_O: [(&str, DirectiveWord); 1] = [(".option", DirectiveWord::Option)];
+
+/// The directives with `f` behind their point.
+const DIRECTIVES_F: [(&str, DirectiveWord); 1] = [(".file", DirectiveWord::Ignored)];
+
+/// The directives with `i` behind their point.
+const DIRECTIVES_I: [(&str, DirectiveWord); 2] = [
+    (".ident", DirectiveWord::Ignored),
     (".internal", DirectiveWord::Ignored),
 ];
 
@@ -537,12 +597,43 @@ fn frame_directive(word: &[u8]) -> Option<DirectiveWord>
     }
 }
 
-/// The directive of the table that the word is.
-#[tactic(auto, unfolding(rv_parse_laws::specs::Words::directive_words))]
+/// The second byte of a word, and 0 where it has none.
+fn second(word: &[u8]) -> u8
+    ensures { result ≡ second word.now }
+{
+    match word {
+        [_, second, ..] => *second,
+        _ => 0,
+    }
+}
+
+/// The directive but those of call frames that the word is: a look-up among those with its second byte.
 fn listed_directive(word: &[u8]) -> Option<DirectiveWord>
     ensures { result ≡ named_in directive_words word.now }
 {
-    named_in(&DIRECTIVES, word)
+    match second(word) {
+        b't' => named_in(&DIRECTIVES_T, word),
+        b'd' => named_in(&DIRECTIVES_D, word),
+        b'r' => named_in(&DIRECTIVES_R, word),
+        b'b' => named_in(&DIRECTIVES_B, word),
+        b's' => named_in(&DIRECTIVES_S, word),
+        b'g' => named_in(&DIRECTIVES_G, word),
+        b'l' => named_in(&DIRECTIVES_L, word),
+        b'w' => named_in(&DIRECTIVES_W, word),
+        b'e' => named_in(&DIRECTIVES_E, word),
+        b'a' => named_in(&DIRECTIVES_A, word),
+        b'p' => named_in(&DIRECTIVES_P, word),
+        b'h' => named_in(&DIRECTIVES_H, word),
+        b'2' => named_in(&DIRECTIVES_2, word),
+        b'4' => named_in(&DIRECTIVES_4, word),
+        b'8' => named_in(&DIRECTIVES_8, word),
+        b'q' => named_in(&DIRECTIVES_Q, word),
+        b'z' => named_in(&DIRECTIVES_Z, word),
+        b'o' => named_in(&DIRECTIVES_O, word),
+        b'f' => named_in(&DIRECTIVES_F, word),
+        b'i' => named_in(&DIRECTIVES_I, word),
+        _ => None,
+    }
 }
 
 /// The directive that the word is.

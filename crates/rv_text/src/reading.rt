@@ -420,7 +420,8 @@ pub(crate) fn read_on<'a, R: Registers>(
     }
 }
 
-/// The expression at the front of a cursor's tokens. An error names the first token that is wrong.
+/// The expression at the front of a cursor's tokens. An error names the first token that is wrong, and leaves the cursor
+/// before that token; where memory runs out, the cursor has passed some of the expression's tokens.
 #[tactic(auto, using(crate::proofs::ExprsLemmas::stack_none), unfolding(rv_text_laws::specs::ExpressionAt::expression_at))]
 pub fn expression<'a, R: Registers>(
     alloc: Global,

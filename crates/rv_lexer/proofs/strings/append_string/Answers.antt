@@ -1,43 +1,35 @@
--- Atom by atom.
-use Rattle.std.proofs.Common.{[], ◌∷◌, ◌++◌, refl, sym, ◌∙◌, ap, append_assoc, arith, Result, Ok, Err}
-use Rattle.std.specs.Prelude.{OnErr}
+-- The plain bytes, and then one by one.
+use Rattle.std.proofs.Common.{◌≡◌, [], ◌++◌, refl, sym, ◌∙◌, ap, append_assoc}
 use Rattle.std.proofs.lemmas.List.{append-nil}
 use Rattle.rv_lexer.specs.Token.{string_bytes}
-use Rattle.rv_lexer.proofs.InsideLemmas.{atom_within, string_more, string_none}
+use Rattle.rv_lexer.proofs.PlainBytesLemmas.{on_err, in_two}
 use Rattle.rv_lexer.proofs.strings.append_string.Goals as goal
-
-on_err : {T E P : Type 0} (r : Result T E) → P → OnErr r P
-on_err (Ok x) p = tt
-on_err (Err e) p = p
-
-pub loop-byte-init : goal.loop-byte-init
-loop-byte-init c = ([], sym (append-nil _), refl)
-
-pub split_at-requires : goal.split_at-requires
-split_at-requires c = (atom_within c.loop-byte.rest.now c.in-Some.byte c.in-Some.length c.in-Some.ensures).1
-
-pub loop-byte-smaller : goal.loop-byte-smaller
-loop-byte-smaller c =
-    let w = atom_within c.loop-byte.rest.now c.in-Some.byte c.in-Some.length c.in-Some.ensures in
-    omega (arith, w.0, w.1, c.split_at.ensures.back_len)
-
-pub loop-byte-preserved : goal.loop-byte-preserved
-loop-byte-preserved c =
-    let so = c.loop-byte.invariant in
-    let byte = c.in-Some.byte in (
-      so.0 ++ byte ∷ [],
-      c.in_ok-push.ensures.items ∙ ap (λ l. l ++ byte ∷ []) so.1 ∙ append_assoc _ so.0 (byte ∷ []),
-      so.2
-          ∙ ap (λ l. so.0 ++ l) (string_more c.loop-byte.rest.now byte c.in-Some.length c.in-Some.ensures ∙ ap (λ r. byte ∷ string_bytes r) (sym c.split_at.ensures.back))
-          ∙ sym (append_assoc so.0 (byte ∷ []) _),
-    )
 
 pub returns-clause-ok : goal.returns-clause-ok
 returns-clause-ok c =
-    let so = c.loop-byte.invariant in
-    so.1 ∙ ap (λ l. c.args.bytes.now.items ++ l) (sym (so.2 ∙ ap (λ l. so.0 ++ l) (string_none c.loop-byte.rest.now c.in_default.ensures) ∙ append-nil so.0))
+    let plain = c.split_at.result.0.now in
+    let behind = c.split_at.result.1.now in
+    let whole : string_bytes c.args.text.now ≡ plain ++ string_bytes behind =
+    in_two c.args.text.now plain behind _ c.plain_length.ensures.count c.split_at.ensures.front c.split_at.ensures.back in
+    c.in_ok-append_each.ensures.ok
+    ∙ ap (λ l. l ++ string_bytes behind) c.in_ok-extend_from_slice.ensures.items
+    ∙ append_assoc c.args.bytes.now.items plain (string_bytes behind)
+    ∙ ap (λ l. c.args.bytes.now.items ++ l) (sym whole)
 
-pub returns-in_err-push-clause-err : goal.returns-in_err-push-clause-err
-returns-in_err-push-clause-err c =
-    let so = c.loop-byte.invariant in
-    on_err c.from_residual.result (so.0, string_bytes c.loop-byte.rest.now, c.in_err-push.ensures.items ∙ so.1, so.2)
+pub returns-in_err-extend_from_slice-clause-err : goal.returns-in_err-extend_from_slice-clause-err
+returns-in_err-extend_from_slice-clause-err c =
+    on_err c.from_residual.result ([], string_bytes c.args.text.now, c.in_err-extend_from_slice.ensures.items ∙ sym (append-nil _), refl)
+
+pub returns-in_err-append_each-clause-err : goal.returns-in_err-append_each-clause-err
+returns-in_err-append_each-clause-err c =
+    let plain = c.split_at.result.0.now in
+    let behind = c.split_at.result.1.now in
+    let whole : string_bytes c.args.text.now ≡ plain ++ string_bytes behind =
+    in_two c.args.text.now plain behind _ c.plain_length.ensures.count c.split_at.ensures.front c.split_at.ensures.back in
+    let so = c.in_err-append_each.ensures.err in
+    on_err c.from_residual-in_err-append_each.result (
+      plain ++ so.0,
+      so.1,
+      so.2 ∙ ap (λ l. l ++ so.0) c.in_ok-extend_from_slice.ensures.items ∙ append_assoc c.args.bytes.now.items plain so.0,
+      whole ∙ ap (λ l. plain ++ l) so.3 ∙ sym (append_assoc plain so.0 so.1),
+    )

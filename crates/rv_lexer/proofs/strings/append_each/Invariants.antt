@@ -1,7 +1,7 @@
 -- The bytes appended so far and those of the rest are the string's.
 use Rattle.std.proofs.Common.{◌≡◌, ℕ, List, ◌++◌, length}
 use Rattle.rv_lexer.specs.Token.{string_bytes}
-use Rattle.rv_lexer.proofs.strings.append_string.Given as goal
+use Rattle.rv_lexer.proofs.strings.append_each.Given as goal
 
 abbrev pub invariant-loop-byte : goal.invariant-loop-byte
 invariant-loop-byte l =
