@@ -2,28 +2,14 @@
 
 use Rattle.std.specs.Prelude.{◌≡◌, ℕ, ◌+◌, ◌≤◌, ◌<◌, Bool, true, false, ◌&&◌, ◌==◌, ⊤, if◌then◌else◌, List, [], ◌∷◌, ◌++◌, Option, Some, None, slice_index_or}
 use Rattle.std.specs.List.{list_any}
-use Rattle.std.specs.Borrow.{Bor}
 use Rattle.rv_map.specs.Globals.{is_one_of}
 use Rattle.rv_text_laws.specs.Expression.{Primary, Symbol as Named, Here}
 use Rattle.rv_unit_laws.specs.Tables.{Tables, definition}
 use Rattle.rv_unit_laws.specs.Tables as laws
-use Rattle.rv_object.specs.declared.symbol.Binding.{Binding}
 use Rattle.rv_object.specs.declared.symbol.Definition.{Definition as Defined}
 use Rattle.rv_object.specs.declared.symbol.Definition.TheVariants.{Absolute}
-use Rattle.rv_object.specs.Object.{Symbol}
 use Rattle.rv_assemble_laws.specs.Sites.{Site}
-use Rattle.rv_assemble_laws.specs.Symbols.{SymbolUse, shared_symbol, is_unnamed, is_at, is_meant}
-
--- the symbol of a name, if there is one
-abbrev pub symbols_in : Binding → Option (Bor (List ℕ) × Defined) → List Symbol
-symbols_in binding None = []
-symbols_in binding (Some p) =
-    record { name = p.0.now; binding = binding; definition = p.1 } ∷ []
-
--- the symbol of a name that other files can mean, if there is one
-abbrev pub shared_in : Tables → Option (Bor (List ℕ) × Defined) → List Symbol
-shared_in t None = []
-shared_in t (Some p) = shared_symbol t p.0.now p.1 ∷ []
+use Rattle.rv_assemble_laws.specs.Symbols.{SymbolUse, is_unnamed, is_at, is_meant}
 
 -- a number of the source's own
 abbrev pub is_number : Defined → Bool

@@ -17,13 +17,13 @@
 //! Source: System V gABI, "Symbol Table"; GNU as, "Symbols".
 #![tactic(auto)]
 
-mod exports;
-mod locals;
 mod numbers;
+mod own;
 mod settings;
 mod source;
 mod symbol_use;
 mod table;
+mod undefined;
 mod uses;
 
 pub use symbol_use::SymbolUse;

@@ -9,11 +9,11 @@ ghost use Rattle.rv_assemble_laws.specs.ShownNames.{used_names, HasNames, AreSho
 ghost use Rattle.rv_symbols.specs.SymbolUse.{uses_of, AreMeant};
 ghost use Rattle.rv_symbols.specs.HasSymbols.{AreSites, HasSymbols};
 
-use crate::exports::{put_exports, put_undefined};
-use crate::locals::locals;
 use crate::numbers::numbers;
+use crate::own::own_symbols;
 use crate::source::Source;
 use crate::symbol_use::SymbolUse;
+use crate::undefined::put_undefined;
 use crate::uses::{definitions, marks, missing};
 use rv_object::Symbol;
 use rv_unit::Unit;
@@ -50,8 +50,7 @@ pub fn symbols<'a>(
     let source = Source::of(alloc, unit, offsets)?;
     let definitions = definitions(alloc, unit, uses)?;
     let meant = marks(alloc, offsets.len(), uses, definitions.as_slice())?;
-    let mut symbols = locals(alloc, &source, meant.as_slice())?;
-    put_exports(&mut symbols, &source)?;
+    let mut symbols = own_symbols(alloc, &source, meant.as_slice())?;
     let missing = missing(alloc, uses, definitions.as_slice())?;
     let numbers = numbers(
         alloc,

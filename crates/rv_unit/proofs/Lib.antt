@@ -1,3 +1,4 @@
+mod ApartLemmas
 mod LowestLemmas
 mod CheckedLemmas
 mod EachLemmas

@@ -1,6 +1,6 @@
 -- What a unit and a scope show.
 
-use Rattle.std.specs.Prelude.{◌≡◌, ℕ, ◌+◌, ◌<◌, ◌≤◌, List, Some, length, map, take}
+use Rattle.std.specs.Prelude.{◌≡◌, ◌⊎◌, ℕ, ◌+◌, ◌<◌, ◌≤◌, true, List, Some, None, length, map, take}
 use Rattle.rv_lexer.specs.declared.fault.SourceFault.{SourceFault}
 use Rattle.rv_lexer.specs.declared.fault.SourceFault.TheVariants as refusals
 use Rattle.rv_lexer.specs.declared.fault.SourceCode.{SourceCode}
@@ -34,6 +34,12 @@ pub record IsFilled (u : SourceUnit) : Type 0 where
 -- the tables of the first `count` statements
 abbrev pub passed : List Statement → ℕ → laws.Tables
 passed ss count = laws.after_all (laws.at_start ss) 1 (take count ss)
+
+-- no name is both that of a label and one that is set
+abbrev pub IsApart : laws.Tables → Type 0
+IsApart t =
+    (name : List ℕ) → (laws.label_of t.labels true 0 name ≡ None)
+    ⊎ (laws.assigned_ever t.assignments name ≡ None)
 
 -- the statement at this index from 0 has this ordinal, stands at this offset and says this
 pub record IsStatementOf (u : SourceUnit) (i o : ℕ) (p : SectionOffset) (kind : StatementKind) : Type 0 where

@@ -17,7 +17,7 @@ ghost use Rattle.rv_unit_laws.specs.Tables as laws;
 ghost use Rattle.rv_unit_laws.proofs.BeforeLemmas.{IsBefore};
 ghost use Rattle.rv_unit_tables.specs.Sections.{offset_of};
 ghost use Rattle.rv_unit_tables.specs.Tables.{tables_of, IsIndexed};
-ghost use Rattle.rv_unit.specs.Unit.{said, passed, IsFilled};
+ghost use Rattle.rv_unit.specs.Unit.{said, passed, IsApart, IsFilled};
 
 use crate::unit::Unit;
 use rv_text::{Expr, Meaning, SourceFault, Symbol, Value, eval};
@@ -62,7 +62,7 @@ impl<'a> Unit<'a> {
     /// What a name means.
     fn named(&self, ordinal: u32, name: &[u8]) -> Meaning
         ensures { IsIndexed (self.now).tables → (o : ℕ) →
-            IsBefore (tables_of (self.now).tables) o →
+            IsBefore (tables_of (self.now).tables) o → IsApart (tables_of (self.now).tables) →
             meaning_of result ≡ laws.named (tables_of (self.now).tables) true ordinal name.now }
     {
         self.tables.weakened(name, self.own_named(ordinal, name))
@@ -71,27 +71,28 @@ impl<'a> Unit<'a> {
     /// What a name means in its own file.
     fn own_named(&self, ordinal: u32, name: &[u8]) -> Meaning
         ensures { IsIndexed (self.now).tables → (o : ℕ) →
-            IsBefore (tables_of (self.now).tables) o →
+            IsBefore (tables_of (self.now).tables) o → IsApart (tables_of (self.now).tables) →
             meaning_of result
             ≡ laws.own_named (tables_of (self.now).tables) true ordinal name.now }
     {
-        match self.tables.assignment_before(ordinal, name) {
-            Some(assignment) => assignment.meaning,
-            None => self.labelled(name),
+        match self.tables.label(name) {
+            Some(label) => self.tables.stands(label.place),
+            None => self.assigned(ordinal, name),
         }
     }
 
-    /// What a name means that is not set before.
-    fn labelled(&self, name: &[u8]) -> Meaning
-        ensures { IsIndexed (self.now).tables →
+    /// What a name without a label means: what it is set to before, else the location that it is set to later.
+    fn assigned(&self, ordinal: u32, name: &[u8]) -> Meaning
+        ensures { IsIndexed (self.now).tables → (o : ℕ) →
+            IsBefore (tables_of (self.now).tables) o →
             meaning_of result
-            ≡ laws.labelled (laws.opened_of (tables_of (self.now).tables))
-            (laws.label_of (tables_of (self.now).tables).labels true 0 name.now)
+            ≡ laws.assigned_first
+            (laws.assigned_before (tables_of (self.now).tables).assignments ordinal name.now)
             (laws.assigned_later true
             (laws.assigned_ever (tables_of (self.now).tables).assignments name.now)) }
     {
-        match self.tables.label(name) {
-            Some(label) => self.tables.stands(label.place),
+        match self.tables.assignment_before(ordinal, name) {
+            Some(assignment) => assignment.meaning,
             None => self.assigned_later(name),
         }
     }
@@ -236,10 +237,13 @@ impl<'a> Unit<'a> {
     /// Whether a label or an assignment has the name before an ordinal.
     pub(crate) fn is_defined_before(&self, ordinal: u32, name: &[u8]) -> bool
         ensures { IsIndexed (self.now).tables → (o : ℕ) → IsBefore (tables_of (self.now).tables) o
+            → IsApart (tables_of (self.now).tables)
             → result ≡ laws.is_defined (tables_of (self.now).tables) ordinal name.now }
     {
-        self.tables.label_before(ordinal, name).is_some()
-            || self.tables.assignment_before(ordinal, name).is_some()
+        match self.tables.label(name) {
+            Some(label) => label.ordinal < ordinal,
+            None => self.tables.assignment_before(ordinal, name).is_some(),
+        }
     }
 
     /// Whether a label or a location has the name before an ordinal.

@@ -8,7 +8,7 @@ ghost use Rattle.rv_unit_laws.specs.Tables as laws;
 ghost use Rattle.rv_unit_laws.proofs.BeforeLemmas.{IsBefore};
 ghost use Rattle.rv_unit_tables.specs.Sections.{offset_of};
 ghost use Rattle.rv_unit_tables.specs.Tables.{tables_of, numeric_label_at, assignment_of, IsIndexed};
-ghost use Rattle.rv_unit.specs.Unit.{said, passed, definition_of, IsFilled, IsScope};
+ghost use Rattle.rv_unit.specs.Unit.{said, passed, definition_of, IsApart, IsFilled, IsScope};
 
 use crate::unit::Unit;
 use rv_statement::Setting;
@@ -133,7 +133,7 @@ impl<'u, 'a> Scope<'u, 'a> {
     fn definition_of_name(&self, name: &[u8]) -> Option<Definition>
         ensures { IsIndexed (self.now).unit.now.tables → (o : ℕ) →
             let tables = tables_of (self.now).unit.now.tables in
-            IsBefore tables o →
+            IsBefore tables o → IsApart tables →
             option_map definition_of result
             ≡ laws.first_definition
             (laws.assigned_definition
@@ -141,18 +141,32 @@ impl<'u, 'a> Scope<'u, 'a> {
             (laws.labelled_definition (laws.label_of tables.labels true 0 name.now)
             (laws.assigned_definition (laws.assigned_ever tables.assignments name.now))) }
     {
-        if let Some(definition) = definition_of_assignment(
-            self.unit.tables.assignment_before(self.ordinal, name),
-        ) {
-            return Some(definition);
-        }
         match self.unit.tables.label(name) {
             Some(label) => Some(Definition {
                 ordinal: label.ordinal,
                 plus: 0,
             }),
-            None => definition_of_assignment(self.unit.tables.assignment(name)),
+            None => self.definition_of_assigned(name),
         }
+    }
+
+    /// Where a name without a label stands.
+    fn definition_of_assigned(&self, name: &[u8]) -> Option<Definition>
+        ensures { IsIndexed (self.now).unit.now.tables → (o : ℕ) →
+            let tables = tables_of (self.now).unit.now.tables in
+            IsBefore tables o →
+            option_map definition_of result
+            ≡ laws.first_definition
+            (laws.assigned_definition
+            (laws.assigned_before tables.assignments (self.now).ordinal name.now))
+            (laws.assigned_definition (laws.assigned_ever tables.assignments name.now)) }
+    {
+        if let Some(definition) = definition_of_assignment(
+            self.unit.tables.assignment_before(self.ordinal, name),
+        ) {
+            return Some(definition);
+        }
+        definition_of_assignment(self.unit.tables.assignment(name))
     }
 
     /// Whether a name is that of a label of this source, before the statement that is next or after it.
@@ -165,6 +179,7 @@ impl<'u, 'a> Scope<'u, 'a> {
     }
 
     /// The value of an expression of the statement that is next, which stands at the offset; a fault has this line.
+    #[inline(always)]
     pub fn value<'e>(
         &self,
         place: SectionOffset,
@@ -176,7 +191,11 @@ impl<'u, 'a> Scope<'u, 'a> {
             (laws.value (laws.tables (said (self.now).unit.now)) true (index + 1)
             (offset_of place) (tree_of_expr expression.now)) }
     {
-        self.unit.value(self.ordinal, place, expression, line)
+        match expression {
+            Expr::Number(number) => Ok(Value::Constant(*number)),
+            Expr::Negative(number) => Ok(Value::Constant(0u64.wrapping_sub(*number))),
+            _ => self.unit.value(self.ordinal, place, expression, line),
+        }
     }
 
     /// Whether the `.set` that is the next statement, which stands at the offset, gives a location.

@@ -193,6 +193,9 @@ impl<'a> Tables<'a> {
             option_map assignment_of result
             ≡ laws.assigned_ever (tables_of self.now).assignments name.now }
     {
+        if self.assignments.is_empty() {
+            return None;
+        }
         match self.by_name.get(&name) {
             Some(assignments) => assignments.as_slice().last().copied(),
             None => None,
@@ -205,6 +208,9 @@ impl<'a> Tables<'a> {
             option_map assignment_of result
             ≡ laws.assigned_before (tables_of self.now).assignments ordinal name.now }
     {
+        if self.assignments.is_empty() {
+            return None;
+        }
         match self.by_name.get(&name) {
             Some(assignments) => latest_before(assignments.as_slice(), ordinal),
             None => None,

@@ -26,11 +26,10 @@ numbers-requires-clause-few c =
     let marked : length c.as_slice-2.result.now ≡ length c.args.offsets.now = ap length c.as_slice-2.ensures.value ∙ c.in_ok-meant.ensures.len in
     let stand : length c.in_ok-source.source.offsets.now ≡ length c.args.offsets.now = ap length c.in_ok-source.ensures.offsets in
     let own = ap length c.as_slice-4.ensures.value in
-    let locals = c.in_ok-symbols.ensures.few in
-    let exported = c.in_ok-put_exports.ensures.few in
+    let defined = c.in_ok-symbols.ensures.few in
     let missing = c.in_ok-missing.ensures.few in
     let few = c.requires.few in
-    omega (arith, marked, stand, own, locals, exported, missing, few)
+    omega (arith, marked, stand, own, defined, missing, few)
 
 pub returns : goal.returns
 returns c = λ sites w.
@@ -56,14 +55,13 @@ returns c = λ sites w.
     let those : AreMarks (tables_of x) (references (tables_of x) sites) c.as_slice-2.result.now (length c.as_slice-2.result.now) =
     subst (λ (v : Tables). AreMarks v (references v sites) c.as_slice-2.result.now (length c.as_slice-2.result.now)) (sym same)
     (subst (λ l. AreMarks t (references t sites) l (length l)) (sym c.as_slice-2.ensures.value) marked) in
-    let own : map symbol_of c.put_exports.new.symbols.items ≡ own_symbols t sites =
-    c.in_ok-put_exports.ensures.symbols sites h ∙ ap (λ l. l ++ exports (tables_of x) sites) (c.in_ok-symbols.ensures.symbols sites h those) ∙ ap (λ (v : Tables). own_symbols v sites) same in
+    let own : map symbol_of c.in_ok-symbols.symbols.items ≡ own_symbols t sites = c.in_ok-symbols.ensures.symbols sites h those ∙ ap (λ (v : Tables). own_symbols v sites) same in
     let names : map now_of c.in_ok-missing.missing.keys ≡ missing_names t rs = c.in_ok-missing.ensures.names t (ap (map (option_map definition_of)) c.as_slice-3.ensures.value ∙ defs) in
     let undefined : Tables → List (List ℕ) → List Symbol = λ v ns. map (λ name. shared_symbol v name Undefined) ns in
     record {
       symbols =
           c.in_ok-put_undefined.ensures sites h
-          ∙ ap (λ (v : Tables). map symbol_of c.put_exports.new.symbols.items ++ undefined v (map now_of c.as_slice-6.result.now)) same
+          ∙ ap (λ (v : Tables). map symbol_of c.in_ok-symbols.symbols.items ++ undefined v (map now_of c.as_slice-6.result.now)) same
           ∙ ap (λ l. l ++ undefined t (map now_of c.as_slice-6.result.now)) own
           ∙ ap (λ l. own_symbols t sites ++ undefined t l) (ap (map now_of) c.as_slice-6.ensures.keys ∙ names ∙ ap (missing_names t) (sym w.named))
           ∙ append_assoc (local_symbols t sites [] sites) (exports t sites) (undefined t (missing_names t (references t sites)));

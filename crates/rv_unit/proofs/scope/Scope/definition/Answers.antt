@@ -5,6 +5,7 @@ use Rattle.rv_text.specs.Nodes.{symbol_of}
 use Rattle.rv_unit_laws.specs.Tables.{definition, tables, definition_at, numeric_definition}
 use Rattle.rv_unit_tables.specs.Tables.{tables_of}
 use Rattle.rv_unit.specs.Unit.{said}
+use Rattle.rv_unit.proofs.ApartLemmas.{whole_apart}
 use Rattle.rv_unit.proofs.ScopedLemmas.{whole_before}
 use Rattle.rv_unit.proofs.scope.Scope.definition.Goals as goal
 
@@ -12,7 +13,7 @@ pub returns-in-Name : goal.returns-in-Name
 returns-in-Name c = λ i f s.
     let u = c.args.self.now.unit.now in
     let q = Symbol c.in-Name.name.now in
-    c.definition_of_name.ensures f.indexed (1 + length (said u)) (whole_before u f) ∙ ap (λ o. definition (tables_of u.tables) o q) s.ordinal ∙ ap (λ t. definition t (i + 1) q) f.tables
+    c.definition_of_name.ensures f.indexed (1 + length (said u)) (whole_before u f) (whole_apart u f) ∙ ap (λ o. definition (tables_of u.tables) o q) s.ordinal ∙ ap (λ t. definition t (i + 1) q) f.tables
     ∙ sym (ap (λ x. definition (tables (said u)) (i + 1) (symbol_of x)) c.in-Name.is)
 
 pub returns-in-Here : goal.returns-in-Here

@@ -5,6 +5,7 @@ use Rattle.rv_unit_laws.specs.Tables as laws
 use Rattle.rv_unit_tables.specs.Sections.{offset_of}
 use Rattle.rv_unit_tables.specs.Tables.{tables_of}
 use Rattle.rv_unit.specs.Unit.{said}
+use Rattle.rv_unit.proofs.ApartLemmas.{whole_apart}
 use Rattle.rv_unit.proofs.ScopedLemmas.{whole_before}
 use Rattle.rv_unit.proofs.unit.Unit.meaning.Goals as goal
 
@@ -13,7 +14,7 @@ returns-in-Name c = λ o f at.
     let all = tables_of c.args.self.now.tables in
     let ss = said c.args.self.now in
     let p = offset_of c.args.place in
-    c.named.ensures f.indexed (1 + length ss) (whole_before c.args.self.now f) ∙ ap (λ n. laws.named all true n c.in-Name.name.now) at ∙ ap (λ x. laws.named x true o c.in-Name.name.now) f.tables
+    c.named.ensures f.indexed (1 + length ss) (whole_before c.args.self.now f) (whole_apart c.args.self.now f) ∙ ap (λ n. laws.named all true n c.in-Name.name.now) at ∙ ap (λ x. laws.named x true o c.in-Name.name.now) f.tables
     ∙ sym (ap (λ x. laws.meaning (laws.tables ss) true o p (symbol_of x)) c.in-Name.is)
 
 pub returns-in-Here : goal.returns-in-Here

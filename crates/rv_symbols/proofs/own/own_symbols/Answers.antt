@@ -1,18 +1,22 @@
-use Rattle.std.proofs.Common.{◌≡◌, ◌<◌, ◌≤◌, ◌+◌, false, ◌++◌, length, map, take, drop, get_or, refl, sym, ap, ◌∙◌, subst, append-nil, rules}
+use Rattle.std.proofs.Common.{◌≡◌, ℕ, ◌<◌, ◌≤◌, ◌+◌, false, [], ◌++◌, length, map, take, drop, get_or, refl, sym, ap, ◌∙◌, subst, append-nil, append_assoc, arith, rules}
+use Rattle.std.specs.Prelude.{flat_map}
 use Rattle.std.specs.HashSet.{contains}
 use Rattle.rv_object.specs.Parts.{symbol_of}
 use Rattle.rv_statement.specs.View.{statement_of}
 use Rattle.rv_statement.specs.Statement.{Statement}
 use Rattle.rv_unit.specs.Unit.{said}
 use Rattle.rv_assemble_laws.specs.ShownNames.{said_names, are_shown}
-use Rattle.std.proofs.lemmas.List.{length-map}
+use Rattle.std.proofs.lemmas.List.{length-map, map-append}
 use Rattle.rv_assemble_laws.specs.Sites.{Site}
-use Rattle.rv_assemble_laws.specs.Symbols.{references, is_meant, local_symbols}
+use Rattle.rv_assemble_laws.specs.Symbols.{references, is_meant, local_symbols, exports_of, exports}
 use Rattle.rv_symbols.specs.Source.{tables_of, place_in}
 use Rattle.rv_symbols.specs.Found.{same_place, is_seen, any_means}
 use Rattle.rv_symbols.proofs.StandsLemmas.{ordinal_is, kind_at, sites_inside, sites_past, said_at}
 use Rattle.rv_symbols.proofs.NamingLemmas.{all_got, there_is, drop_next, take_next, locals_more, seen_more, two_more}
-use Rattle.rv_symbols.proofs.locals.locals.Goals as goal
+use Rattle.rv_symbols.proofs.own.own_symbols.Goals as goal
+
+next_few : (now new i : ℕ) → now ≤ i → new ≤ now + 1 → new ≤ i + 1
+next_few now new i h k = omega (arith, h, k)
 
 pub put_both-requires-clause-shown : goal.put_both-requires-clause-shown
 put_both-requires-clause-shown c =
@@ -36,6 +40,15 @@ loop-i-preserved c =
     let is : y ≡ get_or items i y = c.index-statements-i.is ∙ ap (λ l. get_or l i y) c.statements-statements.ensures in
     record {
       few = two_more (length c.loop-i.symbols.items) (length c.put_both.new.symbols.items) i c.loop-i.invariant.few c.in_ok-put_both.ensures.few;
+      few_exported = next_few (length c.loop-i.exported.items) (length c.put_both.new.exported.items) i c.loop-i.invariant.few_exported c.in_ok-put_both.ensures.few_exported;
+      exported = λ sites h.
+          let found = there_is sites i (sites_inside x sites h i inside) in
+          let s : Site = found.0 in
+          let old = map symbol_of c.loop-i.exported.items in
+          ap (λ l. l ++ flat_map (exports_of t sites) (drop (i + 1) sites)) (c.in_ok-put_both.ensures.exported sites s h found.1 (kind_at x sites h i s found.1 y inside is))
+          ∙ append_assoc old (exports_of t sites s) (flat_map (exports_of t sites) (drop (i + 1) sites))
+          ∙ ap (λ l. old ++ flat_map (exports_of t sites) l) (sym (drop_next sites i s found.1))
+          ∙ c.loop-i.invariant.exported sites h;
       symbols = λ sites h marks.
           let rs = references t sites in
           let found = there_is sites i (sites_inside x sites h i inside) in
@@ -61,6 +74,12 @@ returns-clause-symbols c = λ sites h marks.
     let x = c.args.source.now in
     let t = tables_of x in
     let past : length x.unit.now.statements.items ≤ i = subst (λ n. n ≤ i) (ap length c.statements-statements.ensures) c.loop-i-test.false in
-    sym (append-nil (map symbol_of c.loop-i.symbols.items))
-    ∙ ap (λ l. map symbol_of c.loop-i.symbols.items ++ local_symbols t sites (take i sites) l) (sym (sites_past x sites h i past))
-    ∙ c.loop-i.invariant.symbols sites h marks
+    let left = sites_past x sites h i past in
+    let locals = map symbol_of c.loop-i.symbols.items in
+    let exported = map symbol_of c.loop-i.exported.items in
+    ap (map symbol_of) c.in_ok-append.ensures.items
+    ∙ map-append symbol_of c.loop-i.symbols.items c.loop-i.exported.items
+    ∙ ap (λ l. l ++ exported)
+    (sym (append-nil locals) ∙ ap (λ l. locals ++ local_symbols t sites (take i sites) l) (sym left) ∙ c.loop-i.invariant.symbols sites h marks)
+    ∙ ap (λ l. local_symbols t sites [] sites ++ l)
+    (sym (append-nil exported) ∙ ap (λ l. exported ++ flat_map (exports_of t sites) l) (sym left) ∙ c.loop-i.invariant.exported sites h)

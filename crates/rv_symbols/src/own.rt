@@ -1,4 +1,6 @@
-//! The symbols of the file alone.
+//! The symbols that a file defines: those of the file alone, and those that other files can mean.
+//!
+//! One pass over the statements finds both, so that a name is asked for its binding once.
 
 ghost use Rattle.std.specs.Prelude.{◌≡◌, ◌<◌, ◌≤◌, ◌+◌, ◌*◌, ◌++◌, ◌&&◌, ◌||◌, ℕ, List, [], ◌∷◌, Some, true, not, length, map, slice_get, if◌then◌else◌, IfOk, OnOk, IfSome};
 ghost use Rattle.std.specs.HashSet.{contains};
@@ -9,10 +11,11 @@ ghost use Rattle.rv_object.specs.declared.symbol.Binding.TheVariants.{Local};
 ghost use Rattle.rv_object.specs.declared.symbol.Definition.TheVariants.{InSection};
 ghost use Rattle.rv_object.specs.Parts.{symbol_of};
 ghost use Rattle.rv_assemble_laws.specs.Sites.{Site};
-ghost use Rattle.rv_assemble_laws.specs.Symbols.{local_symbol, named_symbols, local_symbols, references};
+ghost use Rattle.rv_assemble_laws.specs.Symbols.{local_symbol, named_symbols, exports_of, references};
 ghost use Rattle.rv_assemble_laws.specs.ShownNames.{said_names, are_shown, HasNames};
 ghost use Rattle.rv_symbols.specs.Source.{tables_of, place_in, IsSource};
-ghost use Rattle.rv_symbols.specs.Found.{symbols_in, is_number, same_place, AreMarks};
+ghost use Rattle.rv_symbols.specs.Numbers.{own_symbols as own_in};
+ghost use Rattle.rv_symbols.specs.Found.{is_number, same_place, AreMarks};
 
 use crate::source::Source;
 use rv_object::{Binding, Definition, Symbol};
@@ -74,35 +77,11 @@ fn is_number(definition: Definition) -> bool
     }
 }
 
-/// The name that the statement at this index defines for its own file, with its definition; constants have no symbol.
-fn local<'s>(
-    source: &Source<'_, '_>,
-    index: usize,
-    statement: &Statement<'s>,
-) -> Option<(&'s [u8], Definition)>
-    requires { index < length (source.now).offsets.now }
-    ensures symbols { (sites : List Site) (s : Site) → IsSource source.now sites
-        → slice_get sites index ≡ Some s → (statement_of statement.now).kind ≡ s.located.kind
-        → symbols_in Local result ≡ named_symbols (tables_of source.now) sites s }
-    ensures shown { are_shown (said_names (statement_of statement.now).kind) ≡ true
-        → IfSome result (λ p. is_name p.0.now ≡ true) }
-{
-    let Some(name) = source.defined(index, statement) else {
-        return None;
-    };
-    if source.is_shared(name) {
-        return None;
-    }
-    let definition = source.definition(index, statement);
-    if is_number(definition) {
-        return None;
-    }
-    Some((name, definition))
-}
-
-/// Adds the name that the statement at this index defines for its own file.
-fn put_local<'a>(
+/// Adds the name that the statement at this index defines: to those of the file alone, or to those that other files can mean.
+/// Constants of the file alone have no symbol.
+fn put_name<'a>(
     symbols: &mut Vec<Symbol<'a>>,
+    exported: &mut Vec<Symbol<'a>>,
     source: &Source<'_, '_>,
     index: usize,
     statement: &Statement<'a>,
@@ -113,17 +92,36 @@ fn put_local<'a>(
         → slice_get sites index ≡ Some s → (statement_of statement.now).kind ≡ s.located.kind
         → map symbol_of symbols.new.items ≡ map symbol_of symbols.old.items
         ++ named_symbols (tables_of source.now) sites s) }
+    ensures exported { OnOk result ((sites : List Site) (s : Site) → IsSource source.now sites
+        → slice_get sites index ≡ Some s → (statement_of statement.now).kind ≡ s.located.kind
+        → map symbol_of exported.new.items ≡ map symbol_of exported.old.items
+        ++ exports_of (tables_of source.now) sites s) }
     ensures few { OnOk result (length symbols.new.items ≤ length symbols.old.items + 1) }
+    ensures few_exported { OnOk result (length exported.new.items ≤ length exported.old.items + 1) }
 {
-    let Some((name, definition)) = local(source, index, statement) else {
+    let Some(name) = source.defined(index, statement) else {
         return Ok(());
     };
-    let named = Symbol {
+    let definition = source.definition(index, statement);
+    if source.is_shared(name) {
+        let binding = source.outer_binding(name);
+        let shared = Symbol {
+            name,
+            binding,
+            definition,
+        };
+        exported.push(shared)?;
+        return Ok(());
+    }
+    if is_number(definition) {
+        return Ok(());
+    }
+    let local = Symbol {
         name,
         binding: Binding::Local,
         definition,
     };
-    symbols.push(named)?;
+    symbols.push(local)?;
     Ok(())
 }
 
@@ -131,6 +129,7 @@ fn put_local<'a>(
 /// there yet, and the name that it defines.
 fn put_both<'a>(
     symbols: &mut Vec<Symbol<'a>>,
+    exported: &mut Vec<Symbol<'a>>,
     seen: &mut HashSet<(u32, u64)>,
     source: &Source<'_, '_>,
     index: usize,
@@ -145,18 +144,24 @@ fn put_both<'a>(
         ++ ((if meant && not (contains same_place seen.old (place_in s))
         then local_symbol [] (InSection s.located.section s.offset) ∷ [] else [])
         ++ named_symbols (tables_of source.now) sites s)) }
+    ensures exported { OnOk result ((sites : List Site) (s : Site) → IsSource source.now sites
+        → slice_get sites index ≡ Some s → (statement_of statement.now).kind ≡ s.located.kind
+        → map symbol_of exported.new.items ≡ map symbol_of exported.old.items
+        ++ exports_of (tables_of source.now) sites s) }
     ensures few { OnOk result (length symbols.new.items ≤ length symbols.old.items + 2) }
+    ensures few_exported { OnOk result (length exported.new.items ≤ length exported.old.items + 1) }
     ensures seen { OnOk result ((sites : List Site) (s : Site) → IsSource source.now sites
         → slice_get sites index ≡ Some s → (q : ℕ × ℕ) → contains same_place seen.new q
         ≡ (contains same_place seen.old q || meant && same_place (place_in s) q)) }
 {
     put_unnamed(symbols, seen, source.here(index), meant)?;
-    put_local(symbols, source, index, statement)?;
+    put_name(symbols, exported, source, index, statement)?;
     Ok(())
 }
 
-/// The symbols of the file alone, where these statements are meant by references without a name.
-pub(crate) fn locals<'a>(
+/// The symbols that a source defines, where these statements are meant by references without a name: those of the file alone,
+/// then those that other files can mean.
+pub(crate) fn own_symbols<'a>(
     alloc: Global,
     source: &Source<'_, 'a>,
     meant: &[bool],
@@ -164,17 +169,27 @@ pub(crate) fn locals<'a>(
     requires each { length (source.now).offsets.now ≡ length (said (source.now).unit.now) }
     requires marks { length meant.now ≡ length (said (source.now).unit.now) }
     requires names { HasNames (said (source.now).unit.now) }
-    ensures few { IfOk result (λ x. length x.items ≤ 2 * length meant.now) }
+    ensures few { IfOk result (λ x. length x.items ≤ 3 * length meant.now) }
     ensures symbols { IfOk result (λ x. (sites : List Site) → IsSource source.now sites
         → AreMarks (tables_of source.now) (references (tables_of source.now) sites) meant.now
         (length meant.now)
-        → map symbol_of x.items ≡ local_symbols (tables_of source.now) sites [] sites) }
+        → map symbol_of x.items ≡ own_in (tables_of source.now) sites) }
 {
     let statements = source.unit.statements();
     let mut symbols = Vec::new(alloc);
+    let mut exported = Vec::new(alloc);
     let mut seen = HashSet::new(alloc);
     for i in 0..statements.len() {
-        put_both(&mut symbols, &mut seen, source, i, &statements[i], meant[i])?;
+        put_both(
+            &mut symbols,
+            &mut exported,
+            &mut seen,
+            source,
+            i,
+            &statements[i],
+            meant[i],
+        )?;
     }
+    symbols.append(&mut exported)?;
     Ok(symbols)
 }

@@ -7,7 +7,7 @@ use Rattle.rv_object.specs.Parts.{symbol_of}
 use Rattle.rv_assemble_laws.specs.Symbols.{local_symbol, named_symbols}
 use Rattle.rv_symbols.specs.Source.{tables_of}
 use Rattle.rv_symbols.specs.Found.{same_place}
-use Rattle.rv_symbols.proofs.locals.put_both.Goals as goal
+use Rattle.rv_symbols.proofs.own.put_both.Goals as goal
 
 pub returns-clause-symbols : goal.returns-clause-symbols
 returns-clause-symbols c = λ sites s h at kind.
@@ -15,7 +15,7 @@ returns-clause-symbols c = λ sites s h at kind.
     let old = map symbol_of c.args.symbols.now.items in
     let named = named_symbols (tables_of x) sites s in
     let one : ℕ × ℕ → List Symbol = λ p. if c.args.meant && not (contains same_place c.args.seen.now p) then local_symbol [] (InSection p.0 p.1) ∷ [] else [] in
-    c.in_ok-put_local.ensures.symbols sites s h at kind
+    c.in_ok-put_name.ensures.symbols sites s h at kind
     ∙ ap (λ l. l ++ named) c.in_ok-put_unnamed.ensures.symbols
     ∙ append_assoc old (one c.here.result) named
     ∙ ap (λ p. old ++ (one p ++ named)) (c.here.ensures sites s h at)

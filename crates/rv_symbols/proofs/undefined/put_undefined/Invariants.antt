@@ -5,7 +5,7 @@ use Rattle.rv_object.specs.Parts.{symbol_of}
 use Rattle.rv_assemble_laws.specs.Sites.{Site}
 use Rattle.rv_assemble_laws.specs.Symbols.{shared_symbol}
 use Rattle.rv_symbols.specs.Source.{tables_of, IsSource}
-use Rattle.rv_symbols.proofs.exports.put_undefined.Given as goal
+use Rattle.rv_symbols.proofs.undefined.put_undefined.Given as goal
 
 abbrev pub invariant-loop-name : goal.invariant-loop-name
 invariant-loop-name l = (sites : List Site) → IsSource l.source sites

@@ -9,7 +9,7 @@ use Rattle.rv_map.specs.Name.{is_name}
 use Rattle.rv_statement.specs.View.{now_of}
 use Rattle.rv_symbols.proofs.StandsLemmas.{got_map, some_at}
 use Rattle.rv_symbols.proofs.NamingLemmas.{all_got, drop_next}
-use Rattle.rv_symbols.proofs.exports.put_undefined.Goals as goal
+use Rattle.rv_symbols.proofs.undefined.put_undefined.Goals as goal
 
 pub invariant_of-undefined : goal.invariant_of-undefined
 invariant_of-undefined c =

@@ -1,0 +1,16 @@
+use Rattle.std.proofs.Common.{◌∙◌, ap, sym, option_map}
+use Rattle.rv_unit_tables.specs.Tables.{tables_of, label_at}
+use Rattle.rv_unit.proofs.ApartLemmas.{named_label, named_unlabelled}
+use Rattle.rv_unit.proofs.unit.Unit.own_named.Goals as goal
+
+pub returns-in-Some : goal.returns-in-Some
+returns-in-Some c = λ i o h apart.
+    let name = c.args.name.now in
+    c.stands.ensures
+    ∙ sym (named_label (tables_of c.args.self.now.tables) c.args.ordinal name (label_at name c.in-Some.label) apart (sym c.label.ensures ∙ ap (option_map (label_at name)) c.in-Some.is))
+
+pub returns-in-None : goal.returns-in-None
+returns-in-None c = λ i o h apart.
+    let name = c.args.name.now in
+    c.assigned.ensures i o h
+    ∙ sym (named_unlabelled (tables_of c.args.self.now.tables) c.args.ordinal name (sym c.label.ensures ∙ ap (option_map (label_at name)) c.in-None.is))
