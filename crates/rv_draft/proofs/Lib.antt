@@ -13,6 +13,7 @@ pub mod JoinedLemmas
 pub mod LeastAllLemmas
 pub mod LengthsLemmas
 pub mod LocationsLemmas
+pub mod LoneLemmas
 pub mod MadeLemmas
 pub mod NearLemmas
 pub mod RoomsLemmas

@@ -2,6 +2,7 @@
 
 use Rattle.std.proofs.Common.{◌≡◌, ℕ, inl, inr, List, [], ◌∷◌, map, refl, subst}
 use Rattle.std.specs.List.{AllByRecursion}
+use Rattle.rv_isa_laws.specs.Bytes.{little_endian, zeros}
 use Rattle.rv_statement.specs.Statement.{Expression, Directs, Values}
 use Rattle.rv_statement.specs.View.{bytes_of, plain_of, with_expression, with_function, statement_kind, statement_of}
 use Rattle.rv_statement.specs.declared.directive.Width.{Width}
@@ -22,6 +23,13 @@ bytes_wide widths.Byte = inl refl
 bytes_wide widths.Half = inr (inl refl)
 bytes_wide widths.Word = inr (inr (inl refl))
 bytes_wide widths.Double = inr (inr (inr refl))
+
+-- no number is zeros
+pub no_number : (width : Width) → little_endian (bytes_of width) 0 ≡ zeros (bytes_of width)
+no_number widths.Byte = refl
+no_number widths.Half = refl
+no_number widths.Word = refl
+no_number widths.Double = refl
 
 plain_no : (p : Plain) (w : ℕ) (vs : List Expression) → plain_of p ≡ Directs (Values w vs) → ⊥
 plain_no (plains.Registers operation rd rs1 rs2) w vs e = absurd (cc)

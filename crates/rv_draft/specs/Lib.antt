@@ -6,6 +6,7 @@ pub mod DataParts
 pub mod Draft
 pub mod Items
 pub mod Lengths
+pub mod Lone
 pub mod Measured
 pub mod Seated
 pub mod Sized

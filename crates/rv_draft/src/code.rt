@@ -1,9 +1,9 @@
 //! The code of a source's sections: its instructions as they lie in memory, one after another.
 //!
-//! The code of a statement is made three times: for the sizes of statements, here for the bytes, and for the open fields.
-//! To keep it would take memory for each statement. It is the same each time: `HasCode` has one length for a statement, by
-//! its values and by the length that it is asked to have. Most statements are one instruction with nothing open, so this
-//! pass asks for that first and needs no list for them.
+//! The code of a statement is made for the sizes of statements, here for the bytes, and for open fields that its words do
+//! not tell. To keep it would take memory for each statement. It is the same each time: `HasCode` has one length for a
+//! statement, by its values and by the length that it is asked to have. Most statements are one instruction with nothing
+//! open, so this pass asks for that first and needs no list for them.
 
 ghost use Rattle.std.specs.Prelude.{◌≡◌, ◌<◌, ◌≤◌, ℕ, ◌+◌, ◌++◌, Bool, true, List, [], length, is_some, IfOk, OnOk};
 ghost use Rattle.rv_isa_laws.specs.Bytes.{little_endian};
@@ -25,6 +25,7 @@ ghost use Rattle.rv_instruction.specs.Code.{alone_coded, encoded_bytes, encoded_
 ghost use Rattle.rv_draft.specs.Code.{GrowsBy, full_fault, full_at};
 ghost use Rattle.rv_instruction.specs.Scoped.{values_at, faults_at};
 
+use crate::compressed::{is_code, is_instruction};
 use crate::item::CodeSize;
 use rv_instruction::{Coded, Encoded, code as code_of, one_code};
 use rv_layout::{Layout, bytes_of, extent_at, statement_padding, width};
@@ -285,11 +286,36 @@ impl Coder {
             (values_at scope.now index place) compressed wanted (statement_of statement.now)
             result }
     {
+        if !is_code(executable, &statement.kind) {
+            return self.add_none(statement, place.section);
+        }
         let padding = statement_padding(statement, scope, place, executable);
+        if !is_instruction(&statement.kind) {
+            return self.add_found(statement, place.section, padding, &[]);
+        }
         match one_code(statement, scope, place, compressed) {
             Some(encoded) => self.add_one(statement, place.section, padding, encoded),
             None => self.add_code(statement, scope, place, padding, compressed, wanted),
         }
+    }
+
+    /// Adds a statement that is no code.
+    fn add_none(&mut self, statement: &Statement<'_>, section: u32) -> Result<(), SourceFault>
+        requires { section < length self.old.sections.items }
+        ensures { (executable : Bool) (faults : List ℕ) (v : Expression → values.Value)
+            (rvc : Bool) (wanted : ℕ) → faults ≡ []
+            → sizes.statement_padding executable v (statement_of statement.now).kind ≡ 0
+            → HasCode v rvc wanted (statement_of statement.now).kind []
+            → Adds self.old self.new section executable faults v rvc wanted
+            (statement_of statement.now) result }
+    {
+        self.sizes.push(CodeSize {
+            bytes: 0,
+            instructions: 0,
+        })?;
+        let bytes = bytes_in(self.sections.as_slice(), section);
+        self.full = full_behind(self.full, bytes, statement.line);
+        Ok(())
     }
 
     /// Adds a statement that has this padding, by the list of its instructions.

@@ -1,6 +1,6 @@
 //! Whether a source has compressed code.
 
-ghost use Rattle.std.specs.Prelude.{◌≡◌, ◌&&◌, ◌||◌, ◌∷◌, []};
+ghost use Rattle.std.specs.Prelude.{◌≡◌, ◌&&◌, ◌||◌, ◌∷◌, [], false};
 ghost use Rattle.rv_unit.specs.Unit.{said, IsFilled};
 ghost use Rattle.rv_source_laws.specs.Compressed as laws;
 ghost use Rattle.rv_draft.specs.Compressed.{is_code_kind, names_parcel_kind};
@@ -10,7 +10,7 @@ use rv_statement::{Operation, Plain, StatementKind};
 use rv_unit::Unit;
 
 /// Whether a statement is code: an instruction, or an alignment in a section of code.
-fn is_code(executable: bool, kind: &StatementKind<'_>) -> bool
+pub(crate) fn is_code(executable: bool, kind: &StatementKind<'_>) -> bool
     ensures { result ≡ is_code_kind executable kind.now }
 {
     match kind {
@@ -18,6 +18,13 @@ fn is_code(executable: bool, kind: &StatementKind<'_>) -> bool
         StatementKind::AlignsToPower(_) | StatementKind::AlignsToBytes(_) => executable,
         _ => false,
     }
+}
+
+/// Whether a statement is an instruction.
+pub(crate) fn is_instruction(kind: &StatementKind<'_>) -> bool
+    ensures { result ≡ is_code_kind false kind.now }
+{
+    is_code(false, kind)
 }
 
 /// Whether a statement names a parcel.

@@ -110,18 +110,27 @@ fn put_strings(bytes: &mut Vec<u8>, ended: bool, strings: &[&[u8]]) -> Result<()
     Ok(())
 }
 
+/// The number that stands in the bytes of a value: a constant, else 0, which the linker replaces.
+#[tactic(auto, using(crate::proofs::WidthsLemmas::no_number))]
+fn number_in(value: &Outcome<'_>) -> u64
+    ensures { ForValue value.now (λ v. (width : Width)
+        → little_endian (bytes_of width) result ≡ value_bytes (bytes_of width) v) }
+{
+    match value {
+        Ok(Value::Constant(number)) => *number,
+        Ok(Value::Symbolic(..)) => 0,
+        Ok(Value::Difference(..)) => 0,
+        // a faulty value was refused before
+        Err(_) => 0,
+    }
+}
+
 /// Adds the bytes of a value: a constant, else zeros.
 fn put_bytes(bytes: &mut Vec<u8>, width: Width, value: &Outcome<'_>) -> Result<(), AllocError>
     ensures { OnOk result (ForValue value.now
         (λ v. bytes.new.items ≡ bytes.old.items ++ value_bytes (bytes_of width) v)) }
 {
-    match value {
-        Ok(Value::Constant(number)) => put_number(bytes, width, *number),
-        Ok(Value::Symbolic(..)) => put_zeros(bytes, width_in_bytes(width)),
-        Ok(Value::Difference(..)) => put_zeros(bytes, width_in_bytes(width)),
-        // a faulty value was refused before
-        Err(_) => put_zeros(bytes, width_in_bytes(width)),
-    }
+    put_number(bytes, width, number_in(value))
 }
 
 // ---- fields

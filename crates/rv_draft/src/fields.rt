@@ -1,11 +1,11 @@
 //! The open fields of code, in the order of the source.
 //!
-//! The code of each statement is made again, since to keep it would take memory for each statement. It is the code that
-//! its section has.
+//! Where the words of a statement do not tell its fields, its code is made again, since to keep it would take memory for
+//! each statement. It is the code that its section has.
 //!
 //! Source: System V gABI, "Relocation"; RISC-V ELF psABI, "Relocations", "Linker Relaxation".
 
-ghost use Rattle.std.specs.Prelude.{◌≡◌, ◌≤◌, true, false, ◌+◌, ◌++◌, List, [], ◌∷◌, map, length, None, OnOk};
+ghost use Rattle.std.specs.Prelude.{◌≡◌, ◌≤◌, true, false, ◌+◌, ◌++◌, List, [], ◌∷◌, map, length, None, Some, OnOk, if◌then◌else◌};
 ghost use Rattle.rv_isa.specs.declared.kind.Kind.TheVariants as kinds;
 ghost use Rattle.rv_statement.specs.View.{statement_kind};
 ghost use Rattle.rv_unit_laws.specs.Tables.{tables, longest_section};
@@ -15,12 +15,13 @@ ghost use Rattle.rv_assemble_laws.specs.CodeFields.{relax_fields};
 ghost use Rattle.rv_assemble_laws.specs.Fields.{field_at, fields_from};
 ghost use Rattle.rv_assemble_laws.specs.Templates.{align_field, open_at};
 ghost use Rattle.rv_instruction.specs.declared.encoded.Coded.{Coded as SpecCoded};
-ghost use Rattle.rv_instruction.specs.Code.{encoded_instructions, shape_in};
+ghost use Rattle.rv_instruction.specs.Code.{encoded_instructions, shape_in, is_call as of_call};
 ghost use Rattle.rv_instruction.specs.Opened.{opens_of, open_of};
 ghost use Rattle.rv_layout.specs.Code.{bytes_coded, IsCoded};
 ghost use Rattle.rv_draft.specs.Coded.{IsCodedAt, HasBytes};
 ghost use Rattle.rv_draft.specs.DataParts as parts;
 ghost use Rattle.rv_draft.specs.Draft.{field_of};
+ghost use Rattle.rv_draft.specs.Lone.{lone_shape};
 ghost use Rattle.rv_draft.specs.Seated.{site_of};
 ghost use Rattle.rv_draft.specs.Spots.{value_in, kind_opens, pair_opens, own_opens, opens_in, fields_coded, code_fields, AddsAt, AtOwn, AtSpot, HasBytesOf, IsAtSpot, IsMadeAt};
 
@@ -28,6 +29,7 @@ use crate::code::asked;
 use crate::data::Spot;
 use crate::field::OpenField;
 use crate::item::Item;
+use crate::lone::{is_call, lone_kind};
 use rv_instruction::{Code, Coded, Encoded, Reference, code as code_of, is_closed, open_field};
 use rv_isa::Kind;
 use rv_layout::width;
@@ -173,7 +175,44 @@ fn put_call<'a>(
     }
 }
 
+/// The same where a part has the field of this kind.
+fn put_call_of<'a>(
+    fields: &mut Vec<OpenField<'a>>,
+    spot: &Spot<'_, '_, 'a>,
+    relax: bool,
+    place: u32,
+    kind: Kind,
+) -> Result<(), AllocError>
+    ensures { OnOk result (AddsAt spot.now place fields.old.items fields.new.items
+        (pair_opens (relax_fields relax (spot.now).ordinal)
+        (if of_call (Some kind) then 2 else 1))) }
+{
+    if !is_call(&kind) {
+        return Ok(());
+    }
+    put_relax(fields, spot, relax, place)
+}
+
 // ---- statements
+
+/// Adds the fields of a statement whose code is one part, by the kind of its field.
+fn put_lone<'a>(
+    fields: &mut Vec<OpenField<'a>>,
+    spot: &Spot<'_, '_, 'a>,
+    statement: &Statement<'a>,
+    relax: bool,
+    place: u32,
+    kind: Kind,
+) -> Result<(), AllocError>
+    ensures { OnOk result (AtOwn spot.now (λ index. AddsAt spot.now place fields.old.items
+        fields.new.items
+        (opens_in spot.now index (statement_kind (statement.now).kind) relax
+        (lone_shape kind)))) }
+{
+    put_field(fields, spot, statement, place, kind)?;
+    put_call_of(fields, spot, relax, place, kind)?;
+    Ok(())
+}
 
 /// Adds the fields of a part of a statement's code at a place.
 fn put_part<'a>(
@@ -299,6 +338,9 @@ fn put_instruction<'a>(
 {
     if is_closed(&statement.kind) {
         return Ok(());
+    }
+    if let Some(kind) = lone_kind(&statement.kind, item.bytes) {
+        return put_lone(fields, spot, statement, choices.relax, item.offset, kind);
     }
     let found = code_in_bytes(statement, spot, choices.compressed, item.bytes);
     put_parts(

@@ -27,6 +27,7 @@ mod field;
 mod fields;
 mod item;
 mod items;
+mod lone;
 
 pub use draft::Draft;
 pub use field::OpenField;

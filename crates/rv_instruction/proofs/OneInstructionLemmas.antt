@@ -1,7 +1,8 @@
 -- A statement that is one instruction.
 
-use Rattle.std.proofs.Common.{◌≡◌, ℕ, Bool, true, false, refl, sym, ap, ◌∙◌, subst, ℤ, [], ◌∷◌, map, Option, Some, None, Ok}
+use Rattle.std.proofs.Common.{◌≡◌, ℕ, Bool, true, false, refl, sym, ap, ◌∙◌, subst, ℤ, List, [], ◌∷◌, map, Option, Some, None, Ok}
 use Rattle.std.specs.Prelude.{IfSome, ◌&&◌, is_some}
+use Rattle.arrayvec.specs.ArrayVec.{ArrayVec}
 use Rattle.rv_isa.specs.declared.instruction.Inst.{Inst}
 use Rattle.rv_isa.specs.Ranges.{IsValid}
 use Rattle.rv_isa_laws.specs.Arithmetic.{signed}
@@ -13,19 +14,20 @@ use Rattle.rv_text.specs.Eval.{value_told}
 use Rattle.rv_statement.specs.declared.statement.Operation.{Operation}
 use Rattle.rv_statement.specs.declared.statement.Plain.{Plain}
 use Rattle.rv_statement.specs.declared.statement.Plain.TheVariants as plains
-use Rattle.rv_statement.specs.Statement.{Operand, Expression, Statement}
+use Rattle.rv_statement.specs.Statement.{Operand, Expression, Statement, StatementKind}
 use Rattle.rv_statement.specs.View.{plain_of, with_operand}
 use Rattle.rv_pseudo_laws.specs.Code.{Closed, Constants}
 use Rattle.rv_pseudo_laws.specs.Filled.{are_closed}
 use Rattle.rv_pseudo_laws.specs.InstructionFaults.{else_unplaced}
 use Rattle.rv_pseudo_laws.specs.Valid.{IsOperandOf}
+use Rattle.rv_pseudo.specs.declared.template.Template.{Template}
 use Rattle.rv_pseudo.specs.declared.template.Worth.TheVariants as told
 use Rattle.rv_pseudo.specs.Faults.{mnemonic_of}
 use Rattle.rv_pseudo.specs.Templates.{plain, says_more, parts_of, statement_with, AnswersBare, AreTemplates, IsBareOne, IsOne}
 use Rattle.rv_pseudo.proofs.TableLemmas.{has_rows, plain_faults, some_of}
 use Rattle.rv_assemble_laws.specs.Coded.{IsCodedPart, AreCodedParts}
 use Rattle.rv_instruction.specs.declared.encoded.Encoded.{Encoded}
-use Rattle.rv_instruction.specs.Code.{encoded_bytes, encoded_instructions, shape_by, shape_in, shape_of, alone, whole, worth_for, AreInRange, IsExpanded, IsOneOf}
+use Rattle.rv_instruction.specs.Code.{encoded_bytes, encoded_instructions, shape_by, shape_in, shape_of, alone, whole, worth_for, AreCodable, AreInRange, IsExpanded, IsOneOf}
 use Rattle.rv_instruction.proofs.RangesLemmas.{plain_codable, constant_codable}
 use Rattle.rv_instruction.proofs.StatementKindsLemmas.{AreAnswers, answered, operand_found}
 
@@ -53,6 +55,16 @@ pub plain_alone : (p : Plain) (found : Option Inst) → IsBareOne (plain_of p) (
     → IfSome found (λ i. (rvc : Bool) → AnswersBare rvc (plain_of p) (Ok (alone i)))
 plain_alone p None are = tt
 plain_alone p (Some i) are = one_bare p i are
+
+-- of templates that are one
+pub lone_valid : (found : List Template) (one : Option Inst) → AreCodable found → IfSome one (λ i. found ≡ plain i ∷ []) → IfSome one (λ i. IsValid i)
+lone_valid found None codable is = tt
+lone_valid found (Some i) codable is = (subst AreCodable is codable).0
+
+pub lone_answers : (rvc : Bool) (kind : StatementKind) (found : ArrayVec Template) (one : Option Inst) → AnswersBare rvc kind (Ok found) → IfSome one (λ i. found.items ≡ plain i ∷ [])
+    → IfSome one (λ i. AnswersBare rvc kind (Ok (alone i)))
+lone_answers rvc kind found None are is = tt
+lone_answers rvc kind found (Some i) are is = λ v w bytes. ((are v w bytes).0, (are v w bytes).1 ∙ ap Some is)
 
 -- ---- with a constant
 

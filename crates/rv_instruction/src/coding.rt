@@ -18,7 +18,7 @@ ghost use Rattle.rv_instruction.specs.Code.{encoded_instructions, Codes, AreCoda
 ghost use Rattle.rv_instruction.specs.Scoped.{values_at, labels_at, named_at, AtNext};
 
 use crate::encoded::{Code, Encoded, encode_all, in_least_form, in_named_form, one_part};
-use crate::known::{operation_in_range, plain, plain_one, with_one};
+use crate::known::{bare_one, operation_in_range, plain, with_one};
 use crate::named::{named_form, names_parcel};
 use crate::worth::{Outcome, worth};
 use arrayvec::ArrayVec;
@@ -174,15 +174,16 @@ fn expanded_one<'a>(
     statement: &Statement<'a>,
     scope: &Scope<'_, 'a>,
     place: SectionOffset,
+    compressed: bool,
 ) -> Option<Inst>
     ensures valid { IfSome result (λ i. IsValid i) }
     ensures built { IfSome result (λ i. (index : ℕ) → IsFilled (scope.now).unit.now
-        → IsScope scope.now index → (rvc : Bool) (bytes : ℕ)
-        → IsExpanded rvc bytes (values_at scope.now index place)
+        → IsScope scope.now index → (bytes : ℕ)
+        → IsExpanded compressed bytes (values_at scope.now index place)
         (labels_at scope.now index) (statement_of statement.now) (Ok (laws.alone i))) }
 {
     match &statement.kind {
-        StatementKind::Plain(statement) => plain_one(statement),
+        StatementKind::Plain(statement) => bare_one(statement, compressed),
         StatementKind::With(operation, expression) => {
             operand_one(operation, expression, scope, place, statement.line)
         }
@@ -227,7 +228,7 @@ pub fn one_code<'a>(
     if names_parcel(&statement.kind) {
         return named_one(statement, scope, place);
     }
-    match expanded_one(statement, scope, place) {
+    match expanded_one(statement, scope, place, compressed) {
         Some(inst) => Some(in_least_form(inst, compressed)),
         None => None,
     }

@@ -1,6 +1,6 @@
 //! The instructions of a statement, with their operands in range.
 
-ghost use Rattle.std.specs.Prelude.{Bool, Ok, IfOk, IfSome};
+ghost use Rattle.std.specs.Prelude.{◌≡◌, ◌∷◌, [], Bool, Ok, IfOk, IfSome};
 ghost use Rattle.rv_isa.specs.Ranges.{IsValid};
 ghost use Rattle.rv_isa_laws.specs.Arithmetic.{signed};
 ghost use Rattle.rv_text_laws.specs.Values as values;
@@ -10,14 +10,14 @@ ghost use Rattle.rv_statement.specs.View.{plain_of, with_operand};
 ghost use Rattle.rv_pseudo_laws.specs.Code.{Constants};
 ghost use Rattle.rv_pseudo_laws.specs.Valid.{IsOperandOf};
 ghost use Rattle.rv_pseudo.specs.Faults.{mnemonic_of};
-ghost use Rattle.rv_pseudo.specs.Templates.{AnswersBare, IsOne};
+ghost use Rattle.rv_pseudo.specs.Templates.{AnswersBare, IsOne, plain as one_plain};
 ghost use Rattle.rv_unit.specs.Faults.{ForValue};
 ghost use Rattle.rv_instruction.specs.Code as laws;
 ghost use Rattle.rv_instruction.specs.Code.{AreInRange, AreCodable, IsOneOf};
 
 use crate::worth::{Outcome, signed};
 use rv_isa::Inst;
-use rv_pseudo::{Templates, single, single_bare, without_operand};
+use rv_pseudo::{Template, Templates, single, single_bare, without_operand};
 use rv_statement::{Operation, Plain};
 use rv_text::{SourceCode, Value};
 
@@ -58,13 +58,49 @@ pub(crate) fn plain(statement: Plain, compressed: bool) -> Result<Templates, Sou
 
 /// The one instruction of a statement without an expression; none where it may have two, or names a
 /// parcel.
-pub(crate) fn plain_one(statement: &Plain) -> Option<Inst>
+fn plain_one(statement: &Plain) -> Option<Inst>
     ensures valid { IfSome result (λ i. IsValid i) }
     ensures is { IfSome result (λ i. (rvc : Bool)
         → AnswersBare rvc (plain_of statement.now) (Ok (laws.alone i))) }
 {
     plain_in_range(statement);
     single_bare(statement)
+}
+
+/// The instruction of a template, where no operand is open.
+fn closed_one(template: &Template) -> Option<Inst>
+    ensures { IfSome result (λ i. template.now ≡ one_plain i) }
+{
+    match template.reloc {
+        None => Some(template.inst),
+        Some(_) => None,
+    }
+}
+
+/// The instruction of templates, where they are one without an open operand.
+fn lone(templates: &[Template]) -> Option<Inst>
+    ensures { IfSome result (λ i. templates.now ≡ one_plain i ∷ []) }
+{
+    if templates.len() != 1 {
+        return None;
+    }
+    closed_one(&templates[0])
+}
+
+/// The one instruction of a statement without an expression, where compressed code is on or off; none where it has two, or
+/// a fault.
+pub(crate) fn bare_one(statement: &Plain, compressed: bool) -> Option<Inst>
+    ensures valid { IfSome result (λ i. IsValid i) }
+    ensures is { IfSome result
+        (λ i. AnswersBare compressed (plain_of statement.now) (Ok (laws.alone i))) }
+{
+    if let Some(inst) = plain_one(statement) {
+        return Some(inst);
+    }
+    match plain(*statement, compressed) {
+        Ok(templates) => lone(templates.as_slice()),
+        Err(_) => None,
+    }
 }
 
 /// The one instruction of an operation with a constant; none where that is faulty, or it may have several.

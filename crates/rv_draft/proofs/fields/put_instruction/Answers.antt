@@ -8,6 +8,7 @@ use Rattle.rv_draft.specs.Coded.{HasBytes}
 use Rattle.rv_draft.specs.Draft.{field_of}
 use Rattle.rv_draft.specs.Spots.{fields_coded}
 use Rattle.rv_draft.proofs.CodeFieldsLemmas.{free_fields, spot_fields}
+use Rattle.rv_draft.proofs.LoneLemmas.{source_lone, lone_said}
 use Rattle.rv_draft.proofs.fields.put_instruction.Goals as goal
 
 pub returns-then-is_closed : goal.returns-then-is_closed
@@ -17,6 +18,19 @@ returns-then-is_closed c = λ index f s l coded at plain size is.
     sym (append-nil _)
     ∙ ap (λ g. map field_of c.args.fields.now.items ++ g)
     (sym (free_fields (tables (said spot.scope.now.unit.now)) l c.args.item coded spot.place.section l.kind plain (subst LeavesNone (sym at.kind) (c.is_closed.ensures closed))))
+
+pub returns-in-Some : goal.returns-in-Some
+returns-in-Some c =
+    let spot = c.args.spot.now in
+    let says = statement_kind c.args.statement.now.kind in
+    let x = c.args.item in
+    let k = c.in-Some.kind in
+    let lone = source_lone c.args.statement.now.kind x.bytes k (sym c.lone_kind.ensures ∙ c.in-Some.is) in
+    on_ok_weaker c.put_lone.result
+    (λ told index f s l coded at plain size is.
+    told index f s at.ordinal
+    ∙ ap (λ g. map field_of c.args.fields.now.items ++ g) (lone_said spot index says c.args.choices l x coded k at plain size is lone))
+    c.put_lone.ensures
 
 pub returns : goal.returns
 returns c =

@@ -18,6 +18,6 @@ returns-in-Some-clause-codes c = λ index filled stands bytes may.
     let i = c.in-Some.inst in
     let e = c.in_least_form.result in
     codes_of c.args.compressed bytes (values_at c.args.scope.now index c.args.place) (labels_at c.args.scope.now index) (statement_of c.args.statement.now) (alone i) (alone_coded e)
-    (c.in-Some.ensures.built index filled stands c.args.compressed bytes) may (c.in-Some.ensures.valid, tt)
+    (c.in-Some.ensures.built index filled stands bytes) may (c.in-Some.ensures.valid, tt)
     (none_named (statement_of c.args.statement.now).kind (constants (values_at c.args.scope.now index c.args.place)) (sym c.names_parcel.ensures ∙ c.if-names_parcel.false))
     (coded_alone c.args.compressed i e c.in_least_form.ensures.is) (shapes_alone i e c.in_least_form.ensures.one)
