@@ -11,10 +11,9 @@ list is linked with and without `--no-relax`, and so with `--gc-sections`; the w
 by byte. List N of a seed is
 the same in each run; `--only N` takes it alone.
 
-Two known differences are counted apart. A text of 2^62 bytes or more has L4 and L8 otherwise: there no call is shortened,
-and no padding behind these bytes is looked at. A call to a symbol past its section's end keeps its eight bytes, which the
-walk takes for one to the end. Each find is one line; its objects are kept in the folder that the last line names. Exit status
-1 if there is a find.
+One known difference is counted apart. A text of 2^62 bytes or more has L4 and L8 otherwise: there no call is shortened,
+and no padding behind these bytes is looked at. Each find is one line; its objects are kept in the folder that the last line
+names. Exit status 1 if there is a find.
 """
 
 import argparse
@@ -172,9 +171,8 @@ def alignment_of(addend):
 class Link:
     """A link of objects; `answer` is the executable and the map, or the fault."""
 
-    def __init__(self, objects, start, relax, collects=False, beyond=True):
-        """With `beyond` a call to a symbol past its section's end may be shortened."""
-        self.start, self.relax, self.collects, self.beyond, self.drops = start, relax, collects, beyond, []
+    def __init__(self, objects, start, relax, collects=False):
+        self.start, self.relax, self.collects, self.drops = start, relax, collects, []
         self.take(objects)
 
     def take(self, objects):
@@ -273,8 +271,6 @@ class Link:
         target = self.meaning(at[0], symbol)
         if not isinstance(target, tuple) or target[0] not in self.text:
             return False
-        if not self.beyond and target[1] > self.section(*target[0]).size:
-            return False
         if any(each.home == at[1] and place < each.value < place + 8 for each in self.objects[at[0]].symbols):
             return False
         if any(n != index and other in WIDTH and there < place + 8 and place < there + WIDTH[other]
@@ -283,17 +279,28 @@ class Link:
         return any(there == place and other == "RELAX" for there, other, _, _ in it.relocs)
 
     def reaches(self, call, form, sizes):
-        """Whether a form reaches, with all paddings in full and the other calls as given."""
+        """Whether a form reaches, with all paddings in full and the other calls as given.
+
+        A symbol past its section's end moves as the end does, so the distance is that to the end. What the symbol lies
+        past it is added as the addend is, in 64 bits: it is no part of what shrinks with paddings.
+        """
         at, index = call
         place, _, symbol, addend = self.section(*at).relocs[index]
         there, value = self.meaning(at[0], symbol)
+        past = max(value - self.section(*there).size, 0)
+        value, constant = value - past, signed(addend + past)
         starts, end = {}, 0
         for each in self.text:
             starts[each] = end + self.align(each) - 2
             end = starts[each] + self.section(*each).size - self.cut(each, sizes, self.section(*each).size)
         distance = starts[there] + value - self.cut(there, sizes, value) - (starts[at] + place - self.cut(at, sizes, place))
         least, most = {2: (-2048, 2046), 4: (-MIB, MIB - 2)}[form]
-        return all(least <= it <= most and it % 2 == 0 for it in (addend, distance + addend))
+        return all(least <= it <= most and it % 2 == 0 for it in (constant, distance + constant))
+
+    def leads_past(self, at, index):
+        """Whether a call leads past the end of a section."""
+        there, value = self.meaning(at[0], self.section(*at).relocs[index][2])
+        return value > self.section(*there).size
 
     def cut(self, at, sizes, before):
         """The bytes that the calls of a section lose before an offset."""
@@ -787,14 +794,14 @@ def compared(number):
             what = difference(wanted, got)
             if what and {wanted, got} == {"L4 AlignmentShort", "L8 ImageTooLarge"} and text >= KNOWN:
                 ends[f"known: 2^62 bytes, {got[:2]} for {wanted[:2]}"] += 1
-            elif what and Link(objects, start, relax, collects, beyond=False).answer() == got:
-                ends["known: long calls past an end"] += 1
             elif what:
                 finds.append(f"list {number}, {' '.join(options) or 'relaxed'}, text at {start:#x}: {what}")
             ends[wanted.split()[0] if isinstance(wanted, str) else "linked"] += 1
             ends["sections dropped"] += len(link.drops)
             for size in link.sizes.values() if not isinstance(wanted, str) else ():
                 ends[f"calls of {size} bytes"] += 1
+            ends["short calls past an end"] += 0 if isinstance(wanted, str) else sum(size < 8 and link.leads_past(*call)
+                for call, size in link.sizes.items())
         if finds:
             for file in folder.iterdir():
                 (KEPT / f"{number}-{file.name}").write_bytes(file.read_bytes())

@@ -1,7 +1,8 @@
 -- What one relocation changes.
 
-use Rattle.std.proofs.Common.{◌≡◌, ℕ, ◌+◌, ◌-◌, ◌%◌, ◌<◌, ◌≤◌, ◌^◌, ◌⊎◌, inl, inr, Bool, true, false, not, ◌&&◌, ◌||◌, nat_le, List, [], ◌∷◌, ◌++◌, Option, Some, None, length, map, take, drop, All, count_by, refl, sym, ap, ◌∙◌, append_assoc, append-nil, arith}
+use Rattle.std.proofs.Common.{◌≡◌, ℕ, ◌+◌, ◌-◌, ◌%◌, ◌<◌, ◌≤◌, ◌^◌, ◌⊎◌, inl, inr, Bool, true, false, not, ◌&&◌, ◌||◌, nat_le, List, [], ◌∷◌, ◌++◌, Option, Some, None, length, map, take, drop, All, count_by, ℤ, pos, ◌+ℤ◌, refl, sym, ap, ◌∙◌, append_assoc, append-nil, arith}
 use Rattle.std.specs.Prelude.{◌==◌, if◌then◌else◌, filter, unwrap_or}
+use Rattle.std.specs.Int.{w64, int_wrap}
 use Rattle.std.specs.List.{list_all, AllByRecursion}
 use Rattle.std.specs.List.Sorted.{IsPermutation}
 use Rattle.std.proofs.lemmas.Bool.{leb-true, eqb-true, and_parts}
@@ -21,9 +22,10 @@ use Rattle.rv_object.specs.Sections.{section_of}
 use Rattle.rv_object.specs.Valid.{is_align, padding_of, is_padding, is_padding_of, fits_inside, are_all_apart}
 use Rattle.rv_object_laws.specs.Moves.{has_padding, full_padding, alignment_of}
 use Rattle.rv_object_laws.specs.Inputs.{InputSection, goes_to_text}
-use Rattle.rv_object_laws.specs.CallSites.{is_call, has_relax, are_call_words, is_text_place, target_place, text_offset, is_entered, meets, is_permitted, may_change, call_site, site_of, is_compressible}
+use Rattle.rv_object_laws.specs.CallSites.{is_call, has_relax, are_call_words, is_text_place, target_place, text_offset, excess, constant, is_entered, meets, is_permitted, may_change, call_site, site_of, is_compressible}
 use Rattle.rv_object_laws.proofs.ChangesLemmas.{call_width, one_if}
 use Rattle.rv_link_sites.specs.Between.{is_allowed}
+use Rattle.rv_link_sites.specs.declared.text.Target.{Target}
 use Rattle.rv_link_sites.specs.Text.{IsLying, can_shorten, call_of, text_target}
 use Rattle.rv_link_sites.proofs.LoopsLemmas.{nothing, at, relocations_left}
 
@@ -93,7 +95,7 @@ module _ (os : List Object) (i : InputSection) (r : Relocation) where
   abbrev pub told : Option Call
   told = if can_shorten os i r then Some (call_of os i r) else None
 
-  by_target : (b c e : Bool) (n : ℕ) (t : Option ℕ) → t ≡ (if b then Some n else None) → t ≡ None → (c && b && not e) ≡ false
+  by_target : (b c e : Bool) (n : Target) (t : Option Target) → t ≡ (if b then Some n else None) → t ≡ None → (c && b && not e) ≡ false
   by_target true c e n t is none = absurd (let clash : Some n ≡ None = sym is ∙ none in cc)
   by_target false true e n t is none = refl
   by_target false false e n t is none = refl
@@ -101,10 +103,14 @@ module _ (os : List Object) (i : InputSection) (r : Relocation) where
   pub no_words : are_call_words (stored i.section.contents) r.place ≡ false → None ≡ told
   no_words e = sym (ap (λ b. if b && is_text_place os (target_place os i r) && not (is_entered i.object i.index r.place) then Some (call_of os i r) else None) e)
 
-  pub no_target : (t : Option ℕ) → t ≡ text_target os (target_place os i r) → t ≡ None → None ≡ told
+  -- its target, if it has one
+  abbrev aim : Target
+  aim = record { offset = text_offset os (target_place os i r); past_end = excess os (target_place os i r) }
+
+  pub no_target : (t : Option Target) → t ≡ text_target os (target_place os i r) → t ≡ None → None ≡ told
   no_target t is none =
       sym (ap (λ b. if b then Some (call_of os i r) else None)
-      (by_target (is_text_place os (target_place os i r)) (are_call_words (stored i.section.contents) r.place) (is_entered i.object i.index r.place) (text_offset os (target_place os i r)) t is none))
+      (by_target (is_text_place os (target_place os i r)) (are_call_words (stored i.section.contents) r.place) (is_entered i.object i.index r.place) aim t is none))
 
   entered_no : (a b e : Bool) → e ≡ true → (a && b && not e) ≡ false
   entered_no true true true h = refl
@@ -116,7 +122,7 @@ module _ (os : List Object) (i : InputSection) (r : Relocation) where
   no_place e =
       sym (ap (λ b. if b then Some (call_of os i r) else None) (entered_no (are_call_words (stored i.section.contents) r.place) (is_text_place os (target_place os i r)) (is_entered i.object i.index r.place) e))
 
-  of_target : (b : Bool) (n m : ℕ) → Some n ≡ (if b then Some m else None) → (b ≡ true) × (n ≡ m)
+  of_target : (b : Bool) (n m : Target) → Some n ≡ (if b then Some m else None) → (b ≡ true) × (n ≡ m)
   of_target true n m h = (refl, (let same : n ≡ m = cc in same))
   of_target false n m h = absurd (cc)
 
@@ -126,12 +132,14 @@ module _ (os : List Object) (i : InputSection) (r : Relocation) where
   three true false c h g e = absurd (cc)
   three false b c h g e = absurd (cc)
 
-  pub one_call : (n : ℕ) (short : Bool) → are_call_words (stored i.section.contents) r.place ≡ true → Some n ≡ text_target os (target_place os i r) → is_entered i.object i.index r.place ≡ false
-      → short ≡ is_compressible i r → Some (record { target = n; addend = r.addend; compressed = short }) ≡ told
-  one_call n short words target entered is =
-      let found = of_target (is_text_place os (target_place os i r)) n (text_offset os (target_place os i r)) target in
-      ap (λ m. Some (record { target = m; addend = r.addend; compressed = short })) found.1
-      ∙ ap (λ b. Some (record { target = text_offset os (target_place os i r); addend = r.addend; compressed = b })) is
+  pub one_call : (n : Target) (addend : ℤ) (short : Bool) → are_call_words (stored i.section.contents) r.place ≡ true → Some n ≡ text_target os (target_place os i r)
+      → is_entered i.object i.index r.place ≡ false → addend ≡ int_wrap w64 (r.addend +ℤ pos n.past_end) → short ≡ is_compressible i r
+      → Some (record { target = n.offset; addend = addend; compressed = short }) ≡ told
+  one_call n addend short words target entered sum is =
+      let found = of_target (is_text_place os (target_place os i r)) n aim target in
+      ap (λ m. Some (record { target = m; addend = addend; compressed = short })) (ap (λ (t : Target). t.offset) found.1)
+      ∙ ap (λ a. Some (record { target = text_offset os (target_place os i r); addend = a; compressed = short })) (sum ∙ ap (λ (t : Target). int_wrap w64 (r.addend +ℤ pos t.past_end)) found.1)
+      ∙ ap (λ b. Some (record { target = text_offset os (target_place os i r); addend = constant os i r; compressed = b })) is
       ∙ sym (ap (λ b. if b then Some (call_of os i r) else None) (three (are_call_words (stored i.section.contents) r.place) (is_text_place os (target_place os i r)) (is_entered i.object i.index r.place) words found.0 entered))
 
 -- ---- it lies in its section

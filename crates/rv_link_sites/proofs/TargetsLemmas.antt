@@ -1,10 +1,10 @@
 -- Where targets stand, and that the whole is a short text.
 
-use Rattle.std.proofs.Common.{◌≡◌, ℕ, zero, suc, ◌+◌, ◌-◌, ◌%◌, ◌^◌, ◌<◌, ◌≤◌, Bool, true, false, nat_le, List, [], ◌∷◌, Option, Some, None, map, slice_index_or, refl, sym, ap, subst, ◌∙◌, arith}
+use Rattle.std.proofs.Common.{◌≡◌, ℕ, zero, suc, ◌+◌, ◌-◌, ◌%◌, ◌^◌, ◌<◌, ◌≤◌, min, Bool, true, false, List, [], ◌∷◌, Option, Some, None, map, slice_index_or, refl, sym, ap, subst, ◌∙◌, arith}
 use Rattle.std.specs.Prelude.{if◌then◌else◌, unwrap_or, option_and_then}
 use Rattle.std.specs.Global.{Vec}
 use Rattle.std.specs.List.{slice_get}
-use Rattle.std.proofs.lemmas.Bool.{leb-true, le-leb, lt-leb, and_parts}
+use Rattle.std.proofs.lemmas.Bool.{leb-true, le-leb, lt-leb}
 use Rattle.rv_layout_laws.specs.declared.site.Site.{Site}
 use Rattle.rv_layout_laws.specs.declared.site.SiteKind.{SiteKind}
 use Rattle.rv_layout_laws.specs.declared.site.SiteKind.TheVariants.{Call, Padding}
@@ -13,14 +13,14 @@ use Rattle.rv_object.specs.declared.object.Object.{Object as DeclaredObject}
 use Rattle.rv_object.specs.Object.{Section, Relocation, Object, size_of}
 use Rattle.rv_object.specs.View.{object_of}
 use Rattle.rv_object_laws.specs.Inputs.{InputSection, goes_to_text, inputs}
-use Rattle.rv_object_laws.specs.Names.{Place, no_object, object_at, symbol_place}
-use Rattle.rv_object_laws.specs.CallSites.{start_padding, is_in_section, is_text_place, target_place, base, text_offset, sites_of, length_of, is_short_text}
+use Rattle.rv_object_laws.specs.Names.{Place, no_object, object_at, symbol_place, is_in_text}
+use Rattle.rv_object_laws.specs.CallSites.{start_padding, home, moving, past_end, target_place, base, text_offset, excess, sites_of, length_of, is_short_text}
 use Rattle.rv_object_laws.specs.Within.{LeadsWithin, IsWithin}
 use Rattle.rv_object_laws.proofs.TextLineLemmas.{sites_text, sites_within}
 use Rattle.rv_placement.specs.Placement.{section_in, section_at}
 use Rattle.rv_resolve.specs.Names.{place_of}
 use Rattle.rv_link_sites.specs.Line.{end_from, next, ended, ended_files, firsts, firsts_files, lists_of, base_at}
-use Rattle.rv_link_sites.specs.Text.{text_target}
+use Rattle.rv_link_sites.specs.Text.{text_size, text_target}
 use Rattle.rv_link_sites.proofs.AlongLemmas.{number_in, base_is, same_number, line_ends}
 use Rattle.rv_link_sites.proofs.StepsLemmas.{grows, grows_files}
 
@@ -65,30 +65,48 @@ object_there (o ∷ os) (suc n) k s at = object_there os n k s at
 
 -- ---- targets
 
-place : ℕ → ℕ → ℕ → Place
-place n k offset = place_of (n, k, offset)
-
 module _ (os : List Object) (n k offset : ℕ) where
-  text_here : (b : Bool) → is_in_section (section_at os n k) offset ≡ b → is_text_place os (Some (place_of (n, k, offset))) ≡ b
-  text_here b h = ap (λ s. is_in_section s offset) (sym (section_here os n k)) ∙ h
+  abbrev there : Place
+  there = place_of (n, k, offset)
 
-  pub offset_none : is_in_section (section_at os n k) offset ≡ false → None ≡ text_target os (Some (place_of (n, k, offset)))
-  offset_none h = sym (ap (λ b. if b then Some (text_offset os (Some (place_of (n, k, offset)))) else None) (text_here false h))
+  home_here : home os there ≡ section_at os n k
+  home_here = sym (section_here os n k)
 
-  in_text : (s : Option Section) → is_in_section s offset ≡ true → (t : Section) × (s ≡ Some t) × (goes_to_text t ≡ true) × (offset ≤ size_of t.contents)
-  in_text None h = absurd (cc)
-  in_text (Some t) h = let both = and_parts (goes_to_text t) (nat_le offset (size_of t.contents)) h in (t, refl, both.0, leb-true offset (size_of t.contents) both.1)
+  -- a section that goes to text, or none
+  pub offset_none : text_size (section_at os n k) ≡ None → None ≡ text_target os (Some there)
+  offset_none h = sym (ap (λ b. if b then Some (record { offset = text_offset os (Some there); past_end = excess os (Some there) }) else None) (ap is_in_text home_here ∙ by (section_at os n k) h))
+    where
+      by : (s : Option Section) → text_size s ≡ None → is_in_text s ≡ false
+      by None h = refl
+      by (Some s) h = go (goes_to_text s) h
+        where
+          go : (b : Bool) → (if b then Some (size_of s.contents) else None) ≡ None → b ≡ false
+          go true e = absurd (cc)
+          go false e = refl
 
-  pub offset_some : (files : List (Vec ℕ)) (b w : ℕ) → lists_of files ≡ firsts_files 0 os → ended_files 0 os ≤ 2 ^ 62 → is_in_section (section_at os n k) offset ≡ true
-      → b ≡ base_at files n k → w ≡ (b + offset) % 2 ^ 64 → Some w ≡ text_target os (Some (place_of (n, k, offset)))
-  offset_some files b w bases short h is wrapped =
-      let t = in_text (section_at os n k) h in
+  sized : (size : ℕ) (s : Option Section) → text_size s ≡ Some size → (t : Section) × (s ≡ Some t) × (goes_to_text t ≡ true) × (size_of t.contents ≡ size)
+  sized size None h = absurd (cc)
+  sized size (Some t) h = go (goes_to_text t) refl h
+    where
+      go : (b : Bool) → goes_to_text t ≡ b → (if b then Some (size_of t.contents) else None) ≡ Some size → (t' : Section) × (Some t ≡ Some t') × (goes_to_text t' ≡ true) × (size_of t'.contents ≡ size)
+      go true e h = (t, refl, e, (let same : size_of t.contents ≡ size = cc in same))
+      go false e h = absurd (cc)
+
+  pub offset_some : (files : List (Vec ℕ)) (b w size past : ℕ) → lists_of files ≡ firsts_files 0 os → ended_files 0 os ≤ 2 ^ 62 → text_size (section_at os n k) ≡ Some size
+      → b ≡ base_at files n k → w ≡ (b + min offset size) % 2 ^ 64 → past ≡ offset - size → Some (record { offset = w; past_end = past }) ≡ text_target os (Some there)
+  offset_some files b w size past bases short h is wrapped beyond =
+      let t = sized size (section_at os n k) h in
       let o = object_there os n k t.0 t.1 in
       let same = base_is files os n k o.0 t.0 bases o.1 o.2 t.2 in
       let low = low_files 0 os n k t.0 t.1 t.2 in
       let number = same_number files n k ∙ ap (λ l. number_in (slice_get l n) k) bases in
-      let fits : (b + offset) % 2 ^ 64 ≡ base os (n + 1) k + offset = omega (arith, is, same, low, number, short, t.3) in
-      ap (λ m. Some m) (wrapped ∙ fits) ∙ sym (ap (λ b. if b then Some (text_offset os (Some (place_of (n, k, offset)))) else None) (text_here true h))
+      let size_is = t.3 in
+      let here = home_here ∙ t.1 in
+      let fits : (b + min offset size) % 2 ^ 64 ≡ base os (n + 1) k + min offset (size_of t.0.contents) = omega (arith, is, same, low, number, short, size_is) in
+      let ends : offset - size ≡ offset - size_of t.0.contents = omega (arith, size_is) in
+      ap (λ m. Some (record { offset = m; past_end = past })) (wrapped ∙ fits ∙ sym (ap (λ s. base os (n + 1) k + moving s offset) here))
+      ∙ ap (λ m. Some (record { offset = text_offset os (Some there); past_end = m })) (beyond ∙ ends ∙ sym (ap (λ s. past_end s offset) here))
+      ∙ sym (ap (λ b. if b then Some (record { offset = text_offset os (Some there); past_end = excess os (Some there) }) else None) (ap is_in_text here ∙ t.2))
 
 -- ---- the whole
 

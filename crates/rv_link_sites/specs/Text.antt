@@ -9,8 +9,9 @@ use Rattle.rv_object.specs.View.{object_of}
 use Rattle.rv_object_laws.specs.Moves.{full_padding, has_padding}
 use Rattle.rv_object_laws.specs.Inputs.{InputSection, goes_to_text}
 use Rattle.rv_object_laws.specs.Names.{Place}
-use Rattle.rv_object_laws.specs.CallSites.{is_call, are_call_words, is_entered, is_text_place, target_place, text_offset, is_compressible}
+use Rattle.rv_object_laws.specs.CallSites.{is_call, are_call_words, is_entered, is_text_place, target_place, text_offset, excess, constant, is_compressible}
 use Rattle.rv_resolve.specs.Names.{IsNames}
+use Rattle.rv_link_sites.specs.declared.text.Target.{Target}
 use Rattle.rv_link_sites.specs.declared.text.Text.{Text}
 use Rattle.rv_link_sites.specs.declared.changes.Input.{Input}
 use Rattle.rv_link_sites.specs.Entries.{AreEntries}
@@ -26,8 +27,15 @@ pub record IsLaid (t : Text) : Type 0 where
   pub short : ended_files 0 (objects_of t) ≤ 2 ^ 62
 
 -- where a place is, if it is in text
-abbrev pub text_target : List Object → Option Place → Option ℕ
-text_target os p = if is_text_place os p then Some (text_offset os p) else None
+abbrev pub text_target : List Object → Option Place → Option Target
+text_target os p =
+    if is_text_place os p
+    then Some (record { offset = text_offset os p; past_end = excess os p }) else None
+
+-- the bytes of a section, if it goes to text
+abbrev pub text_size : Option Section → Option ℕ
+text_size None = None
+text_size (Some s) = if goes_to_text s then Some (size_of s.contents) else None
 
 -- ---- a section
 
@@ -57,6 +65,6 @@ can_shorten os i r =
 abbrev pub call_of : List Object → InputSection → Relocation → Call
 call_of os i r = record {
   target = text_offset os (target_place os i r);
-  addend = r.addend;
+  addend = constant os i r;
   compressed = is_compressible i r;
 }

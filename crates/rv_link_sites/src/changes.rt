@@ -1,10 +1,12 @@
 //! What may change of a section of text: its alignments, and the calls that may be shortened.
 //!
 //! The relocations are gone over once, in the order of their places. `Before` sums up those before a call; of those after it
-//! only the next ones are looked at. Where the rules are silent, a call keeps eight bytes: a symbol past its section's end
-//! lies in no section, and at an odd place no instruction begins.
+//! only the next ones are looked at. A symbol past its section's end moves as the end does, so what it lies beyond is part of
+//! the constant that is added to the end. Where the rules are silent, a call keeps eight bytes: at an odd place no instruction
+//! begins.
 
-ghost use Rattle.std.specs.Prelude.{◌≡◌, ◌+◌, ◌≤◌, ◌<◌, ◌^◌, ◌++◌, ◌∷◌, [], List, map, length, replicate, Some, None, false, IfOk, OnOk, if◌then◌else◌};
+ghost use Rattle.std.specs.Prelude.{◌≡◌, ◌+◌, ◌≤◌, ◌<◌, ◌^◌, ◌++◌, ◌∷◌, [], List, pos, ◌+ℤ◌, map, length, replicate, Some, None, false, IfOk, OnOk, if◌then◌else◌};
+ghost use Rattle.std.specs.Int.{w64, int_wrap};
 ghost use Rattle.std.specs.Ordering.{nat_cmp};
 ghost use Rattle.std.specs.List.Sorted.{IsNonDecreasingBy, IsPermutation, IsStableByKey};
 ghost use Rattle.rv_layout_laws.specs.Sites.{padding_site};
@@ -65,6 +67,13 @@ fn padding_site(offset: u64, bytes: u64, alignment: u64) -> Site
     }
 }
 
+/// What a call adds to its target, in 64 bits, where the symbol lies so far past the end of its section.
+fn constant(addend: i64, past_end: u64) -> i64
+    ensures { result ≡ int_wrap w64 (addend +ℤ pos past_end) }
+{
+    addend.wrapping_add_unsigned(past_end)
+}
+
 /// A call, if its words, its target and the symbols of its object allow that it is shortened.
 fn call(text: &Text<'_, '_, '_>, input: &Input<'_, '_>, relocation: &Relocation) -> Option<Call>
     requires laid { IsLaid text.now }
@@ -87,8 +96,8 @@ fn call(text: &Text<'_, '_, '_>, input: &Input<'_, '_>, relocation: &Relocation)
         return None;
     }
     Some(Call {
-        target,
-        addend: relocation.addend,
+        target: target.offset,
+        addend: constant(relocation.addend, target.past_end),
         compressed: input.object.rvc && link_register(bytes, place) == 0,
     })
 }

@@ -6,12 +6,12 @@ ghost use Rattle.rv_object.specs.Object.{Object as SaidObject};
 ghost use Rattle.rv_object.specs.Parts.{relocation_of};
 ghost use Rattle.rv_object.specs.View.{object_of};
 ghost use Rattle.rv_object_laws.specs.Inputs.{InputSection};
-ghost use Rattle.rv_object_laws.specs.CallSites.{is_in_section, is_short_text, target_place};
+ghost use Rattle.rv_object_laws.specs.CallSites.{is_short_text, target_place};
 ghost use Rattle.rv_object_laws.specs.Names.{symbol_place};
 ghost use Rattle.rv_placement.specs.Placement.{section_at};
 ghost use Rattle.rv_resolve.specs.Names.{IsNames, place_of};
 ghost use Rattle.rv_link_sites.specs.Line.{base_at};
-ghost use Rattle.rv_link_sites.specs.Text.{IsLaid, objects_of, text_target};
+ghost use Rattle.rv_link_sites.specs.Text.{IsLaid, objects_of, text_size as size_in_text, text_target};
 
 use crate::line::bases;
 use rv_object::{Object, Relocation};
@@ -28,18 +28,24 @@ pub(crate) struct Text<'t, 'a, 'o> {
     pub(crate) bases: Vec<Vec<u64>>,
 }
 
-/// Whether an offset of a section, by its file and its index there, both from 0, is in text or at its end.
-fn is_in_text(objects: &[Object<'_>], file: usize, section: usize, offset: u64) -> bool
-    ensures { result
-        ≡ is_in_section (section_at (map object_of objects.now) file section) offset }
+/// Where the target of a call stands in the line: it moves as that offset does.
+#[derive(Clone, Copy, Drop)]
+pub(crate) struct Target {
+    /// Its offset, or that of its section's end if it is past that.
+    pub(crate) offset: u64,
+    /// The bytes from its section's end to it.
+    pub(crate) past_end: u64,
+}
+
+/// The bytes of a section, by its file and its index there, both from 0, if it goes to text.
+fn text_size(objects: &[Object<'_>], file: usize, section: usize) -> Option<u64>
+    ensures { result ≡ size_in_text (section_at (map object_of objects.now) file section) }
 {
-    match objects.get(file) {
-        Some(object) => match object.sections.get(section) {
-            Some(section) => is_text(section) && offset <= section.contents.size(),
-            None => false,
-        },
-        None => false,
+    let section = objects.get(file)?.sections.get(section)?;
+    if !is_text(section) {
+        return None;
     }
+    Some(section.contents.size())
 }
 
 /// The offset at an index of a file; 0 where there is none.
@@ -80,7 +86,7 @@ impl<'t, 'a, 'o> Text<'t, 'a, 'o> {
     }
 
     /// Where the symbol of a relocation of a file, from 0, stands, if that is in text.
-    pub(crate) fn target(&self, file: usize, relocation: &Relocation) -> Option<u64>
+    pub(crate) fn target(&self, file: usize, relocation: &Relocation) -> Option<Target>
         ensures { (i : InputSection) → IsLaid self.now → i.file ≡ file + 1
             → slice_get (objects_of self.now) file ≡ Some i.object → result
             ≡ text_target (objects_of self.now)
@@ -104,13 +110,14 @@ impl<'t, 'a, 'o> Text<'t, 'a, 'o> {
     }
 
     /// Where an offset of a section stands, by its file and its index there, both from 0, if it is in text.
-    fn offset(&self, file: usize, section: usize, offset: u64) -> Option<u64>
+    fn offset(&self, file: usize, section: usize, offset: u64) -> Option<Target>
         ensures { IsLaid self.now → result
             ≡ text_target (objects_of self.now) (Some (place_of (file, section, offset))) }
     {
-        if !is_in_text(self.objects, file, section, offset) {
-            return None;
-        }
-        Some(base(&self.bases, file, section).wrapping_add(offset))
+        let size = text_size(self.objects, file, section)?;
+        Some(Target {
+            offset: base(&self.bases, file, section).wrapping_add(offset.min(size)),
+            past_end: offset.saturating_sub(size),
+        })
     }
 }

@@ -1,9 +1,9 @@
 -- The sites of objects make a text.
 
-use Rattle.std.proofs.Common.{◌≡◌, ℕ, zero, suc, ◌+◌, ◌-◌, ◌≤◌, ◌⊎◌, inl, inr, Bool, true, false, ◌&&◌, ◌||◌, not, nat_le, List, [], ◌∷◌, ◌++◌, Option, Some, None, map, get_or, slice_index_or, IsTrue, refl, sym, ap, subst, ◌∙◌, arith}
+use Rattle.std.proofs.Common.{◌≡◌, ℕ, zero, suc, ◌+◌, ◌-◌, ◌<◌, ◌≤◌, min, ◌⊎◌, inl, inr, Bool, true, false, ◌&&◌, ◌||◌, not, List, [], ◌∷◌, ◌++◌, Option, Some, None, map, get_or, slice_index_or, IsTrue, refl, sym, ap, subst, ◌∙◌, arith}
 use Rattle.std.specs.Prelude.{◌==◌, if◌then◌else◌, filter}
 use Rattle.std.specs.List.{AllByRecursion, list_all, list_any, slice_get}
-use Rattle.std.proofs.lemmas.Bool.{leb-true, eqb-true, eq-eqb, and_parts, and_from, or_left, or_right}
+use Rattle.std.proofs.lemmas.Bool.{cases_lt, eqb-true, eq-eqb, and_parts, and_from, or_left, or_right}
 use Rattle.std.proofs.lemmas.List.Folds.{list_any-append}
 use Rattle.rv_layout_laws.specs.Sites.{padding_site}
 use Rattle.rv_layout_laws.specs.declared.site.Site.{Site}
@@ -17,8 +17,8 @@ use Rattle.rv_object.specs.Valid.{held, is_align, is_padding, are_all_apart}
 use Rattle.rv_object.specs.View.{object_of}
 use Rattle.rv_object_laws.specs.Moves.{full_padding, has_padding, alignment_of}
 use Rattle.rv_object_laws.specs.Inputs.{InputSection, goes_to_text, inputs_from, inputs_of, inputs}
-use Rattle.rv_object_laws.specs.Names.{Place, no_object, object_at}
-use Rattle.rv_object_laws.specs.CallSites.{is_in_section, is_text_place, target_place, is_entered, may_change, changes, start_padding, base_in, base, text_offset, call_site, site_of, sites_from, sites_of, length_of}
+use Rattle.rv_object_laws.specs.Names.{Place, no_object, object_at, is_in_text}
+use Rattle.rv_object_laws.specs.CallSites.{home, moving, is_text_place, target_place, is_entered, may_change, changes, start_padding, base_in, base, text_offset, call_site, site_of, sites_from, sites_of, length_of}
 use Rattle.rv_object_laws.specs.Whole.{IsWhole}
 use Rattle.rv_object_laws.specs.Within.{LeadsWithin, IsWithin}
 use Rattle.rv_object_laws.proofs.ChangesLemmas.{IsPermitted, IsChange, Stand, held_full, held_call, change, all_ordered, all_filtered, changes_stand}
@@ -120,17 +120,21 @@ between_sites os offset (i ∷ is) h =
 -- a place of text that a symbol names
 pub record IsTextPlace (os : List Object) (p : Place) : Type 0 where
   pub named : IsNamed os p
-  pub text : is_in_section (slice_get (object_at os p.file).sections p.section) p.offset ≡ true
+  pub text : is_in_text (home os p) ≡ true
+
+-- where it is in the line, or the end that it moves with
+abbrev pub line_offset : List Object → Place → ℕ
+line_offset os p = base os p.file p.section + moving (home os p) p.offset
 
 abbrev LeadsKind : List Object → SiteKind → Type 0
-LeadsKind os (Call call) = (p : Place) × (call.target ≡ base os p.file p.section + p.offset) × IsTextPlace os p
+LeadsKind os (Call call) = (p : Place) × (call.target ≡ line_offset os p) × IsTextPlace os p
 LeadsKind os (Padding padding) = Unit {0}
 
 abbrev pub Leads : List Object → Site → Type 0
 Leads os s = LeadsKind os s.kind
 
 leads_to : (os : List Object) (o : Option Place) → ((p : Place) → o ≡ Some p → IsNamed os p) → is_text_place os o ≡ true
-    → (p : Place) × (text_offset os o ≡ base os p.file p.section + p.offset) × IsTextPlace os p
+    → (p : Place) × (text_offset os o ≡ line_offset os p) × IsTextPlace os p
 leads_to os None named h = absurd (cc)
 leads_to os (Some p) named h = (p, refl, record { named = named p refl; text = h })
 
@@ -204,15 +208,28 @@ module _ (os : List Object) (i : InputSection) (first : ℕ) (p : Place) (input 
       let both = and_parts (may_change os i r) (list_all (may_change os i) rs) h in
       (avoids_change r (change os i r both.0), avoids_changes rs both.1)
 
-  low : p.offset ≤ size_of i.section.contents
-  low =
-      let at : slice_get (object_at os p.file).sections p.section ≡ Some i.section = ap (λ (o : Object). slice_get o.sections p.section) holder ∙ ap (slice_get i.object.sections) (sym index) ∙ input.there in
-      let within = sym (ap (λ s. is_in_section s p.offset) at) ∙ place.text in
-      let both = and_parts (goes_to_text i.section) (nat_le p.offset (size_of i.section.contents)) within in
-      leb-true p.offset (size_of i.section.contents) both.1
+  -- it stands in its section, or moves with the end
+  at_home : home os p ≡ Some i.section
+  at_home = ap (λ (o : Object). slice_get o.sections p.section) holder ∙ ap (slice_get i.object.sections) (sym index) ∙ input.there
+
+  stands_low : moving (home os p) p.offset ≡ min p.offset (size_of i.section.contents)
+  stands_low = ap (λ s. moving s p.offset) at_home
+
+  avoids_own : AllByRecursion (Avoids (first + min p.offset (size_of i.section.contents))) (map (site_of os i first) (changes os i))
+  avoids_own = by (cases_lt (size_of i.section.contents) p.offset)
+    where
+      own : List Site
+      own = map (site_of os i first) (changes os i)
+
+      by : (size_of i.section.contents < p.offset) ⊎ (p.offset ≤ size_of i.section.contents) → AllByRecursion (Avoids (first + min p.offset (size_of i.section.contents))) own
+      by (inr low) =
+          let same : p.offset ≡ min p.offset (size_of i.section.contents) = omega (arith, low) in
+          subst (λ n. AllByRecursion (Avoids (first + n)) own) same (avoids_changes (changes os i) (all_change os i first))
+      by (inl past) =
+          avoid_after (first + min p.offset (size_of i.section.contents)) first (first + size_of i.section.contents) own (omega (arith, past)) (between_section os i first input)
 
 avoids : (os : List Object) (offset : ℕ) (is : List InputSection) (p : Place) → AllByRecursion (IsTextInput os) is → IsTextPlace os p
-    → AllByRecursion (Avoids (offset + base_in is p.file p.section + p.offset)) (sites_from os offset is)
+    → AllByRecursion (Avoids (offset + (base_in is p.file p.section + moving (home os p) p.offset))) (sites_from os offset is)
 avoids os offset [] p inputs place = tt
 avoids os offset (i ∷ is) p inputs place = by ((i.file == p.file) && (i.index == p.section)) refl (avoids os (offset + start_padding i.section + size_of i.section.contents) is p inputs.1 place)
   where
@@ -228,23 +245,25 @@ avoids os offset (i ∷ is) p inputs place = by ((i.file == p.file) && (i.index 
     all : (old : ℕ) → AllByRecursion (Avoids old) own → AllByRecursion (Avoids old) (sites_from os stop is) → AllByRecursion (Avoids old) (sites_from os offset (i ∷ is))
     all old h g = ((λ call. absurd (cc)), all_append (Avoids old) own (sites_from os stop is) h g)
 
-    by : (b : Bool) → ((i.file == p.file) && (i.index == p.section)) ≡ b → AllByRecursion (Avoids (stop + base_in is p.file p.section + p.offset)) (sites_from os stop is)
-        → AllByRecursion (Avoids (offset + (start_padding i.section + (if b then 0 else size_of i.section.contents + base_in is p.file p.section)) + p.offset)) (sites_from os offset (i ∷ is))
+    at : ℕ
+    at = moving (home os p) p.offset
+
+    by : (b : Bool) → ((i.file == p.file) && (i.index == p.section)) ≡ b → AllByRecursion (Avoids (stop + (base_in is p.file p.section + at))) (sites_from os stop is)
+        → AllByRecursion (Avoids (offset + (start_padding i.section + (if b then 0 else size_of i.section.contents + base_in is p.file p.section) + at))) (sites_from os offset (i ∷ is))
     by true e more =
         let both = and_parts (i.file == p.file) (i.index == p.section) e in
         let file = eqb-true i.file p.file both.0 in
         let index = eqb-true i.index p.section both.1 in
-        let within = low os i first p inputs.0 place file index in
-        let same : first + p.offset ≡ offset + (start_padding i.section + 0) + p.offset = omega arith in
+        let here = first + min p.offset (size_of i.section.contents) in
+        let low = stands_low os i first p inputs.0 place file index in
+        let same : here ≡ offset + (start_padding i.section + 0 + at) = omega (arith, low) in
         subst (λ old. AllByRecursion (Avoids old) (sites_from os offset (i ∷ is))) same
-        (all (first + p.offset) (avoids_changes os i first p inputs.0 place file index (changes os i) (all_change os i first))
-        (avoid_before (first + p.offset) stop (stop + length_of is) (sites_from os stop is) (omega (arith, within)) (between_sites os stop is inputs.1)))
+        (all here (avoids_own os i first p inputs.0 place file index) (avoid_before here stop (stop + length_of is) (sites_from os stop is) (omega arith) (between_sites os stop is inputs.1)))
     by false e more =
-        let same : stop + base_in is p.file p.section + p.offset ≡ offset + (start_padding i.section + (size_of i.section.contents + base_in is p.file p.section)) + p.offset = omega arith in
+        let old = stop + (base_in is p.file p.section + at) in
+        let same : old ≡ offset + (start_padding i.section + (size_of i.section.contents + base_in is p.file p.section) + at) = omega arith in
         subst (λ old. AllByRecursion (Avoids old) (sites_from os offset (i ∷ is))) same
-        (all (stop + base_in is p.file p.section + p.offset)
-        (avoid_after (stop + base_in is p.file p.section + p.offset) first stop own (omega arith) (between_section os i first inputs.0))
-        more)
+        (all old (avoid_after old first stop own (omega arith) (between_section os i first inputs.0)) more)
 
 -- ---- and within the line
 
@@ -252,16 +271,16 @@ abbrev is_at : (file index : ℕ) → InputSection → Bool
 is_at file index i = (i.file == file) && (i.index == index)
 
 base_within : (os : List Object) (is : List InputSection) (p : Place) → AllByRecursion (IsTextInput os) is → IsTextPlace os p → list_any (is_at p.file p.section) is ≡ true
-    → base_in is p.file p.section + p.offset ≤ length_of is
+    → base_in is p.file p.section + moving (home os p) p.offset ≤ length_of is
 base_within os [] p inputs place found = absurd (cc)
 base_within os (i ∷ is) p inputs place found = by (is_at p.file p.section i) refl found (λ e. base_within os is p inputs.1 place e)
   where
     by : (b : Bool) → is_at p.file p.section i ≡ b → (b || list_any (is_at p.file p.section) is) ≡ true
-        → (list_any (is_at p.file p.section) is ≡ true → base_in is p.file p.section + p.offset ≤ length_of is)
-        → start_padding i.section + (if b then 0 else size_of i.section.contents + base_in is p.file p.section) + p.offset ≤ length_of (i ∷ is)
+        → (list_any (is_at p.file p.section) is ≡ true → base_in is p.file p.section + moving (home os p) p.offset ≤ length_of is)
+        → start_padding i.section + (if b then 0 else size_of i.section.contents + base_in is p.file p.section) + moving (home os p) p.offset ≤ length_of (i ∷ is)
     by true e there more =
         let both = and_parts (i.file == p.file) (i.index == p.section) e in
-        let within = low os i 0 p inputs.0 place (eqb-true i.file p.file both.0) (eqb-true i.index p.section both.1) in
+        let within = stands_low os i 0 p inputs.0 place (eqb-true i.file p.file both.0) (eqb-true i.index p.section both.1) in
         omega (arith, within)
     by false e there more = let within = more there in omega (arith, within)
 
@@ -271,18 +290,17 @@ any_left q xs ys h = list_any-append q xs ys ∙ or_left (list_any q xs) (list_a
 any_right : {A : Type 0} (q : A → Bool) (xs ys : List A) → list_any q ys ≡ true → list_any q (xs ++ ys) ≡ true
 any_right q xs ys h = list_any-append q xs ys ∙ or_right (list_any q xs) (list_any q ys) h
 
-found_section : (file : ℕ) (o : Object) (index : ℕ) (ss : List Section) (n offset : ℕ) → is_in_section (slice_get ss n) offset ≡ true
+found_section : (file : ℕ) (o : Object) (index : ℕ) (ss : List Section) (n : ℕ) → is_in_text (slice_get ss n) ≡ true
     → list_any (is_at file (index + n)) (inputs_from goes_to_text file o index ss) ≡ true
-found_section file o index [] n offset h = absurd (cc)
-found_section file o index (s ∷ ss) zero offset h =
-    let text = (and_parts (goes_to_text s) (nat_le offset (size_of s.contents)) h).0 in
+found_section file o index [] n h = absurd (cc)
+found_section file o index (s ∷ ss) zero h =
     let rest = inputs_from goes_to_text file o (suc index) ss in
     let it : InputSection = record { file = file; object = o; index = index; section = s } in
-    ap (λ b. list_any (is_at file (index + 0)) (if b then it ∷ rest else rest)) text
+    ap (λ b. list_any (is_at file (index + 0)) (if b then it ∷ rest else rest)) h
     ∙ or_left (is_at file (index + 0) it) (list_any (is_at file (index + 0)) rest)
     (and_from (file == file) (index == index + 0) (eq-eqb file file refl) (eq-eqb index (index + 0) (omega arith)))
-found_section file o index (s ∷ ss) (suc n) offset h =
-    let more = found_section file o (suc index) ss n offset h in
+found_section file o index (s ∷ ss) (suc n) h =
+    let more = found_section file o (suc index) ss n h in
     let same : suc index + n ≡ index + suc n = omega arith in
     by (goes_to_text s) (subst (λ k. list_any (is_at file k) (inputs_from goes_to_text file o (suc index) ss) ≡ true) same more)
   where
@@ -296,18 +314,18 @@ found_section file o index (s ∷ ss) (suc n) offset h =
     by true more = or_right (is_at file (index + suc n) it) (list_any (is_at file (index + suc n)) rest) more
     by false more = more
 
-found_input : (file : ℕ) (os : List Object) (n index offset : ℕ) → is_in_section (slice_get (slice_index_or os n no_object).sections index) offset ≡ true
+found_input : (file : ℕ) (os : List Object) (n index : ℕ) → is_in_text (slice_get (slice_index_or os n no_object).sections index) ≡ true
     → list_any (is_at (file + n) index) (inputs_of goes_to_text file os) ≡ true
-found_input file [] n index offset h = absurd (cc)
-found_input file (o ∷ os) zero index offset h =
-    let here = found_section file o 0 o.sections index offset h in
+found_input file [] n index h = absurd (cc)
+found_input file (o ∷ os) zero index h =
+    let here = found_section file o 0 o.sections index h in
     let same : 0 + index ≡ index = omega arith in
     let at : file ≡ file + 0 = omega arith in
     any_left (is_at (file + 0) index) (inputs_from goes_to_text file o 0 o.sections) (inputs_of goes_to_text (suc file) os)
     (subst (λ k. list_any (is_at k index) (inputs_from goes_to_text file o 0 o.sections) ≡ true) at
     (subst (λ k. list_any (is_at file k) (inputs_from goes_to_text file o 0 o.sections) ≡ true) same here))
-found_input file (o ∷ os) (suc n) index offset h =
-    let more = found_input (suc file) os n index offset h in
+found_input file (o ∷ os) (suc n) index h =
+    let more = found_input (suc file) os n index h in
     let at : suc file + n ≡ file + suc n = omega arith in
     any_right (is_at (file + suc n) index) (inputs_from goes_to_text file o 0 o.sections) (inputs_of goes_to_text (suc file) os)
     (subst (λ k. list_any (is_at k index) (inputs_of goes_to_text (suc file) os) ≡ true) at more)
@@ -316,9 +334,9 @@ found_place : (os : List Object) (p : Place) → IsTextPlace os p → list_any (
 found_place os p place =
     let counted = place.named.counted in
     let same : 1 + (p.file - 1) ≡ p.file = omega (arith, counted) in
-    subst (λ k. list_any (is_at k p.section) (inputs goes_to_text os) ≡ true) same (found_input 1 os (p.file - 1) p.section p.offset place.text)
+    subst (λ k. list_any (is_at k p.section) (inputs goes_to_text os) ≡ true) same (found_input 1 os (p.file - 1) p.section place.text)
 
-pub place_within : (os : List Object) (p : Place) → AllByRecursion (IsTextInput os) (inputs goes_to_text os) → IsTextPlace os p → base os p.file p.section + p.offset ≤ length_of (inputs goes_to_text os)
+place_within : (os : List Object) (p : Place) → AllByRecursion (IsTextInput os) (inputs goes_to_text os) → IsTextPlace os p → line_offset os p ≤ length_of (inputs goes_to_text os)
 place_within os p inputs' place = base_within os (inputs goes_to_text os) p inputs' place (found_place os p place)
 
 -- ---- the whole
@@ -331,11 +349,11 @@ at_index P (x ∷ xs) d h none (suc i) = at_index P xs d h.1 none i
 abbrev nowhere : Site
 nowhere = record { offset = 0; kind = Padding (record { bytes = 0; alignment = 1 }) }
 
-outside_of : (os : List Object) (k : SiteKind) (s : Site) → LeadsKind os k → ((p : Place) → IsTextPlace os p → Avoids (base os p.file p.section + p.offset) s) → LeadsOutside k s
+outside_of : (os : List Object) (k : SiteKind) (s : Site) → LeadsKind os k → ((p : Place) → IsTextPlace os p → Avoids (line_offset os p) s) → LeadsOutside k s
 outside_of os (Padding padding) s leads f = tt
 outside_of os (Call call) s leads f = subst (λ n. Avoids n s) (sym leads.1) (f leads.0 leads.2)
 
-within_of : (os : List Object) (bytes : ℕ) (k : SiteKind) → LeadsKind os k → ((p : Place) → IsTextPlace os p → base os p.file p.section + p.offset ≤ bytes) → LeadsWithin bytes k
+within_of : (os : List Object) (bytes : ℕ) (k : SiteKind) → LeadsKind os k → ((p : Place) → IsTextPlace os p → line_offset os p ≤ bytes) → LeadsWithin bytes k
 within_of os bytes (Padding padding) leads f = tt
 within_of os bytes (Call call) leads f = subst (λ n. n ≤ bytes) (sym leads.1) (f leads.0 leads.2)
 
@@ -348,10 +366,10 @@ module _ (os : List Object) (h : AllByRecursion (IsTextInput os) (inputs goes_to
   leads_at : (i : ℕ) → Leads os (site_at (sites_of os) i)
   leads_at i = at_index (Leads os) (sites_of os) nowhere (sites_lead os 0 (inputs goes_to_text os) h) tt i
 
-  avoids_at : (p : Place) → IsTextPlace os p → (j : ℕ) → Avoids (base os p.file p.section + p.offset) (site_at (sites_of os) j)
+  avoids_at : (p : Place) → IsTextPlace os p → (j : ℕ) → Avoids (line_offset os p) (site_at (sites_of os) j)
   avoids_at p place j =
-      let same : 0 + base os p.file p.section + p.offset ≡ base os p.file p.section + p.offset = omega arith in
-      at_index (Avoids (base os p.file p.section + p.offset)) (sites_of os) nowhere
+      let same : 0 + line_offset os p ≡ line_offset os p = omega arith in
+      at_index (Avoids (line_offset os p)) (sites_of os) nowhere
       (subst (λ n. AllByRecursion (Avoids n) (sites_of os)) same (avoids os 0 (inputs goes_to_text os) p h place)) (λ call. absurd (cc)) j
 
   pub text : IsText (sites_of os)

@@ -1,8 +1,8 @@
 -- Which calls of objects may be shortened, and what lies between them and their targets (RISC-V ELF
 -- psABI, "Linker Relaxation", function call relaxation; this project's limits of it).
 
-use Rattle.std.specs.Prelude.{ℕ, pos, ◌+◌, ◌-◌, ◌/◌, ◌%◌, ◌^◌, ◌==◌, Bool, true, false, not, ◌&&◌, ◌||◌, nat_le, nat_lt, List, [], ◌∷◌, ◌++◌, take, drop, filter, map, count_by, Option, Some, None, option_and_then, if◌then◌else◌}
-use Rattle.std.specs.Int.{w32, from_le_bytes}
+use Rattle.std.specs.Prelude.{ℕ, ℤ, pos, ◌+ℤ◌, min, ◌+◌, ◌-◌, ◌/◌, ◌%◌, ◌^◌, ◌==◌, Bool, true, false, not, ◌&&◌, ◌||◌, nat_le, nat_lt, List, [], ◌∷◌, ◌++◌, take, drop, filter, map, count_by, Option, Some, None, option_and_then, if◌then◌else◌}
+use Rattle.std.specs.Int.{w32, w64, from_le_bytes, int_wrap}
 use Rattle.std.specs.List.{list_any, slice_get}
 use Rattle.rv_layout_laws.specs.Sites.{padding_site}
 use Rattle.rv_isa.specs.declared.kind.Kind.{Kind}
@@ -18,7 +18,7 @@ use Rattle.rv_object.specs.Object.{Relocation, Section, Object, size_of, stored}
 use Rattle.rv_object.specs.Valid.{held}
 use Rattle.rv_object_laws.specs.Moves.{alignment_of, full_padding, has_padding}
 use Rattle.rv_object_laws.specs.Inputs.{InputSection, goes_to_text, inputs, begins_at}
-use Rattle.rv_object_laws.specs.Names.{Place, symbol_place, object_at}
+use Rattle.rv_object_laws.specs.Names.{Place, symbol_place, object_at, is_in_text}
 
 -- ---- the words of a call
 
@@ -102,15 +102,24 @@ target_place os i r =
     option_and_then
     (λ index. option_and_then (symbol_place os i.file) (slice_get i.object.symbols index)) r.symbol
 
--- it lies in a section of text, or at its end
-abbrev pub is_in_section : Option Section → ℕ → Bool
-is_in_section None offset = false
-is_in_section (Some s) offset = goes_to_text s && nat_le offset (size_of s.contents)
+-- the section that a place is in, or past the end of
+abbrev pub home : List Object → Place → Option Section
+home os p = slice_get (object_at os p.file).sections p.section
 
+-- that one goes to text
 abbrev pub is_text_place : List Object → Option Place → Bool
 is_text_place os None = false
-is_text_place os (Some p) =
-    is_in_section (slice_get (object_at os p.file).sections p.section) p.offset
+is_text_place os (Some p) = is_in_text (home os p)
+
+-- a place past its section's end moves as the end does: what moves with it, and the bytes from there
+-- on to it
+abbrev pub moving : Option Section → ℕ → ℕ
+moving None offset = offset
+moving (Some s) offset = min offset (size_of s.contents)
+
+abbrev pub past_end : Option Section → ℕ → ℕ
+past_end None offset = 0
+past_end (Some s) offset = offset - size_of s.contents
 
 -- a call that may be shortened: it has a RELAX at its place, is `auipc` and `jalr`, leads to a place
 -- in text, no symbol stands strictly inside it, and no field but its own meets its bytes
@@ -142,9 +151,14 @@ base_in (i ∷ is) file index =
 abbrev pub base : List Object → (file index : ℕ) → ℕ
 base os file index = base_in (inputs goes_to_text os) file index
 
+-- the offset of a place, or of its section's end where it lies past that, and how far it does
 abbrev pub text_offset : List Object → Option Place → ℕ
 text_offset os None = 0
-text_offset os (Some p) = base os p.file p.section + p.offset
+text_offset os (Some p) = base os p.file p.section + moving (home os p) p.offset
+
+abbrev pub excess : List Object → Option Place → ℕ
+excess os None = 0
+excess os (Some p) = past_end (home os p) p.offset
 
 -- ---- sites
 
@@ -170,12 +184,17 @@ abbrev pub is_compressible : InputSection → Relocation → Bool
 is_compressible i r =
     i.object.rvc && (link_register (stored i.section.contents) r.place == 0)
 
+-- what is added to the target: the addend, and what the symbol lies past its section's end, in 64
+-- bits
+abbrev pub constant : List Object → InputSection → Relocation → ℤ
+constant os i r = int_wrap w64 (r.addend +ℤ pos (excess os (target_place os i r)))
+
 abbrev pub call_site : List Object → InputSection → ℕ → Relocation → Site
 call_site os i offset r = record {
   offset = offset;
   kind = sites.Call (record {
     target = text_offset os (target_place os i r);
-    addend = r.addend;
+    addend = constant os i r;
     compressed = is_compressible i r;
   });
 }

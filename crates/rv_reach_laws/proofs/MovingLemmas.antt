@@ -1,17 +1,19 @@
 -- What the paddings of a section of text do to offsets: they stay in order, and even.
 
-use Rattle.std.proofs.Common.{◌≡◌, ℕ, ◌+◌, ◌-◌, ◌%◌, ◌^◌, ◌<◌, ◌≤◌, true, min, max, List, [], ◌∷◌, length, refl, ap, ◌∙◌, arith}
+use Rattle.std.proofs.Common.{◌≡◌, ℕ, ◌+◌, ◌-◌, ◌%◌, ◌^◌, ◌<◌, ◌≤◌, Bool, true, false, min, max, List, [], ◌∷◌, length, refl, sym, ap, subst, ◌∙◌, arith}
 use Rattle.std.specs.Prelude.{filter, if◌then◌else◌}
+use Rattle.std.specs.List.{list_all}
 use Rattle.std.proofs.lemmas.Bool.{and_parts}
 use Rattle.rv_layout_laws.specs.Alignment.{aligned}
 use Rattle.rv_object.specs.Object.{Relocation, Section, size_of}
 use Rattle.rv_object.specs.Padding.{no_operations}
-use Rattle.rv_object.specs.Valid.{are_paddings}
+use Rattle.rv_object.specs.Valid.{is_padding, are_all_apart, are_paddings}
 use Rattle.rv_object_laws.specs.Moves.{Move, dropped, new_offset, full_padding, has_padding, alignment_of, by_place, alignments_of, plan, moves}
 use Rattle.rv_object_laws.specs.Inputs.{goes_to_text}
 use Rattle.rv_relax.specs.Paddings.{are_alignments}
 use Rattle.rv_relax.proofs.PlannedLemmas.{next_alignment, other_alignments}
 use Rattle.rv_relax.proofs.ApartLemmas.{of_section}
+use Rattle.rv_link.proofs.ApartLemmas.{AreOrdered, ordered}
 use Rattle.rv_unique_link_laws.proofs.EvensLemmas.{section_padded, dropped_even}
 
 -- further on no less is dropped
@@ -66,3 +68,34 @@ rises start a b s it le =
 
 pub drops_even : (start a : ℕ) (s : Section) → IsPaddedText s → a % 2 ≡ 0 → dropped (moves start s) a % 2 ≡ 0
 drops_even start a s it even = dropped_even start 0 a (alignments_of s) (section_padded s it.paddings) even
+
+-- ---- past its end
+
+ordered_up : (at size : ℕ) (rs : List Relocation) → AreOrdered at rs size → at ≤ size
+ordered_up at size [] h = h
+ordered_up at size (r ∷ rs) h = let one = h.0 in let more = ordered_up (r.place + full_padding r) size rs h.1 in omega (arith, one, more)
+
+same_drop : (full left place size a p q : ℕ) → place + full ≤ size → size ≤ a → p ≡ q → min (full - left) (a - (place + left)) + p ≡ min (full - left) (size - (place + left)) + q
+same_drop full left place size a p q ends le e = omega (arith, ends, le, e)
+
+ended_from : (base gone at size a : ℕ) (rs : List Relocation) → AreOrdered at rs size → size ≤ a → dropped (plan base gone rs) a ≡ dropped (plan base gone rs) size
+ended_from base gone at size a [] h le = refl
+ended_from base gone at size a (r ∷ rs) h le =
+    let least = aligned (alignment_of r) (base + (r.place - gone)) - (base + (r.place - gone)) in
+    let next = gone + (full_padding r - least) in
+    same_drop (full_padding r) (length (no_operations least)) r.place size a (dropped (plan base next rs) a) (dropped (plan base next rs) size) (ordered_up (r.place + full_padding r) size rs h.1) le
+    (ended_from base next (r.place + full_padding r) size a rs h.1 le)
+
+alignments_end : (s : Section) → IsPaddedText s → AreOrdered 0 (alignments_of s) (size_of s.contents)
+alignments_end s it =
+    let executable = (and_parts s.loaded s.executable it.text).1 in
+    let all = of_code s.executable executable it.paddings in
+    subst (λ b. AreOrdered 0 (if b then by_place (filter has_padding s.relocations) else []) (size_of s.contents)) (sym it.text) (ordered s.contents s.relocations all.0 all.1)
+  where
+    of_code : (e : Bool) → e ≡ true → are_paddings e s.contents s.relocations ≡ true → (list_all (is_padding true s.contents) s.relocations ≡ true) × (are_all_apart s.relocations ≡ true)
+    of_code true e h = and_parts (list_all (is_padding true s.contents) s.relocations) (are_all_apart s.relocations) h
+    of_code false e h = absurd (cc)
+
+-- no more is dropped behind the end than before it
+pub ended : (start a : ℕ) (s : Section) → IsPaddedText s → size_of s.contents ≤ a → dropped (moves start s) a ≡ dropped (moves start s) (size_of s.contents)
+ended start a s it le = ended_from start 0 0 (size_of s.contents) a (alignments_of s) (alignments_end s it) le

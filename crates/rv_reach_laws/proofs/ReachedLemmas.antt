@@ -1,10 +1,10 @@
 -- The field of each call that relaxation shortens takes its value where the text is placed.
 
-use Rattle.std.proofs.Common.{rules, ◌≡◌, ℕ, zero, suc, ◌+◌, ◌%◌, ◌^◌, ◌<◌, ◌≤◌, ◌⊎◌, inl, inr, Bool, true, false, not, ◌&&◌, List, [], ◌∷◌, length, map, Option, Some, None, option_map, slice_index, ℤ, pos, negsuc, ◌+ℤ◌, ◌-ℤ◌, ◌≤ℤ◌, ◌<ℤ◌, neg_ℤ, FitsSigned, refl, sym, ap, subst, ◌∙◌, arith}
+use Rattle.std.proofs.Common.{rules, ◌≡◌, ℕ, zero, suc, ◌+◌, ◌-◌, ◌%◌, ◌^◌, ◌<◌, ◌≤◌, min, ◌⊎◌, inl, inr, Bool, true, false, not, ◌&&◌, List, [], ◌∷◌, length, map, Option, Some, None, option_map, slice_index, ℤ, pos, negsuc, ◌+ℤ◌, ◌-ℤ◌, ◌≤ℤ◌, ◌<ℤ◌, neg_ℤ, FitsSigned, refl, sym, ap, subst, ◌∙◌, arith}
 use Rattle.std.specs.Prelude.{◌==◌, filter, unwrap_or, if◌then◌else◌}
 use Rattle.std.specs.List.{AllByRecursion, slice_get}
-use Rattle.std.specs.Int.{w64, int_wrap}
-use Rattle.std.proofs.lemmas.Int.{ints, int_wrap_fits}
+use Rattle.std.specs.Int.{w64, int_wrap, cast_signed}
+use Rattle.std.proofs.lemmas.Int.{ints, int_wrap_fits, int_wrap-add_right, int_wrap-add_same}
 use Rattle.std.proofs.lemmas.Bool.{or_right, cases_lt}
 use Rattle.std.proofs.lemmas.Option.{slice_get-map}
 use Rattle.rv_layout_laws.specs.Sites.{size_at}
@@ -20,11 +20,11 @@ use Rattle.rv_layout_laws.proofs.ShorteningLemmas.{greatest_reaching}
 use Rattle.rv_object.specs.Object.{Relocation, Section, Object, size_of}
 use Rattle.rv_object.specs.Valid.{are_paddings}
 use Rattle.rv_object.specs.View.{object_of}
-use Rattle.rv_object_laws.specs.Moves.{dropped, moves, new_offset, has_padding}
+use Rattle.rv_object_laws.specs.Moves.{Move, dropped, moves, new_offset, has_padding}
 use Rattle.rv_object_laws.specs.Inputs.{Starts, InputSection, goes_to_text, inputs, Stand}
 use Rattle.rv_object_laws.specs.Names.{Place}
 use Rattle.rv_object_laws.specs.Values.{target}
-use Rattle.rv_object_laws.specs.CallSites.{is_call, start_padding, base, text_offset, target_place, is_text_place, is_permitted, may_change, changes, call_site, site_of, sites_of, is_short_text}
+use Rattle.rv_object_laws.specs.CallSites.{is_call, start_padding, base, home, moving, past_end, text_offset, excess, constant, target_place, is_text_place, is_permitted, may_change, changes, call_site, site_of, sites_of, is_short_text}
 use Rattle.rv_object_laws.specs.Shortened.{Sizes, sizes_by, is_shortened, cuts, shortened_kind, shortened_relocation, shortened_text, shortened, IsRelaxed}
 use Rattle.rv_object_laws.specs.Whole.{IsWhole}
 use Rattle.rv_object_laws.specs.Without.{without}
@@ -38,7 +38,7 @@ use Rattle.rv_placement.specs.Placement.{starts_of, IsPlacement}
 use Rattle.rv_resolve.specs.Shown.{regions_of, outer_in}
 use Rattle.rv_link.specs.Refusals.{IsTextStart}
 use Rattle.rv_link.specs.Filled.{IsTaken}
-use Rattle.rv_shorten.specs.Cutting.{In}
+use Rattle.rv_shorten.specs.Cutting.{In, are_cuts}
 use Rattle.rv_shorten.proofs.ChangesLemmas as changed
 use Rattle.rv_shorten.proofs.ListsLemmas.{filter_in, ordered_in}
 use Rattle.rv_shorten.proofs.SectionsLemmas.{short_parts, same_text}
@@ -46,8 +46,8 @@ use Rattle.rv_shorten.proofs.ShortLemmas.{size_left, paddings_stay}
 use Rattle.rv_shorten.proofs.ShiftsLemmas as cut
 use Rattle.rv_unique_link_laws.proofs.MultiplesLemmas.{BeginsSo, all_begin}
 use Rattle.rv_reach_laws.specs.Reach.{is_short_call, ForEachLeft, ShortCallsReach}
-use Rattle.rv_reach_laws.proofs.MovingLemmas.{rises}
-use Rattle.rv_reach_laws.proofs.LinesLemmas.{IsFramed, Frames, frames}
+use Rattle.rv_reach_laws.proofs.MovingLemmas.{rises, ended, within as within_paddings}
+use Rattle.rv_reach_laws.proofs.LinesLemmas.{IsFramed, Frames, frames, all_dropped}
 use Rattle.rv_reach_laws.proofs.SpansLemmas.{left_section, left_input, lefts, IsPlain, address, in_order, stays_even, nearer_ahead, nearer_behind}
 use Rattle.rv_reach_laws.proofs.TargetsLemmas.{IsAt, IsInText, in_text, place_at, stands, target_stands}
 use Rattle.rv_reach_laws.proofs.ShorterLemmas.{sounds, IsEvenCode, evens, ordered_all, index_of, in_at, all_at, kept_here, IsLow, lows}
@@ -82,22 +82,41 @@ half_most k = by (k == 2)
     by true = omega arith
     by false = omega arith
 
+fits_small : (v : ℤ) → neg_ℤ (pos (2 ^ 20)) ≤ℤ v → v <ℤ pos (2 ^ 20) → FitsSigned w64 v
+fits_small v low high = search rules
+
+immediate_fits : (h : ℕ) (v : ℤ) → h ≤ 2 ^ 20 → IsImmediate h v → FitsSigned w64 v
+immediate_fits h v most it =
+    let down = it.low in
+    let up = it.high in
+    let low_v : neg_ℤ (pos (2 ^ 20)) ≤ℤ v = omega (arith, ints, down, most) in
+    let high_v : v <ℤ pos (2 ^ 20) = omega (arith, ints, up, most) in
+    fits_small v low_v high_v
+
 -- the value as the field has it
 pub value_is : (a s p : ℕ) (z : ℤ) (h : ℕ) → h ≤ 2 ^ 20 → IsImmediate h ((pos a -ℤ pos p) +ℤ z) → a < 2 ^ 64 → s ≡ a % 2 ^ 64 → int_wrap w64 ((pos s +ℤ z) -ℤ pos p) ≡ (pos a -ℤ pos p) +ℤ z
 value_is a s p z h most it low e =
     let same : s ≡ a = omega (arith, e, low) in
     let v = (pos a -ℤ pos p) +ℤ z in
-    let down = it.low in
-    let up = it.high in
-    let low_v : neg_ℤ (pos (2 ^ 20)) ≤ℤ v = omega (arith, ints, down, most) in
-    let high_v : v <ℤ pos (2 ^ 20) = omega (arith, ints, up, most) in
-    let fits : FitsSigned w64 v = fits_small v low_v high_v in
     ap (λ n. int_wrap w64 ((pos n +ℤ z) -ℤ pos p)) same
     ∙ ap (int_wrap w64) (let k : (pos a +ℤ z) -ℤ pos p ≡ (pos a -ℤ pos p) +ℤ z = omega (arith, ints) in k)
-    ∙ int_wrap_fits w64 v fits
-  where
-    fits_small : (v : ℤ) → neg_ℤ (pos (2 ^ 20)) ≤ℤ v → v <ℤ pos (2 ^ 20) → FitsSigned w64 v
-    fits_small v low high = search rules
+    ∙ int_wrap_fits w64 v (immediate_fits h v most it)
+
+same_word : (s n : ℕ) → s ≡ n % 2 ^ 64 → int_wrap w64 (pos s) ≡ int_wrap w64 (pos n)
+unfolding int_wrap
+same_word s n e = ap (cast_signed w64) (let k : s % 2 ^ 64 ≡ n % 2 ^ 64 = omega (arith, e) in k)
+
+-- and so where the symbol lies past the end of its section, which is counted with the addend
+past_value : (a s p past : ℕ) (q z : ℤ) (h : ℕ) → h ≤ 2 ^ 20 → z ≡ int_wrap w64 (q +ℤ pos past) → IsImmediate h ((pos a -ℤ pos p) +ℤ z) → s ≡ (a + past) % 2 ^ 64
+    → int_wrap w64 ((pos s +ℤ q) -ℤ pos p) ≡ (pos a -ℤ pos p) +ℤ z
+past_value a s p past q z h most is it e =
+    let v = (pos a -ℤ pos p) +ℤ z in
+    ap (int_wrap w64) (let k : (pos s +ℤ q) -ℤ pos p ≡ pos s +ℤ (q -ℤ pos p) = omega (arith, ints) in k)
+    ∙ int_wrap-add_same w64 (pos s) (pos (a + past)) (q -ℤ pos p) (same_word s (a + past) e)
+    ∙ ap (int_wrap w64) (let k : pos (a + past) +ℤ (q -ℤ pos p) ≡ (pos a -ℤ pos p) +ℤ (q +ℤ pos past) = omega (arith, ints) in k)
+    ∙ sym (int_wrap-add_right w64 (pos a -ℤ pos p) (q +ℤ pos past))
+    ∙ ap (λ c. int_wrap w64 ((pos a -ℤ pos p) +ℤ c)) (sym is)
+    ∙ int_wrap_fits w64 v (immediate_fits h v most it)
 
 -- ---- lists
 
@@ -243,6 +262,44 @@ module _ (os : List Object) (whole : AllByRecursion IsWhole os) (kept : List ℕ
       rises (starts i.file i.index) (new_offset (cuts (its i) i.section) n) (new_offset (cuts (its i) i.section) (size_of i.section.contents)) (left_section os kept i) plain.padded up in
       omega (arith, most, before)
 
+  -- a place past the end of its section stands as far past the end
+  past_end_is : (k : ℕ) (i : InputSection) → slice_get is k ≡ Some i → (n : ℕ)
+      → address os kept start starts i n ≡ address os kept start starts i (min n (size_of i.section.contents)) + (n - size_of i.section.contents)
+  past_end_is k i there n = by (cases_lt (size_of i.section.contents) n)
+    where
+      ms : List Move
+      ms = cuts (its i) i.section
+
+      left_of : Section
+      left_of = left_section os kept i
+
+      size : ℕ
+      size = size_of i.section.contents
+
+      plain : IsPlain os kept i
+      plain = all_at (IsPlain os kept) is k i plains there
+
+      order_is : are_cuts 0 size ms ≡ true
+      order_is = (frame_at os kept 0 0 is all_frames k i there).frame.allowed.order
+
+      by : (size < n) ⊎ (n ≤ size) → address os kept start starts i n ≡ address os kept start starts i (min n size) + (n - size)
+      by (inr low) =
+          let same : min n size ≡ n = omega (arith, low) in
+          let none : n - size ≡ 0 = omega (arith, low) in
+          (let a = address os kept start starts i n in let e : a ≡ a + 0 = omega arith in e) ∙ ap (λ m. address os kept start starts i m + 0) (sym same) ∙ ap (λ m. address os kept start starts i (min n size) + m) (sym none)
+      by (inl past) =
+          let same : min n size ≡ size = omega (arith, past) in
+          let dropped_all = all_dropped 0 size n ms order_is (omega (arith, past)) in
+          let within_all = cut.within 0 size size ms order_is in
+          let cut_size = plain.ends in
+          let moved : new_offset ms n ≡ new_offset ms size + (n - size) = omega (arith, dropped_all, within_all, past) in
+          let up : size_of left_of.contents ≤ new_offset ms n = omega (arith, cut_size, moved) in
+          let padded_all = ended (starts i.file i.index) (new_offset ms n) left_of plain.padded up in
+          let low = within_paddings (starts i.file i.index) (new_offset ms size) left_of plain.padded in
+          let whole = padded_all ∙ ap (dropped (moves (starts i.file i.index) left_of)) cut_size in
+          let sum : address os kept start starts i n ≡ address os kept start starts i size + (n - size) = omega (arith, moved, whole, low) in
+          sum ∙ ap (λ m. address os kept start starts i m + (n - size)) (sym same)
+
   -- ---- a call
 
   module _ (k : ℕ) (i : InputSection) (there : slice_get is k ≡ Some i) (n : ℕ) (q : Relocation) (at_q : slice_get i.section.relocations n ≡ Some q) (short : is_shortened (its i) q ≡ true) where
@@ -318,20 +375,22 @@ module _ (os : List Object) (whole : AllByRecursion IsWhole os) (kept : List ℕ
 
     pub record LeadsTo : Type 0 where
       pub to : ℕ
-      pub low : to < 2 ^ 64
-      pub target_is : target (outer_in left p) (starts i.file) (left_input os kept i).object q.symbol ≡ Some (to % 2 ^ 64)
-      pub reaches : Reaches (half (its i q.place)) q.addend (pos to -ℤ pos (address os kept start starts i q.place))
+      pub past : ℕ
+      pub target_is : target (outer_in left p) (starts i.file) (left_input os kept i).object q.symbol ≡ Some ((to + past) % 2 ^ 64)
+      pub constant_is : constant os i q ≡ int_wrap w64 (q.addend +ℤ pos past)
+      pub reaches : Reaches (half (its i q.place)) (constant os i q) (pos to -ℤ pos (address os kept start starts i q.place))
 
     leads_to : (t : Option Place) → target_place os i q ≡ t → is_text_place os t ≡ true
-        → Reaches (half (its i q.place)) q.addend (pos (N (text_offset os t)) -ℤ pos (N (first + q.place))) → LeadsTo
+        → Reaches (half (its i q.place)) (constant os i q) (pos (N (text_offset os t)) -ℤ pos (N (first + q.place))) → LeadsTo
     leads_to None e leads far = absurd (cc)
     leads_to (Some t) e leads far = record {
-      to = address os kept start starts j t.offset;
-      low = address_low spot.number j spot.there t.offset low_t;
-      target_is = target_stands os kept starts (regions_of p) i q t it input.at e ∙ ap (λ a. Some (a % 2 ^ 64)) (sym address_is);
-      reaches = reaches_nearer (half (its i q.place)) q.addend
-          (pos (address os kept start starts j t.offset) -ℤ pos (address os kept start starts i q.place)) (pos (N (base os j.file j.index + t.offset)) -ℤ pos (N (first + q.place)))
-          (near k i there spot.number j spot.there q.place t.offset low_q low_t even_q even_t) far_j;
+      to = address os kept start starts j moves_at;
+      past = t.offset - size_of j.section.contents;
+      target_is = target_stands os kept starts (regions_of p) i q t it input.at e ∙ ap (λ a. Some (a % 2 ^ 64)) (sym address_is ∙ past_end_is spot.number j spot.there t.offset);
+      constant_is = ap (λ o. int_wrap w64 (q.addend +ℤ pos (excess os o))) e ∙ ap (λ x. int_wrap w64 (q.addend +ℤ pos (past_end x t.offset))) home_is;
+      reaches = reaches_nearer (half (its i q.place)) (constant os i q)
+          (pos (address os kept start starts j moves_at) -ℤ pos (address os kept start starts i q.place)) (pos (N (base os j.file j.index + moves_at)) -ℤ pos (N (first + q.place)))
+          (near k i there spot.number j spot.there q.place moves_at low_q low_t even_q even_t) far_j;
     }
       where
         it : IsInText os t
@@ -343,17 +402,26 @@ module _ (os : List Object) (whole : AllByRecursion IsWhole os) (kept : List ℕ
         j : InputSection
         j = spot.input
 
-        line_is : base os j.file j.index + t.offset ≡ text_offset os (Some t)
-        line_is = ap (λ f. base os f j.index + t.offset) spot.in_file ∙ ap (λ x. base os t.file x + t.offset) spot.at_index
+        home_is : home os t ≡ Some j.section
+        home_is = it.there ∙ ap (λ x. Some x) (sym spot.section)
 
-        far_j : Reaches (half (its i q.place)) q.addend (pos (N (base os j.file j.index + t.offset)) -ℤ pos (N (first + q.place)))
-        far_j = subst (λ x. Reaches (half (its i q.place)) q.addend (pos (N x) -ℤ pos (N (first + q.place)))) (sym line_is) far
+        -- it moves as this offset does
+        moves_at : ℕ
+        moves_at = min t.offset (size_of j.section.contents)
 
-        even_t : N (base os j.file j.index + t.offset) % 2 ≡ 0
-        even_t = even_from (N (base os j.file j.index + t.offset)) (N (first + q.place)) q.addend far_j.alone.even far_j.added.even even_q
+        line_is : base os j.file j.index + moves_at ≡ text_offset os (Some t)
+        line_is =
+            ap (λ f. base os f j.index + moves_at) spot.in_file ∙ ap (λ x. base os t.file x + moves_at) spot.at_index
+            ∙ sym (ap (λ x. base os t.file t.section + moving x t.offset) home_is)
 
-        low_t : t.offset ≤ size_of j.section.contents
-        low_t = subst (λ (s : Section). t.offset ≤ size_of s.contents) (sym spot.section) it.low
+        far_j : Reaches (half (its i q.place)) (constant os i q) (pos (N (base os j.file j.index + moves_at)) -ℤ pos (N (first + q.place)))
+        far_j = subst (λ x. Reaches (half (its i q.place)) (constant os i q) (pos (N x) -ℤ pos (N (first + q.place)))) (sym line_is) far
+
+        even_t : N (base os j.file j.index + moves_at) % 2 ≡ 0
+        even_t = even_from (N (base os j.file j.index + moves_at)) (N (first + q.place)) (constant os i q) far_j.alone.even far_j.added.even even_q
+
+        low_t : moves_at ≤ size_of j.section.contents
+        low_t = omega arith
 
         stood : ℕ → ℕ → Section → ℕ
         stood f x s = starts f x + new_offset (moves (starts f x) (shortened_text (sizes_by os kept f x) s)) (new_offset (cuts (sizes_by os kept f x) s) t.offset)
@@ -370,12 +438,12 @@ module _ (os : List Object) (whole : AllByRecursion IsWhole os) (kept : List ℕ
     now kind = record { place = new_offset (cuts (its i) i.section) q.place; kind = kind; symbol = q.symbol; addend = q.addend }
 
     abbrev away : ℤ
-    away = (pos leads.to -ℤ pos (address os kept start (starts_of p) i q.place)) +ℤ q.addend
+    away = (pos leads.to -ℤ pos (address os kept start (starts_of p) i q.place)) +ℤ constant os i q
 
     worth_is : int_wrap w64 ((pos (unwrap_or (target (outer_in left p) (starts i.file) (left_input os kept i).object q.symbol) 0) +ℤ q.addend) -ℤ pos (address os kept start starts i q.place)) ≡ away
     worth_is =
-        value_is leads.to (unwrap_or (target (outer_in left p) (starts i.file) (left_input os kept i).object q.symbol) 0) (address os kept start starts i q.place) q.addend (half (its i q.place)) (half_most (its i q.place))
-        leads.reaches.added leads.low (ap (λ o. unwrap_or o 0) leads.target_is)
+        past_value leads.to (unwrap_or (target (outer_in left p) (starts i.file) (left_input os kept i).object q.symbol) 0) (address os kept start starts i q.place) leads.past q.addend (constant os i q)
+        (half (its i q.place)) (half_most (its i q.place)) leads.constant_is leads.reaches.added (ap (λ o. unwrap_or o 0) leads.target_is)
 
     takes_four : its i q.place ≡ 4 → IsTaken left p (left_input os kept i) (now kinds.Jal)
     takes_four four = record {

@@ -1,23 +1,23 @@
 -- The place that a call's symbol names has, once the text is placed, the address that the symbol stands for.
 
-use Rattle.std.proofs.Common.{◌≡◌, ℕ, zero, suc, ◌+◌, ◌-◌, ◌%◌, ◌^◌, ◌≤◌, Bool, true, false, ◌&&◌, nat_le, List, [], ◌∷◌, ◌++◌, map, Option, Some, None, option_map, slice_index_or, refl, sym, ap, subst, ◌∙◌, arith}
+use Rattle.std.proofs.Common.{◌≡◌, ℕ, zero, suc, ◌+◌, ◌-◌, ◌%◌, ◌^◌, ◌≤◌, Bool, true, false, ◌&&◌, List, [], ◌∷◌, ◌++◌, map, Option, Some, None, option_map, slice_index_or, refl, sym, ap, subst, ◌∙◌, arith}
 use Rattle.std.specs.Prelude.{option_and_then, unwrap_or, bytes_eq, if◌then◌else◌}
 use Rattle.std.specs.List.{find, slice_get}
 use Rattle.std.specs.Option.{option_or}
-use Rattle.std.proofs.lemmas.Bool.{and_parts, leb-true}
+use Rattle.std.proofs.lemmas.Bool.{and_parts}
 use Rattle.std.proofs.lemmas.List.{map-append}
 use Rattle.std.proofs.lemmas.Option.{slice_get-map, unwrap_or-slice_get}
 use Rattle.rv_map.specs.Map.{Map}
 use Rattle.rv_object.specs.declared.symbol.Binding.{Binding}
 use Rattle.rv_object.specs.declared.symbol.Definition.{Definition}
 use Rattle.rv_object.specs.declared.symbol.Definition.TheVariants as definitions
-use Rattle.rv_object.specs.Object.{Relocation, Section, Symbol, Object, size_of}
+use Rattle.rv_object.specs.Object.{Relocation, Section, Symbol, Object}
 use Rattle.rv_object_laws.specs.Moves.{moves, new_offset}
 use Rattle.rv_object_laws.specs.Inputs.{Starts, InputSection, goes_to_text, inputs_from, inputs_of, inputs}
 use Rattle.rv_object.specs.Bindings.{is_global, is_weak}
-use Rattle.rv_object_laws.specs.Names.{offset_address, defined_address, is_defined, is_sure_by, is_sure, Export, is_export, exports_in, exports_from, exports_where, candidates, chosen, export_address, globals_of, shown_linker_symbols, unshown_address, Outer, outer_address, symbol_address, Place, place_in, shared_place, symbol_place, no_object, object_at}
+use Rattle.rv_object_laws.specs.Names.{offset_address, defined_address, is_defined, is_sure_by, is_sure, Export, is_export, exports_in, exports_from, exports_where, candidates, chosen, export_address, globals_of, shown_linker_symbols, unshown_address, Outer, outer_address, symbol_address, Place, place_in, shared_place, symbol_place, no_object, object_at, is_in_text}
 use Rattle.rv_object_laws.specs.Values.{target}
-use Rattle.rv_object_laws.specs.CallSites.{target_place, is_in_section, is_text_place}
+use Rattle.rv_object_laws.specs.CallSites.{target_place, is_text_place}
 use Rattle.rv_object_laws.specs.Shortened.{Sizes, sizes_by, cuts, cuts_at, cuts_in, shortened_text, shortened_section, shortened_sections, shortened_definition, shortened_symbol, shortened_object, shortened_from}
 use Rattle.rv_resolve.proofs.ChosenLemmas.{chosen_held}
 use Rattle.rv_resolve.proofs.ShownLemmas.{meaning, means}
@@ -82,21 +82,18 @@ at_of file (suc k) index (o ∷ os) s there text =
     at_behind (inputs_from goes_to_text file o 0 o.sections) (inputs_of goes_to_text (suc file) os) (file + suc k) index s
     (subst (λ n. IsAt (inputs_of goes_to_text (suc file) os) n index s) (let e : suc file + k ≡ file + suc k = omega arith in e) (at_of (suc file) k index os s there text))
 
--- a place in text
+-- a place in text, or past the end of a section of it
 pub record IsInText (os : List Object) (p : Place) : Type 0 where
   pub section : Section
   pub there : slice_get (object_at os p.file).sections p.section ≡ Some section
   pub text : goes_to_text section ≡ true
-  pub low : p.offset ≤ size_of section.contents
 
 pub in_text : (os : List Object) (p : Place) → is_text_place os (Some p) ≡ true → IsInText os p
 in_text os p h = go (slice_get (object_at os p.file).sections p.section) refl h
   where
-    go : (x : Option Section) → slice_get (object_at os p.file).sections p.section ≡ x → is_in_section x p.offset ≡ true → IsInText os p
+    go : (x : Option Section) → slice_get (object_at os p.file).sections p.section ≡ x → is_in_text x ≡ true → IsInText os p
     go None e h = absurd (cc)
-    go (Some s) e h =
-        let both = and_parts (goes_to_text s) (nat_le p.offset (size_of s.contents)) h in
-        record { section = s; there = e; text = both.0; low = leb-true p.offset (size_of s.contents) both.1 }
+    go (Some s) e h = record { section = s; there = e; text = h }
 
 pub place_at : (os : List Object) (p : Place) (it : IsInText os p) → 1 ≤ p.file → IsAt (inputs goes_to_text os) p.file p.section it.section
 place_at os p it counted =

@@ -1,6 +1,6 @@
 -- The program of the objects of sources with their calls shortened is the linked program of the sources.
 
-use Rattle.std.proofs.Common.{◌≡◌, ℕ, zero, suc, ◌+◌, ◌-◌, ◌≤◌, ◌<◌, Bool, true, false, List, [], ◌∷◌, ◌++◌, map, refl, sym, ap, ◌∙◌, subst, arith, Option, Some, None}
+use Rattle.std.proofs.Common.{◌≡◌, ℕ, zero, suc, ◌+◌, ◌-◌, ◌≤◌, ◌<◌, Bool, true, false, List, [], ◌∷◌, ◌++◌, map, refl, sym, ap, ◌∙◌, subst, arith, Option, Some}
 use Rattle.std.proofs.lemmas.Bool.{and_parts, eq-eqb, ne_eqb}
 use Rattle.std.proofs.lemmas.List.Folds.{list_any-append}
 use Rattle.std.specs.Prelude.{⊤, ◌&&◌, ◌||◌, ◌==◌, if◌then◌else◌, flat_map, option_and_then}
@@ -20,11 +20,11 @@ use Rattle.rv_source_laws.specs.Program.{MaybeMapped, Program, program}
 use Rattle.rv_source_laws.specs.Fits as source
 use Rattle.rv_image.specs.Linked.{Linked}
 use Rattle.rv_source_laws.specs.Shortened as line
-use Rattle.rv_source_laws.specs.Shortened.{Placed, calls, Shortened, HaveBytes, text_of, full_length, placed_from, sites_at, has_compressed, aim_of, aim_offset}
+use Rattle.rv_source_laws.specs.Shortened.{Placed, calls, Shortened, HaveBytes, text_of, full_length, placed_from, sites_at, has_compressed, aim_of}
 use Rattle.rv_source_laws.proofs.HomesLemmas.{all_filter}
 use Rattle.rv_chain_laws.specs.Contents.{IsLinked}
 use Rattle.rv_object.specs.Object.{Section, Symbol, Object, size_of, stored}
-use Rattle.rv_object_laws.specs.CallSites.{base_in, start_padding, changes, site_of, sites_from, sites_of, is_entered, is_text_place, text_offset, is_short_text}
+use Rattle.rv_object_laws.specs.CallSites.{base_in, start_padding, changes, site_of, sites_from, sites_of, is_entered, is_short_text}
 use Rattle.rv_object_laws.specs.Inputs.{Starts, InputSection, goes_to_text, inputs_from, inputs_of, inputs, begins_at}
 use Rattle.rv_object_laws.specs.IsLinkOf.{IsLinkOf}
 use Rattle.rv_object_laws.specs.Names.{symbol_place}
@@ -40,6 +40,7 @@ use Rattle.rv_sources_link_laws.proofs.calls.ChangesOfLemmas as changed
 use Rattle.rv_sources_link_laws.proofs.calls.CutObjectsLemmas as cut
 use Rattle.rv_sources_link_laws.proofs.calls.CutObjectsLemmas.{Fitting, cut_is, cut_sites, cut_dropped}
 use Rattle.rv_sources_link_laws.proofs.calls.CutSectionsLemmas.{stored_is}
+use Rattle.rv_sources_link_laws.proofs.fields.TextPlacesLemmas.{stands_in, aim_at}
 use Rattle.rv_sources_link_laws.proofs.sections.FilesLemmas.{AreFiles, statements_ours}
 use Rattle.rv_sources_link_laws.proofs.calls.FinalsLemmas.{IsResized, AreCut, AreFinal}
 use Rattle.rv_sources_link_laws.proofs.calls.FormsLemmas.{fitting}
@@ -259,10 +260,10 @@ module _ (sources : List (List Statement)) (os : List Object) (text_start : ℕ)
         ∙ ap (list_any (λ (e : MaybeMapped). (e.located.file == f) && is_compressed_code e.located)) (sym statements)
 
     meant : (z : Located) (name : Primary) (y : Option Symbol) → StandsFor (tables ss) is.sites z.ordinal name y
-        → (if is_text_place os (option_and_then (symbol_place os f) y) then Some (text_offset os (option_and_then (symbol_place os f) y)) else None) ≡ option_and_then (aim_offset text) (aim_of p (renumbered f z) name)
+        → stands_in os (option_and_then (symbol_place os f) y) ≡ option_and_then (aim_at text) (aim_of p (renumbered f z) name)
     meant z name y s =
         targets.meant p starts at sizes os bs pieces_are sources h ws (relaxed.are sources os text_start l h masks us k sizes c link) finals all_here statements f ss o is here z name y s
-        ∙ ap (λ t. option_and_then (aim_offset t) (aim_of p (renumbered f z) name)) (sym text_line)
+        ∙ ap (λ t. option_and_then (aim_at t) (aim_of p (renumbered f z) name)) (sym text_line)
 
     abbrev input : ℕ → Section → InputSection
     input index x = record { file = f; object = o; index = index; section = x }

@@ -1,4 +1,5 @@
 pub mod AimsLemmas
+pub mod TextPlacesLemmas
 pub mod TargetsLemmas
 pub mod RangesLemmas
 pub mod NumbersLemmas

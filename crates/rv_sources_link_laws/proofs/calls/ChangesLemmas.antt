@@ -1,8 +1,9 @@
 -- What may change of a section of text: in the object the alignments and the permitted calls among its relocations, in the source those among
 -- its statements.
 
-use Rattle.std.proofs.Common.{◌≡◌, ℕ, zero, suc, ◌+◌, ◌-◌, ◌*◌, ◌/◌, ◌%◌, ◌^◌, ◌≤◌, ◌<◌, Bool, true, false, List, [], ◌∷◌, ◌++◌, length, map, refl, sym, ap, ◌∙◌, subst, arith, pos, Option, Some, None, option_map, inl, inr}
+use Rattle.std.proofs.Common.{◌≡◌, ℕ, zero, suc, ◌+◌, ◌-◌, ◌*◌, ◌/◌, ◌%◌, ◌^◌, ◌≤◌, ◌<◌, Bool, true, false, List, [], ◌∷◌, ◌++◌, length, map, refl, sym, ap, ◌∙◌, subst, arith, ℤ, pos, ◌+ℤ◌, Option, Some, None, option_map, inl, inr}
 use Rattle.std.proofs.lemmas.Bool.{eq-eqb, lt-ltb, le-ltb}
+use Rattle.std.proofs.lemmas.Int.{ints, int_wrap-add_left}
 use Rattle.std.proofs.lemmas.List.Folds.{list_any-append}
 use Rattle.std.proofs.lemmas.List.Sums.{sum_by-cons, sum_by-append}
 use Rattle.std.specs.Prelude.{not, ◌&&◌, ◌||◌, ◌==◌, nat_lt, if◌then◌else◌, filter, option_and_then, cond, count_by}
@@ -27,7 +28,7 @@ use Rattle.rv_object.specs.Object.{Relocation, Section, Symbol, Object, stored}
 use Rattle.rv_object.specs.Padding.{no_operations}
 use Rattle.rv_object.specs.Valid.{is_align, held}
 use Rattle.rv_object_laws.specs.CallSites as objects
-use Rattle.rv_object_laws.specs.CallSites.{word_at, are_call_words, link_register as linked_by, is_relax, has_relax, meets, is_entered, target_place, is_text_place, text_offset, is_permitted, may_change, inserted_change, in_order, changes, site_of}
+use Rattle.rv_object_laws.specs.CallSites.{word_at, are_call_words, link_register as linked_by, is_relax, has_relax, meets, is_entered, target_place, is_text_place, text_offset, constant, is_permitted, may_change, inserted_change, in_order, changes, site_of}
 use Rattle.rv_object_laws.specs.Inputs.{Starts, InputSection}
 use Rattle.rv_object_laws.specs.Moves.{full_padding, alignment_of}
 use Rattle.rv_object_laws.specs.Names.{Place, symbol_place}
@@ -40,6 +41,7 @@ use Rattle.rv_sources_link_laws.proofs.sections.AssembledLemmas.{assembled_templ
 use Rattle.rv_sources_link_laws.proofs.calls.CutsLemmas.{IsCalm, NoCalls, template_calm}
 use Rattle.rv_sources_link_laws.proofs.calls.CutSectionsLemmas.{HasWords}
 use Rattle.rv_sources_link_laws.proofs.statements.FieldedLemmas.{IsPlain}
+use Rattle.rv_sources_link_laws.proofs.fields.TextPlacesLemmas.{stands_in, aim_at, offset_same, no_excess}
 use Rattle.rv_sources_link_laws.proofs.calls.LongCallsLemmas as long
 use Rattle.rv_sources_link_laws.proofs.calls.LongCallsLemmas.{IsLongCall, long_call}
 use Rattle.rv_sources_link_laws.proofs.statements.PadsLemmas.{IsPower, IsValidAlignment, by_power}
@@ -115,7 +117,7 @@ module _ (p : Program) (starts : Starts) (os : List Object) (text : List Placed)
     (o : Object) (j : ℕ) (x : Section) (s : SourceSection) (code : s.executable ≡ true) (number : Numbering) (all : List Site) (multiple : ℕ)
     (flag : o.rvc ≡ has_compressed p f)
     (meant : (l : Located) (name : Primary) (y : Option Symbol) → StandsFor t all l.ordinal name y
-    → (if is_text_place os (option_and_then (symbol_place os f) y) then Some (text_offset os (option_and_then (symbol_place os f) y)) else None) ≡ option_and_then (aim_offset text) (aim_of p (renumbered f l) name))
+    → stands_in os (option_and_then (symbol_place os f) y) ≡ option_and_then (aim_at text) (aim_of p (renumbered f l) name))
     (final : Site → Site) (stays : (z : Site) → (final z).located ≡ z.located) where
   abbrev pub i : InputSection
   i = record { file = f; object = o; index = j; section = x }
@@ -277,8 +279,16 @@ module _ (p : Program) (starts : Starts) (os : List Object) (text : List Placed)
     abbrev aimed : Option ℕ
     aimed = option_and_then (aim_offset text) (aim_of p (renumbered f z.located) h.symbol)
 
+    stands_so : stands_in os place ≡ option_and_then (aim_at text) (aim_of p (renumbered f z.located) h.symbol)
+    stands_so = meant z.located h.symbol (slice_get o.symbols (number z.located.ordinal h.symbol)) stands
+
     target_is : (if is_text_place os place then Some (text_offset os place) else None) ≡ aimed
-    target_is = meant z.located h.symbol (slice_get o.symbols (number z.located.ordinal h.symbol)) stands
+    target_is = offset_same os text place (aim_of p (renumbered f z.located) h.symbol) stands_so
+
+    constant_is : is_text_place os place ≡ true → constant os i r ≡ int_wrap w64 (pos h.plus)
+    constant_is there =
+        ap (λ n. int_wrap w64 (int_wrap w64 (pos h.plus) +ℤ pos n)) (no_excess os text place (aim_of p (renumbered f z.located) h.symbol) stands_so there)
+        ∙ int_wrap-add_left w64 (pos h.plus) (pos 0) ∙ ap (int_wrap w64) (let e : pos h.plus +ℤ pos 0 ≡ pos h.plus = omega (arith, ints) in e)
 
     abbrev compressed : Bool
     compressed = is_compressible p (renumbered f z.located) m ops
@@ -308,13 +318,14 @@ module _ (p : Program) (starts : Starts) (os : List Object) (text : List Placed)
           is = filtered ∙ ap (λ c. if c then r ∷ [] else []) (permitted ∙ ap (λ a. a && is_text_place os place) e ∙ g);
           fits = λ q w. (let same : r ≡ q = cc in (ap (λ (q : Relocation). q.place) (sym same), subst (λ q. held q ≤ z.bytes) same (let eight = h.bytes in omega (arith, eight))));
           made = λ first.
-              ap (λ c. made_site (first + z.offset) c ∷ []) compressed_is
+              ap (λ a. made_site (first + z.offset) a (objects.is_compressible i r) ∷ []) (constant_is g)
+              ∙ ap (λ c. made_site (first + z.offset) (int_wrap w64 (pos h.plus)) c ∷ []) compressed_is
               ∙ ap (λ n. shortenable (first + z.offset) n h.plus compressed) (sym (ap (λ b. if b then Some (text_offset os place) else None) g) ∙ target_is)
               ∙ ap (λ a. if a then shortenable (first + z.offset) aimed h.plus compressed else []) (sym e) ∙ says_call first;
         }
           where
-            made_site : ℕ → Bool → Spot
-            made_site offset c = record { offset = offset; kind = spots.Call (record { target = text_offset os place; addend = int_wrap w64 (pos h.plus); compressed = c }) }
+            made_site : ℕ → ℤ → Bool → Spot
+            made_site offset plus c = record { offset = offset; kind = spots.Call (record { target = text_offset os place; addend = plus; compressed = c }) }
         go true false e g = record {
           change = None;
           is = filtered ∙ ap (λ c. if c then r ∷ [] else []) (permitted ∙ ap (λ a. a && is_text_place os place) e ∙ g);

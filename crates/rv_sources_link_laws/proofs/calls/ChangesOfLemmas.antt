@@ -17,11 +17,11 @@ use Rattle.rv_source_laws.specs.Located.{Located, has_row}
 use Rattle.rv_source_laws.specs.Program.{Program, tables_in, form as program_form}
 use Rattle.rv_source_laws.specs.Sizes.{target_in}
 use Rattle.rv_source_laws.specs.Sized.{is_call}
-use Rattle.rv_source_laws.specs.Shortened.{calls, link_register, Placed, aim_of, aim_offset, sites_by, sites_at, call_sites, is_compressible, has_compressed}
+use Rattle.rv_source_laws.specs.Shortened.{calls, link_register, Placed, aim_of, sites_by, sites_at, call_sites, is_compressible, has_compressed}
 use Rattle.rv_source_laws.proofs.HeldLemmas.{IsHeld}
 use Rattle.rv_object.specs.Object.{Relocation, Section, Symbol, Object, stored}
 use Rattle.rv_object.specs.Valid.{held}
-use Rattle.rv_object_laws.specs.CallSites.{link_register as linked_by, are_call_words, is_relax, has_relax, meets, is_entered, is_text_place, text_offset, inserted_change, in_order, changes, site_of}
+use Rattle.rv_object_laws.specs.CallSites.{link_register as linked_by, are_call_words, is_relax, has_relax, meets, is_entered, inserted_change, in_order, changes, site_of}
 use Rattle.rv_object_laws.specs.Inputs.{Starts, InputSection}
 use Rattle.rv_object_laws.specs.Names.{symbol_place}
 use Rattle.rv_assemble_laws.specs.CodeFields.{relax_fields}
@@ -42,6 +42,7 @@ use Rattle.rv_sources_link_laws.proofs.calls.LongCallsLemmas as long
 use Rattle.rv_sources_link_laws.proofs.calls.LongCallsLemmas.{IsLongCall, long_call}
 use Rattle.rv_sources_link_laws.proofs.statements.MarkedLemmas.{part_fields}
 use Rattle.rv_sources_link_laws.proofs.statements.PadsLemmas.{power_valid, byte_valid, bare_before}
+use Rattle.rv_sources_link_laws.proofs.fields.TextPlacesLemmas.{stands_in, aim_at}
 use Rattle.rv_sources_link_laws.proofs.fields.RangesLemmas.{InRange, even_bytes, in_range}
 use Rattle.rv_sources_link_laws.proofs.sections.SectionsLemmas.{split, join}
 use Rattle.rv_sources_link_laws.proofs.statements.SettledLemmas.{IsSiteIn}
@@ -59,7 +60,7 @@ module _ (p : Program) (starts : Starts) (os : List Object) (text : List Placed)
     (o : Object) (j : ℕ) (x : Section) (s : SourceSection) (is_text : source_text s ≡ true) (number : Numbering) (all zs : List Site) (multiple : ℕ)
     (flag : o.rvc ≡ has_compressed p f)
     (meant : (l : Located) (name : Primary) (y : Option Symbol) → StandsFor t all l.ordinal name y
-    → (if is_text_place os (option_and_then (symbol_place os f) y) then Some (text_offset os (option_and_then (symbol_place os f) y)) else None) ≡ option_and_then (aim_offset text) (aim_of p (renumbered f l) name))
+    → stands_in os (option_and_then (symbol_place os f) y) ≡ option_and_then (aim_at text) (aim_of p (renumbered f l) name))
     (final : Site → Site) (stays : (z : Site) → (final z).located ≡ z.located)
     (none_inside : (q : ℕ) → AllByRecursion (IsAside q) zs → is_entered o j q ≡ false)
     (whole : x.relocations ≡ relocations_from number 0 (parts t zs)) (bytes_are : stored x.contents ≡ flat_map part_bytes (parts t zs)) where

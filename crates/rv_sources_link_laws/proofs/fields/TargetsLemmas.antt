@@ -1,9 +1,9 @@
 -- Where the symbols of objects stand in the line of text, and where their sources say that they stand.
 
-use Rattle.std.proofs.Common.{◌≡◌, ℕ, zero, suc, ◌+◌, ◌-◌, ◌≤◌, Bool, true, false, List, [], ◌∷◌, map, refl, sym, ap, ◌∙◌, subst, arith, Option, Some, None, inl, inr}
-use Rattle.std.proofs.lemmas.Bool.{and_parts, le-leb, eq-eqb}
+use Rattle.std.proofs.Common.{◌≡◌, ℕ, zero, suc, ◌+◌, ◌-◌, ◌≤◌, Bool, true, false, List, [], ◌∷◌, map, refl, sym, ap, ◌∙◌, subst, arith, min, Option, Some, None, option_map, inl, inr}
+use Rattle.std.proofs.lemmas.Bool.{and_parts, eq-eqb}
 use Rattle.std.proofs.lemmas.List.Folds.{list_any-append}
-use Rattle.std.specs.Prelude.{⊤, not, ◌&&◌, ◌||◌, ◌==◌, nat_le, if◌then◌else◌, option_and_then, bytes_eq, slice_index_or}
+use Rattle.std.specs.Prelude.{⊤, not, ◌&&◌, ◌||◌, ◌==◌, if◌then◌else◌, option_and_then, bytes_eq, slice_index_or}
 use Rattle.std.specs.List.{AllByRecursion, list_any, slice_get}
 use Rattle.rv_text_laws.specs.Expression.{Primary, Symbol as Named, Literal, Here, Reference}
 use Rattle.rv_text_laws.specs.Values.{Meaning, Known, InSection as InData, Open as OpenAddress, Refused, add}
@@ -15,13 +15,13 @@ use Rattle.rv_source_laws.specs.Program as source
 use Rattle.rv_source_laws.specs.Program.{MaybeMapped, Program, tables_in, chosen}
 use Rattle.rv_source_laws.specs.Fits as fits
 use Rattle.rv_source_laws.specs.Exports.{defined_name}
-use Rattle.rv_source_laws.specs.Shortened.{Placed, aim, assigned_aim, defined_aim, export_aim, shared_aim, aim_by, aim_of, aim_offset}
+use Rattle.rv_source_laws.specs.Shortened.{Placed, aim, assigned_aim, defined_aim, export_aim, shared_aim, aim_by, aim_of}
 use Rattle.rv_object.specs.Object.{Section, Symbol, Object, size_of}
-use Rattle.rv_object_laws.specs.CallSites.{base, is_text_place, is_in_section, text_offset}
+use Rattle.rv_object_laws.specs.CallSites.{base, home, moving, past_end, is_text_place, excess}
 use Rattle.rv_object_laws.specs.Inputs.{Starts, InputSection, goes_to_text, inputs_from, inputs_of, inputs}
 use Rattle.rv_object_laws.specs.Names as objects
 use Rattle.rv_object.specs.Bindings.{is_weak}
-use Rattle.rv_object_laws.specs.Names.{Place, is_sure, is_sure_by, place_in, shared_place, symbol_place, no_object, object_at}
+use Rattle.rv_object_laws.specs.Names.{Place, is_sure, is_sure_by, place_in, shared_place, symbol_place, no_object, object_at, is_in_text}
 use Rattle.rv_object_laws.specs.Shortened.{Sizes}
 use Rattle.rv_assemble_laws.specs.Sites.{Site, sites_in, end_of}
 use Rattle.rv_assemble_laws.specs.Symbols.{site_at, after_found, assigned_definition, site_definition, IsNamed, IsOwn, IsOuter, IsDefinedBy, StandsFor}
@@ -30,6 +30,7 @@ use Rattle.rv_sources_link_laws.proofs.sections.KeptLemmas.{IsKept, AreKept}
 use Rattle.rv_sources_link_laws.proofs.sections.MaskedLemmas.{source_sections}
 use Rattle.rv_sources_link_laws.proofs.fields.AimsLemmas as aims
 use Rattle.rv_sources_link_laws.proofs.fields.AimsLemmas.{IsFirst}
+use Rattle.rv_sources_link_laws.proofs.fields.TextPlacesLemmas.{stands_in, at_place, aim_at}
 use Rattle.rv_sources_link_laws.proofs.sections.AssembledLemmas.{IsSectionOf}
 use Rattle.rv_sources_link_laws.proofs.statements.CodeOfLemmas.{found_left}
 use Rattle.rv_sources_link_laws.proofs.names.PairLemmas.{IsAlike, IsPair, IsMade, AreMade}
@@ -156,9 +157,9 @@ module _ (p : Program) (starts : Starts) (at : ℕ → List Site) (sizes : ℕ �
   abbrev pub line : List Placed
   line = lines p starts at sizes 0 (inputs goes_to_text os) bs h
 
-  -- the offset of a place, if it lies in text
-  abbrev pub text_to : Option Place → Option ℕ
-  text_to place = if is_text_place os place then Some (text_offset os place) else None
+  -- where a place stands, if it lies in text
+  abbrev pub text_to : Option Place → Option (ℕ × ℕ)
+  text_to place = stands_in os place
 
   abbrev put : ℕ → ℕ → ℕ → Place
   put file section offset = record { file = file; section = section; offset = offset }
@@ -185,7 +186,7 @@ module _ (p : Program) (starts : Starts) (at : ℕ → List Site) (sizes : ℕ �
 
     -- a place at a statement
     pub place_at : (n : ℕ) (z : Site) (offset : ℕ) → site_at is.sites n ≡ Some z → z.located.placed ≡ true → (source_text z.located.home ≡ true → offset ≡ z.offset)
-        → text_to (Some (put f z.located.section offset)) ≡ aim_offset line (aim f n)
+        → text_to (Some (put f z.located.section offset)) ≡ aim_at line (aim f n)
     place_at n z offset found placed same = go (source_text z.located.home) refl
       where
         k : IsSettled (source_sections is.dropped ss) z
@@ -203,30 +204,36 @@ module _ (p : Program) (starts : Starts) (at : ℕ → List Site) (sizes : ℕ �
         site_here : site_at (at f) n ≡ Some z
         site_here = ap (λ S. site_at S n) here.sites ∙ found
 
-        in_object : is_text_place os (Some (put f z.located.section offset)) ≡ (goes_to_text x && nat_le offset (size_of x.contents))
-        in_object = ap (λ (u : Object). is_in_section (slice_get u.sections z.located.section) offset) here.object ∙ ap (λ y. is_in_section y offset) found_x.1
+        home_is : home os (put f z.located.section offset) ≡ Some x
+        home_is = ap (λ (u : Object). slice_get u.sections z.located.section) here.object ∙ found_x.1
 
-        go : (b : Bool) → source_text z.located.home ≡ b → text_to (Some (put f z.located.section offset)) ≡ aim_offset line (aim f n)
+        in_object : is_text_place os (Some (put f z.located.section offset)) ≡ goes_to_text x
+        in_object = ap is_in_text home_is
+
+        go : (b : Bool) → source_text z.located.home ≡ b → text_to (Some (put f z.located.section offset)) ≡ aim_at line (aim f n)
         go true text =
             let low : offset ≤ size_of x.contents =
             subst (λ m. m ≤ size_of x.contents) (sym (same text)) (all_found (IsLow o) (λ z. z.located.ordinal == n) is.sites (lows ss o is) z found x found_x.1) in
-            let inside : is_text_place os (Some (put f z.located.section offset)) ≡ true = in_object ∙ ap (λ b. b && nat_le offset (size_of x.contents)) (flags ∙ text) ∙ le-leb offset (size_of x.contents) low in
+            let inside : is_text_place os (Some (put f z.located.section offset)) ≡ true = in_object ∙ flags ∙ text in
+            let within : moving (home os (put f z.located.section offset)) offset ≡ offset = ap (λ y. moving y offset) home_is ∙ (let e : min offset (size_of x.contents) ≡ offset = omega (arith, low) in e) in
+            let none : past_end (home os (put f z.located.section offset)) offset ≡ 0 = ap (λ y. past_end y offset) home_is ∙ (let e : offset - size_of x.contents ≡ 0 = omega (arith, low) in e) in
             let row : has_row z.located ≡ true = ap (λ b. b && z.located.home.loaded) placed ∙ (and_parts z.located.home.loaded z.located.home.executable text).0 in
             let there : list_any (λ (q : InputSection). (q.file == f) && (q.index == z.located.section)) (inputs goes_to_text os) ≡ true =
             ap (λ m. list_any (λ (q : InputSection). (q.file == m) && (q.index == z.located.section)) (inputs goes_to_text os)) (let low = here.low in let e : f ≡ 1 + (f - 1) = omega (arith, low) in e)
-            ∙ present_of 1 (f - 1) z.located.section os x (ap (λ (u : Object). slice_get u.sections z.located.section) here.object ∙ found_x.1) (flags ∙ text) in
-            ap (λ b. if b then Some (base os f z.located.section + offset) else None) inside
-            ∙ ap (λ m. Some (base os f z.located.section + m)) (same text)
-            ∙ sym (aims.offset_some p starts at sizes f n unique z site_here row (inputs goes_to_text os) bs h there)
+            ∙ present_of 1 (f - 1) z.located.section os x home_is (flags ∙ text) in
+            ap (λ b. if b then Some (base os f z.located.section + moving (home os (put f z.located.section offset)) offset, excess os (Some (put f z.located.section offset))) else None) inside
+            ∙ ap (λ m. Some (base os f z.located.section + m, excess os (Some (put f z.located.section offset)))) (within ∙ same text)
+            ∙ ap (λ m. Some (base os f z.located.section + z.offset, m)) none
+            ∙ sym (ap (option_map at_place) (aims.offset_some p starts at sizes f n unique z site_here row (inputs goes_to_text os) bs h there))
         go false aside =
-            ap (λ b. if b then Some (base os f z.located.section + offset) else None) (in_object ∙ ap (λ b. b && nat_le offset (size_of x.contents)) (flags ∙ aside))
-            ∙ sym (aims.offset_none p starts at sizes f n unique
-            (λ y e. (let both : Some z ≡ Some y = sym site_here ∙ e in let equal : z ≡ y = cc in ap (λ (q : Site). source_text q.located.home) (sym equal) ∙ aside)) (inputs goes_to_text os) bs h)
+            ap (λ b. if b then Some (base os f z.located.section + moving (home os (put f z.located.section offset)) offset, excess os (Some (put f z.located.section offset))) else None) (in_object ∙ flags ∙ aside)
+            ∙ sym (ap (option_map at_place) (aims.offset_none p starts at sizes f n unique
+            (λ y e. (let both : Some z ≡ Some y = sym site_here ∙ e in let equal : z ≡ y = cc in ap (λ (q : Site). source_text q.located.home) (sym equal) ∙ aside)) (inputs goes_to_text os) bs h))
 
     -- none stands where there is no statement
-    pub nowhere : (n : ℕ) → site_at is.sites n ≡ None → aim_offset line (aim f n) ≡ None
+    pub nowhere : (n : ℕ) → site_at is.sites n ≡ None → aim_at line (aim f n) ≡ None
     nowhere n none =
-        aims.offset_none p starts at sizes f n unique (λ y e. (let both : Some y ≡ None = sym e ∙ ap (λ S. site_at S n) here.sites ∙ none in absurd (cc))) (inputs goes_to_text os) bs h
+        ap (option_map at_place) (aims.offset_none p starts at sizes f n unique (λ y e. (let both : Some y ≡ None = sym e ∙ ap (λ S. site_at S n) here.sites ∙ none in absurd (cc))) (inputs goes_to_text os) bs h)
 
     -- ---- what a statement defines for all files
 
@@ -234,17 +241,17 @@ module _ (p : Program) (starts : Starts) (at : ℕ → List Site) (sizes : ℕ �
     code_not z e text = let g : true ≡ false = sym (and_parts z.located.home.loaded z.located.home.executable text).1 ∙ e in absurd (cc)
 
     found_place : (a : Assignment) (y : Option Site) → site_at is.sites a.ordinal ≡ y → IsInData y
-        → text_to (place_in f (after_found y a.plus)) ≡ aim_offset line (aim f a.ordinal)
+        → text_to (place_in f (after_found y a.plus)) ≡ aim_at line (aim f a.ordinal)
     found_place a None e k = sym (nowhere a.ordinal e)
     found_place a (Some z) e (aside, placed) = place_at a.ordinal z (add z.offset a.plus) e placed (λ text. absurd (code_not z aside text))
 
     assigned_place : (a : Option Assignment) → ((b : Assignment) → a ≡ Some b → StandsInData is.sites b)
-        → text_to (place_in f (assigned_definition is.sites a)) ≡ option_and_then (aim_offset line) (assigned_aim f a)
+        → text_to (place_in f (assigned_definition is.sites a)) ≡ option_and_then (aim_at line) (assigned_aim f a)
     assigned_place None k = refl
     assigned_place (Some a) k = go a.meaning (k a refl)
       where
         go : (m : Meaning) → StandsInData is.sites (record a { meaning = m })
-            → text_to (place_in f (assigned_definition is.sites (Some (record a { meaning = m })))) ≡ option_and_then (aim_offset line) (assigned_aim f (Some (record a { meaning = m })))
+            → text_to (place_in f (assigned_definition is.sites (Some (record a { meaning = m })))) ≡ option_and_then (aim_at line) (assigned_aim f (Some (record a { meaning = m })))
         go (Known n) k = refl
         go (InData section offset) k = found_place (record a { meaning = InData section offset }) (site_at is.sites a.ordinal) refl (k refl)
         go OpenAddress k = refl
@@ -252,7 +259,7 @@ module _ (p : Program) (starts : Starts) (at : ℕ → List Site) (sizes : ℕ �
 
     aim_kind : (z : Site) (kind : StatementKind) (name : List ℕ) → site_at is.sites z.located.ordinal ≡ Some z → ((n : List ℕ) → kind ≡ Label n → z.located.placed ≡ true)
         → defined_name t z.located.ordinal kind ≡ name ∷ []
-        → option_and_then (aim_offset line) (defined_aim t (renumbered f z.located) kind) ≡ text_to (place_in f (site_definition t is.sites z kind))
+        → option_and_then (aim_at line) (defined_aim t (renumbered f z.located) kind) ≡ text_to (place_in f (site_definition t is.sites z kind))
     aim_kind z (Label n) name itself labelled e = sym (place_at z.located.ordinal z z.offset itself (labelled n refl) (λ text. refl))
     aim_kind z (Directs (Sets n x)) name itself labelled e =
         sym (assigned_place (assigned_ever t.assignments n) (λ a k. all_found (StandsInData is.sites) (λ s. bytes_eq s.name n) t.assignments is.places a k))
@@ -265,14 +272,14 @@ module _ (p : Program) (starts : Starts) (at : ℕ → List Site) (sizes : ℕ �
 
   -- a definition of the sources stands in the line where that of the objects stands, or neither does
   abbrev AimsAlike : source.Export → objects.Export → Type 0
-  AimsAlike x e = option_and_then (aim_offset line) (export_aim p x) ≡ text_to (place_in e.file e.symbol.definition)
+  AimsAlike x e = option_and_then (aim_at line) (export_aim p x) ≡ text_to (place_in e.file e.symbol.definition)
 
   shared_alike : (name : List ℕ) → IsAlike AimsAlike (chosen p name) (objects.chosen os name)
-      → text_to (shared_place os name) ≡ option_and_then (aim_offset line) (shared_aim p (Named name))
+      → text_to (shared_place os name) ≡ option_and_then (aim_at line) (shared_aim p (Named name))
   shared_alike name = go (chosen p name) (objects.chosen os name)
     where
       go : (x : Option source.Export) (e : Option objects.Export) → IsAlike AimsAlike x e
-          → text_to (option_and_then (λ (e : objects.Export). place_in e.file e.symbol.definition) e) ≡ option_and_then (aim_offset line) (option_and_then (export_aim p) x)
+          → text_to (option_and_then (λ (e : objects.Export). place_in e.file e.symbol.definition) e) ≡ option_and_then (aim_at line) (option_and_then (export_aim p) x)
       go None None h = refl
       go None (Some e) h = absurd h
       go (Some x) None h = absurd h
@@ -290,11 +297,11 @@ module _ (p : Program) (starts : Starts) (at : ℕ → List Site) (sizes : ℕ �
     alike_from (z ∷ zs) (k, ks) (u, us) = ((λ name index e shared. aimed name e), alike_from zs ks us)
       where
         aimed : (name : List ℕ) → defined_name (tables ss) z.located.ordinal z.located.kind ≡ name ∷ []
-            → option_and_then (aim_offset line) (defined_aim (tables_in p f) (renumbered f (c.final z).located) (c.final z).located.kind)
+            → option_and_then (aim_at line) (defined_aim (tables_in p f) (renumbered f (c.final z).located) (c.final z).located.kind)
             ≡ text_to (place_in f (site_definition (tables ss) is.sites z z.located.kind))
         aimed name e =
-            ap (λ (l : Located). option_and_then (aim_offset line) (defined_aim (tables_in p f) (renumbered f l) l.kind)) (c.stays z)
-            ∙ ap (λ t. option_and_then (aim_offset line) (defined_aim t (renumbered f z.located) z.located.kind)) here.tables
+            ap (λ (l : Located). option_and_then (aim_at line) (defined_aim (tables_in p f) (renumbered f l) l.kind)) (c.stays z)
+            ∙ ap (λ t. option_and_then (aim_at line) (defined_aim t (renumbered f z.located) z.located.kind)) here.tables
             ∙ aim_kind f ss o is here z z.located.kind name u k.labelled e
 
     made_file : IsMade AimsAlike p f o (map (statement_at starts f) ys)
@@ -333,24 +340,24 @@ module _ (p : Program) (starts : Starts) (at : ℕ → List Site) (sizes : ℕ �
 
   module _ (sources : List (List Statement)) (k : AreKept sources os) (ws : List Object) (q : shrunk.AreObjectsOf sources ws) (c : AreFinal sizes 1 sources os k ws q) (a : AreHere 1 sources os k)
       (statements : p.statements ≡ all_statements starts 1 sources ws q) where
-    shared_is : (name : List ℕ) → text_to (shared_place os name) ≡ option_and_then (aim_offset line) (shared_aim p (Named name))
+    shared_is : (name : List ℕ) → text_to (shared_place os name) ≡ option_and_then (aim_at line) (shared_aim p (Named name))
     shared_is name = shared_alike name ((chosen_alike AimsAlike p os (subst (λ l. AreMade AimsAlike p 1 os l) (sym statements) (made 1 sources os k ws q c a))).chosen name)
 
     module _ (f : ℕ) (ss : List Statement) (o : Object) (is : IsKept ss o) (here : IsHere f ss o is) where
-      abbrev stands_at : Symbol → Option ℕ
+      abbrev stands_at : Symbol → Option (ℕ × ℕ)
       stands_at x = text_to (symbol_place os f x)
 
-      unsure : (n : List ℕ) (x : Symbol) → x.name ≡ n → is_sure x ≡ false → stands_at x ≡ option_and_then (aim_offset line) (shared_aim p (Named n))
+      unsure : (n : List ℕ) (x : Symbol) → x.name ≡ n → is_sure x ≡ false → stands_at x ≡ option_and_then (aim_at line) (shared_aim p (Named n))
       unsure n x named e = ap (λ b. text_to (if b then place_in f x.definition else shared_place os x.name)) e ∙ ap (λ m. text_to (shared_place os m)) named ∙ shared_is n
 
-      outer_is : (name : Primary) (x : Symbol) → IsNamed name x → IsOuter name x → stands_at x ≡ option_and_then (aim_offset line) (shared_aim p name)
+      outer_is : (name : Primary) (x : Symbol) → IsNamed name x → IsOuter name x → stands_at x ≡ option_and_then (aim_at line) (shared_aim p name)
       outer_is (Named n) x named none = unsure n x named (ap (is_sure_by x.binding) none)
       outer_is (Literal n) x named none = absurd none
       outer_is Here x named none = absurd none
       outer_is (Reference digits forward) x named none = absurd none
 
       own_is : (ordinal : ℕ) (name : Primary) (d : Definition) (x : Symbol) → definition (tables ss) ordinal name ≡ Some d → IsOwn is.sites d x → is_weak x.binding ≡ false
-          → stands_at x ≡ aim_offset line (aim f d.ordinal)
+          → stands_at x ≡ aim_at line (aim f d.ordinal)
       own_is ordinal name d x e (z, found, placed, there) strong =
           ap (λ b. text_to (if b then place_in f x.definition else shared_place os x.name)) (ap (is_sure_by x.binding) there ∙ ap not strong)
           ∙ ap (λ d. text_to (place_in f d)) there
@@ -366,8 +373,8 @@ module _ (p : Program) (starts : Starts) (at : ℕ → List Site) (sizes : ℕ �
               ap (add z.offset) none ∙ (let g : add z.offset 0 ≡ z.offset = omega (arith, bound) in g)
           stays text (inr aside) = absurd (code_not f ss o is here z (aside z found) text)
 
-      abbrev aimed_at : Primary → Option Definition → Option ℕ
-      aimed_at name d = option_and_then (aim_offset line) (aim_by p f name d)
+      abbrev aimed_at : Primary → Option Definition → Option (ℕ × ℕ)
+      aimed_at name d = option_and_then (aim_at line) (aim_by p f name d)
 
       -- a place of the file's own: the name's, or if that is weak what all files say
       own_by : (ordinal : ℕ) (name : Primary) (d : Definition) (x : Symbol) → definition (tables ss) ordinal name ≡ Some d → IsNamed name x → IsOwn is.sites d x
@@ -383,7 +390,7 @@ module _ (p : Program) (starts : Starts) (at : ℕ → List Site) (sizes : ℕ �
       none_either false = refl
 
       pub meant : (l : Located) (name : Primary) (y : Option Symbol) → StandsFor (tables ss) is.sites l.ordinal name y
-          → text_to (option_and_then (symbol_place os f) y) ≡ option_and_then (aim_offset line) (aim_of p (renumbered f l) name)
+          → text_to (option_and_then (symbol_place os f) y) ≡ option_and_then (aim_at line) (aim_of p (renumbered f l) name)
       meant l name None s = absurd s
       meant l name (Some x) (named, weak, s) =
           go (definition (tables ss) l.ordinal name) refl s ∙ ap (aimed_at name) (ap (λ t. sure_definition t l.ordinal name) (sym here.tables))

@@ -1,7 +1,7 @@
-use Rattle.std.proofs.Common.{◌≡◌, true, Some, ◌&&◌, sym, ap, ◌∙◌, refl, rules}
+use Rattle.std.proofs.Common.{FitsSigned, subst, pos, ◌+ℤ◌, ◌≡◌, true, Some, ◌&&◌, sym, ap, ◌∙◌, refl, rules}
 use Rattle.std.specs.Prelude.{◌==◌}
-use Rattle.std.specs.Int.{w64}
-use Rattle.std.proofs.lemmas.Int.{to_z-of_z}
+use Rattle.std.specs.Int.{w64, int_wrap}
+use Rattle.std.proofs.lemmas.Int.{to_z-of_z, SFits-int_wrap}
 use Rattle.std.proofs.lemmas.Option.{slice_get_within}
 use Rattle.rv_object.specs.Object.{stored}
 use Rattle.rv_object.specs.Parts.{relocation_of}
@@ -24,8 +24,10 @@ returns-then-input c =
     let entered = sym (c.is_entered.ensures (object_of c.args.input.now.object.now) c.requires.given.entries inside) ∙ c.if-is_entered.false in
     let link = c.link_register.ensures.value ∙ ap (λ l. laws.link_register l r.place) c.stored-bytes.ensures in
     let short = ap (λ n. n == 0) link ∙ sym (ap (λ b. b && (laws.link_register (stored i.section.contents) r.place == 0)) c.if-input.true) in
-    ap (λ a. Some (record { target = c.in_ok-target.target; addend = a; compressed = c.link_register.result == 0 })) (to_z-of_z w64 c.args.relocation.now.addend (search rules))
-    ∙ one_call os i r c.in_ok-target.target (c.link_register.result == 0) words target entered short
+    let added = c.constant.ensures ∙ ap (λ a. int_wrap w64 (a +ℤ pos c.in_ok-target.target.past_end)) (to_z-of_z w64 c.args.relocation.now.addend (search rules)) in
+    let fits = subst (FitsSigned w64) (sym added) (SFits-int_wrap w64 (c.args.relocation.now.addend +ℤ pos c.in_ok-target.target.past_end)) in
+    ap (λ a. Some (record { target = c.in_ok-target.target.offset; addend = a; compressed = c.link_register.result == 0 })) (to_z-of_z w64 c.constant.result fits)
+    ∙ one_call os i r c.in_ok-target.target c.constant.result (c.link_register.result == 0) words target entered added short
 
 pub returns-else-input : goal.returns-else-input
 returns-else-input c =
@@ -39,5 +41,7 @@ returns-else-input c =
     let entered = sym (c.is_entered.ensures (object_of c.args.input.now.object.now) c.requires.given.entries inside) ∙ c.if-is_entered.false in
     let rvc = c.args.input.now.object.now.rvc in
     let short = c.if-input.false ∙ sym (ap (λ b. b && (laws.link_register (stored i.section.contents) r.place == 0)) c.if-input.false) in
-    ap (λ a. Some (record { target = c.in_ok-target.target; addend = a; compressed = rvc })) (to_z-of_z w64 c.args.relocation.now.addend (search rules))
-    ∙ one_call os i r c.in_ok-target.target rvc words target entered short
+    let added = c.constant.ensures ∙ ap (λ a. int_wrap w64 (a +ℤ pos c.in_ok-target.target.past_end)) (to_z-of_z w64 c.args.relocation.now.addend (search rules)) in
+    let fits = subst (FitsSigned w64) (sym added) (SFits-int_wrap w64 (c.args.relocation.now.addend +ℤ pos c.in_ok-target.target.past_end)) in
+    ap (λ a. Some (record { target = c.in_ok-target.target.offset; addend = a; compressed = rvc })) (to_z-of_z w64 c.constant.result fits)
+    ∙ one_call os i r c.in_ok-target.target c.constant.result rvc words target entered added short
