@@ -1,6 +1,6 @@
 -- Stretches in a map: those found by its order, and one more.
 
-use Rattle.std.proofs.Common.{◌≡◌, ℕ, ◌+◌, ◌-◌, ◌<◌, ◌≤◌, Bool, true, false, ◌&&◌, ◌||◌, nat_le, nat_lt, List, [], ◌∷◌, Option, Some, None, refl, ap, ◌∙◌, arith}
+use Rattle.std.proofs.Common.{◌≡◌, ℕ, ◌+◌, ◌-◌, ◌<◌, ◌≤◌, Bool, true, false, ◌&&◌, ◌||◌, nat_le, nat_lt, List, [], ◌∷◌, Option, Some, None, refl, ap, sym, ◌∙◌, arith}
 use Rattle.std.specs.Prelude.{◌==◌, if◌then◌else◌, Result, Ok, Err, OnOk, OnErr}
 use Rattle.std.proofs.lemmas.Bool.Decides.{nat_tests}
 use Rattle.std.specs.List.{list_all, list_any, filter}
@@ -202,10 +202,10 @@ short_meets t (e ∷ es) a b same h =
     go false true h low more = rw (low h) more
     go false false h low more = more
 
--- none is there, or one that ends before
+-- none is there, or one that ends at v or before
 abbrev pub ends_before : ℕ → Option ℕ → Bool
 ends_before v None = true
-ends_before v (Some w) = nat_lt w v
+ends_before v (Some w) = nat_le w v
 
 within : (k v w : ℕ) (a b : ℕ) → v ≤ w → (r : Bool) → (nat_lt k b && nat_lt a w || r) ≡ ((nat_lt k b && nat_lt a v) || (nat_lt k b && nat_lt a w || r))
 within k v w a b le r = go (nat_lt k b) (nat_lt a v) (nat_lt a w) covers where
@@ -255,12 +255,55 @@ put_starts (e ∷ es) k v a b h = go (compared k e.0) h (put_starts es k v a b) 
       → list_any (starts_in a b) (insert_entry nat_cmp (e ∷ es) k v) ≡ (starts_in a b (k, v) || list_any (starts_in a b) (e ∷ es))
   go (Below c less) h more = rw c refl
   go (Same c same) h more =
-      let i : nat_lt e.1 v ≡ true = rw c at h in
-      let j = ltb-true e.1 v i in
+      let i : nat_le e.1 v ≡ true = rw c at h in
+      let j = leb-true e.1 v i in
       rw (c, same) (replaced e.0 v e.1 a b (omega (arith, j)) (list_any (starts_in a b) es))
   go (Above c less) h more =
       let i : ends_before v (lookup (is_at (nat_cmp k)) es) ≡ true = rw c at h in
       rw c (ap (λ r. starts_in a b e || r) (more i) ∙ swap_or (starts_in a b e) (starts_in a b (k, v)) (list_any (starts_in a b) es))
+
+-- one that ends earlier goes in and is taken back
+
+same_place : (k : ℕ) → nat_cmp k k ≡ Equal
+same_place k = go (compared k k) where
+  go : Compared k k → nat_cmp k k ≡ Equal
+  go (Below c less) = absurd (omega (arith, less))
+  go (Same c same) = c
+  go (Above c less) = absurd (omega (arith, less))
+
+put_twice : (es : List (ℕ × ℕ)) (k v w : ℕ) → insert_entry nat_cmp (insert_entry nat_cmp es k v) k w ≡ insert_entry nat_cmp es k w
+put_twice [] k v w = rw (same_place k) refl
+put_twice (e ∷ es) k v w = go (compared k e.0) (put_twice es k v w) where
+  go : Compared k e.0 → insert_entry nat_cmp (insert_entry nat_cmp es k v) k w ≡ insert_entry nat_cmp es k w
+      → insert_entry nat_cmp (insert_entry nat_cmp (e ∷ es) k v) k w ≡ insert_entry nat_cmp (e ∷ es) k w
+  go (Below c less) more = rw (c, same_place k) refl
+  go (Same c same) more = rw (c, c) refl
+  go (Above c less) more = rw (c, c) (ap (λ rest. e ∷ rest) more)
+
+at_most_itself : (w : ℕ) → nat_le w w ≡ true
+at_most_itself w = le-leb w w (omega arith)
+
+pub put_back : (es : List (ℕ × ℕ)) (k v w a b : ℕ) → lookup (is_at (nat_cmp k)) es ≡ Some w → v ≤ w
+    → list_any (starts_in a b) (insert_entry nat_cmp (insert_entry nat_cmp es k v) k w) ≡ (starts_in a b (k, v) || list_any (starts_in a b) es)
+put_back es k v w a b found le =
+    ap (list_any (starts_in a b)) (put_twice es k v w)
+    ∙ put_starts es k w a b (ap (ends_before w) found ∙ at_most_itself w)
+    ∙ sym (covered es k w w a b found (omega arith))
+    ∙ covered es k v w a b found le
+
+pub found_short : (es : List (ℕ × ℕ)) (k w : ℕ) → lookup (is_at (nat_cmp k)) es ≡ Some w → list_all is_short es ≡ true → w ≤ k + 8
+found_short [] k w found h = absurd (cc)
+found_short (e ∷ es) k w found h =
+    let p : (is_short e ≡ true) × (list_all is_short es ≡ true) = and_parts (is_short e) (list_all is_short es) h in
+    go (compared k e.0) found (leb-true e.1 (e.0 + 8) p.0) (λ i. found_short es k w i p.1)
+  where
+    go : Compared k e.0 → lookup (is_at (nat_cmp k)) (e ∷ es) ≡ Some w → e.1 ≤ e.0 + 8 → (lookup (is_at (nat_cmp k)) es ≡ Some w → w ≤ k + 8) → w ≤ k + 8
+    go (Below c less) h one more = let i : lookup (is_at (nat_cmp k)) es ≡ Some w = rw c at h in more i
+    go (Same c same) h one more =
+        let i : Some e.1 ≡ Some w = rw c at h in
+        let j : e.1 ≡ w = cc in
+        omega (arith, j, same, one)
+    go (Above c less) h one more = let i : lookup (is_at (nat_cmp k)) es ≡ Some w = rw c at h in more i
 
 pub put_short : (es : List (ℕ × ℕ)) (k v : ℕ) → v ≤ k + 8 → list_all is_short es ≡ true → list_all is_short (insert_entry nat_cmp es k v) ≡ true
 put_short [] k v le h = and_from (nat_le v (k + 8)) true (le-leb v (k + 8) le) refl

@@ -2,10 +2,12 @@ pub mod EntriesLemmas
 pub mod KeptSectionsLemmas
 pub mod KindNumbersLemmas
 pub mod MeetingLemmas
+pub mod NumbersLemmas
 pub mod OpeningLemmas
 pub mod PositionsLemmas
 pub mod RecordsLemmas
 pub mod RelocationStepsLemmas
+pub mod RoomsLemmas
 pub mod SectionsFromLemmas
 pub mod StringsLemmas
 pub mod SymbolFieldsLemmas

@@ -39,18 +39,19 @@ impl Fields {
             .any(|(_, last)| *last > start)
     }
 
-    /// One more.
+    /// One more. Mostly none begins where it does, so it goes in before what stood there is looked at.
     pub(crate) fn put(&mut self, start: u64, end: u64) -> Result<(), AllocError>
         requires { end ≤ start + 8 }
         ensures { OnOk result ((a b : ℕ) → list_any (starts_in a b) self.new.by_start.entries
             ≡ starts_in a b (start, end) || list_any (starts_in a b) self.old.by_start.entries) }
     {
-        if let Some(other) = self.by_start.get(&start) {
-            if *other >= end {
-                return Ok(());
-            }
+        let Some(other) = self.by_start.insert(start, end)? else {
+            return Ok(());
+        };
+        if other <= end {
+            return Ok(());
         }
-        self.by_start.insert(start, end)?;
+        self.by_start.insert(start, other)?;
         Ok(())
     }
 }
