@@ -3,38 +3,34 @@
 use Rattle.std.proofs.Common.{◌≡◌, ℕ, Bool, List, refl, ap, subst, sym, ◌∙◌}
 use Rattle.rv_map.specs.Limits.{IsMap}
 use Rattle.rv_map.specs.Text.{map_text}
-use Rattle.rv_image.specs.declared.linked.Linked.{Linked}
-use Rattle.rv_image.specs.Linked.{linked_of}
+use Rattle.rv_image.specs.Linked.{Linked, IsLaidOut}
 use Rattle.rv_image.specs.Executable.{exe_of, linked_image}
 use Rattle.rv_elf.specs.Fields.{number_in, e_flags}
 use Rattle.rv_image.specs.ImageOf.{ImageOf}
 use Rattle.rv_image.specs.FirstFault.{first_fault}
-use Rattle.rv_image.proofs.LoadedAgainLemmas.{laid_out, reads, reload_image, reload_fault}
+use Rattle.rv_image.proofs.LoadedAgainLemmas.{reads, reload_image, reload_fault}
 use Rattle.rv_chain_laws.specs.Headline.{TheHeadline, rvc_flag}
 use Rattle.rv_chain_laws.proofs.ContentsLemmas.{linked_agrees}
 use Rattle.rv_chain.specs.Building.{IsProgramFrom}
 
-pub headlined : (texts : List (List ℕ)) (start : ℕ) (relax gc : Bool) (linked : Linked) (exe : List ℕ) → IsMap (linked_of linked).map → IsProgramFrom texts start relax gc (linked_of linked)
-    → exe ≡ exe_of (linked_of linked) → TheHeadline texts start relax gc exe (map_text (linked_of linked).map)
-headlined texts start relax gc linked exe is_map program written =
-    let l = linked_of linked in
-    let laid = laid_out linked is_map.entry in
-    record {
-      sources = program.sources;
-      read = program.read;
-      map = l.map;
-      shown = refl;
-      readable = is_map;
-      collected = program.linked.collected;
-      fits = program.linked.fits;
-      sized = program.linked.sized;
-      shortened = program.linked.shortened;
-      resolves = program.linked.resolves;
-      code = program.linked.code;
-      written = program.linked.written;
-      image = linked_image l;
-      loads = subst (λ file. ImageOf file (linked_image l)) (sym written) (reload_image l laid);
-      accepted = ap first_fault written ∙ reload_fault l laid;
-      flagged = ap (number_in e_flags 0) written ∙ ap (λ h. h.e_flags) (reads l laid).fields ∙ ap rvc_flag program.flag;
-      agree = linked_agrees start program.sources relax gc l program.linked;
-    }
+pub headlined : (texts : List (List ℕ)) (start : ℕ) (relax gc : Bool) (l : Linked) (exe : List ℕ) → IsLaidOut l → IsMap l.map → IsProgramFrom texts start relax gc l → exe ≡ exe_of l
+    → TheHeadline texts start relax gc exe (map_text l.map)
+headlined texts start relax gc l exe laid is_map program written = record {
+  sources = program.sources;
+  read = program.read;
+  map = l.map;
+  shown = refl;
+  readable = is_map;
+  collected = program.linked.collected;
+  fits = program.linked.fits;
+  sized = program.linked.sized;
+  shortened = program.linked.shortened;
+  resolves = program.linked.resolves;
+  code = program.linked.code;
+  written = program.linked.written;
+  image = linked_image l;
+  loads = subst (λ file. ImageOf file (linked_image l)) (sym written) (reload_image l laid);
+  accepted = ap first_fault written ∙ reload_fault l laid;
+  flagged = ap (number_in e_flags 0) written ∙ ap (λ h. h.e_flags) (reads l laid).fields ∙ ap rvc_flag program.flag;
+  agree = linked_agrees start program.sources relax gc l program.linked;
+}

@@ -8,11 +8,9 @@ use Rattle.std.proofs.lemmas.List.{append-nil}
 use Rattle.rv_image.specs.Segment.{Segment}
 use Rattle.rv_image.specs.Image.{Image}
 use Rattle.rv_image.specs.ImageOf.{ImageOf}
-use Rattle.rv_map.specs.Limits.{IsMap}
-use Rattle.rv_image.specs.declared.linked.Linked.{Linked as DeclaredLinked}
-use Rattle.rv_image.specs.Linked.{Linked, linked_of}
+use Rattle.rv_image.specs.Linked.{Linked, IsLaidOut}
 use Rattle.rv_image.specs.Executable.{Part, segment_of_part, has_memory, exe_of, linked_image}
-use Rattle.rv_image.proofs.LoadedAgainLemmas.{laid_out, reload_image}
+use Rattle.rv_image.proofs.LoadedAgainLemmas.{reload_image}
 use Rattle.rv_disasm.specs.declared.code.Code.{Code}
 use Rattle.rv_disasm.specs.declared.code.Code.TheVariants.{Word, Parcel}
 use Rattle.rv_disasm.specs.Raw.{IsRawListing, bytes_of, is_executable}
@@ -78,8 +76,6 @@ reassembled law texts start relax gc l executable p loads image text listing one
     }
 
 -- and the executable that is written of it has its image
-pub built_again : RawListingsReassemble → (texts : List (List ℕ)) (start : ℕ) (relax gc : Bool) (linked : DeclaredLinked) (executable : List ℕ) → IsMap (linked_of linked).map → IsProgramFrom texts start relax gc (linked_of linked)
-    → executable ≡ exe_of (linked_of linked) → Reassembles texts start executable
-built_again law texts start relax gc linked executable readable p written =
-    let l = linked_of linked in
-    reassembled law texts start relax gc l executable p (subst (λ file. ImageOf file (linked_image l)) (sym written) (reload_image l (laid_out linked readable.entry)))
+pub built_again : RawListingsReassemble → (texts : List (List ℕ)) (start : ℕ) (relax gc : Bool) (l : Linked) (executable : List ℕ) → IsLaidOut l → IsProgramFrom texts start relax gc l → executable ≡ exe_of l
+    → Reassembles texts start executable
+built_again law texts start relax gc l executable laid p written = reassembled law texts start relax gc l executable p (subst (λ file. ImageOf file (linked_image l)) (sym written) (reload_image l laid))

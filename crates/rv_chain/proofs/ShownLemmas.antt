@@ -9,12 +9,11 @@ use Rattle.rv_map.specs.Map.{Map}
 use Rattle.rv_map.specs.Limits.{IsMap}
 use Rattle.rv_map.specs.Text.{map_text}
 use Rattle.rv_map.proofs.WholeLemmas.{one_text}
-use Rattle.rv_image.specs.declared.linked.Linked.{Linked}
-use Rattle.rv_image.specs.Linked.{linked_of}
+use Rattle.rv_image.specs.Linked.{Linked, IsLaidOut}
 use Rattle.rv_image.specs.Image.{Image}
 use Rattle.rv_image.specs.Executable.{exe_of, linked_image}
 use Rattle.rv_image.specs.ImageOf.{ImageOf}
-use Rattle.rv_image.proofs.LoadedAgainLemmas.{laid_out, reload_image}
+use Rattle.rv_image.proofs.LoadedAgainLemmas.{reload_image}
 use Rattle.rv_source_laws.specs.Program.{program}
 use Rattle.rv_disasm.specs.Listing.{IsListing}
 use Rattle.rv_chain_laws.specs.SourceListing.{IsSourceListing}
@@ -29,16 +28,15 @@ one_image file image other a b =
     let segments : image.segments ≡ other.segments = a.segments ∙ sym b.segments in
     λ i. record { entry = entry i; segments = segments i }
 
-pub listed_as : (texts : List (List ℕ)) (start : ℕ) (relax gc : Bool) (linked : Linked) (exe map_bytes : List ℕ) → IsMap (linked_of linked).map → IsProgramFrom texts start relax gc (linked_of linked)
-    → exe ≡ exe_of (linked_of linked) → map_bytes ≡ map_text (linked_of linked).map → IsListedAs texts exe map_bytes
-listed_as texts start relax gc linked exe map_bytes is_map program_of written shown = record { sources = program_of.sources; read = program_of.read; listed = listed }
+pub listed_as : (texts : List (List ℕ)) (start : ℕ) (relax gc : Bool) (l : Linked) (exe map_bytes : List ℕ) → IsLaidOut l → IsMap l.map → IsProgramFrom texts start relax gc l → exe ≡ exe_of l → map_bytes ≡ map_text l.map
+    → IsListedAs texts exe map_bytes
+listed_as texts start relax gc l exe map_bytes laid is_map program_of written shown = record { sources = program_of.sources; read = program_of.read; listed = listed }
   where
     listed : (image : Image) → ImageOf exe image → (m : Map) → IsMap m → map_bytes ≡ map_text m → (reader : Reader Spells StandsFor) (text : List ℕ)
         → IsListing reader image m text ↔ IsSourceListing (program program_of.sources m) text
     listed image loads m is_one shows reader text =
-        let l = linked_of linked in
         let same_map : l.map ≡ m = one_text l.map m is_map is_one (sym shown ∙ shows) in
-        let loaded : ImageOf exe (linked_image l) = subst (λ file. ImageOf file (linked_image l)) (sym written) (reload_image l (laid_out linked is_map.entry)) in
+        let loaded : ImageOf exe (linked_image l) = subst (λ file. ImageOf file (linked_image l)) (sym written) (reload_image l laid) in
         let same_image : linked_image l ≡ image = one_image exe (linked_image l) image loaded loads in
         subst (λ n. IsListing reader image n text ↔ IsSourceListing (program program_of.sources n) text) same_map
         (subst (λ im. IsListing reader im l.map text ↔ IsSourceListing (program program_of.sources l.map) text) same_image (listed_is start program_of.sources relax gc l program_of.linked reader text))

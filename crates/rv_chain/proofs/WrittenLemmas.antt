@@ -1,27 +1,52 @@
--- What is written of a link.
+-- What is written of a link, with the rows of its map or without.
 
-use Rattle.std.proofs.Common.{◌≡◌, ℕ, Bool, List, ap, subst, sym, ◌∙◌}
+use Rattle.std.proofs.Common.{◌≡◌, ℕ, ◌<◌, ◌^◌, Bool, true, List, ap, subst, sym, ◌∙◌}
+use Rattle.rv_map.specs.Limits.{IsMap}
 use Rattle.rv_map.specs.Text.{map_text}
-use Rattle.rv_image.specs.declared.linked.Linked.{Linked}
-use Rattle.rv_image.specs.Linked.{linked_of}
+use Rattle.rv_image.specs.declared.linked.Linked.{Linked as DeclaredLinked}
+use Rattle.rv_image.specs.Linked.{Linked, linked_of, IsLaidOut}
 use Rattle.rv_image.specs.Executable.{exe_of, linked_image}
 use Rattle.rv_image.specs.ImageOf.{ImageOf}
 use Rattle.rv_image.specs.FirstFault.{first_fault}
 use Rattle.rv_image.proofs.LoadedAgainLemmas.{laid_out, reload_image, reload_fault}
 use Rattle.rv_object.specs.Object.{Object}
 use Rattle.rv_object_laws.specs.IsProgramOf.{IsProgramOf}
+use Rattle.rv_link.specs.Rows.{with_rows}
 use Rattle.rv_chain.specs.Linking.{IsBuiltOf}
 
-pub built_of : (os : List Object) (start : ℕ) (relax gc : Bool) (linked : Linked) (exe text : List ℕ) → IsProgramOf os start relax gc (linked_of linked)
-    → exe ≡ exe_of (linked_of linked) → text ≡ map_text (linked_of linked).map → IsBuiltOf os start relax gc exe text
-built_of os start relax gc linked exe text links written shown =
-    let l = linked_of linked in
-    let laid = laid_out linked links.linked.readable.entry in
-    record {
-      linked = l;
-      links = links;
-      written = written;
-      shown = shown;
-      accepted = ap first_fault written ∙ reload_fault l laid;
-      loads = subst (λ file. ImageOf file (linked_image l)) (sym written) (reload_image l laid);
-    }
+-- the rows of a program are no part of its layout, nor of its executable
+same_layout : (rows : Bool) (l : Linked) → IsLaidOut (with_rows rows l) → IsLaidOut l
+same_layout rows l h = record {
+  text_fills = h.text_fills;
+  rodata_fills = h.rodata_fills;
+  data_fills = h.data_fills;
+  rodata_after_text = h.rodata_after_text;
+  data_after_rodata = h.data_after_rodata;
+  bss_after_data = h.bss_after_data;
+  bss_ends = h.bss_ends;
+  below_stack = h.below_stack;
+  limit = h.limit;
+  even = h.even;
+  entry = h.entry;
+}
+
+pub whole_laid_out : (linked : DeclaredLinked) (rows : Bool) (whole : Linked) → linked_of linked ≡ with_rows rows whole → IsMap whole.map → IsLaidOut whole
+whole_laid_out linked rows whole shown readable =
+    same_layout rows whole (subst IsLaidOut shown (laid_out linked (subst (λ l. l.map.entry < 2 ^ 64) (sym shown) readable.entry)))
+
+pub whole_written : (rows : Bool) (l whole : Linked) (exe : List ℕ) → l ≡ with_rows rows whole → exe ≡ exe_of l → exe ≡ exe_of whole
+whole_written rows l whole exe shown written = written ∙ ap exe_of shown
+
+-- the whole map
+pub whole_map : (l whole : Linked) (text : List ℕ) → l ≡ with_rows true whole → text ≡ map_text l.map → text ≡ map_text whole.map
+whole_map l whole text shown written = written ∙ ap (λ l. map_text l.map) shown
+
+pub built_of : (os : List Object) (start : ℕ) (relax gc : Bool) (l : Linked) (exe text : List ℕ) → IsLaidOut l → IsProgramOf os start relax gc l → exe ≡ exe_of l → text ≡ map_text l.map → IsBuiltOf os start relax gc exe text
+built_of os start relax gc l exe text laid links written shown = record {
+  linked = l;
+  links = links;
+  written = written;
+  shown = shown;
+  accepted = ap first_fault written ∙ reload_fault l laid;
+  loads = subst (λ file. ImageOf file (linked_image l)) (sym written) (reload_image l laid);
+}

@@ -9,6 +9,7 @@ use Rattle.rv_image.specs.FirstFault.{first_fault}
 use Rattle.rv_object.specs.Object.{Object}
 use Rattle.rv_object_laws.specs.IsProgramOf.{IsProgramOf}
 use Rattle.rv_link.specs.Refusals.{AreWithin}
+use Rattle.rv_link.specs.Rows.{IsProgramWith}
 use Rattle.rv_chain.specs.Objects.{AreObjectsFrom, AreObjectsIn}
 
 -- the bytes of the executable of the program of these objects, relaxed or not, and the text of its
@@ -28,6 +29,17 @@ abbrev pub AreLinked : List (List ℕ) → ℕ → Bool → Bool → List ℕ �
 AreLinked files start relax gc executable text =
     AreWithin (length files) start
     × ((os : List Object) × AreObjectsIn files os × IsBuiltOf os start relax gc executable text)
+
+-- the bytes of the executable alone: some text shows its map
+abbrev pub IsLinkedAs : List (List ℕ) → ℕ → Bool → Bool → List ℕ → Type 0
+IsLinkedAs files start relax gc executable =
+    (text : List ℕ) × AreLinked files start relax gc executable text
+
+-- the program of the objects in files, with the rows of its map or without
+abbrev pub IsProgramWithOf : List (List ℕ) → ℕ → Bool → Bool → Bool → Linked → Type 0
+IsProgramWithOf files start relax gc rows l =
+    AreWithin (length files) start
+    × ((os : List Object) × AreObjectsIn files os × IsProgramWith os start relax gc rows l)
 
 -- the program of the objects of texts
 abbrev pub IsProgramOfObjectsFrom : List (List ℕ) → ℕ → Bool → Bool → Linked → Type 0

@@ -6,8 +6,8 @@ ghost use Rattle.rv_image.specs.Linked.{linked_of};
 ghost use Rattle.rv_object.specs.View.{object_of};
 ghost use Rattle.rv_object_laws.specs.IsLinkOf.{most_files};
 ghost use Rattle.rv_chain_laws.specs.Headline.{TheHeadline};
-ghost use Rattle.rv_chain.specs.Building.{IsProgramFrom, IsExecutableOf};
-ghost use Rattle.rv_chain.specs.Linking.{AreBuilt, IsProgramOfObjectsFrom};
+ghost use Rattle.rv_chain.specs.Building.{IsProgramWithFrom, IsExecutableOf};
+ghost use Rattle.rv_chain.specs.Linking.{AreBuilt};
 ghost use Rattle.rv_chain.specs.Listed.{IsListedAs};
 ghost use Rattle.rv_chain.specs.Objects.{IsObjectFrom, AreObjectsFrom};
 ghost use Rattle.rv_chain.specs.Reassembled.{Reassembles};
@@ -17,7 +17,7 @@ use crate::built::Built;
 use crate::fault::Fault;
 use rv_assemble::assemble;
 use rv_image::{Linked, write_exec};
-use rv_link::{LinkOptions, link, within_limits};
+use rv_link::{LinkOptions, link_with_rows, within_limits};
 use rv_object::Object;
 use rv_reach_laws::{short_branches_reach, short_calls_reach};
 use rv_reassembly_laws::raw_listings_reassemble;
@@ -52,13 +52,13 @@ pub fn build(alloc: Global, sources: &[&[u8]], options: LinkOptions) -> Result<B
     ensures refuses { IfErr result
         (IsRefusedFor (map now_of sources.now) options.text_start options.relax options.gc) }
 {
-    let linked = linked(alloc, sources, options)?;
+    let linked = linked(alloc, sources, options, true)?;
     raw_listings_reassemble();
     let built = Built::of(alloc, &linked)?;
     Ok(built)
 }
 
-/// Assembles and links as `build`, without the text of the map: the same executable.
+/// Assembles and links as `build`, without the map: the same executable.
 pub fn build_exe(alloc: Global, sources: &[&[u8]], options: LinkOptions) -> Result<Vec<u8>, Fault>
     ensures headline { IfOk result
         (λ exe. IsExecutableOf
@@ -69,20 +69,21 @@ pub fn build_exe(alloc: Global, sources: &[&[u8]], options: LinkOptions) -> Resu
     ensures refuses { IfErr result
         (IsRefusedFor (map now_of sources.now) options.text_start options.relax options.gc) }
 {
-    let linked = linked(alloc, sources, options)?;
+    let linked = linked(alloc, sources, options, false)?;
     raw_listings_reassemble();
     let exe = write_exec(alloc, &linked)?;
     Ok(exe)
 }
 
-/// The linked program of a list of sources.
-fn linked(alloc: Global, sources: &[&[u8]], options: LinkOptions) -> Result<Linked, Fault>
-    ensures program { IfOk result
-        (λ l. IsProgramFrom
-        (map now_of sources.now) options.text_start options.relax options.gc (linked_of l)) }
-    ensures links { IfOk result
-        (λ l. IsProgramOfObjectsFrom
-        (map now_of sources.now) options.text_start options.relax options.gc (linked_of l)) }
+/// The linked program of a list of sources, with the rows of its map where they are wanted.
+fn linked(
+    alloc: Global,
+    sources: &[&[u8]],
+    options: LinkOptions,
+    rows: bool,
+) -> Result<Linked, Fault>
+    ensures program { IfOk result (λ l. IsProgramWithFrom
+        (map now_of sources.now) options.text_start options.relax options.gc rows (linked_of l)) }
     ensures good { IfOk result (λ _. AreGood (map now_of sources.now) options.text_start) }
     ensures refuses { IfErr result
         (IsRefusedFor (map now_of sources.now) options.text_start options.relax options.gc) }
@@ -95,7 +96,7 @@ fn linked(alloc: Global, sources: &[&[u8]], options: LinkOptions) -> Result<Link
     // and a refusal is never for a form that was chosen too short
     short_calls_reach();
     short_branches_reach();
-    let linked = link(alloc, &objects, options)?;
+    let linked = link_with_rows(alloc, &objects, options, rows)?;
     Ok(linked)
 }
 

@@ -8,7 +8,8 @@
 //! sources' statements at the addresses of the printed map, for every input and limit; and the listing of the executable
 //! with the map is the sources' own (`specs/Listed`). `build_exe` gives the same executable without the map's text.
 //! `assemble_object` gives the file that is written of a source's object. `link_objects` takes such files, and those that
-//! other tools wrote: it gives what is written of the link of the objects that they hold (`specs/Linking`).
+//! other tools wrote: it gives what is written of the link of the objects that they hold (`specs/Linking`);
+//! `link_objects_exe` gives the same executable without the map's text.
 //! `builds_as_it_links` says that sources and the files of their objects come to the same executable and map, or to the
 //! same fault of the link (`specs/Agreement`). `run_exec` gives the machine's run over the file's image. What is refused
 //! has its reason in the clauses `refuses` (`specs/Refusals`, `specs/LinkRefusals`, `specs/Running`): memory ran out, which
@@ -41,7 +42,7 @@ pub use fault::Fault;
 pub use law::{
     builds_as_it_links, files_have_one_fault, raw_listings_are_accepted, sources_have_one_fault,
 };
-pub use linking::link_objects;
+pub use linking::{link_objects, link_objects_exe};
 pub use running::run_exec;
 pub use rv_image::FileFault;
 pub use rv_link::{LinkFault, LinkOptions};

@@ -2,16 +2,17 @@
 
 ghost use Rattle.std.specs.Prelude.{◌<◌, ◌≤◌, ◌+◌, map, length, IfOk, IfErr};
 ghost use Rattle.rv_statement.specs.View.{now_of};
+ghost use Rattle.rv_image.specs.Linked.{linked_of};
 ghost use Rattle.rv_object.specs.View.{object_of};
 ghost use Rattle.rv_object_laws.specs.IsLinkOf.{most_files};
-ghost use Rattle.rv_chain.specs.Linking.{AreLinked};
+ghost use Rattle.rv_chain.specs.Linking.{AreLinked, IsLinkedAs, IsProgramWithOf};
 ghost use Rattle.rv_chain.specs.LinkRefusals.{IsUnreadAt, AreUnread, AreUnlinkable};
 ghost use Rattle.rv_chain.specs.Objects.{IsObjectIn, AreObjectsIn};
 
 use crate::built::Built;
 use crate::fault::Fault;
-use rv_image::FileFault;
-use rv_link::{LinkOptions, link, within_limits};
+use rv_image::{FileFault, Linked, write_exec};
+use rv_link::{LinkOptions, link_with_rows, within_limits};
 use rv_object::Object;
 use rv_object_reader::read;
 use std::alloc::Global;
@@ -25,11 +26,45 @@ pub fn link_objects(alloc: Global, objects: &[&[u8]], options: LinkOptions) -> R
     ensures refuses { IfErr result
         (AreUnlinkable (map now_of objects.now) options.text_start options.relax options.gc) }
 {
-    within_limits(objects.len(), options.text_start)?;
-    let read = read_objects(alloc, objects)?;
-    let linked = link(alloc, &read, options)?;
+    let linked = link_files(alloc, objects, options, true)?;
     let built = Built::of(alloc, &linked)?;
     Ok(built)
+}
+
+/// Links objects as `link_objects`, without the map: the same executable.
+pub fn link_objects_exe(
+    alloc: Global,
+    objects: &[&[u8]],
+    options: LinkOptions,
+) -> Result<Vec<u8>, Fault>
+    ensures linked { IfOk result
+        (λ exe. IsLinkedAs (map now_of objects.now)
+        options.text_start options.relax options.gc exe.items) }
+    ensures refuses { IfErr result
+        (AreUnlinkable (map now_of objects.now) options.text_start options.relax options.gc) }
+{
+    let linked = link_files(alloc, objects, options, false)?;
+    let exe = write_exec(alloc, &linked)?;
+    Ok(exe)
+}
+
+/// The linked program of the objects in files, with the rows of its map where they are wanted.
+fn link_files(
+    alloc: Global,
+    files: &[&[u8]],
+    options: LinkOptions,
+    rows: bool,
+) -> Result<Linked, Fault>
+    ensures program { IfOk result
+        (λ l. IsProgramWithOf (map now_of files.now)
+        options.text_start options.relax options.gc rows (linked_of l)) }
+    ensures refuses { IfErr result
+        (AreUnlinkable (map now_of files.now) options.text_start options.relax options.gc) }
+{
+    within_limits(files.len(), options.text_start)?;
+    let read = read_objects(alloc, files)?;
+    let linked = link_with_rows(alloc, &read, options, rows)?;
+    Ok(linked)
 }
 
 /// The objects in files, in their order.

@@ -2,7 +2,7 @@
 
 use rv_chain::{
     End, Fault, FileFault, LinkFault, LinkOptions, SourceCode, SourceFault, assemble_object, build,
-    build_exe, link_objects, run_exec,
+    build_exe, link_objects, link_objects_exe, run_exec,
 };
 use std::test::Fail;
 
@@ -56,6 +56,8 @@ fn an_object(rt: HostRuntime) -> Result<(), Fail> {
     let object = assemble_object(alloc, SOURCE)?;
     let linked = link_objects(alloc, &[object.as_slice()], OPTIONS)?;
     assert!(rt; linked == build(alloc, &[SOURCE], OPTIONS)?);
+    let exe = link_objects_exe(alloc, &[object.as_slice()], OPTIONS)?;
+    assert!(rt; exe == linked.exe);
     let found = run_exec(alloc, object.as_slice(), b"", 1);
     assert!(rt; matches!(found, Err(Fault::File(1, FileFault::NotExecutable))));
     Ok(())

@@ -1,7 +1,6 @@
 -- What collection and relaxation leave of objects: as many, with the same names.
 
 use Rattle.std.proofs.Common.{◌≡◌, ℕ, suc, Bool, true, false, List, [], ◌∷◌, length, map, refl, ap, sym, ◌∙◌, subst, arith}
-use Rattle.std.specs.Prelude.{Result, Ok, Err, IfOk}
 use Rattle.std.proofs.lemmas.List.{length-map}
 use Rattle.rv_map.specs.declared.map.SectionId.{SectionId}
 use Rattle.rv_image.specs.Linked.{Linked}
@@ -27,6 +26,7 @@ use Rattle.rv_resolve.proofs.AlikeLemmas.{same_names, seen_left}
 use Rattle.rv_link.specs.declared.fault.LinkFault.{LinkFault}
 use Rattle.rv_link.specs.declared.fault.LinkFault.TheVariants.{Overflow, OddTarget, DanglingPcrel, AlignmentShort, Undefined, Duplicate, EntryMissing, ImageTooLarge, BadTextStart, TooManyFiles, OutOfMemory}
 use Rattle.rv_link.specs.Left.{HasNoLink, IsLinkOfLeft}
+use Rattle.rv_link.specs.Rows.{IsProgramWith}
 use Rattle.rv_link.specs.Refusals.{ArePast, AreWithin, AreDoubled, IsUnlinked, HasNoProgram}
 
 -- ---- names
@@ -156,11 +156,6 @@ doubled ds start relax gc fault w h =
 
 -- ---- the link of what relaxation leaves
 
--- two things that hold of a program
-pub ok_both : {T E : Type 0} (r : Result T E) (P Q R : T → Type 0) → ((x : T) → P x → Q x → R x) → IfOk r P → IfOk r Q → IfOk r R
-ok_both (Ok x) P Q R f p q = f x p q
-ok_both (Err e) P Q R f p q = tt
-
 -- memory may run out whatever is left
 pub out_of_memory : (ds : List DeclaredObject) (start : ℕ) (relax : Bool) → HasNoLink (map object_of ds) start relax OutOfMemory
 out_of_memory ds start relax =
@@ -168,13 +163,18 @@ out_of_memory ds start relax =
     record { left = some.0; relaxed = some.1; unlinked = tt }
 
 -- what collection drops, where it is off: nothing
-pub none_dropped : (os : List Object) (start : ℕ) (relax : Bool) (drops : List SectionId) (l : Linked) → drops ≡ [] → IsLinkOfLeft os start relax drops l → IsProgramOf os start relax false l
-none_dropped os start relax drops l none h =
-    let none_here : l.map.drops ≡ [] = h.dropped ∙ none in
+pub none_dropped : (os : List Object) (start : ℕ) (relax : Bool) (drops : List SectionId) (rows : Bool) (l : Linked) → drops ≡ [] → IsLinkOfLeft os start relax drops rows l → IsProgramWith os start relax false rows l
+none_dropped os start relax drops rows l none h =
+    let whole = h.linked.whole in
+    let none_here : whole.map.drops ≡ [] = h.linked.dropped ∙ none in
     record {
-      left = h.left;
-      leaves = record { collected = none_here; relaxed = subst (λ x. Relaxes relax x h.left) (sym (ap (λ d. without d os) none_here ∙ without_none os)) h.relaxed };
-      linked = h.linked;
+      whole = whole;
+      program = record {
+        left = h.left;
+        leaves = record { collected = none_here; relaxed = subst (λ x. Relaxes relax x h.left) (sym (ap (λ d. without d os) none_here ∙ without_none os)) h.relaxed };
+        linked = h.linked.linked;
+      };
+      shown = h.linked.shown;
     }
 
 pub none_unlinked : (os : List Object) (start : ℕ) (relax : Bool) (fault : LinkFault) → HasNoLink os start relax fault → HasNoProgram os start relax false fault
@@ -186,18 +186,27 @@ none_unlinked os start relax fault h = record {
 }
 
 -- and where it is on
-pub some_dropped : (os kept : List Object) (start : ℕ) (relax : Bool) (drops others : List SectionId) (l : Linked) → Collects true os drops → kept ≡ without drops os → others ≡ drops → IsLinkOfLeft kept start relax others l
-    → IsProgramOf os start relax true l
-some_dropped os kept start relax drops others l collects is same h =
-    let here : l.map.drops ≡ drops = h.dropped ∙ same in
+pub some_dropped : (os kept : List Object) (start : ℕ) (relax : Bool) (drops others : List SectionId) (rows : Bool) (l : Linked) → Collects true os drops → kept ≡ without drops os → others ≡ drops → IsLinkOfLeft kept start relax others rows l
+    → IsProgramWith os start relax true rows l
+some_dropped os kept start relax drops others rows l collects is same h =
+    let whole = h.linked.whole in
+    let here : whole.map.drops ≡ drops = h.linked.dropped ∙ same in
     record {
-      left = h.left;
-      leaves = record {
-        collected = subst (Collects true os) (sym here) collects;
-        relaxed = subst (λ x. Relaxes relax x h.left) (is ∙ ap (λ d. without d os) (sym here)) h.relaxed;
+      whole = whole;
+      program = record {
+        left = h.left;
+        leaves = record {
+          collected = subst (Collects true os) (sym here) collects;
+          relaxed = subst (λ x. Relaxes relax x h.left) (is ∙ ap (λ d. without d os) (sym here)) h.relaxed;
+        };
+        linked = h.linked.linked;
       };
-      linked = h.linked;
+      shown = h.linked.shown;
     }
+
+-- a program with its rows
+pub with_all : (os : List Object) (start : ℕ) (relax gc : Bool) (l : Linked) → IsProgramWith os start relax gc true l → IsProgramOf os start relax gc l
+with_all os start relax gc l h = subst (IsProgramOf os start relax gc) (sym h.shown) h.program
 
 pub some_unlinked : (os kept : List Object) (start : ℕ) (relax : Bool) (drops : List SectionId) (fault : LinkFault) → Collects true os drops → kept ≡ without drops os → HasNoLink kept start relax fault
     → HasNoProgram os start relax true fault

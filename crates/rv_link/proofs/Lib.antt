@@ -8,4 +8,5 @@ pub mod TurnsLemmas
 pub mod UnlinkedLemmas
 pub mod LeftLemmas
 pub mod KnownLemmas
+pub mod NumberedLemmas
 pub mod MissingLemmas

@@ -5,3 +5,4 @@ pub mod Refusals
 pub mod Made
 pub mod Regions
 pub mod Left
+pub mod Rows

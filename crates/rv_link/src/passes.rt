@@ -3,19 +3,21 @@
 //! Each pass fixes one thing: what names mean was first, then come addresses, then bytes. The order of the faults is that of the passes,
 //! so what costs least to see is told first.
 
-ghost use Rattle.std.specs.Prelude.{◌≡◌, ◌%◌, ◌<◌, [], All, List, Some, length, map, IfOk, IfErr, OnOk};
+ghost use Rattle.std.specs.Prelude.{◌≡◌, ◌%◌, ◌<◌, ◌≤◌, [], All, List, Some, length, map, IfOk, IfErr, OnOk};
 ghost use Rattle.std.specs.List.{list_any};
 ghost use Rattle.rv_map.specs.Globals.{AreDistinct};
 ghost use Rattle.rv_isa_laws.specs.Platform.{stack_start};
 ghost use Rattle.rv_image.specs.Linked.{linked_of};
 ghost use Rattle.rv_object.specs.Object.{Object as SaidObject};
 ghost use Rattle.rv_object.specs.View.{object_of};
-ghost use Rattle.rv_object_laws.specs.IsLinkOf.{IsLinkOf};
+ghost use Rattle.rv_object_laws.specs.IsLinkOf.{most_files};
 ghost use Rattle.rv_object_laws.specs.Names.{global_names, entry_of};
 ghost use Rattle.rv_shorten.specs.View.{short_object_of};
 ghost use Rattle.rv_placement.specs.Placement.{IsPlacement, starts_of};
 ghost use Rattle.rv_map.specs.Limits.{IsDrop, IsMap};
 ghost use Rattle.rv_link.specs.Made.{made};
+ghost use Rattle.rv_link.specs.Left.{IsLinkWith};
+ghost use Rattle.rv_link.specs.Rows.{with_rows};
 ghost use Rattle.rv_resolve.specs.Names.{IsDuplicate, IsNames};
 ghost use Rattle.rv_resolve.specs.Exports.{first_duplicate};
 ghost use Rattle.rv_resolve.specs.Undefined.{first_undefined};
@@ -27,6 +29,7 @@ ghost use Rattle.rv_link.specs.Regions.{AreGrown, IsNamed, IsReady, IsPlaced};
 use crate::fault::LinkFault;
 use crate::fixed::Fixed;
 use crate::regions::Regions;
+use crate::rows::{are_numbered, rows as rows_of_map};
 use rv_image::{Linked, STACK_START};
 use rv_link_values::Values;
 use rv_map::{Map, SectionId};
@@ -40,20 +43,20 @@ use std::alloc::{AllocError, Global};
 pub const MOST_FILES: usize = 1024;
 
 /// Links objects with their calls as they are into a program, whose text starts at an address, and whose names mean this. Its map
-/// says what was dropped of them before.
+/// says what was dropped of them before, and has rows where they are wanted.
 pub(crate) fn link_as_they_are(
     alloc: Global,
     objects: &[ShortObject<'_, '_>],
     names: &Names<'_>,
     drops: Vec<SectionId>,
     start: u64,
+    rows: bool,
 ) -> Result<Linked, LinkFault>
     requires within { AreWithin (length objects.now) start }
     requires names { IsNames (map short_object_of objects.now) names.now }
     requires drops { All (λ d. IsDrop d) drops.items }
-    ensures links { IfOk result
-        (λ l. IsLinkOf (map short_object_of objects.now) start (linked_of l)) }
-    ensures drops { IfOk result (λ l. (linked_of l).map.drops ≡ drops.items) }
+    ensures links { IfOk result (λ l. IsLinkWith (map short_object_of objects.now)
+        start drops.items rows (linked_of l)) }
     ensures refuses { IfErr result (IsUnlinked (map short_object_of objects.now) start) }
 {
     resolve(alloc, objects, names)?;
@@ -68,7 +71,9 @@ pub(crate) fn link_as_they_are(
     // all addresses are fixed: those of sections, of what is kept of them, and of names
     let regions = fill(alloc, objects, &placement, names)?;
     // all bytes are fixed; what is left is to show them
-    let linked = finish(alloc, objects, names, drops, placement, entry, regions)?;
+    let linked = finish(
+        alloc, objects, names, drops, placement, entry, regions, rows,
+    )?;
     Ok(linked)
 }
 
@@ -193,7 +198,7 @@ fn fill(
     Regions::of(alloc, &fixed)
 }
 
-/// The program of placed objects, whose regions are filled, and its map.
+/// The program of placed objects, whose regions are filled, and its map, with rows where they are wanted.
 fn finish(
     alloc: Global,
     objects: &[ShortObject<'_, '_>],
@@ -202,19 +207,23 @@ fn finish(
     placement: Placement,
     entry: u64,
     regions: Regions,
+    rows: bool,
 ) -> Result<Linked, LinkFault>
+    requires few { length objects.now ≤ most_files }
     requires placed { IsPlaced (map short_object_of objects.now) names.now placement }
     requires grown { AreGrown (map short_object_of objects.now) placement (λ goes. []) regions }
     requires even { entry % 2 ≡ 0 }
     requires drops { All (λ d. IsDrop d) drops.items }
     ensures made { IfOk result
-        (λ l. linked_of l
-        ≡ made drops.items (map short_object_of objects.now) placement entry regions) }
-    ensures readable { IfOk result (λ l. IsMap (linked_of l).map) }
+        (λ l. linked_of l ≡ with_rows rows
+        (made drops.items (map short_object_of objects.now) placement entry regions)) }
+    ensures readable { IfOk result (λ _. IsMap
+        (made drops.items (map short_object_of objects.now) placement entry regions).map) }
     ensures refuses { IfErr result (λ fault. fault ≡ OutOfMemory) }
 {
     let globals = names.globals(alloc, objects, &placement)?;
-    let rows = placement.rows(alloc, objects)?;
+    are_numbered(objects);
+    let rows = rows_of_map(alloc, objects, &placement, rows)?;
     let map = Map {
         text: placement.text,
         rodata: placement.rodata,

@@ -8,6 +8,7 @@ ghost use Rattle.rv_object_laws.specs.IsProgramOf.{IsProgramOf};
 ghost use Rattle.rv_resolve.specs.Names.{IsNames};
 ghost use Rattle.rv_link.specs.Left.{HasNoLink, IsLinkOfLeft};
 ghost use Rattle.rv_link.specs.Refusals.{AreWithin, HasNoProgram};
+ghost use Rattle.rv_link.specs.Rows.{IsProgramWith, IsProgramWithoutRows};
 
 use crate::fault::LinkFault;
 use crate::options::LinkOptions;
@@ -37,14 +38,51 @@ pub fn link(
     ensures refuses { IfErr result (HasNoProgram (map object_of objects.now)
         options.text_start options.relax options.gc) }
 {
+    link_with_rows(alloc, objects, options, true)
+}
+
+/// Links objects as `link`, without the rows of the map, which the executable of the program does not need.
+///
+/// # Errors
+///
+/// Those of `link`.
+pub fn link_exe(
+    alloc: Global,
+    objects: &[Object<'_>],
+    options: LinkOptions,
+) -> Result<Linked, LinkFault>
+    ensures links { IfOk result (λ l. IsProgramWithoutRows (map object_of objects.now)
+        options.text_start options.relax options.gc (linked_of l)) }
+    ensures refuses { IfErr result (HasNoProgram (map object_of objects.now)
+        options.text_start options.relax options.gc) }
+{
+    link_with_rows(alloc, objects, options, false)
+}
+
+/// Links objects as `link`, with the rows of the map where they are wanted.
+///
+/// # Errors
+///
+/// Those of `link`.
+pub fn link_with_rows(
+    alloc: Global,
+    objects: &[Object<'_>],
+    options: LinkOptions,
+    rows: bool,
+) -> Result<Linked, LinkFault>
+    ensures links { IfOk result (λ l. IsProgramWith (map object_of objects.now)
+        options.text_start options.relax options.gc rows (linked_of l)) }
+    ensures refuses { IfErr result (HasNoProgram (map object_of objects.now)
+        options.text_start options.relax options.gc) }
+{
     within_limits(objects.len(), options.text_start)?;
     // the start of the text is fixed from here on
     let names = named(alloc, objects)?;
     // what each name means is fixed: which symbol defines it, though not where that stands
     if options.gc {
-        return link_collected(alloc, objects, &names, options);
+        return link_collected(alloc, objects, &names, options, rows);
     }
-    link_left(alloc, objects, &names, Vec::new(alloc), options)
+    link_left(alloc, objects, &names, Vec::new(alloc), options, rows)
 }
 
 /// Links what collection leaves of objects, whose names mean this.
@@ -53,11 +91,12 @@ fn link_collected(
     objects: &[Object<'_>],
     names: &Names<'_>,
     options: LinkOptions,
+    rows: bool,
 ) -> Result<Linked, LinkFault>
     requires within { AreWithin (length objects.now) options.text_start }
     requires names { IsNames (map object_of objects.now) names.now }
-    ensures links { IfOk result (λ l. IsProgramOf (map object_of objects.now)
-        options.text_start options.relax true (linked_of l)) }
+    ensures links { IfOk result (λ l. IsProgramWith (map object_of objects.now)
+        options.text_start options.relax true rows (linked_of l)) }
     ensures refuses { IfErr result (HasNoProgram (map object_of objects.now)
         options.text_start options.relax true) }
 {
@@ -65,7 +104,7 @@ fn link_collected(
     let kept = collection.left(alloc, objects)?;
     let drops = collection.drops(alloc, objects)?;
     // which sections are linked is fixed
-    link_left(alloc, &kept, names, drops, options)
+    link_left(alloc, &kept, names, drops, options, rows)
 }
 
 /// Links the objects that collection leaves, whose names mean this, into a program whose map says what it dropped.
@@ -75,16 +114,17 @@ fn link_left(
     names: &Names<'_>,
     drops: Vec<SectionId>,
     options: LinkOptions,
+    rows: bool,
 ) -> Result<Linked, LinkFault>
     requires within { AreWithin (length objects.now) options.text_start }
     requires names { IsNames (map object_of objects.now) names.now }
     requires drops { All (λ d. IsDrop d) drops.items }
     ensures links { IfOk result (λ l. IsLinkOfLeft (map object_of objects.now)
-        options.text_start options.relax drops.items (linked_of l)) }
+        options.text_start options.relax drops.items rows (linked_of l)) }
     ensures refuses { IfErr result
         (HasNoLink (map object_of objects.now) options.text_start options.relax) }
 {
     let left = relaxed(alloc, objects, names, options.relax)?;
     // no call changes any more
-    link_as_they_are(alloc, &left, names, drops, options.text_start)
+    link_as_they_are(alloc, &left, names, drops, options.text_start, rows)
 }

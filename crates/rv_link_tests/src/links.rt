@@ -2,7 +2,7 @@
 
 use crate::files::{CALL_OF_FIRST, RELAX, START, file, place};
 use rv_image::Region;
-use rv_link::{LinkOptions, link};
+use rv_link::{LinkOptions, link, link_exe};
 use rv_object::Object;
 use rv_object_reader::read;
 use std::alloc::Global;
@@ -31,6 +31,8 @@ fn a_program(rt: HostRuntime) -> Result<(), Fail> {
     let linked = link(alloc, &objects, OPTIONS)?;
     assert!(rt; linked.text.as_slice() == SHORT);
     assert!(rt; linked.rodata.is_empty() && linked.data.is_empty() && linked.rvc);
+    // no object has rows, so there is nothing to leave out
+    assert!(rt; link_exe(alloc, &objects, OPTIONS)? == linked);
     let map = &linked.map;
     let text = Region {
         start: 0x1_0000,

@@ -3,8 +3,8 @@ use Rattle.std.proofs.lemmas.List.{length-map}
 use Rattle.rv_statement.specs.View.{now_of}
 use Rattle.rv_image.specs.Linked.{linked_of}
 use Rattle.rv_object.specs.View.{object_of}
-use Rattle.rv_object_laws.specs.IsProgramOf.{IsProgramOf}
 use Rattle.rv_link.specs.Refusals.{AreWithin, HasNoProgram}
+use Rattle.rv_link.specs.Rows.{IsProgramWith}
 use Rattle.rv_chain.specs.Refusals.{AreUnlinked, IsRefusedFor}
 use Rattle.rv_chain.proofs.GatheredLemmas.{err_given, gathered, link_refused, short_forms_reach}
 use Rattle.rv_chain.proofs.building.linked.Goals as goal
@@ -38,24 +38,18 @@ returns-clause-program c =
     let gc = c.args.options.gc in
     let l = linked_of c.in_ok-linked.linked in
     let g = gathered texts os c.in_ok-objects.ensures.objects in
-    let links : IsProgramOf os start relax gc l = subst (λ items. IsProgramOf (map object_of items) start relax gc l) c.deref.ensures.value c.in_ok-linked.ensures.links in
+    let with : IsProgramWith os start relax gc c.args.rows l = subst (λ items. IsProgramWith (map object_of items) start relax gc c.args.rows l) c.deref.ensures.value c.in_ok-linked.ensures.links in
     record {
-      sources = g.0;
-      read = g.1;
-      linked = c.objects_of_sources_link.ensures g.0 os start relax gc l g.2 links;
-      flag = c.linked_objects_are_flagged.ensures g.0 os start relax gc l g.2 links;
+      whole = with.whole;
+      program = record {
+        sources = g.0;
+        read = g.1;
+        linked = c.objects_of_sources_link.ensures g.0 os start relax gc with.whole g.2 with.program;
+        flag = c.linked_objects_are_flagged.ensures g.0 os start relax gc with.whole g.2 with.program;
+      };
+      links = (os, c.in_ok-objects.ensures.objects, with.program);
+      shown = with.shown;
     }
-
-pub returns-clause-links : goal.returns-clause-links
-returns-clause-links c =
-    let start = c.args.options.text_start in
-    let relax = c.args.options.relax in
-    let gc = c.args.options.gc in
-    let l = linked_of c.in_ok-linked.linked in (
-      map object_of c.in_ok-objects.objects.items,
-      c.in_ok-objects.ensures.objects,
-      subst (λ items. IsProgramOf (map object_of items) start relax gc l) c.deref.ensures.value c.in_ok-linked.ensures.links,
-    )
 
 pub returns-clause-good : goal.returns-clause-good
 returns-clause-good c =

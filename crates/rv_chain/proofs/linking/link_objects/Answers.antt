@@ -1,37 +1,21 @@
-use Rattle.std.proofs.Common.{◌≡◌, length, map, sym, subst}
-use Rattle.std.proofs.lemmas.List.{length-map}
-use Rattle.rv_statement.specs.View.{now_of}
+use Rattle.std.proofs.Common.{true}
 use Rattle.rv_image.specs.Linked.{linked_of}
-use Rattle.rv_object.specs.View.{object_of}
-use Rattle.rv_object_laws.specs.IsProgramOf.{IsProgramOf}
-use Rattle.rv_link.specs.Refusals.{AreWithin, HasNoProgram}
-use Rattle.rv_chain.specs.LinkRefusals.{AreUnlinkable}
-use Rattle.rv_chain.proofs.GatheredLemmas.{err_given}
-use Rattle.rv_chain.proofs.UnreadLemmas.{link_unlinkable}
-use Rattle.rv_chain.proofs.WrittenLemmas.{built_of}
+use Rattle.rv_chain.proofs.WrittenLemmas.{built_of, whole_laid_out, whole_map, whole_written}
 use Rattle.rv_chain.proofs.linking.link_objects.Goals as goal
-
-pub returns-in_err-linked-clause-refuses : goal.returns-in_err-linked-clause-refuses
-returns-in_err-linked-clause-refuses c =
-    let files = map now_of c.args.objects.now in
-    let start = c.args.options.text_start in
-    let relax = c.args.options.relax in
-    let gc = c.args.options.gc in
-    let os = map object_of c.in_ok-read.read.items in
-    let refused : HasNoProgram os start relax gc c.in_err-linked.field-0.0 = subst (λ l. HasNoProgram (map object_of l) start relax gc c.in_err-linked.field-0.0) c.deref.ensures.value c.in_err-linked.ensures.refuses in
-    err_given c.from_residual-in_err-linked.result (AreUnlinkable files start relax gc) _ c.from_residual-in_err-linked.ensures.1
-    (λ f is. subst (AreUnlinkable files start relax gc) (sym is) (link_unlinkable files start relax gc c.in_err-linked.field-0.0 (os, c.in_ok-read.ensures.objects, refused)))
 
 pub returns-clause-linked : goal.returns-clause-linked
 returns-clause-linked c =
-    let files = map now_of c.args.objects.now in
-    let start = c.args.options.text_start in
-    let relax = c.args.options.relax in
-    let gc = c.args.options.gc in
-    let os = map object_of c.in_ok-read.read.items in
+    let o = c.args.options in
+    let found = c.in_ok-linked.ensures.program in
+    let from = found.1.2 in
     let l = linked_of c.in_ok-linked.linked in
-    let links : IsProgramOf os start relax gc l = subst (λ items. IsProgramOf (map object_of items) start relax gc l) c.deref.ensures.value c.in_ok-linked.ensures.links in
-    let n : length files ≡ length c.args.objects.now = length-map c.args.objects.now now_of in (
-      subst (λ k. AreWithin k start) (sym n) c.in_ok-within_limits.ensures.within,
-      (os, c.in_ok-read.ensures.objects, built_of os start relax gc c.in_ok-linked.linked c.in_ok-built.built.exe.items c.in_ok-built.built.map.items links c.in_ok-built.ensures.exe c.in_ok-built.ensures.map),
+    let exe = c.in_ok-built.built.exe.items in
+    let text = c.in_ok-built.built.map.items in (
+      found.0,
+      (
+        found.1.0,
+        found.1.1,
+        built_of found.1.0 o.text_start o.relax o.gc from.whole exe text (whole_laid_out c.in_ok-linked.linked true from.whole from.shown from.program.linked.readable) from.program
+            (whole_written true l from.whole exe from.shown c.in_ok-built.ensures.exe) (whole_map l from.whole text from.shown c.in_ok-built.ensures.map),
+      ),
     )

@@ -1,32 +1,32 @@
-use Rattle.std.proofs.Common.{◌≡◌, length, map, sym, ◌∙◌, ap, subst, rules, arith, true, inr}
+use Rattle.std.proofs.Common.{◌≡◌, length, map, sym, ◌∙◌, subst, rules, arith, true, inr, refl}
 use Rattle.std.proofs.lemmas.Result.{err_from_is_err_and}
 use Rattle.std.proofs.lemmas.List.{length-map}
-use Rattle.rv_map.specs.Limits.{IsMap}
-use Rattle.rv_image.specs.Linked.{linked_of}
 use Rattle.rv_shorten.specs.View.{short_object_of}
-use Rattle.rv_object_laws.specs.IsLinkOf.{IsLinkOf}
 use Rattle.rv_resolve.specs.Entry.{has_entry}
 use Rattle.rv_placement.specs.Placement.{starts_of, AreRoomy}
 use Rattle.rv_link.specs.Refusals.{ComesToPlaces, IsUnlinked}
+use Rattle.rv_link.specs.Made.{made}
 use Rattle.rv_link.proofs.UnlinkedLemmas.{unfilled}
 use Rattle.rv_link.proofs.LinksLemmas.{is_link}
 use Rattle.rv_link.proofs.passes.link_as_they_are.Goals as goal
+
+pub finish-requires-clause-few : goal.finish-requires-clause-few
+finish-requires-clause-few c = c.requires.within.0
 
 pub returns-clause-links : goal.returns-clause-links
 returns-clause-links c =
     let os = map short_object_of c.args.objects.now in
     let p = c.in_ok-placement.placement in
     let r = c.in_ok-regions.regions in
-    let l = linked_of c.in_ok-linked.linked in
-    let e = c.in_ok-linked.ensures.made in
     let n : length (map short_object_of c.args.objects.now) ≡ length c.args.objects.now = length-map c.args.objects.now short_object_of in
     let w = c.requires.within in
-    subst (λ x. IsLinkOf os c.args.start x) (sym e)
-    (is_link c.args.drops.items os c.args.start c.args.names.now p c.in_ok-entry.entry r (omega (arith, w.0, n)) w.1.0 w.1.1 c.in_ok-resolve.ensures.named c.in_ok-placement.ensures.placed (search rules)
-    c.in_ok-entry.ensures.entry c.in_ok-entry.ensures.even c.in_ok-regions.ensures.filled (subst (λ x. IsMap x.map) e c.in_ok-linked.ensures.readable))
-
-pub returns-clause-drops : goal.returns-clause-drops
-returns-clause-drops c = ap (λ l. l.map.drops) c.in_ok-linked.ensures.made
+    record {
+      whole = made c.args.drops.items os p c.in_ok-entry.entry r;
+      linked = is_link c.args.drops.items os c.args.start c.args.names.now p c.in_ok-entry.entry r (omega (arith, w.0, n)) w.1.0 w.1.1 c.in_ok-resolve.ensures.named c.in_ok-placement.ensures.placed (search rules)
+          c.in_ok-entry.ensures.entry c.in_ok-entry.ensures.even c.in_ok-regions.ensures.filled c.in_ok-linked.ensures.readable;
+      dropped = refl;
+      shown = c.in_ok-linked.ensures.made;
+    }
 
 pub returns-in_err-entry-clause-refuses : goal.returns-in_err-entry-clause-refuses
 returns-in_err-entry-clause-refuses c =

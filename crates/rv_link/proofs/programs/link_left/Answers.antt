@@ -1,15 +1,14 @@
 use Rattle.std.proofs.Common.{◌≡◌, length, map, sym, ap, subst, ◌∙◌}
 use Rattle.std.proofs.lemmas.List.{length-map}
-use Rattle.std.proofs.lemmas.Result.{err_from_is_err_and, IfErr-weaker}
+use Rattle.std.proofs.lemmas.Result.{err_from_is_err_and, IfOk-weaker, IfErr-weaker}
 use Rattle.rv_object.specs.View.{object_of}
 use Rattle.rv_shorten.specs.View.{short_object_of}
-use Rattle.rv_object_laws.specs.IsLinkOf.{IsLinkOf}
 use Rattle.rv_image.specs.Linked.{linked_of}
 use Rattle.rv_resolve.specs.Names.{IsNames}
 use Rattle.rv_resolve.proofs.AlikeLemmas.{still_names}
-use Rattle.rv_link.specs.Left.{HasNoLink, IsLinkOfLeft}
+use Rattle.rv_link.specs.Left.{HasNoLink, IsLinkOfLeft, IsLinkWith}
 use Rattle.rv_link.specs.Refusals.{AreWithin, IsUnlinked}
-use Rattle.rv_link.proofs.LeftLemmas.{alike, out_of_memory, ok_both}
+use Rattle.rv_link.proofs.LeftLemmas.{alike, out_of_memory}
 use Rattle.rv_link.proofs.programs.link_left.Goals as goal
 
 pub returns-in_err-left-clause-refuses : goal.returns-in_err-left-clause-refuses
@@ -39,15 +38,14 @@ returns-clause-links c =
     let os = map object_of c.args.objects.now in
     let start = c.args.options.text_start in
     let drops = c.args.drops.items in
-    ok_both c.link_as_they_are.result (λ l. IsLinkOf (map short_object_of c.deref.result.now) start (linked_of l)) (λ l. (linked_of l).map.drops ≡ drops)
-    (λ l. IsLinkOfLeft os start c.args.options.relax drops (linked_of l))
-    (λ l links dropped. record {
+    let rows = c.args.rows in
+    IfOk-weaker c.link_as_they_are.result (λ l. IsLinkWith (map short_object_of c.deref.result.now) start drops rows (linked_of l)) (λ l. IsLinkOfLeft os start c.args.options.relax drops rows (linked_of l))
+    (λ l links. record {
       left = map short_object_of c.in_ok-left.left.items;
       relaxed = c.in_ok-left.ensures.relaxes;
-      linked = subst (λ left. IsLinkOf (map short_object_of left) start (linked_of l)) c.deref.ensures.value links;
-      dropped = dropped;
+      linked = subst (λ left. IsLinkWith (map short_object_of left) start drops rows (linked_of l)) c.deref.ensures.value links;
     })
-    c.link_as_they_are.ensures.links c.link_as_they_are.ensures.drops
+    c.link_as_they_are.ensures.links
 
 pub returns-clause-refuses : goal.returns-clause-refuses
 returns-clause-refuses c =

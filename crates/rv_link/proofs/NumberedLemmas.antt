@@ -1,0 +1,128 @@
+-- The rows of placed objects can stand in a map.
+
+use Rattle.std.proofs.Common.{◌≡◌, ◌≤◌, ◌<◌, ◌+◌, ◌^◌, ℕ, zero, suc, Bool, true, false, if◌then◌else◌, Option, Some, None, List, [], ◌∷◌, length, drop, get_or, map, nat_le, refl, sym, ap, subst, ◌∙◌, arith}
+use Rattle.std.specs.List.{AllByRecursion, list_all, slice_get}
+use Rattle.std.proofs.lemmas.Bool.{leb-true, and_parts}
+use Rattle.std.proofs.lemmas.Option.{slice_get_within}
+use Rattle.rv_map.specs.Limits.{IsRow}
+use Rattle.rv_object.specs.declared.row.Row.{Row}
+use Rattle.rv_object.specs.Object.{Section, Object, size_of}
+use Rattle.rv_object.specs.Valid.{is_row_in}
+use Rattle.rv_object_laws.specs.IsLinkOf.{inserted_row, by_ordinal, map_row, moves_at, row_in, rows_of, most_files}
+use Rattle.rv_object_laws.specs.Moves.{Move, moves, new_offset}
+use Rattle.rv_object_laws.proofs.TextInputsLemmas.{all_append}
+use Rattle.rv_shorten.specs.declared.object.ShortObject.{ShortObject}
+use Rattle.rv_shorten.specs.Cutting.{cut_row_of}
+use Rattle.rv_shorten.specs.View.{short_object_of}
+use Rattle.rv_relax.specs.Plan.{moves_of}
+use Rattle.rv_relax.proofs.RisingLemmas.{plan_rises}
+use Rattle.rv_placement.specs.declared.placement.Placement.{Placement}
+use Rattle.rv_placement.specs.Placement.{starts_of, section_at, IsPlacement}
+use Rattle.rv_placement.proofs.FoundLemmas.{in_object, is_placed, start_is}
+use Rattle.rv_link.specs.Rows.{IsNumbered}
+
+-- ---- lists
+
+all_inserted : (P : Row → Type 0) (r : Row) (qs : List Row) → P r → AllByRecursion P qs → AllByRecursion P (inserted_row r qs)
+all_inserted P r [] one all = (one, tt)
+all_inserted P r (q ∷ qs) one all = by (nat_le r.ordinal q.ordinal) (all_inserted P r qs one all.1)
+  where
+    by : (b : Bool) → AllByRecursion P (inserted_row r qs) → AllByRecursion P (if b then r ∷ q ∷ qs else q ∷ inserted_row r qs)
+    by true more = (one, all)
+    by false more = (all.0, more)
+
+all_ordered : (P : Row → Type 0) (rs : List Row) → AllByRecursion P rs → AllByRecursion P (by_ordinal rs)
+all_ordered P [] all = tt
+all_ordered P (r ∷ rs) all = all_inserted P r (by_ordinal rs) all.0 (all_ordered P rs all.1)
+
+pub all_mapped : {A B : Type 0} (P : B → Type 0) (f : A → B) (xs : List A) → AllByRecursion (λ x. P (f x)) xs → AllByRecursion P (map f xs)
+all_mapped P f [] all = tt
+all_mapped P f (x ∷ xs) all = (all.0, all_mapped P f xs all.1)
+
+-- ---- a row
+
+row_stands : (r : Row) (o : Option Section) → is_row_in r o ≡ true → (s : Section) × (o ≡ Some s) × (r.offset + r.bytes ≤ size_of s.contents)
+row_stands r None h = absurd (cc)
+row_stands r (Some s) h = (s, refl, leb-true (r.offset + r.bytes) (size_of s.contents) (and_parts s.loaded (nat_le (r.offset + r.bytes) (size_of s.contents)) h).1)
+
+module _ (os : List Object) (start : ℕ) (p : Placement) (is : IsPlacement os start p) where
+  row_known : (file : ℕ) (o : Object) → slice_get os file ≡ Some o → file < most_files → (r : Row) → is_row_in r (slice_get o.sections r.section) ≡ true → IsNumbered r
+      → IsRow (row_in (starts_of p) (suc file) o r)
+  row_known file o at few r lies numbered =
+      let (s, there, within) = row_stands r (slice_get o.sections r.section) lies in
+      let stands : section_at os file r.section ≡ Some s = in_object os file r.section o at ∙ there in
+      let (q, found) = is_placed os start p is file r.section s stands in
+      let low = is.low file r.section s q stands found in
+      let planned : moves_of q.plan ≡ moves q.start s = is.planned file r.section s q stands found in
+      let same : file + 1 ≡ suc file = omega arith in
+      let begins : q.start ≡ starts_of p (suc file) r.section = sym (start_is p file r.section q (sym found)) ∙ ap (λ n. starts_of p n r.section) same in
+      let row_is : map_row (suc file) q.start (moves_of q.plan) r ≡ row_in (starts_of p) (suc file) o r =
+      ap (λ ms. map_row (suc file) q.start ms r) planned
+      ∙ ap (λ x. map_row (suc file) q.start (moves_at q.start x) r) (sym there)
+      ∙ ap (λ n. map_row (suc file) n (moves_at n (slice_get o.sections r.section)) r) begins in
+      let size = size_of s.contents in
+      let new = new_offset (moves_of q.plan) in
+      let first : new r.offset ≤ new size = plan_rises q.plan r.offset size (omega (arith, within)) in
+      let last : new (r.offset + r.bytes) ≤ new size = plan_rises q.plan (r.offset + r.bytes) size within in
+      let ends : q.start + new size < 2 ^ 64 = subst (λ ms. q.start + new_offset ms size < 2 ^ 64) (sym planned) low.1 in
+      let many : file < 1024 = few in
+      let known : IsRow (map_row (suc file) q.start (moves_of q.plan) r) = (
+        omega (arith, many),
+        numbered.0,
+        numbered.1,
+        omega (arith, first, ends),
+        omega (arith, last, ends),
+        omega (arith, numbered.2),
+      ) in
+      subst IsRow row_is known
+
+  rows_known_in : (file : ℕ) (o : Object) → slice_get os file ≡ Some o → file < most_files → (rs : List Row) → list_all (λ r. is_row_in r (slice_get o.sections r.section)) rs ≡ true → AllByRecursion IsNumbered rs
+      → AllByRecursion (λ r. IsRow (row_in (starts_of p) (suc file) o r)) rs
+  rows_known_in file o at few [] lie numbered = tt
+  rows_known_in file o at few (r ∷ rs) lie numbered =
+      let parts = and_parts (is_row_in r (slice_get o.sections r.section)) (list_all (λ r. is_row_in r (slice_get o.sections r.section)) rs) lie in
+      (row_known file o at few r parts.0 numbered.0, rows_known_in file o at few rs parts.1 numbered.1)
+
+  -- those of the files from one on
+  rows_known_from : (file : ℕ) (xs : List ShortObject) → ((k : ℕ) (o : Object) → slice_get (map short_object_of xs) k ≡ Some o → slice_get os (file + k) ≡ Some o) → length os ≤ most_files
+      → AllByRecursion (λ o. AllByRecursion IsNumbered o.rows) (map short_object_of xs) → AllByRecursion IsRow (rows_of (starts_of p) (suc file) (map short_object_of xs))
+  rows_known_from file [] there few numbered = tt
+  rows_known_from file (x ∷ xs) there few numbered =
+      let o = short_object_of x in
+      let same : file ≡ file + 0 = omega arith in
+      let at : slice_get os file ≡ Some o = ap (λ n. slice_get os n) same ∙ there 0 o refl in
+      let inside : file < most_files = omega (arith, slice_get_within os file o at, few) in
+      let mine = rows_known_in file o at inside o.rows x.lie numbered.0 in
+      all_append IsRow (map (row_in (starts_of p) (suc file) o) (by_ordinal o.rows)) (rows_of (starts_of p) (suc (suc file)) (map short_object_of xs))
+      (all_mapped IsRow (row_in (starts_of p) (suc file) o) (by_ordinal o.rows) (all_ordered (λ r. IsRow (row_in (starts_of p) (suc file) o r)) o.rows mine))
+      (rows_known_from (suc file) xs (λ k q e. let next : suc file + k ≡ file + suc k = omega arith in ap (λ n. slice_get os n) next ∙ there (suc k) q e) few numbered.1)
+
+pub rows_known : (objects : List ShortObject) (start : ℕ) (p : Placement) → IsPlacement (map short_object_of objects) start p → length (map short_object_of objects) ≤ most_files
+    → AllByRecursion (λ o. AllByRecursion IsNumbered o.rows) (map short_object_of objects) → AllByRecursion IsRow (rows_of (starts_of p) 1 (map short_object_of objects))
+rows_known objects start p is few numbered =
+    rows_known_from (map short_object_of objects) start p is 0 objects (λ k o e. let plain : 0 + k ≡ k = omega arith in ap (λ n. slice_get (map short_object_of objects) n) plain ∙ e) few numbered
+
+-- ---- the rows of an object whose calls are cut
+
+abbrev pub AreNumbered : ShortObject → Type 0
+AreNumbered o = AllByRecursion IsNumbered (short_object_of o).rows
+
+pub cut_numbered : (mss : List (List Move)) (rows : List Row) → AllByRecursion IsNumbered rows → AllByRecursion IsNumbered (map (cut_row_of mss) rows)
+cut_numbered mss [] all = tt
+cut_numbered mss (r ∷ rows) ((line, ordinal, many), all) = ((line, ordinal, omega (arith, many)), cut_numbered mss rows all)
+
+-- ---- what is left of a list
+
+pub next_left : {A : Type 0} (P : A → Type 0) (xs : List A) (i : ℕ) (x : A) → i < length xs → x ≡ get_or xs i x → P x → (AllByRecursion P (drop i xs) → AllByRecursion P xs) → AllByRecursion P (drop (i + 1) xs) → AllByRecursion P xs
+next_left {A = A} P xs i x inside is one all rest = all (from xs i x inside is one rest)
+  where
+    from : (ys : List A) (j : ℕ) (y : A) → j < length ys → y ≡ get_or ys j y → P y → AllByRecursion P (drop (j + 1) ys) → AllByRecursion P (drop j ys)
+    from [] j y inside is one rest = absurd (omega arith)
+    from (z ∷ ys) zero y inside is one rest = (subst P is one, rest)
+    from (z ∷ ys) (suc j) y inside is one rest = from ys j y (omega arith) is one (let e : suc j + 1 ≡ suc (j + 1) = omega arith in subst (λ n. AllByRecursion P (drop n (z ∷ ys))) e rest)
+
+pub none_left : {A : Type 0} (P : A → Type 0) (xs : List A) (i : ℕ) → length xs ≤ i → AllByRecursion P (drop i xs)
+none_left P [] zero past = tt
+none_left P [] (suc i) past = tt
+none_left P (x ∷ xs) zero past = absurd (omega arith)
+none_left P (x ∷ xs) (suc i) past = none_left P xs i (omega arith)
