@@ -15,7 +15,7 @@ use std::alloc::AllocError;
 
 /// How the targets of branches and jumps are shown.
 #[derive(Clone, Copy, Drop)]
-pub(crate) enum Targets {
+pub enum Targets {
     /// By their addresses, from that of the instruction: `0x10004`.
     Addresses(u64),
     /// By how far they are from the instruction: `.+4`.
@@ -23,11 +23,7 @@ pub(crate) enum Targets {
 }
 
 /// Adds the text of an instruction.
-pub(crate) fn put_instruction(
-    text: &mut Vec<u8>,
-    targets: Targets,
-    inst: Inst,
-) -> Result<(), AllocError>
+pub fn put_instruction(text: &mut Vec<u8>, targets: Targets, inst: Inst) -> Result<(), AllocError>
     ensures { OnOk result (text.new.items
         ≡ text.old.items ++ shows.text_with (shows.shown_target targets) (format_of inst)) }
 {

@@ -35,6 +35,7 @@ mod rows;
 
 pub use code::Code;
 pub use dump::hex_dump;
+pub use instruction::{Targets, put_instruction};
 pub use law::{one_listing, one_raw_listing};
 pub use raw::raw_listing;
 pub use rows::listing;

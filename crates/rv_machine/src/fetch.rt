@@ -49,7 +49,8 @@ fn by_parcel(bits: u16) -> Fetched
 }
 
 /// The bits of the 2 bytes at an address, where no 4 may be executed and the 2 begin no word.
-#[inline(always)]
+#[cold]
+#[inline(never)]
 fn last_bits<M: Memory>(memory: &M, pc: u64) -> Option<u32>
     requires { may (M.mem memory.now) pc 4 Execute ≡ false }
     ensures { (reader : Reader Spells StandsFor) →
@@ -71,7 +72,7 @@ fn last_bits<M: Memory>(memory: &M, pc: u64) -> Option<u32>
 /// The bits of the 4 bytes at an address, or of 2 where no more may be executed; `None` where nothing
 /// can be fetched.
 #[inline(always)]
-fn bits_at<M: Memory>(memory: &M, pc: u64) -> Option<u32>
+pub(crate) fn bits_at<M: Memory>(memory: &M, pc: u64) -> Option<u32>
     ensures { (reader : Reader Spells StandsFor) →
         MatchOption result (laws.fetch reader (M.mem memory.now) pc ≡ laws.NoRight)
         (λ bits. laws.fetch reader (M.mem memory.now) pc ≡ spelled_by reader bits) }

@@ -44,6 +44,7 @@ mod running;
 mod state;
 mod streams;
 mod transfers;
+mod watching;
 mod word;
 
 pub use end::End;
@@ -53,3 +54,4 @@ pub use machine::Machine;
 pub use outcome::{Outcome, run};
 pub use running::{RunFault, run_io};
 pub use streams::{GuestIn, GuestOut, IoFailed};
+pub use watching::{WatchFault, Watched, Watcher, run_watched};

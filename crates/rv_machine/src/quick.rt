@@ -16,10 +16,11 @@ ghost use Rattle.rv_memory.specs.Rights.{IsWidth};
 
 use crate::access;
 use crate::action::{Action, Load, Store};
+use crate::fetch::bits_at;
 use crate::hart::Hart;
 use crate::parcel::asked_by_parcel;
 use crate::word::asked_by_word;
-use rv_memory::{Memory, Right};
+use rv_memory::Memory;
 
 /// Does a load; whether its bytes may be read.
 #[inline(always)]
@@ -124,10 +125,10 @@ pub fn step<M: Memory>(hart: &mut Hart, memory: &mut M) -> bool
         IsDone result (step_of reader before (M.mem memory.old)) before (M.mem memory.old)
         (hart_of hart.new input console) (M.mem memory.new) }
 {
-    match memory.try_load(hart.pc, 4, Right::Execute) {
+    match bits_at(memory, hart.pc) {
         Some(bits) => {
             if bits % 4 == 3 {
-                by_word(bits as u32, hart, memory)
+                by_word(bits, hart, memory)
             } else {
                 by_parcel((bits % 0x1_0000) as u16, hart, memory)
             }

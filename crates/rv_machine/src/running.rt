@@ -67,9 +67,9 @@ impl From<AllocError> for RunFault {
 
 /// What a run keeps of its input: whether a take gave nothing, and room for bytes on their way into memory.
 #[derive(Drop)]
-struct Intake {
-    ended: bool,
-    buffer: [u8; 4096],
+pub(crate) struct Intake {
+    pub ended: bool,
+    pub buffer: [u8; 4096],
 }
 
 /// Takes the bytes of a call into memory; none where a take of the run gave none before.
@@ -160,7 +160,7 @@ fn write<W: GuestOut, M: Memory>(
 
 /// Does one step, of a call with the streams.
 #[inline(always)]
-fn step<R: GuestIn, W: GuestOut, M: Memory>(
+pub(crate) fn step<R: GuestIn, W: GuestOut, M: Memory>(
     hart: &mut Hart,
     memory: &mut M,
     intake: &mut Intake,

@@ -235,6 +235,48 @@ impl Paged {
         }
     }
 
+    /// The number of four bytes that have the right, of which two end a page and two begin the next, where the pages that
+    /// are looked at first hold them: a word, or a parcel in the last two bytes of a page.
+    #[inline(always)]
+    fn halves(&self, address: u64, bytes: u64, right: Right) -> Option<u64>
+        ensures right { IfSome result
+            (λ _. may (held_pages self.now) address bytes (right_of right) ≡ true) }
+        ensures number { IfSome result
+            (λ number. number ≡ number_at (held_pages self.now) address bytes) }
+        ensures bytes { IfSome result
+            (λ _. (k : ℕ) → k < bytes → (held_pages self.now).byte ((address + k) % 2 ^ 64) < 256) }
+    {
+        if bytes != 4 {
+            return None;
+        }
+        let next = address.wrapping_add(2);
+        let low_part = self.part(self.first(address, right), address, 2, right)?;
+        let high_part = self.part(self.first(next, right), next, 2, right)?;
+        let low = number(low_part);
+        let high = number(high_part);
+        Some(low.wrapping_add(high.wrapping_mul(0x1_0000)))
+    }
+
+    /// The number of bytes that have the right, where the page that is looked at first does not hold them.
+    #[cold]
+    #[inline(never)]
+    fn load_elsewhere(&self, address: u64, bytes: u64, right: Right) -> Option<u64>
+        requires width { IsWidth bytes }
+        requires right { IsToLoad right }
+        ensures right { MatchOption result
+            (may (held_pages self.now) address bytes (right_of right) ≡ false)
+            (λ _. may (held_pages self.now) address bytes (right_of right) ≡ true) }
+        ensures number { IfSome result
+            (λ number. number ≡ number_at (held_pages self.now) address bytes) }
+        ensures bytes { IfSome result
+            (λ _. (k : ℕ) → k < bytes → (held_pages self.now).byte ((address + k) % 2 ^ 64) < 256) }
+    {
+        match self.halves(address, bytes, right) {
+            Some(number) => Some(number),
+            None => self.search_load(address, bytes, right),
+        }
+    }
+
     /// Puts bytes where the page at the index holds them and gives each the right to write; whether it does.
     #[inline(always)]
     fn put_part(&mut self, i: usize, address: u64, bytes: &[u8]) -> bool
@@ -351,7 +393,7 @@ impl Memory for Paged {
             return Some(number(part));
         }
         // the number is taken out, so that no caller has to ask again whether the page that was looked at first held it
-        Some(self.search_load(address, bytes, right)?)
+        Some(self.load_elsewhere(address, bytes, right)?)
     }
 
     #[inline(always)]

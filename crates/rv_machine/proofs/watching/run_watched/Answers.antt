@@ -1,0 +1,56 @@
+use Rattle.std.proofs.Common.{◌≡◌, suc, ◌-◌, ℕ, List, [], ◌++◌, refl, arith}
+use Rattle.rv_isa_laws.specs.Hart as laws
+use Rattle.rv_machine.specs.End.{law_end}
+use Rattle.rv_machine.specs.Hart.{hart_of}
+use Rattle.rv_machine.specs.StreamSteps.{Input, input_of}
+use Rattle.rv_machine.proofs.KnownLemmas.{has_read_none, has_read_more, appends_kept, appends_more, keeps_self}
+use Rattle.rv_machine.proofs.StreamLemmas.{steps_as, went_on, came_to}
+use Rattle.rv_machine.proofs.watching.run_watched.Goals as goal
+
+pub loop-left-init : goal.loop-left-init
+loop-left-init g c = record {
+  so_far = ([], [], has_read_none _, appends_kept _ _ (keeps_self _), λ r rest may. refl);
+}
+
+pub returns-in-Ok-Some : goal.returns-in-Ok-Some
+returns-in-Ok-Some g c =
+    let is : c.loop-left.left ≡ suc (c.loop-left.left - 1) = omega (arith, c.loop-left-test.true) in
+    let start : List ℕ → laws.Hart = λ input. hart_of c.args.machine.now.hart input [] in
+    let first : Input = input_of c.args.machine.now.intake.ended (g.R.GuestIn.ends c.args.reader.now) (g.R.GuestIn.left c.args.reader.now) in
+    let before : Input = input_of c.loop-left.machine.intake.ended (g.R.GuestIn.ends c.loop-left.reader) (g.R.GuestIn.left c.loop-left.reader) in
+    let after : Input = input_of c.step.new.intake.ended (g.R.GuestIn.ends c.step.new.reader) (g.R.GuestIn.left c.step.new.reader) in
+    let far = c.loop-left.invariant.so_far in
+    let more = c.in-Ok-Some.ensures.steps in
+    record {
+      runs = (
+        far.0 ++ more.0,
+        far.1 ++ more.1,
+        has_read_more first before after far.0 more.0 far.2 more.2,
+        appends_more _ _ _ far.1 more.1 far.3 more.3,
+        λ r rest may.
+            let over = steps_as _ _ more.0 more.1 _ _ _ c.in-Ok-Some.field-0-is (more.4 r) in
+            came_to r c.args.limit (c.loop-left.left) start (g.M.Memory.mem c.args.machine.now.memory) before after c.loop-left.machine.hart (g.M.Memory.mem c.loop-left.machine.memory) far.0 more.0 far.1 more.1 more.2 (far.4 r)
+            (c.loop-left.left - 1) (law_end c.in-Ok-Some.end) is over.0 over.1.0 over.1.1 rest may,
+      );
+    }
+
+pub loop-left-preserved : goal.loop-left-preserved
+loop-left-preserved g c =
+    let is : c.loop-left.left ≡ suc (c.loop-left.left - 1) = omega (arith, c.loop-left-test.true) in
+    let start : List ℕ → laws.Hart = λ input. hart_of c.args.machine.now.hart input [] in
+    let first : Input = input_of c.args.machine.now.intake.ended (g.R.GuestIn.ends c.args.reader.now) (g.R.GuestIn.left c.args.reader.now) in
+    let before : Input = input_of c.loop-left.machine.intake.ended (g.R.GuestIn.ends c.loop-left.reader) (g.R.GuestIn.left c.loop-left.reader) in
+    let after : Input = input_of c.step.new.intake.ended (g.R.GuestIn.ends c.step.new.reader) (g.R.GuestIn.left c.step.new.reader) in
+    let far = c.loop-left.invariant.so_far in
+    let more = c.in-Ok-None.ensures.steps in
+    record {
+      so_far = (
+        far.0 ++ more.0,
+        far.1 ++ more.1,
+        has_read_more first before after far.0 more.0 far.2 more.2,
+        appends_more _ _ _ far.1 more.1 far.3 more.3,
+        λ r rest may.
+            went_on r c.args.limit (c.loop-left.left) start (g.M.Memory.mem c.args.machine.now.memory) before after c.loop-left.machine.hart (g.M.Memory.mem c.loop-left.machine.memory) far.0 more.0 far.1 more.1 more.2 (far.4 r)
+            (c.loop-left.left - 1) c.step.new.hart (g.M.Memory.mem c.step.new.memory) is (steps_as _ _ more.0 more.1 _ _ _ c.in-Ok-None.field-0-is (more.4 r)) rest may,
+      );
+    }

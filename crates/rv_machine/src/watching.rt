@@ -1,0 +1,149 @@
+//! Runs that are looked at between their steps.
+//!
+//! A watched run does the steps of `run_io`, each by the same function, without the quick ones that no one could look at.
+//! A watcher only looks: it cannot change hart or memory, so what it tells is of the run itself.
+
+ghost use Rattle.std.specs.Prelude.{◌≡◌, ℕ, List, [], ◌++◌, Ok, false, IfOk};
+ghost use Rattle.std.specs.Io.KnownBytes.{Appends};
+ghost use Rattle.rv_encode.specs.Word.{Spells};
+ghost use Rattle.rv_compress.specs.Parcel.{StandsFor};
+ghost use Rattle.rv_isa_laws.specs.Hart.{start};
+ghost use Rattle.rv_isa_laws.specs.Reader.{Reader};
+ghost use Rattle.rv_isa_laws.specs.Run.{run as run_of};
+ghost use Rattle.rv_machine.specs.Hart.{hart_of};
+ghost use Rattle.rv_machine.specs.Registers.{value_of};
+ghost use Rattle.rv_machine.specs.Streams.{Accords, MayFollow};
+ghost use Rattle.rv_machine.specs.StreamSteps.{input_of, HasRead};
+
+use crate::end::End;
+use crate::hart::Hart;
+use crate::running::{Intake, RunFault, step};
+use crate::streams::{GuestIn, GuestOut};
+use rv_isa::Reg;
+use rv_memory::Memory;
+use std::alloc::{AllocError, AllocFailed};
+use thiserror::Error;
+
+/// Why a watched run came to no end.
+#[derive(Clone, Copy, Debug, PartialEq, Eq, Drop, Error)]
+pub enum WatchFault {
+    /// A stream of the guest failed.
+    #[error("a stream failed")]
+    Run(RunFault),
+    /// What the watcher tells cannot be written.
+    #[error("cannot write")]
+    Unwritten,
+    #[error("out of memory")]
+    OutOfMemory,
+}
+
+impl From<AllocError> for WatchFault {
+    fn from(_: AllocError) -> Self {
+        WatchFault::OutOfMemory
+    }
+}
+
+impl<T: Drop> From<AllocFailed<T>> for WatchFault {
+    fn from(_: AllocFailed<T>) -> Self {
+        WatchFault::OutOfMemory
+    }
+}
+
+/// A hart over a memory that can be looked at between its steps. Its calls use streams.
+#[derive(Drop)]
+pub struct Watched<M: Memory + Drop> {
+    hart: Hart,
+    memory: M,
+    intake: Intake,
+}
+
+/// Who looks at a machine before and after each of its steps.
+pub trait Watcher<M: Memory + Drop> {
+    /// Looks at the machine before a step.
+    fn before(&mut self, machine: &Watched<M>) -> Result<(), WatchFault>;
+
+    /// Looks at the machine after a step that did not end the run.
+    fn after(&mut self, machine: &Watched<M>) -> Result<(), WatchFault>;
+}
+
+impl<M: Memory + Drop> Watched<M> {
+    /// A machine before its first step: registers 0 but sp, at an entry.
+    pub fn new(memory: M, entry: u64) -> Self
+        ensures hart { (input : List ℕ) → hart_of result.hart input [] ≡ start entry input }
+        ensures memory { M.mem result.memory ≡ M.mem memory }
+        ensures ended { result.intake.ended ≡ false }
+    {
+        Watched {
+            hart: Hart::new(entry),
+            memory,
+            intake: Intake {
+                ended: false,
+                buffer: [0; 4096],
+            },
+        }
+    }
+
+    /// The address of the next instruction.
+    #[inline]
+    pub fn pc(&self) -> u64
+        ensures { result ≡ self.now.hart.pc }
+    {
+        self.hart.pc
+    }
+
+    /// The value of a register.
+    #[inline]
+    pub fn register(&self, register: Reg) -> u64
+        ensures { result ≡ value_of self.now.hart.registers register }
+    {
+        self.hart.registers.get(register)
+    }
+
+    /// The memory.
+    #[inline]
+    pub fn memory(&self) -> &M
+        ensures { result.now ≡ self.now.memory }
+    {
+        &self.memory
+    }
+}
+
+/// Runs a machine, at most `limit` instructions, and has a watcher look at each step.
+pub fn run_watched<M: Memory + Drop, R: GuestIn, W: GuestOut, T: Watcher<M>>(
+    machine: &mut Watched<M>,
+    reader: &mut R,
+    writer: &mut W,
+    watcher: &mut T,
+    limit: u64,
+) -> Result<End, WatchFault>
+    // What was read and written, and the run from the machine's hart and memory for what was read and, unless a take
+    // gave nothing, for every input that begins with it.
+    ensures runs { let before = input_of machine.old.intake.ended (R.ends reader.old)
+        (R.left reader.old) in
+        let after = input_of machine.new.intake.ended (R.ends reader.new) (R.left reader.new) in
+        IfOk result (λ e. (read written : List ℕ) × HasRead before after read
+        × Appends (W.written writer.old) (W.written writer.new) written
+        × ((r : Reader Spells StandsFor) (rest : List ℕ) →
+        MayFollow (machine.new.intake.ended ≡ false) rest →
+        Accords (Ok e) written
+        (run_of r limit (hart_of machine.old.hart (read ++ rest) []) (M.mem machine.old.memory)))) }
+{
+    let mut left = limit;
+    while left > 0 {
+        watcher.before(machine)?;
+        match step(
+            &mut machine.hart,
+            &mut machine.memory,
+            &mut machine.intake,
+            reader,
+            writer,
+        ) {
+            Ok(None) => {}
+            Ok(Some(end)) => return Ok(end),
+            Err(fault) => return Err(WatchFault::Run(fault)),
+        }
+        left -= 1;
+        watcher.after(machine)?;
+    }
+    Ok(End::Limit)
+}
