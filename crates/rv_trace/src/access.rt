@@ -1,0 +1,122 @@
+//! What instructions read and write, from their operands.
+//!
+//! Source: RISC-V Unprivileged ISA 20191213, sections 2.5, 2.6, 8.2 and 8.4.
+
+use rv_isa::{AtomicOperation, BranchOperation, Format, Inst, LoadOperation, Reg, StoreOperation};
+use rv_machine::Watched;
+use rv_memory::Memory;
+
+/// What an instruction does with memory.
+#[derive(Clone, Copy, PartialEq, Eq, Drop)]
+pub(crate) enum AccessKind {
+    Load,
+    Store,
+    LoadReserved,
+    StoreConditional,
+    /// An atomic memory operation: it loads and stores.
+    Update,
+}
+
+/// An access of an instruction: where it is and how many bytes it has.
+#[derive(Clone, Copy, Drop)]
+pub(crate) struct Access {
+    pub kind: AccessKind,
+    pub base: Reg,
+    pub offset: i32,
+    pub bytes: u64,
+}
+
+impl Access {
+    /// The address of its first byte, modulo 2^64.
+    pub(crate) fn address<M: Memory + Drop>(&self, machine: &Watched<M>) -> u64 {
+        let offset = i64::from(self.offset).cast_unsigned();
+        machine.register(self.base).wrapping_add(offset)
+    }
+
+    /// Whether it reads memory.
+    pub(crate) fn loads(&self) -> bool {
+        matches!(
+            self.kind,
+            AccessKind::Load | AccessKind::LoadReserved | AccessKind::Update
+        )
+    }
+}
+
+/// The bytes of a load.
+fn loaded(operation: LoadOperation) -> u64 {
+    match operation {
+        LoadOperation::Lb | LoadOperation::Lbu => 1,
+        LoadOperation::Lh | LoadOperation::Lhu => 2,
+        LoadOperation::Lw | LoadOperation::Lwu => 4,
+        LoadOperation::Ld => 8,
+    }
+}
+
+/// The bytes of a store.
+fn stored(operation: StoreOperation) -> u64 {
+    match operation {
+        StoreOperation::Sb => 1,
+        StoreOperation::Sh => 2,
+        StoreOperation::Sw => 4,
+        StoreOperation::Sd => 8,
+    }
+}
+
+/// The access of an instruction, where it has one.
+pub(crate) fn access_of(inst: Inst) -> Option<Access> {
+    let (kind, base, offset, bytes) = match inst.format() {
+        Format::Load(operation, x) => (AccessKind::Load, x.rs1, x.immediate, loaded(operation)),
+        Format::Store(operation, x) => (AccessKind::Store, x.rs1, x.immediate, stored(operation)),
+        Format::LoadReserved(double, x) => (AccessKind::LoadReserved, x.rs1, 0, width(double)),
+        Format::Atomic(AtomicOperation::Sc, double, x) => {
+            (AccessKind::StoreConditional, x.rs1, 0, width(double))
+        }
+        Format::Atomic(_, double, x) => (AccessKind::Update, x.rs1, 0, width(double)),
+        _ => return None,
+    };
+    Some(Access {
+        kind,
+        base,
+        offset,
+        bytes,
+    })
+}
+
+fn width(double: bool) -> u64 {
+    if double { 8 } else { 4 }
+}
+
+/// The register that an instruction writes, where it writes one; x0 takes no value. A call of the environment writes a0.
+pub(crate) fn destination(inst: Inst) -> Option<Reg> {
+    let rd = match inst.format() {
+        Format::Registers(_, x) => x.rd,
+        Format::Immediate(_, x) => x.rd,
+        Format::Shift(_, x) => x.rd,
+        Format::Upper(_, x) => x.rd,
+        Format::Load(_, x) => x.rd,
+        Format::Jal(x) => x.rd,
+        Format::Jalr(x) => x.rd,
+        Format::LoadReserved(_, x) => x.rd,
+        Format::Atomic(_, _, x) => x.rd,
+        Format::Ecall => Reg::from_low_bits(10),
+        _ => return None,
+    };
+    if rd.number() == 0 { None } else { Some(rd) }
+}
+
+/// Whether a branch of two values is taken.
+pub(crate) fn is_taken(operation: BranchOperation, a: u64, b: u64) -> bool {
+    match operation {
+        BranchOperation::Beq => a == b,
+        BranchOperation::Bne => a != b,
+        BranchOperation::Blt => a.cast_signed() < b.cast_signed(),
+        BranchOperation::Bge => a.cast_signed() >= b.cast_signed(),
+        BranchOperation::Bltu => a < b,
+        BranchOperation::Bgeu => a >= b,
+    }
+}
+
+/// Whether a jump that leaves its return address in this register is a call (ISA, table 2.1).
+pub(crate) fn is_call(link: Reg) -> bool {
+    link.number() == 1 || link.number() == 5
+}

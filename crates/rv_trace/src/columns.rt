@@ -1,0 +1,104 @@
+//! Columns of fixed width, so that two texts can be compared line by line.
+
+use itoa::Buffer;
+use std::alloc::AllocError;
+
+/// The digits of a number in hexadecimal.
+const DIGITS: [u8; 16] = *b"0123456789abcdef";
+/// Blanks, which are added many at once.
+const BLANKS: [u8; 64] = [b' '; 64];
+
+/// Adds a text.
+pub(crate) fn put(text: &mut Vec<u8>, added: &str) -> Result<(), AllocError> {
+    text.extend_from_slice(added.as_bytes())?;
+    Ok(())
+}
+
+/// Adds a number of `bytes` bytes, at most eight, in hexadecimal, two digits a byte.
+pub(crate) fn put_fixed(text: &mut Vec<u8>, number: u64, bytes: u64) -> Result<(), AllocError> {
+    let mut digits = [b'0'; 16];
+    let mut left = number;
+    for digit in digits.iter_mut().rev() {
+        *digit = DIGITS[(left % 16) as usize];
+        left /= 16;
+    }
+    let shown = (bytes.min(8) * 2) as usize;
+    text.extend_from_slice(&digits[16 - shown..])?;
+    Ok(())
+}
+
+/// Adds a number in decimal.
+pub(crate) fn put_decimal(text: &mut Vec<u8>, number: u64) -> Result<(), AllocError> {
+    text.extend_from_slice(Buffer::new().format(number).as_bytes())?;
+    Ok(())
+}
+
+/// Adds a number in decimal, at the right of a column of this width.
+pub(crate) fn put_right(text: &mut Vec<u8>, number: u64, width: usize) -> Result<(), AllocError> {
+    let mut buffer = Buffer::new();
+    let digits = buffer.format(number).as_bytes();
+    put_blanks(text, width.saturating_sub(digits.len()))?;
+    text.extend_from_slice(digits)?;
+    Ok(())
+}
+
+/// Adds blanks.
+pub(crate) fn put_blanks(text: &mut Vec<u8>, count: usize) -> Result<(), AllocError> {
+    for _ in 0..count / 64 {
+        text.extend_from_slice(&BLANKS)?;
+    }
+    text.extend_from_slice(&BLANKS[..count % 64])?;
+    Ok(())
+}
+
+/// Fills a column that began at an offset of the text, to this width and one blank more.
+pub(crate) fn fill_column(
+    text: &mut Vec<u8>,
+    start: usize,
+    width: usize,
+) -> Result<(), AllocError> {
+    let used = text.len().saturating_sub(start);
+    put_blanks(text, width.saturating_sub(used).saturating_add(1))
+}
+
+/// Adds a count and what it is of, from the left.
+pub(crate) fn put_count(
+    text: &mut Vec<u8>,
+    indent: usize,
+    name: &str,
+    count: u64,
+) -> Result<(), AllocError> {
+    let start = text.len();
+    put_blanks(text, indent)?;
+    put(text, name)?;
+    fill_column(text, start, 24)?;
+    put_right(text, count, 16)
+}
+
+/// Adds how much a count is of a whole, in percent with one digit after the point.
+pub(crate) fn put_share(text: &mut Vec<u8>, count: u64, whole: u64) -> Result<(), AllocError> {
+    let tenths = match count.saturating_mul(1000).checked_div(whole) {
+        Some(tenths) => tenths,
+        None => 0,
+    };
+    put_right(text, tenths / 10, 8)?;
+    text.push(b'.')?;
+    put_decimal(text, tenths % 10)?;
+    put(text, " %")
+}
+
+/// Adds a symbol and how far behind it an address is, as `f+0x4`; nothing where no symbol is known.
+pub(crate) fn put_near(
+    text: &mut Vec<u8>,
+    near: Option<crate::places::Near<'_>>,
+) -> Result<(), AllocError> {
+    let Some(near) = near else {
+        return Ok(());
+    };
+    text.extend_from_slice(near.name)?;
+    if near.distance > 0 {
+        put(text, "+0x")?;
+        rv_map::put_hexadecimal(text, near.distance)?;
+    }
+    Ok(())
+}

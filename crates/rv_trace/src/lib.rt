@@ -1,0 +1,36 @@
+//! Why a run ended, and how it went: reports, traces and counts, in words of the program's symbols and lines.
+//!
+//! It takes a machine that [`run_watched`](rv_machine::run_watched) runs, and what is known of the program's addresses
+//! ([`Places`], from its map and its source), and gives texts: the instructions executed one by one ([`Trace`]), how often
+//! each was ([`Counts`], `counts_text`, `lines_text`, `lcov_text`), and why the run ended ([`Latest`], `report_text`).
+//!
+//! Main contract: that of `run_watched`, by which a run that is watched is the run of the machine. What the texts show is
+//! tested. It must not know files or the words of a command line.
+//!
+//! ```text
+//! let places = Places::new(alloc, Some(&map), Some(Source { name: "a.s", text }))?;
+//! let mut counts = Counts::new(alloc, &image)?;
+//! let mut machine = Watched::new(Paged::new(alloc, image)?, entry);
+//! let end = run_watched(&mut machine, &mut reader, &mut writer, &mut counts, limit)?;
+//! let text = counts_text(alloc, &counts, &places)?;
+//! ```
+//!
+//! Source: RISC-V Unprivileged ISA 20191213, chapters 2, 8 and 16; geninfo(1) of lcov, "Tracefile format".
+#![tactic(auto)]
+
+mod access;
+mod columns;
+mod counts;
+mod lines;
+mod places;
+mod report;
+mod sites;
+mod summary;
+mod trace;
+
+pub use counts::Counts;
+pub use lines::{lcov_text, lines_text};
+pub use places::{Places, Source};
+pub use report::{Latest, Segments, report_text};
+pub use summary::counts_text;
+pub use trace::Trace;

@@ -1,0 +1,189 @@
+//! How often the lines of sources were executed.
+//!
+//! A statement was executed as often as its first instruction. Statements that were never executed are shown with 0.
+
+use crate::columns::{put, put_decimal};
+use crate::counts::Counts;
+use crate::places::Places;
+use crate::sites::Site;
+use rv_map::Row;
+use std::alloc::{AllocError, Global};
+
+/// An address and how often the instruction there was executed.
+#[derive(Clone, Copy, Drop)]
+struct Executed {
+    address: u64,
+    count: u64,
+}
+
+/// A statement and how often it was executed.
+#[derive(Clone, Copy, Drop)]
+struct Covered {
+    row: Row,
+    count: u64,
+}
+
+/// A line for each statement that has instructions, by file and number: `FILE:LINE COUNT`; then how many of them were never
+/// executed.
+pub fn lines_text(
+    alloc: Global,
+    counts: &Counts,
+    places: &Places<'_>,
+) -> Result<Vec<u8>, AllocError> {
+    let covered = coverage(alloc, counts, places)?;
+    let mut text = Vec::new(alloc);
+    let mut never: u64 = 0;
+    for statement in &covered {
+        put_file(&mut text, places, statement.row.file)?;
+        text.push(b':')?;
+        put_decimal(&mut text, statement.row.line)?;
+        text.push(b' ')?;
+        put_decimal(&mut text, statement.count)?;
+        text.push(b'\n')?;
+        if statement.count == 0 {
+            never = never.saturating_add(1);
+        }
+    }
+    put(&mut text, "never executed ")?;
+    put_decimal(&mut text, never)?;
+    put(&mut text, " of ")?;
+    put_decimal(&mut text, covered.len() as u64)?;
+    put(&mut text, " statements\n")?;
+    Ok(text)
+}
+
+/// The lines as a tracefile of lcov, which `genhtml` draws. A line with several statements was executed as often as the one
+/// that was most.
+pub fn lcov_text(
+    alloc: Global,
+    counts: &Counts,
+    places: &Places<'_>,
+) -> Result<Vec<u8>, AllocError> {
+    let covered = coverage(alloc, counts, places)?;
+    let mut text = Vec::new(alloc);
+    put(&mut text, "TN:\n")?;
+    let mut file = 0;
+    let mut found: u64 = 0;
+    let mut hit: u64 = 0;
+    for line in &most_of_lines(alloc, covered.as_slice())? {
+        if line.row.file != file {
+            if file != 0 {
+                put_end(&mut text, found, hit)?;
+            }
+            put(&mut text, "SF:")?;
+            put_file(&mut text, places, line.row.file)?;
+            text.push(b'\n')?;
+            file = line.row.file;
+            found = 0;
+            hit = 0;
+        }
+        put_data(&mut text, line)?;
+        found = found.saturating_add(1);
+        if line.count > 0 {
+            hit = hit.saturating_add(1);
+        }
+    }
+    if file != 0 {
+        put_end(&mut text, found, hit)?;
+    }
+    Ok(text)
+}
+
+/// Adds the record of a line: `DA:LINE,COUNT`.
+fn put_data(text: &mut Vec<u8>, line: &Covered) -> Result<(), AllocError> {
+    put(text, "DA:")?;
+    put_decimal(text, line.row.line)?;
+    text.push(b',')?;
+    put_decimal(text, line.count)?;
+    text.push(b'\n')?;
+    Ok(())
+}
+
+/// Adds the end of a file's records: how many lines there are, and how many were executed.
+fn put_end(text: &mut Vec<u8>, found: u64, hit: u64) -> Result<(), AllocError> {
+    put(text, "LF:")?;
+    put_decimal(text, found)?;
+    put(text, "\nLH:")?;
+    put_decimal(text, hit)?;
+    put(text, "\nend_of_record\n")
+}
+
+/// Adds the name of a file, or its number where it has none.
+pub(crate) fn put_file(
+    text: &mut Vec<u8>,
+    places: &Places<'_>,
+    file: u64,
+) -> Result<(), AllocError> {
+    match places.source_name() {
+        Some(name) => put(text, name),
+        None => put_decimal(text, file),
+    }
+}
+
+/// The statements that have instructions by file and number, each with how often it was executed.
+fn coverage(
+    alloc: Global,
+    counts: &Counts,
+    places: &Places<'_>,
+) -> Result<Vec<Covered>, AllocError> {
+    let executed = by_address(alloc, counts.sites())?;
+    let mut covered = Vec::new(alloc);
+    for row in places.rows() {
+        if row.instructions > 0 {
+            let count = count_at(executed.as_slice(), row.address);
+            covered.push(Covered { row: *row, count })?;
+        }
+    }
+    covered.sort_by_key(|statement: &Covered| (statement.row.file, statement.row.ordinal))?;
+    Ok(covered)
+}
+
+/// One entry for each line of the statements, that of its statement that was executed most.
+fn most_of_lines(alloc: Global, covered: &[Covered]) -> Result<Vec<Covered>, AllocError> {
+    let mut ordered: Vec<Covered> = Vec::from_slice(alloc, covered)?;
+    ordered.sort_by_key(|statement| (statement.row.file, statement.row.line))?;
+    let mut lines: Vec<Covered> = Vec::new(alloc);
+    for statement in &ordered {
+        match lines.last_mut() {
+            Some(last) if is_same_line(&last.row, &statement.row) => {
+                last.count = last.count.max(statement.count);
+            }
+            _ => lines.push(*statement)?,
+        }
+    }
+    Ok(lines)
+}
+
+fn is_same_line(one: &Row, other: &Row) -> bool {
+    one.file == other.file && one.line == other.line
+}
+
+/// The addresses that were executed, in their order.
+fn by_address(alloc: Global, sites: &[Site]) -> Result<Vec<Executed>, AllocError> {
+    let mut ordered: Vec<Executed> = Vec::new(alloc);
+    for site in sites {
+        ordered.push(Executed {
+            address: site.pc,
+            count: site.count,
+        })?;
+    }
+    ordered.sort_by_key(|at| at.address)?;
+    let mut executed: Vec<Executed> = Vec::new(alloc);
+    for at in &ordered {
+        match executed.last_mut() {
+            Some(last) if last.address == at.address => {
+                last.count = last.count.saturating_add(at.count);
+            }
+            _ => executed.push(*at)?,
+        }
+    }
+    Ok(executed)
+}
+
+/// How often the instruction at an address was executed.
+fn count_at(executed: &[Executed], address: u64) -> u64 {
+    match executed.binary_search_by_key(&address, |at| at.address) {
+        Ok(index) => executed.get(index).map_or(0, |at| at.count),
+        Err(_) => 0,
+    }
+}

@@ -1,0 +1,250 @@
+//! What stands where: the symbols and the statements of a program, by address.
+//!
+//! A map lists both by name and by file; here they are sorted by address once, so that each instruction finds its own by
+//! a binary search. A map has global names alone; those of a file are the labels of its source, each at the address of the
+//! statement after it.
+
+use rv_lexer::SourceFault;
+use rv_map::{Map, Region, Row};
+use rv_parse::parse;
+use rv_statement::StatementKind;
+use std::alloc::{AllocError, Global};
+
+/// A source: its name, as the words of the command line have it, and its text.
+#[derive(Clone, Copy, Drop)]
+pub struct Source<'a> {
+    pub name: &'a str,
+    pub text: &'a [u8],
+}
+
+/// A name and its address.
+#[derive(Clone, Copy, Drop)]
+struct Symbol<'a> {
+    name: &'a [u8],
+    address: u64,
+}
+
+/// The nearest symbol at or below an address, in its region.
+#[derive(Clone, Copy, Drop)]
+pub(crate) struct Near<'a> {
+    pub name: &'a [u8],
+    /// The bytes from the symbol to the address.
+    pub distance: u64,
+}
+
+/// Whether the linker defines a name for the bound of a region: nothing of the program stands there.
+fn is_bound(name: &[u8]) -> bool {
+    let bounds: [&[u8]; 5] = [
+        b"_etext",
+        b"__bss_start",
+        b"_edata",
+        b"_end",
+        b"__global_pointer$",
+    ];
+    bounds.iter().any(|bound| *bound == name)
+}
+
+/// The address of a statement of the one source, by its ordinal.
+fn address_of(map: &Map, ordinal: u64) -> Option<u64> {
+    match map
+        .rows
+        .binary_search_by_key(&(1, ordinal), |row| (row.file, row.ordinal))
+    {
+        Ok(index) => map.rows.get(index).map(|row| row.address),
+        Err(_) => None,
+    }
+}
+
+/// What is known of a program's addresses; nothing where it has no map.
+#[derive(Drop)]
+pub struct Places<'a> {
+    /// By address.
+    symbols: Vec<Symbol<'a>>,
+    /// Those with bytes, by address.
+    rows: Vec<Row>,
+    regions: Vec<Region>,
+    source: Option<Source<'a>>,
+    /// The lines of the source, without their ends.
+    lines: Vec<&'a [u8]>,
+}
+
+impl<'a> Places<'a> {
+    /// What a map says, and the source where the program has one that is at hand.
+    pub fn new(
+        alloc: Global,
+        map: Option<&'a Map>,
+        source: Option<Source<'a>>,
+    ) -> Result<Self, SourceFault> {
+        let mut places = Places {
+            symbols: Vec::new(alloc),
+            rows: Vec::new(alloc),
+            regions: Vec::new(alloc),
+            source,
+            lines: Vec::new(alloc),
+        };
+        if let Some(map) = map {
+            places.add_globals(map)?;
+            if let Some(source) = source {
+                places.add_labels(alloc, map, source.text)?;
+            }
+            places.order_symbols(alloc)?;
+            places.add_rows(map)?;
+            for region in [map.text, map.rodata, map.data, map.bss] {
+                places.regions.push(region)?;
+            }
+        }
+        if let Some(source) = source {
+            for line in source.text.split(|byte| *byte == b'\n') {
+                places.lines.push(line)?;
+            }
+        }
+        Ok(places)
+    }
+
+    fn add_globals(&mut self, map: &'a Map) -> Result<(), AllocError> {
+        for global in &map.globals {
+            if !is_bound(global.name.as_slice()) {
+                self.symbols.push(Symbol {
+                    name: global.name.as_slice(),
+                    address: global.address,
+                })?;
+            }
+        }
+        Ok(())
+    }
+
+    /// Adds the labels of the source that was built: not numeric ones, those of GNU's local names (`.L`), and those with
+    /// nothing behind them in their part of a section.
+    fn add_labels(&mut self, alloc: Global, map: &Map, text: &'a [u8]) -> Result<(), SourceFault> {
+        let mut waiting: Vec<&'a [u8]> = Vec::new(alloc);
+        let mut ordinal: u64 = 0;
+        for statement in &parse(alloc, text)? {
+            ordinal = ordinal.saturating_add(1);
+            match &statement.kind {
+                StatementKind::Label(name) => {
+                    if !name.starts_with(b".L") {
+                        waiting.push(*name)?;
+                    }
+                }
+                StatementKind::Enters(_) | StatementKind::Opens(_) => waiting.clear(),
+                _ => {
+                    if let Some(address) = address_of(map, ordinal) {
+                        self.add_waiting(waiting.as_slice(), address)?;
+                        waiting.clear();
+                    }
+                }
+            }
+        }
+        Ok(())
+    }
+
+    /// Adds names of an address.
+    fn add_waiting(&mut self, names: &[&'a [u8]], address: u64) -> Result<(), AllocError> {
+        for name in names {
+            self.symbols.push(Symbol {
+                name: *name,
+                address,
+            })?;
+        }
+        Ok(())
+    }
+
+    /// Sorts the symbols by address, and keeps the first of those of an address.
+    fn order_symbols(&mut self, alloc: Global) -> Result<(), AllocError> {
+        self.symbols.sort_by_key(|symbol| symbol.address)?;
+        let mut kept: Vec<Symbol<'a>> = Vec::new(alloc);
+        for symbol in &self.symbols {
+            match kept.last() {
+                Some(last) if last.address == symbol.address => {}
+                _ => kept.push(*symbol)?,
+            }
+        }
+        self.symbols = kept;
+        Ok(())
+    }
+
+    fn add_rows(&mut self, map: &Map) -> Result<(), AllocError> {
+        for row in &map.rows {
+            if row.bytes > 0 {
+                self.rows.push(*row)?;
+            }
+        }
+        self.rows
+            .sort_by_key(|row| (row.address, row.file, row.ordinal))
+    }
+
+    /// The nearest symbol at or below an address, in the address's region.
+    pub(crate) fn symbol_at(&self, address: u64) -> Option<Near<'a>> {
+        let region = self
+            .regions
+            .iter()
+            .find(|region| region.start <= address && address < region.end)?;
+        let found = match self
+            .symbols
+            .binary_search_by_key(&address, |symbol| symbol.address)
+        {
+            Ok(index) => Some(index),
+            Err(index) => index.checked_sub(1),
+        };
+        let symbol = self.symbols.get(found?)?;
+        if symbol.address < region.start {
+            return None;
+        }
+        Some(Near {
+            name: symbol.name,
+            distance: address.wrapping_sub(symbol.address),
+        })
+    }
+
+    /// The statement that has the byte at an address.
+    pub(crate) fn row_at(&self, address: u64) -> Option<&Row> {
+        let found = match self.rows.binary_search_by_key(&address, |row| row.address) {
+            Ok(index) => Some(index),
+            Err(index) => index.checked_sub(1),
+        };
+        let row = self.rows.get(found?)?;
+        if address.wrapping_sub(row.address) < row.bytes {
+            Some(row)
+        } else {
+            None
+        }
+    }
+
+    /// Whether a statement begins at an address, and none of the same line stands right before it.
+    pub(crate) fn begins_line(&self, row: &Row, address: u64) -> bool {
+        if row.address != address {
+            return false;
+        }
+        match self.row_at(address.wrapping_sub(1)) {
+            Some(before) => before.file != row.file || before.line != row.line,
+            None => true,
+        }
+    }
+
+    /// The statements with bytes, by address.
+    pub(crate) fn rows(&self) -> &[Row] {
+        self.rows.as_slice()
+    }
+
+    /// The name of the source, where there is one.
+    pub(crate) fn source_name(&self) -> Option<&'a str> {
+        match self.source {
+            Some(source) => Some(source.name),
+            None => None,
+        }
+    }
+
+    /// The text of a line, from 1, without the blanks around it; none where the source is not at hand.
+    pub(crate) fn line(&self, number: u64) -> &'a [u8] {
+        let Some(before) = number.checked_sub(1) else {
+            return &[];
+        };
+        let Ok(index) = usize::try_from(before) else {
+            return &[];
+        };
+        match self.lines.get(index) {
+            Some(line) => line.trim_ascii(),
+            None => &[],
+        }
+    }
+}

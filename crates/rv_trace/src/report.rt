@@ -1,0 +1,279 @@
+//! Why a run ended: where, by which access, with what in the registers, and which instructions came before.
+
+use crate::access::{AccessKind, access_of};
+use crate::columns::{fill_column, put, put_decimal, put_fixed, put_near};
+use crate::places::Places;
+use crate::sites::{bits_at, inst_of};
+use crate::trace::put_line;
+use rv_disasm::{Targets, put_instruction};
+use rv_image::{Image, STACK_BYTES, STACK_START};
+use rv_isa::{Inst, Reg};
+use rv_machine::{End, WatchFault, Watched, Watcher};
+use rv_memory::Memory;
+use std::alloc::{AllocError, Global};
+
+/// The addresses of the latest 16 instructions of a run.
+#[derive(Drop)]
+pub struct Latest {
+    /// The instruction of number n, from 0, at n modulo 16.
+    addresses: [u64; 16],
+    /// How many instructions have begun.
+    count: u64,
+}
+
+impl Latest {
+    /// Of a run that has not begun.
+    pub fn new() -> Self {
+        Latest {
+            addresses: [0; 16],
+            count: 0,
+        }
+    }
+}
+
+impl<M: Memory + Drop> Watcher<M> for Latest {
+    #[inline]
+    fn before(&mut self, machine: &Watched<M>) -> Result<(), WatchFault> {
+        self.addresses[(self.count % 16) as usize] = machine.pc();
+        self.count = self.count.wrapping_add(1);
+        Ok(())
+    }
+
+    #[inline]
+    fn after(&mut self, _: &Watched<M>) -> Result<(), WatchFault> {
+        Ok(())
+    }
+}
+
+/// Addresses with the same rights.
+#[derive(Clone, Copy, Drop)]
+struct Bounds {
+    start: u64,
+    end: u64,
+    /// As a segment's flags.
+    flags: u32,
+}
+
+/// The segments of a program and its stack.
+#[derive(Drop)]
+pub struct Segments {
+    bounds: Vec<Bounds>,
+}
+
+impl Segments {
+    /// Those of an image, and the stack after them.
+    pub fn of(alloc: Global, image: &Image) -> Result<Self, AllocError> {
+        let mut bounds = Vec::new(alloc);
+        for segment in &image.segments {
+            bounds.push(Bounds {
+                start: segment.address,
+                end: segment.address.wrapping_add(segment.bytes.len() as u64),
+                flags: segment.flags,
+            })?;
+        }
+        bounds.push(Bounds {
+            start: STACK_START,
+            end: STACK_START + STACK_BYTES as u64,
+            flags: 6,
+        })?;
+        Ok(Segments { bounds })
+    }
+
+    /// The segment that has an address.
+    fn at(&self, address: u64) -> Option<&Bounds> {
+        self.bounds.iter().find(|bounds| {
+            address.wrapping_sub(bounds.start) < bounds.end.wrapping_sub(bounds.start)
+        })
+    }
+}
+
+/// Why a run ended that the guest did not end by an exit: the instruction at pc, the access that failed, the registers, the
+/// segments and the latest instructions.
+pub fn report_text<M: Memory + Drop>(
+    alloc: Global,
+    machine: &Watched<M>,
+    latest: &Latest,
+    places: &Places<'_>,
+    segments: &Segments,
+    end: &End,
+) -> Result<Vec<u8>, AllocError> {
+    let mut text = Vec::new(alloc);
+    put(&mut text, "at\n")?;
+    put_place(&mut text, machine, places, machine.pc())?;
+    if let Some(row) = places.row_at(machine.pc()) {
+        put(&mut text, "  ")?;
+        put_line(&mut text, places, row)?;
+        text.push(b'\n')?;
+    }
+    put_failed(&mut text, machine, segments, end)?;
+    put(&mut text, "registers\n")?;
+    for number in 0..32 {
+        put_register(&mut text, machine, places, Reg::from_low_bits(number))?;
+    }
+    put(&mut text, "segments\n")?;
+    for bounds in &segments.bounds {
+        put_bounds(&mut text, bounds)?;
+    }
+    put(&mut text, "latest instructions\n")?;
+    put_latest(&mut text, machine, latest, places)?;
+    Ok(text)
+}
+
+/// Adds the line of an address: its symbol, and the instruction that stands there.
+fn put_place<M: Memory + Drop>(
+    text: &mut Vec<u8>,
+    machine: &Watched<M>,
+    places: &Places<'_>,
+    address: u64,
+) -> Result<(), AllocError> {
+    put(text, "  ")?;
+    put_fixed(text, address, 8)?;
+    text.push(b' ')?;
+    let start = text.len();
+    put_near(text, places.symbol_at(address))?;
+    fill_column(text, start, 20)?;
+    match bits_at(machine.memory(), address) {
+        None => put(text, "no instruction: the bytes may not be executed")?,
+        Some(bits) => match inst_of(bits) {
+            None => put(text, "no instruction: the bytes spell none")?,
+            Some(inst) => put_instruction(text, Targets::Addresses(address), inst)?,
+        },
+    }
+    text.push(b'\n')?;
+    Ok(())
+}
+
+/// Adds the access that failed, where one did.
+fn put_failed<M: Memory + Drop>(
+    text: &mut Vec<u8>,
+    machine: &Watched<M>,
+    segments: &Segments,
+    end: &End,
+) -> Result<(), AllocError> {
+    let (Some(address), Some(what)) = (end.address(), failed(end, machine)) else {
+        return Ok(());
+    };
+    put(text, "access\n  ")?;
+    put(text, what.0)?;
+    put(text, " of ")?;
+    put_decimal(text, what.1)?;
+    put(text, " bytes at ")?;
+    put_fixed(text, address, 8)?;
+    put_why(text, segments, end, address, what.1)?;
+    text.push(b'\n')?;
+    Ok(())
+}
+
+/// Adds why an access of these bytes failed.
+fn put_why(
+    text: &mut Vec<u8>,
+    segments: &Segments,
+    end: &End,
+    address: u64,
+    bytes: u64,
+) -> Result<(), AllocError> {
+    if matches!(end, End::MisalignedAtomic(_)) {
+        return put(text, ", which is no multiple of them");
+    }
+    match segments.at(address) {
+        Some(bounds) if bounds.end.wrapping_sub(address) < bytes => {
+            put(text, ", past the end of a segment")
+        }
+        Some(bounds) => {
+            put(text, ", whose segment has ")?;
+            put(text, rights(bounds.flags))
+        }
+        None => put(text, ", in no segment"),
+    }
+}
+
+/// What a failed access was, and its bytes.
+fn failed<M: Memory + Drop>(end: &End, machine: &Watched<M>) -> Option<(&'static str, u64)> {
+    match end {
+        End::FetchOutside(_) => Some(("fetch", 2)),
+        End::LoadText(_)
+        | End::LoadOutside(_)
+        | End::StoreText(_)
+        | End::StoreOutside(_)
+        | End::MisalignedAtomic(_) => {
+            let access = access_of(inst_at(machine)?)?;
+            let name = match access.kind {
+                AccessKind::Load => "load",
+                AccessKind::Store => "store",
+                AccessKind::LoadReserved => "lr",
+                AccessKind::StoreConditional => "sc",
+                AccessKind::Update => "amo",
+            };
+            Some((name, access.bytes))
+        }
+        _ => None,
+    }
+}
+
+/// The instruction at pc.
+fn inst_at<M: Memory + Drop>(machine: &Watched<M>) -> Option<Inst> {
+    inst_of(bits_at(machine.memory(), machine.pc())?)
+}
+
+/// Adds a register: its name, its value, and the symbol that it points into.
+fn put_register<M: Memory + Drop>(
+    text: &mut Vec<u8>,
+    machine: &Watched<M>,
+    places: &Places<'_>,
+    reg: Reg,
+) -> Result<(), AllocError> {
+    put(text, "  ")?;
+    let start = text.len();
+    put(text, reg.abi_name())?;
+    fill_column(text, start, 4)?;
+    let value = machine.register(reg);
+    put_fixed(text, value, 8)?;
+    if let Some(near) = places.symbol_at(value) {
+        text.push(b' ')?;
+        put_near(text, Some(near))?;
+    }
+    text.push(b'\n')?;
+    Ok(())
+}
+
+/// Adds a segment: its first address, the address after it, and its rights.
+fn put_bounds(text: &mut Vec<u8>, bounds: &Bounds) -> Result<(), AllocError> {
+    put(text, "  ")?;
+    put_fixed(text, bounds.start, 8)?;
+    text.push(b' ')?;
+    put_fixed(text, bounds.end, 8)?;
+    text.push(b' ')?;
+    put(text, rights(bounds.flags))?;
+    text.push(b'\n')?;
+    Ok(())
+}
+
+/// The rights of a segment to read, to write and to execute, as `r--`.
+fn rights(flags: u32) -> &'static str {
+    match flags % 8 {
+        0 => "---",
+        1 => "--x",
+        2 => "-w-",
+        3 => "-wx",
+        4 => "r--",
+        5 => "r-x",
+        6 => "rw-",
+        _ => "rwx",
+    }
+}
+
+/// Adds the latest instructions, the last one at the end.
+fn put_latest<M: Memory + Drop>(
+    text: &mut Vec<u8>,
+    machine: &Watched<M>,
+    latest: &Latest,
+    places: &Places<'_>,
+) -> Result<(), AllocError> {
+    let shown = latest.count.min(16);
+    for back in 0..shown {
+        let number = latest.count.wrapping_sub(shown).wrapping_add(back);
+        let address = latest.addresses[(number % 16) as usize];
+        put_place(text, machine, places, address)?;
+    }
+    Ok(())
+}

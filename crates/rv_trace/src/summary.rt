@@ -1,0 +1,233 @@
+//! The counts of a run as a text.
+
+use crate::access::{AccessKind, access_of};
+use crate::columns::{fill_column, put, put_blanks, put_count, put_near, put_right, put_share};
+use crate::counts::Counts;
+use crate::places::Places;
+use crate::sites::Site;
+use rv_isa::{Format, Inst, mnemonic};
+use rv_map::put_hexadecimal;
+use std::alloc::{AllocError, Global};
+
+/// What instructions are for, in the order in which the text has them.
+const KINDS: [&str; 7] = [
+    "arithmetic",
+    "load",
+    "store",
+    "atomic",
+    "branch",
+    "jump",
+    "other",
+];
+
+/// Sums over a run.
+#[derive(Clone, Copy, Drop)]
+struct Sums {
+    executed: u64,
+    compressed: u64,
+    loads: u64,
+    stores: u64,
+    read: u64,
+    written: u64,
+    taken: u64,
+    untaken: u64,
+    kinds: [u64; 7],
+}
+
+/// A mnemonic and how often it was executed.
+#[derive(Clone, Copy, Drop)]
+struct Tally {
+    name: &'static str,
+    count: u64,
+}
+
+/// An address and how often it was called.
+#[derive(Clone, Copy, Drop)]
+struct Called {
+    address: u64,
+    count: u64,
+}
+
+/// What a run did, counted: a line each for all instructions, compressed ones, loads, stores, branches and the stack; then
+/// by kind, by mnemonic, and calls by function.
+pub fn counts_text(
+    alloc: Global,
+    counts: &Counts,
+    places: &Places<'_>,
+) -> Result<Vec<u8>, AllocError> {
+    let mut text = Vec::new(alloc);
+    let sums = sums_of(counts.sites());
+    put_sums(&mut text, &sums, counts.deepest())?;
+    put(&mut text, "by kind\n")?;
+    for (name, count) in KINDS.iter().zip(sums.kinds.iter()) {
+        put_part(&mut text, name, *count, sums.executed)?;
+    }
+    put(&mut text, "by mnemonic\n")?;
+    for tally in &tallies(alloc, counts.sites())? {
+        put_part(&mut text, tally.name, tally.count, sums.executed)?;
+    }
+    put(&mut text, "calls\n")?;
+    for called in &calls(alloc, counts.sites())? {
+        put_called(&mut text, called, places)?;
+    }
+    Ok(text)
+}
+
+/// Adds the lines of the sums.
+fn put_sums(text: &mut Vec<u8>, sums: &Sums, deepest: u64) -> Result<(), AllocError> {
+    let lines = [
+        ("instructions", sums.executed),
+        ("compressed", sums.compressed),
+        ("loads", sums.loads),
+        ("bytes read", sums.read),
+        ("stores", sums.stores),
+        ("bytes written", sums.written),
+        ("branches taken", sums.taken),
+        ("branches not taken", sums.untaken),
+        ("deepest stack", deepest),
+    ];
+    for (name, count) in lines {
+        put_count(text, 0, name, count)?;
+        if name == "compressed" {
+            put_share(text, count, sums.executed)?;
+        }
+        text.push(b'\n')?;
+    }
+    Ok(())
+}
+
+/// Adds the line of a part of all instructions, with its share.
+fn put_part(text: &mut Vec<u8>, name: &str, count: u64, whole: u64) -> Result<(), AllocError> {
+    put_count(text, 2, name, count)?;
+    put_share(text, count, whole)?;
+    text.push(b'\n')?;
+    Ok(())
+}
+
+/// Adds the line of a function, by its symbol, or by its address where it has none.
+fn put_called(text: &mut Vec<u8>, called: &Called, places: &Places<'_>) -> Result<(), AllocError> {
+    let start = text.len();
+    put_blanks(text, 2)?;
+    match places.symbol_at(called.address) {
+        Some(near) => put_near(text, Some(near))?,
+        None => {
+            put(text, "0x")?;
+            put_hexadecimal(text, called.address)?;
+        }
+    }
+    fill_column(text, start, 24)?;
+    put_right(text, called.count, 16)?;
+    text.push(b'\n')?;
+    Ok(())
+}
+
+fn sums_of(sites: &[Site]) -> Sums {
+    let mut sums = Sums {
+        executed: 0,
+        compressed: 0,
+        loads: 0,
+        stores: 0,
+        read: 0,
+        written: 0,
+        taken: 0,
+        untaken: 0,
+        kinds: [0; 7],
+    };
+    for site in sites {
+        add_site(&mut sums, site);
+    }
+    sums
+}
+
+/// Adds what the executions of an instruction did.
+fn add_site(sums: &mut Sums, site: &Site) {
+    let count = site.count;
+    add(&mut sums.executed, count);
+    if site.bytes() == 2 {
+        add(&mut sums.compressed, count);
+    }
+    let kind = kind_of(site.inst);
+    if let Some(sum) = sums.kinds.get_mut(kind) {
+        add(sum, count);
+    }
+    if let Format::Branch(_, _) = site.inst.format() {
+        add(&mut sums.taken, site.taken);
+        add(&mut sums.untaken, count.saturating_sub(site.taken));
+    }
+    let Some(access) = access_of(site.inst) else {
+        return;
+    };
+    if access.loads() {
+        add(&mut sums.loads, count);
+        add(&mut sums.read, count.saturating_mul(access.bytes));
+    }
+    let stores = match access.kind {
+        AccessKind::Store | AccessKind::Update => count,
+        AccessKind::StoreConditional => site.taken.min(count),
+        AccessKind::Load | AccessKind::LoadReserved => 0,
+    };
+    add(&mut sums.stores, stores);
+    add(&mut sums.written, stores.saturating_mul(access.bytes));
+}
+
+fn add(sum: &mut u64, count: u64) {
+    *sum = sum.saturating_add(count);
+}
+
+/// The index of an instruction's kind in `KINDS`.
+fn kind_of(inst: Inst) -> usize {
+    match inst.format() {
+        Format::Registers(_, _)
+        | Format::Immediate(_, _)
+        | Format::Shift(_, _)
+        | Format::Upper(_, _) => 0,
+        Format::Load(_, _) => 1,
+        Format::Store(_, _) => 2,
+        Format::LoadReserved(_, _) | Format::Atomic(_, _, _) => 3,
+        Format::Branch(_, _) => 4,
+        Format::Jal(_) | Format::Jalr(_) => 5,
+        Format::Fence(_) | Format::Ecall | Format::Ebreak => 6,
+    }
+}
+
+/// The mnemonics by how often they were executed, then by name.
+fn tallies(alloc: Global, sites: &[Site]) -> Result<Vec<Tally>, AllocError> {
+    let mut tallies: Vec<Tally> = Vec::new(alloc);
+    for site in sites {
+        if site.count > 0 {
+            add_to(&mut tallies, mnemonic(site.inst), site.count)?;
+        }
+    }
+    tallies.sort_by_key(|tally| tally.name)?;
+    tallies.sort_by_key(|tally| u64::MAX - tally.count)?;
+    Ok(tallies)
+}
+
+/// Adds to the count of a mnemonic.
+fn add_to(tallies: &mut Vec<Tally>, name: &'static str, count: u64) -> Result<(), AllocError> {
+    match tallies.iter().position(|tally| tally.name == name) {
+        Some(index) => {
+            if let Some(tally) = tallies.get_mut(index) {
+                add(&mut tally.count, count);
+            }
+        }
+        None => tallies.push(Tally { name, count })?,
+    }
+    Ok(())
+}
+
+/// The addresses that were called by how often they were, then by address.
+fn calls(alloc: Global, sites: &[Site]) -> Result<Vec<Called>, AllocError> {
+    let mut calls: Vec<Called> = Vec::new(alloc);
+    for site in sites {
+        if site.calls > 0 {
+            calls.push(Called {
+                address: site.pc,
+                count: site.calls,
+            })?;
+        }
+    }
+    calls.sort_by_key(|called| called.address)?;
+    calls.sort_by_key(|called| u64::MAX - called.count)?;
+    Ok(calls)
+}
