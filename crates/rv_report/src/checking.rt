@@ -1,0 +1,194 @@
+//! The faults of sources, one after the other.
+//!
+//! The first is the one that `build` gives. For the next one the statement of the last is blanked, and the source is
+//! assembled again: so each fault is one that `build` would give, and the layers below know nothing of it.
+
+ghost use Rattle.std.specs.Prelude.{map, IfOk};
+ghost use Rattle.rv_statement.specs.View.{now_of};
+ghost use Rattle.rv_report.specs.Check.{BeginsWithFaultOf, HasFirst};
+
+use crate::blanking::blank;
+use crate::closing::closing_of;
+use crate::excerpt::put_excerpt;
+use crate::linking::put_link_fault;
+use crate::place::{FaultPlace, place_of};
+use crate::report::{Finding, Report};
+use crate::sentences::put_sentence;
+use rv_assemble::assemble;
+use rv_chain::{Fault, LinkOptions, SourceCode, SourceFault, build};
+use std::alloc::{AllocError, Global};
+
+/// The most faults that are shown.
+const MOST_FAULTS: usize = 20;
+
+/// What is wrong with sources, in their order, or what they come to; `names` are those of the files. An error is want of
+/// memory.
+pub fn check(
+    alloc: Global,
+    names: &[&str],
+    sources: &[&[u8]],
+    options: LinkOptions,
+) -> Result<Report, Fault>
+    ensures first { IfOk result (λ report. BeginsWithFaultOf
+        (map now_of sources.now) options.text_start options.relax options.gc report.first) }
+{
+    match build(alloc, sources, options) {
+        Ok(built) => Ok(Report {
+            first: None,
+            others: Vec::new(alloc),
+            closing: closing_of(alloc, names, sources, built.map.as_slice())?,
+        }),
+        Err(Fault::Memory) => Err(Fault::Memory),
+        Err(fault) => refused(alloc, names, sources, fault),
+    }
+}
+
+/// The report of sources that have this fault first.
+fn refused(alloc: Global, names: &[&str], sources: &[&[u8]], fault: Fault) -> Result<Report, Fault>
+    ensures { IfOk result (λ report. HasFirst report.first fault) }
+{
+    let mut others = Vec::new(alloc);
+    let mut text = String::new(alloc);
+    match &fault {
+        Fault::Source(file, SourceFault::At { code, line }) => {
+            put_first(alloc, sources, *file, *code, *line, &mut text)?;
+            put_others(alloc, sources, *file, &mut others)?;
+        }
+        Fault::Link(link) => put_link_fault(alloc, names, sources, link, &mut text)?,
+        _ => {}
+    }
+    let closing = count_text(alloc, &mut others)?;
+    Ok(Report {
+        first: Some(Finding { fault, text }),
+        others,
+        closing,
+    })
+}
+
+/// Adds what is said of the first fault of a source, whose file counts from 1.
+fn put_first(
+    alloc: Global,
+    sources: &[&[u8]],
+    file: u32,
+    code: SourceCode,
+    line: u32,
+    text: &mut String,
+) -> Result<(), Fault> {
+    let Some(source) = sources.get((file as usize).saturating_sub(1)) else {
+        return Ok(());
+    };
+    if let Some(place) = place_of(alloc, source, code, line)? {
+        put_fault(text, source, code, line, &place)?;
+    }
+    Ok(())
+}
+
+/// Adds the faults after the first, which is in this file; one more than are shown tells that there are more.
+fn put_others(
+    alloc: Global,
+    sources: &[&[u8]],
+    file: u32,
+    others: &mut Vec<Finding>,
+) -> Result<(), Fault> {
+    let mut number = 0u32;
+    for source in sources {
+        number = number.saturating_add(1);
+        if file <= number {
+            let mut draft = source.to_vec(alloc)?;
+            put_faults_of(
+                alloc,
+                source,
+                draft.as_mut_slice(),
+                number,
+                number == file,
+                others,
+            )?;
+        }
+    }
+    Ok(())
+}
+
+/// Adds the faults of a source, but for its first one where it is there already.
+fn put_faults_of(
+    alloc: Global,
+    source: &[u8],
+    draft: &mut [u8],
+    file: u32,
+    but_first: bool,
+    others: &mut Vec<Finding>,
+) -> Result<(), Fault> {
+    let mut is_there = but_first;
+    for _ in 0..=MOST_FAULTS {
+        if MOST_FAULTS <= others.len() {
+            return Ok(());
+        }
+        let Some((code, line)) = first_fault(alloc, draft)? else {
+            return Ok(());
+        };
+        let place = place_of(alloc, draft, code, line)?;
+        if !is_there {
+            others.push(finding(alloc, source, file, code, line, place)?)?;
+        }
+        is_there = false;
+        match place {
+            Some(place) if blank(draft, code, &place) => {}
+            _ => return Ok(()),
+        }
+    }
+    Ok(())
+}
+
+/// The first fault of a source.
+fn first_fault(alloc: Global, source: &[u8]) -> Result<Option<(SourceCode, u32)>, Fault> {
+    match assemble(alloc, source) {
+        Ok(_) => Ok(None),
+        Err(SourceFault::At { code, line }) => Ok(Some((code, line))),
+        Err(SourceFault::OutOfMemory) => Err(Fault::Memory),
+    }
+}
+
+/// A fault of a source, with what is said of it.
+fn finding(
+    alloc: Global,
+    source: &[u8],
+    file: u32,
+    code: SourceCode,
+    line: u32,
+    place: Option<FaultPlace>,
+) -> Result<Finding, Fault> {
+    let mut text = String::new(alloc);
+    if let Some(place) = place {
+        put_fault(&mut text, source, code, line, &place)?;
+    }
+    Ok(Finding {
+        fault: Fault::Source(file, SourceFault::At { code, line }),
+        text,
+    })
+}
+
+/// Adds the line of a fault with carets, and its sentence.
+fn put_fault(
+    text: &mut String,
+    source: &[u8],
+    code: SourceCode,
+    line: u32,
+    place: &FaultPlace,
+) -> Result<(), AllocError> {
+    put_excerpt(text, source, line, place.shown)?;
+    put_sentence(text, source, code, place)
+}
+
+/// How many faults there are with the first; one that is too many to be shown is taken away.
+fn count_text(alloc: Global, others: &mut Vec<Finding>) -> Result<String, AllocError> {
+    if MOST_FAULTS <= others.len() {
+        let _ = others.pop();
+        return "20 faults, and more\n".to_string(alloc);
+    }
+    match others.len() {
+        0 => "1 fault\n".to_string(alloc),
+        others => {
+            let count = others + 1;
+            format!(in alloc; "{count} faults\n")
+        }
+    }
+}

@@ -1,0 +1,109 @@
+//! Where the tokens of a source define a name, refer to it or make it global.
+
+use crate::names::{is_assignment, is_globalizer, is_silent};
+use crate::tokens::{LineToken, Sort, is_label, text_of, unlabelled};
+
+/// The token that defines a name, as a label or by `.set`.
+pub(crate) fn definition_of(source: &[u8], tokens: &[LineToken], name: &[u8]) -> Option<LineToken> {
+    for group in tokens.split(|token| token.sort == Sort::End) {
+        let found = definition_in(source, group, name);
+        if found.is_some() {
+            return found;
+        }
+    }
+    None
+}
+
+/// The token of a statement that defines a name.
+fn definition_in(source: &[u8], group: &[LineToken], name: &[u8]) -> Option<LineToken> {
+    let mut left = group;
+    for _ in 0..group.len() {
+        let [first, second, rest @ ..] = left else {
+            return None;
+        };
+        if !is_label(first, second) {
+            let assigns = is_assignment(text_of(source, first)) && text_of(source, second) == name;
+            return if assigns { Some(*second) } else { None };
+        }
+        if text_of(source, first) == name {
+            return Some(*first);
+        }
+        left = rest;
+    }
+    None
+}
+
+/// The first token of a statement that refers to a name.
+pub(crate) fn reference_to(source: &[u8], tokens: &[LineToken], name: &[u8]) -> Option<LineToken> {
+    for group in tokens.split(|token| token.sort == Sort::End) {
+        let found = reference_in(source, unlabelled(group), name);
+        if found.is_some() {
+            return found;
+        }
+    }
+    None
+}
+
+/// The token of a statement that refers to a name.
+fn reference_in(source: &[u8], statement: &[LineToken], name: &[u8]) -> Option<LineToken> {
+    let (mnemonic, operands) = statement.split_first()?;
+    if is_silent(text_of(source, mnemonic)) {
+        return None;
+    }
+    for token in operands {
+        if token.sort == Sort::Name && text_of(source, token) == name {
+            return Some(*token);
+        }
+    }
+    None
+}
+
+/// Whether a source makes a name global or weak.
+pub(crate) fn is_made_global(source: &[u8], tokens: &[LineToken], name: &[u8]) -> bool {
+    for group in tokens.split(|token| token.sort == Sort::End) {
+        if makes_global(source, unlabelled(group), name) {
+            return true;
+        }
+    }
+    false
+}
+
+/// Whether a statement makes a name global.
+fn makes_global(source: &[u8], statement: &[LineToken], name: &[u8]) -> bool {
+    let Some((mnemonic, operands)) = statement.split_first() else {
+        return false;
+    };
+    if !is_globalizer(text_of(source, mnemonic)) {
+        return false;
+    }
+    for token in operands {
+        if text_of(source, token) == name {
+            return true;
+        }
+    }
+    false
+}
+
+/// The name before the only sign that adds to a name or takes away from it.
+pub(crate) fn lone_distance(tokens: &[LineToken]) -> Option<LineToken> {
+    let mut found = None;
+    let mut before: Option<LineToken> = None;
+    for token in tokens {
+        match before {
+            Some(name) if is_sum(&name, token) => {
+                if found.is_some() {
+                    return None;
+                }
+                found = Some(name);
+            }
+            _ => {}
+        }
+        before = Some(*token);
+    }
+    found
+}
+
+/// Whether a token is a name, and the next adds to it.
+fn is_sum(name: &LineToken, next: &LineToken) -> bool {
+    name.sort == Sort::Name && (next.sort == Sort::Plus || next.sort == Sort::Minus)
+}

@@ -1,0 +1,285 @@
+//! What is said of a fault of a source: what stands there, and what may.
+
+use crate::excerpt::put_bytes;
+use crate::names::{is_access, is_alignment, is_zero, range_of};
+use crate::place::FaultPlace;
+use crate::tokens::part;
+use rv_chain::SourceCode;
+use std::alloc::{AllocError, Global};
+
+/// Numbers of more digits may have the sign bit.
+const LONGEST_NUMBER: usize = 17;
+
+/// The bytes that a sentence speaks of.
+#[derive(Clone, Copy)]
+struct Subject<'a> {
+    /// The statement after its labels.
+    statement: &'a [u8],
+    /// The first word of the statement.
+    mnemonic: &'a [u8],
+    /// The first operand, up to a blank or a comma.
+    first: &'a [u8],
+    /// The second one.
+    second: &'a [u8],
+    /// What the carets show.
+    shown: &'a [u8],
+    /// The carets show a label before the statement.
+    is_before: bool,
+}
+
+/// Adds the sentence of a fault, as a line.
+pub(crate) fn put_sentence(
+    text: &mut String,
+    source: &[u8],
+    code: SourceCode,
+    place: &FaultPlace,
+) -> Result<(), AllocError> {
+    let statement = part(source, place.statement.start, place.statement.stop);
+    let mnemonic = word(statement);
+    let first = word(after(statement, mnemonic));
+    let second = word(after(after(statement, mnemonic), first));
+    let subject = Subject {
+        statement,
+        mnemonic,
+        first,
+        second,
+        shown: part(source, place.shown.start, place.shown.stop),
+        is_before: place.shown.start < place.statement.start,
+    };
+    text.push_str("  ")?;
+    if place.ends && code == SourceCode::BadOperands {
+        put_bytes(text, subject.mnemonic)?;
+        text.push_str(" cannot end here: an operand or a parenthesis is missing")?;
+    } else {
+        put_words(text, code, place.known, &subject)?;
+    }
+    text.push_str("\n")
+}
+
+/// The bytes up to a blank or a comma.
+fn word(bytes: &[u8]) -> &[u8] {
+    match bytes
+        .iter()
+        .position(|byte| matches!(*byte, b' ' | b'\t' | b','))
+    {
+        Some(end) => part(bytes, 0, end),
+        None => bytes,
+    }
+}
+
+/// What comes after a word at the front, its comma and blanks aside.
+fn after<'a>(bytes: &'a [u8], front: &[u8]) -> &'a [u8] {
+    let rest = part(bytes, front.len(), bytes.len()).trim_ascii_start();
+    match rest {
+        [b',', rest @ ..] => rest.trim_ascii_start(),
+        _ => rest,
+    }
+}
+
+/// Adds what is said of a fault inside a statement.
+fn put_words(
+    text: &mut String,
+    code: SourceCode,
+    known: bool,
+    subject: &Subject<'_>,
+) -> Result<(), AllocError> {
+    match code {
+        SourceCode::BadToken => put_bad_token(text, subject.shown),
+        SourceCode::BadOperands => put_bad_operand(text, known, subject),
+        SourceCode::ImmediateRange => put_range(text, known, subject),
+        SourceCode::NotConstant => {
+            put_shown(text, known, subject, "a value here")?;
+            text.push_str(
+                " is no number that is known at this line, and a number has to stand here",
+            )
+        }
+        SourceCode::UnknownMnemonic => put_shown_and(
+            text,
+            subject,
+            " is the name of no instruction",
+        ),
+        SourceCode::UnknownDirective => put_shown_and(
+            text,
+            subject,
+            " is the name of no directive",
+        ),
+        SourceCode::UnsupportedHere => put_unsupported(text, subject),
+        SourceCode::DuplicateLabel => {
+            put_shown(text, known, subject, "a name here")?;
+            text.push_str(" is defined before this line, and a name has one definition")
+        }
+        SourceCode::UndefinedLocal => {
+            if !known {
+                return text.push_str("what this refers to is no label of this source");
+            }
+            put_token(text, subject.shown)?;
+            text.push_str(" has no label: digits with b want it before, with f after this line")
+        }
+        SourceCode::ScratchRegister => {
+            put_shown(text, known, subject, "x0, or a register that is stored,")?;
+            text.push_str(" cannot hold the address on the way to the symbol; another register can")
+        }
+        SourceCode::WrongSection => {
+            put_shown(text, known, subject, "a statement of this line")?;
+            text.push_str(
+                " cannot stand in this section: instructions go to .text, data to .data or .rodata",
+            )
+        }
+        _ => text.push_str(plain_words(code)),
+    }
+}
+
+/// What is said of a fault whatever stands there.
+fn plain_words(code: SourceCode) -> &'static str {
+    match code {
+        SourceCode::BadByte => {
+            "outside strings and comments a source has printed ASCII characters alone"
+        }
+        SourceCode::NestingTooDeep => "64 parentheses and signs inside one another are the most",
+        SourceCode::DivisionByZero => "a division by 0 has no value; another number may stand here",
+        SourceCode::ShiftTooLarge => "a shift goes by 0 to 63",
+        SourceCode::OptionStack => "no .option push before this one is left to pop",
+        _ => "this passes a limit: 'rv explain E17' names them",
+    }
+}
+
+/// Adds what the carets show, or what stands for it where they show the statement.
+fn put_shown(
+    text: &mut String,
+    known: bool,
+    subject: &Subject<'_>,
+    otherwise: &str,
+) -> Result<(), AllocError> {
+    if known {
+        put_token(text, subject.shown)
+    } else {
+        text.push_str(otherwise)
+    }
+}
+
+/// Adds a token as it is written; a comma in words.
+fn put_token(text: &mut String, token: &[u8]) -> Result<(), AllocError> {
+    if token == b",".as_slice() {
+        return text.push_str("a comma");
+    }
+    put_bytes(text, token)
+}
+
+/// Adds what the carets show, and a text.
+fn put_shown_and(text: &mut String, subject: &Subject<'_>, after: &str) -> Result<(), AllocError> {
+    put_token(text, subject.shown)?;
+    text.push_str(after)
+}
+
+/// Adds what is said of a token that there is not.
+fn put_bad_token(text: &mut String, shown: &[u8]) -> Result<(), AllocError> {
+    match shown.first() {
+        Some(b'"') => text.push_str(
+            "the string that begins here has no end, or an escape that there is not",
+        ),
+        Some(b'\'') => text.push_str("the character that begins here has no end, or is none"),
+        Some(b'/') => text.push_str("the comment that begins here has no end"),
+        Some(digit) if digit.is_ascii_digit() => {
+            put_bytes(text, shown)?;
+            text.push_str(
+                " is no number: one is below 2^64 and has digits alone, after 0x hexadecimal ones",
+            )
+        }
+        _ => text.push_str("no word or sign of the language begins so"),
+    }
+}
+
+/// Adds what is said of what is left out: the name of the statement, or an operand.
+fn put_unsupported(text: &mut String, subject: &Subject<'_>) -> Result<(), AllocError> {
+    if subject.shown == subject.mnemonic {
+        return put_shown_and(
+            text,
+            subject,
+            " is left out of this language, at least with these operands",
+        );
+    }
+    put_bytes(text, subject.mnemonic)?;
+    text.push_str(" with ")?;
+    put_shown_and(text, subject, " is left out of this language")
+}
+
+/// Adds what is said of an operand that a statement does not take.
+fn put_bad_operand(
+    text: &mut String,
+    known: bool,
+    subject: &Subject<'_>,
+) -> Result<(), AllocError> {
+    if subject.is_before {
+        return put_shown_and(text, subject, " cannot be a label: it is a register's name");
+    }
+    put_bytes(text, subject.mnemonic)?;
+    text.push_str(" does not take ")?;
+
+    put_shown(text, known, subject, "these operands")?;
+    if known {
+        text.push_str(" here")?;
+    }
+    Ok(())
+}
+
+/// Adds what is said of a number out of its range.
+fn put_range(text: &mut String, known: bool, subject: &Subject<'_>) -> Result<(), AllocError> {
+    let Some(range) = range_in(subject) else {
+        put_shown(text, known, subject, "a value here")?;
+        text.push_str(
+            " is none that this statement takes: it is out of range, or a number as a target",
+        )?;
+        return Ok(());
+    };
+    put_bytes(text, subject.mnemonic)?;
+    text.push_str(" takes ")?;
+    text.push_str(range)?;
+    text.push_str(" here, ")?;
+    put_shown(text, known, subject, "the value")?;
+    text.push_str(size_in_words(subject))?;
+    if known && subject.mnemonic == b"addi".as_slice() {
+        put_load(text, subject)?;
+    }
+    Ok(())
+}
+
+/// What the number of a statement may be, where it is known: of a load or a store, before a register in parentheses.
+fn range_in(subject: &Subject<'_>) -> Option<&'static str> {
+    if is_access(subject.mnemonic) && !subject.statement.ends_with(b")") {
+        return None;
+    }
+    range_of(subject.mnemonic)
+}
+
+/// Adds the instruction that loads any number.
+fn put_load(text: &mut String, subject: &Subject<'_>) -> Result<(), AllocError> {
+    if !is_zero(subject.second) {
+        return text.push_str("; li loads it, and add adds it");
+    }
+    text.push_str("; li ")?;
+    put_bytes(text, subject.first)?;
+    text.push_str(", ")?;
+    put_bytes(text, subject.shown)?;
+    text.push_str(" loads it")
+}
+
+/// How a number misses its range, where it is written as one.
+fn size_in_words(subject: &Subject<'_>) -> &'static str {
+    if is_alignment(subject.mnemonic) || LONGEST_NUMBER < subject.shown.len() {
+        return " is outside";
+    }
+    match subject.shown {
+        [b'-', rest @ ..] if is_number(rest) => " is too small",
+        number if is_number(number) => " is too large",
+        _ => " is outside",
+    }
+}
+
+/// Whether a text is a number as it is written.
+fn is_number(text: &[u8]) -> bool {
+    match text.first() {
+        Some(first) => first.is_ascii_digit()
+            && text.iter().all(|byte| byte.is_ascii_alphanumeric()),
+        None => false,
+    }
+}
