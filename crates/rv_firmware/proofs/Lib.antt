@@ -1,0 +1,4 @@
+pub mod FoldsLemmas
+pub mod HeadersLemmas
+pub mod LinesLemmas
+pub mod RecordsLemmas
