@@ -1,0 +1,137 @@
+//! The names of a file and where they stand, in the columns of GNU's `nm`.
+
+use crate::columns::{put, put_blanks, put_name};
+use crate::letter::letter_of;
+use crate::parts::{bytes_of, count_symbols, section_named, symbol_at, symbol_table};
+use rv_elf::{ElfView, FileFault, SHN_UNDEF, Symbol, string_in};
+use rv_map::{Global as MapGlobal, Map, Region, put_padded};
+use std::alloc::{AllocError, Global};
+
+/// The lower half of `st_info`: the symbol stands for a section (gABI, STT_SECTION).
+const STT_SECTION: u8 = 3;
+/// The lower half of `st_info`: the symbol is the name of a source (gABI, STT_FILE).
+const STT_FILE: u8 = 4;
+
+/// A line of the table.
+#[derive(Debug, Drop)]
+struct Named<'a> {
+    name: &'a [u8],
+    letter: u8,
+    /// Where it stands, or its number; `None` where it is not defined here.
+    value: Option<u64>,
+}
+
+/// The symbols of a file by name, a line each; none where it has no symbol table.
+///
+/// Left out are symbols of sections and sources, those without a name, and those that assemblers make for themselves: as
+/// GNU's `nm` leaves them out.
+pub fn symbol_names(alloc: Global, file: &[u8]) -> Result<Option<Vec<u8>>, FileFault> {
+    let view = ElfView::open(file)?;
+    let Some(table) = symbol_table(&view) else {
+        return Ok(None);
+    };
+    let bytes = bytes_of(&view, &table)?;
+    let strings = bytes_of(&view, &section_named(&view, table.sh_link)?)?;
+    let names = named_in(alloc, &view, bytes, strings)?;
+    Ok(Some(lines(alloc, names)?))
+}
+
+/// The global names of a map by name, a line each.
+pub fn map_names(alloc: Global, map: &Map) -> Result<Vec<u8>, AllocError> {
+    let mut names = Vec::new(alloc);
+    for global in &map.globals {
+        names.push(Named {
+            name: global.name.as_slice(),
+            letter: global_letter(map, global),
+            value: Some(global.address),
+        })?;
+    }
+    lines(alloc, names)
+}
+
+/// The letter of a global name. Those that the linker makes at the ends of regions have that of their region.
+fn global_letter(map: &Map, global: &MapGlobal) -> u8 {
+    match global.name.as_slice() {
+        b"_etext" => b'T',
+        b"_edata" => b'D',
+        b"__bss_start" | b"_end" => b'B',
+        _ => region_letter(map, global.address),
+    }
+}
+
+/// The letter of the region that an address lies in.
+fn region_letter(map: &Map, address: u64) -> u8 {
+    if is_in(&map.text, address) {
+        b'T'
+    } else if is_in(&map.rodata, address) {
+        b'R'
+    } else if is_in(&map.data, address) {
+        b'D'
+    } else if is_in(&map.bss, address) {
+        b'B'
+    } else {
+        b'A'
+    }
+}
+
+fn is_in(region: &Region, address: u64) -> bool {
+    region.start <= address && address < region.end
+}
+
+/// The symbols of a table that are shown.
+fn named_in<'a>(
+    alloc: Global,
+    view: &ElfView<'a>,
+    table: &'a [u8],
+    strings: &'a [u8],
+) -> Result<Vec<Named<'a>>, FileFault> {
+    let mut names = Vec::new(alloc);
+    for index in 1..count_symbols(table).max(1) {
+        let symbol = symbol_at(table, index).ok_or(FileFault::Truncated)?;
+        let name = string_in(strings, symbol.st_name).ok_or(FileFault::BadString)?;
+        if is_shown(&symbol, name) {
+            names.push(Named {
+                name,
+                letter: letter_of(view, &symbol),
+                value: value_of(&symbol),
+            })?;
+        }
+    }
+    Ok(names)
+}
+
+fn value_of(symbol: &Symbol) -> Option<u64> {
+    if symbol.st_shndx == SHN_UNDEF {
+        return None;
+    }
+    Some(symbol.st_value)
+}
+
+/// Whether the table shows a symbol of this name.
+fn is_shown(symbol: &Symbol, name: &[u8]) -> bool {
+    let kind = symbol.st_info % 16;
+    let is_own = name.starts_with(b".L") || name.starts_with(b"$d") || name.starts_with(b"$x");
+    kind != STT_SECTION && kind != STT_FILE && !name.is_empty() && !is_own
+}
+
+/// The lines, by name.
+fn lines(alloc: Global, mut names: Vec<Named<'_>>) -> Result<Vec<u8>, AllocError> {
+    names.sort_by_key(|named| named.name)?;
+    let mut text = Vec::new(alloc);
+    for named in &names {
+        put_line(&mut text, named)?;
+    }
+    Ok(text)
+}
+
+fn put_line(text: &mut Vec<u8>, named: &Named<'_>) -> Result<(), AllocError> {
+    match named.value {
+        Some(value) => put_padded(text, value, 16)?,
+        None => put_blanks(text, 16)?,
+    }
+    put(text, b" ")?;
+    text.push(named.letter)?;
+    put(text, b" ")?;
+    put_name(text, named.name, 0)?;
+    put(text, b"\n")
+}

@@ -1,0 +1,154 @@
+//! The lines of a file's sections.
+
+use crate::columns::{put, put_blanks, put_decimal, put_left, put_name, put_right};
+use crate::parts::section_at;
+use rv_elf::{
+    ElfView, FileFault, SHT_GROUP, SHT_NOBITS, SHT_NOTE, SHT_NULL, SHT_PROGBITS, SHT_RELA,
+    SHT_STRTAB, SHT_SYMTAB, SectionHeader, SectionIndex,
+};
+use rv_map::{put_hexadecimal, put_padded};
+use std::alloc::AllocError;
+
+const HEADING: &[u8] = b"
+Section Headers:
+  [Nr] Name              Type            Address          Off    Size   ES Flg Lk Inf Al
+";
+
+const KEY: &[u8] = b"Key to Flags:
+  W (write), A (alloc), X (execute), M (merge), S (strings), I (info),
+  L (link order), O (extra OS processing required), G (group), T (TLS),
+  C (compressed), x (unknown), o (OS specific), E (exclude),
+  D (mbind), p (processor specific)
+";
+
+/// The letters of the flags, from the lowest bit up (gABI, "Sections"): `x` has no meaning.
+const FLAGS: &[u8] = b"WAXxMSILOGTCxxxxxxxxoooooooopppE";
+
+/// Adds the lines of the sections.
+pub(crate) fn put_sections(text: &mut Vec<u8>, view: &ElfView<'_>) -> Result<(), FileFault> {
+    let count = view.header().e_shnum;
+    if count == 0 {
+        put(text, b"\nThere are no sections in this file.\n")?;
+        return Ok(());
+    }
+    put(text, HEADING)?;
+    for index in 0..count {
+        let header = section_at(view, index).ok_or(FileFault::BadIndex)?;
+        put_section(text, view, index, &header)?;
+    }
+    put(text, KEY)?;
+    Ok(())
+}
+
+/// The name of a section; none where the file has no names of sections, or no name there.
+pub(crate) fn section_name<'a>(view: &ElfView<'a>, header: &SectionHeader) -> &'a [u8] {
+    let names = view.header().e_shstrndx;
+    if names >= view.header().e_shnum {
+        return b"";
+    }
+    view.name(SectionIndex(names), header.sh_name)
+        .unwrap_or(b"")
+}
+
+/// Adds the line of a section.
+fn put_section(
+    text: &mut Vec<u8>,
+    view: &ElfView<'_>,
+    index: u16,
+    header: &SectionHeader,
+) -> Result<(), AllocError> {
+    put(text, b"  [")?;
+    put_decimal(text, u64::from(index), 2)?;
+    put(text, b"] ")?;
+    put_name(text, section_name(view, header), 17)?;
+    put(text, b" ")?;
+    put_type(text, header.sh_type)?;
+    put(text, b" ")?;
+    put_extent(text, header)?;
+    put_flags(text, header.sh_flags)?;
+    put(text, b" ")?;
+    put_decimal(text, u64::from(header.sh_link), 2)?;
+    put(text, b" ")?;
+    put_decimal(text, u64::from(header.sh_info), 3)?;
+    put(text, b" ")?;
+    put_decimal(text, header.sh_addralign, 2)?;
+    put(text, b"\n")
+}
+
+/// Adds where a section stands in memory and in the file, its size and that of its records.
+fn put_extent(text: &mut Vec<u8>, header: &SectionHeader) -> Result<(), AllocError> {
+    put_padded(text, header.sh_addr, 16)?;
+    put(text, b" ")?;
+    put_padded(text, header.sh_offset, 6)?;
+    put(text, b" ")?;
+    put_padded(text, header.sh_size, 6)?;
+    put(text, b" ")?;
+    put_padded(text, header.sh_entsize, 2)?;
+    put(text, b" ")
+}
+
+/// Adds the letters of the flags.
+fn put_flags(text: &mut Vec<u8>, flags: u64) -> Result<(), AllocError> {
+    let mut letters = Vec::new(*text.allocator());
+    for bit in 0..32u32 {
+        if (flags >> bit) % 2 == 1 {
+            letters.push(FLAGS.get(bit as usize).copied().unwrap_or(b'x'))?;
+        }
+    }
+    put_right(text, letters.as_slice(), 3)
+}
+
+/// Adds the type of a section.
+fn put_type(text: &mut Vec<u8>, kind: u32) -> Result<(), AllocError> {
+    match type_name(kind) {
+        Some(name) => put_left(text, name, 15),
+        None => put_other_type(text, kind),
+    }
+}
+
+/// The name of a type of sections (gABI, "Sections"; psABI, "Section Types").
+fn type_name(kind: u32) -> Option<&'static [u8]> {
+    Some(match kind {
+        SHT_NULL => b"NULL",
+        SHT_PROGBITS => b"PROGBITS",
+        SHT_SYMTAB => b"SYMTAB",
+        SHT_STRTAB => b"STRTAB",
+        SHT_RELA => b"RELA",
+        5 => b"HASH",
+        6 => b"DYNAMIC",
+        SHT_NOTE => b"NOTE",
+        SHT_NOBITS => b"NOBITS",
+        9 => b"REL",
+        11 => b"DYNSYM",
+        14 => b"INIT_ARRAY",
+        15 => b"FINI_ARRAY",
+        16 => b"PREINIT_ARRAY",
+        SHT_GROUP => b"GROUP",
+        0x7000_0003 => b"RISCV_ATTRIBUTES",
+        _ => return None,
+    })
+}
+
+/// Adds a type that has no name, by the range that it lies in.
+fn put_other_type(text: &mut Vec<u8>, kind: u32) -> Result<(), AllocError> {
+    let number = u64::from(kind);
+    if number >= 0x8000_0000 {
+        put_offset(text, b"LOUSER+0x", number - 0x8000_0000)
+    } else if number >= 0x7000_0000 {
+        put_offset(text, b"LOPROC+0x", number - 0x7000_0000)
+    } else if number >= 0x6000_0000 {
+        put_offset(text, b"LOOS+0x", number - 0x6000_0000)
+    } else {
+        put_padded(text, number, 8)?;
+        put(text, b": <unknown>")
+    }
+}
+
+/// Adds the name of a range and a number, filled with blanks to the column's width.
+fn put_offset(text: &mut Vec<u8>, range: &[u8], number: u64) -> Result<(), AllocError> {
+    let start = text.len();
+    put(text, range)?;
+    put_hexadecimal(text, number)?;
+    let length = text.len().saturating_sub(start);
+    put_blanks(text, 15usize.saturating_sub(length))
+}

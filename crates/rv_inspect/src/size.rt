@@ -1,0 +1,164 @@
+//! The sizes of files, in the columns of GNU's `size`, Berkeley format.
+
+use crate::columns::{put, put_decimal, put_hexadecimal_right};
+use crate::parts::section_at;
+use rv_elf::{
+    ElfView, FileFault, PF_W, PT_LOAD, ProgramHeader, SHF_ALLOC, SHF_EXECINSTR, SHF_WRITE,
+    SHT_NOBITS, SectionHeader,
+};
+use std::alloc::{AllocError, Global};
+
+/// The bytes that a file has in memory, by what they are.
+#[derive(Clone, Copy, Debug, PartialEq, Eq, Drop)]
+struct Size {
+    /// Instructions and constants.
+    text: u64,
+    /// Variables that the file has bytes of.
+    data: u64,
+    /// Variables that begin as zeros.
+    bss: u64,
+}
+
+const NOTHING: Size = Size {
+    text: 0,
+    data: 0,
+    bss: 0,
+};
+
+impl Size {
+    /// That of a file: of its sections, or of its segments where it has no sections.
+    fn of(file: &[u8]) -> Result<Size, FileFault> {
+        let view = ElfView::open(file)?;
+        if view.header().e_shnum == 0 {
+            return Ok(of_segments(&view));
+        }
+        Ok(of_sections(&view))
+    }
+
+    fn plus(self, other: Size) -> Size {
+        Size {
+            text: self.text.saturating_add(other.text),
+            data: self.data.saturating_add(other.data),
+            bss: self.bss.saturating_add(other.bss),
+        }
+    }
+}
+
+fn of_sections(view: &ElfView<'_>) -> Size {
+    let mut size = NOTHING;
+    for index in 0..view.header().e_shnum {
+        if let Some(header) = section_at(view, index) {
+            size = size.plus(of_section(&header));
+        }
+    }
+    size
+}
+
+fn of_section(header: &SectionHeader) -> Size {
+    let bytes = header.sh_size;
+    let has = |flag: u64| header.sh_flags & flag != 0;
+    if !has(SHF_ALLOC) {
+        NOTHING
+    } else if has(SHF_EXECINSTR) || !has(SHF_WRITE) {
+        Size {
+            text: bytes,
+            ..NOTHING
+        }
+    } else if header.sh_type == SHT_NOBITS {
+        Size {
+            bss: bytes,
+            ..NOTHING
+        }
+    } else {
+        Size {
+            data: bytes,
+            ..NOTHING
+        }
+    }
+}
+
+fn of_segments(view: &ElfView<'_>) -> Size {
+    let mut size = NOTHING;
+    for index in 0..view.header().e_phnum {
+        size = size.plus(of_segment(&view.program(index)));
+    }
+    size
+}
+
+fn of_segment(header: &ProgramHeader) -> Size {
+    let zeros = header.p_memsz.saturating_sub(header.p_filesz);
+    if header.p_type != PT_LOAD {
+        NOTHING
+    } else if header.p_flags & PF_W == 0 {
+        Size {
+            text: header.p_memsz,
+            ..NOTHING
+        }
+    } else {
+        Size {
+            text: 0,
+            data: header.p_filesz,
+            bss: zeros,
+        }
+    }
+}
+
+/// A table of sizes, a line a file.
+#[derive(Debug, Drop)]
+pub struct SizeTable {
+    text: Vec<u8>,
+    total: Size,
+    several: bool,
+    any: bool,
+}
+
+impl SizeTable {
+    /// The heading alone.
+    pub fn new(alloc: Global) -> Result<Self, AllocError> {
+        let heading = b"   text\t   data\t    bss\t    dec\t    hex\tfilename\n";
+        Ok(SizeTable {
+            text: Vec::from_slice(alloc, heading)?,
+            total: NOTHING,
+            several: false,
+            any: false,
+        })
+    }
+
+    /// Adds the line of a file, or answers its first fault.
+    pub fn add(&mut self, name: &str, file: &[u8]) -> Result<(), FileFault> {
+        let size = Size::of(file)?;
+        self.total = self.total.plus(size);
+        self.several = self.any;
+        self.any = true;
+        put_line(&mut self.text, &size, name.as_bytes())?;
+        Ok(())
+    }
+
+    /// The text: the heading, the lines, and the total where there are several.
+    pub fn finish(self) -> Result<Vec<u8>, AllocError> {
+        let SizeTable {
+            text,
+            total,
+            several,
+            ..
+        } = self;
+        let mut text = text;
+        if several {
+            put_line(&mut text, &total, b"(TOTALS)")?;
+        }
+        Ok(text)
+    }
+}
+
+/// Adds a line.
+fn put_line(text: &mut Vec<u8>, size: &Size, name: &[u8]) -> Result<(), AllocError> {
+    let all = size.text.saturating_add(size.data).saturating_add(size.bss);
+    for bytes in [size.text, size.data, size.bss, all] {
+        put_decimal(text, bytes, 7)?;
+        put(text, b"\t")?;
+    }
+    put_hexadecimal_right(text, all, 7)?;
+    put(text, b"\t")?;
+    put(text, name)?;
+    put(text, b"\n")
+}
