@@ -11,7 +11,10 @@ use crate::error::CliError;
 use crate::messages::{end_line, fault_line, run_line};
 use crate::system::{FILE_LIMIT, GuestInput, Purpose, System};
 use crate::words::default_options;
-use rv_chain::{Built, End, Fault, LinkOptions, assemble_object, build, build_exe, link_objects};
+use rv_chain::{
+    Built, End, Fault, LinkOptions, assemble_object, build, build_exe, link_objects,
+    link_objects_exe,
+};
 use rv_image::{Image, load};
 use rv_streams::ReadFault;
 use std::alloc::{AllocError, Global};
@@ -226,8 +229,17 @@ fn link_files<S: System>(
     let alloc: Global = system.alloc();
     let read = read_files(system, names)?;
     let objects = borrowed(alloc, read.as_slice())?;
-    match link_objects(alloc, objects.as_slice(), options) {
-        Ok(built) => write_built(system, exe, map, &built),
+    if map.is_some() {
+        return match link_objects(alloc, objects.as_slice(), options) {
+            Ok(built) => write_built(system, exe, map, &built),
+            Err(fault) => Err(fault_line(alloc, &fault, names)?),
+        };
+    }
+    match link_objects_exe(alloc, objects.as_slice(), options) {
+        Ok(built) => {
+            write(system, exe, Purpose::ToRun, built.as_slice())?;
+            Ok(0)
+        }
         Err(fault) => Err(fault_line(alloc, &fault, names)?),
     }
 }
