@@ -3,7 +3,9 @@
 # make refused     refuses each request for memory of ./rv and of the library's calls in turn
 # make test        the whole gate: every proof from nothing, the must-fail edits, the tests, the programs and their cases,
 #                  and what each crate cost
-# make bench       measures rv beside GNU's tools, qemu-riscv64 and an interpreter in C, where they are installed
+# make bench       measures rv beside GNU's tools, qemu-riscv64 and an interpreter in C, where they are installed,
+#                  and prints the table of targets last
+# make growth      draws how their times grow: bench/growth.svg
 # make install     PREFIX=/usr/local by default
 
 PREFIX ?= /usr/local
@@ -13,7 +15,7 @@ PROGRAM := crates/rv_cli/out/rv_cli
 FILES := $(shell find crates \( -name out -o -name must-fail -o -name '*_tests' \) -prune -o -type f -print)
 SOURCES := crates.txt $(filter-out crates/rv_refused/%,$(FILES))
 
-.PHONY: all check refused test bench install clean
+.PHONY: all check refused test bench growth install clean
 
 all: rv
 	@echo "rv run $(EXAMPLE)"
@@ -42,6 +44,10 @@ test:
 
 bench: rv
 	python3 bench/run.py
+	python3 bench/targets.py
+
+growth: rv
+	python3 bench/growth.py
 
 install: rv
 	install -D -m 755 rv $(DESTDIR)$(PREFIX)/bin/rv
