@@ -212,13 +212,13 @@ fn reads_until_enough_or_nothing_comes(rt: HostRuntime) -> Result<(), Fail> {
 const OUT_FAILED: Result<End, RunFault> = Err(RunFault::OutputFault);
 
 /// A guest; the most bytes of a read and of a write; how many reads it comes to; how many bytes each of its writes has,
-/// which end at a page; its console.
+/// over the end of a page too; its console.
 type Moves = (&'static [u32], usize, usize, usize, &'static [u8]);
 
 const MOVES: [Moves; 4] = [
     (&HELLO, 9, 0, 5, b"hello"),
     (&HELLO, 1, 0, 1, b"hello"),
-    (&ECHO, 9, 2, 2, b"abcd"),
+    (&ECHO, 9, 2, 4, b"abcd"),
     (&ECHO, 1, 4, 1, b"abcd"),
 ];
 

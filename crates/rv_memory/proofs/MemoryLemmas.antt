@@ -1,7 +1,7 @@
 -- What rights, numbers and bytes at addresses are, range by range.
 
-use Rattle.std.proofs.Common.{◌≡◌, ◌≢◌, ℕ, zero, suc, ◌+◌, ◌-◌, ◌*◌, ◌/◌, ◌%◌, ◌^◌, ◌≤◌, ◌<◌, Bool, true, false, ◌⊎◌, inl, inr, List, [], ◌∷◌, ◌++◌, length, get_or, take, drop, drop-cons, refl, ap, sym, ◌∙◌, arith}
-use Rattle.std.proofs.lemmas.Bool.{and_parts, cases_order}
+use Rattle.std.proofs.Common.{◌≡◌, ◌≢◌, ℕ, zero, suc, ◌+◌, ◌/◌, ◌%◌, ◌^◌, ◌≤◌, ◌<◌, Bool, true, false, inl, inr, List, [], ◌∷◌, ◌++◌, length, get_or, take, drop, drop-cons, refl, ap, sym, ◌∙◌, arith}
+use Rattle.std.proofs.lemmas.Bool.{and_parts}
 use Rattle.std.proofs.lemmas.Bool.Decides.{nat_tests}
 use Rattle.std.proofs.Math.Nat.{div-div-eq-div-mul, pow-suc}
 use Rattle.std.specs.Int.{bytes_low_first, to_le_bytes, w64}
@@ -212,43 +212,3 @@ pub put-low : (m n : Mem) (a k v : ℕ) (digits : List ℕ) → k ≤ 8 → digi
 put-low m n a k v digits small is new =
     let low : take k digits ≡ little_endian k v = ap (take k) is ∙ sym (bytes-to_le_bytes k v small) in
     new ∙ ap (with_bytes m a) low ∙ sym (with_number-bytes m a k v)
-
--- four bytes as two and two, of which the first of the others is at b
-pub may-halves : (m : Mem) (a b n : ℕ) (r : Right) → n ≡ 4 → b % 2 ^ 64 ≡ (a + 2) % 2 ^ 64 → may m a 2 r ≡ true → may m b 2 r ≡ true → may m a n r ≡ true
-may-halves m a b n r four e low high =
-    ap (λ (k : ℕ). may m a k r) four ∙ sym (may-parts m a 2 2 (a + 2) 4 r refl refl low) ∙ sym (may-wraps m b (a + 2) 2 r e) ∙ high
-
-pub number-halves : (m : Mem) (a b n : ℕ) → n ≡ 4 → b % 2 ^ 64 ≡ (a + 2) % 2 ^ 64 → number_at m a n ≡ number_at m a 2 + 65536 * number_at m b 2
-number-halves m a b n four e =
-    let p : b % 2 ^ 64 ≡ (a + 1 + 1) % 2 ^ 64 = omega (arith, e) in
-    let q : (b + 1) % 2 ^ 64 ≡ (a + 1 + 1 + 1) % 2 ^ 64 = omega (arith, e) in
-    let third : m.byte (b % 2 ^ 64) ≡ m.byte ((a + 1 + 1) % 2 ^ 64) = ap m.byte p in
-    let fourth : m.byte ((b + 1) % 2 ^ 64) ≡ m.byte ((a + 1 + 1 + 1) % 2 ^ 64) = ap m.byte q in
-    let whole : number_at m a 4 ≡ number_at m a 2 + 65536 * number_at m b 2 = omega (arith, third, fourth) in
-    ap (number_at m a) four ∙ whole
-
-pub half-below : (m : Mem) (a : ℕ) (bs : List ℕ) → bytes_at m a 2 ≡ bs → ((k : ℕ) → get_or bs k 0 < 256) → number_at m a 2 < 65536
-half-below m a bs is small =
-    let first : m.byte (a % 2 ^ 64) ≡ get_or bs 0 0 = ap (λ (cs : List ℕ). get_or cs 0 0) is in
-    let second : m.byte ((a + 1) % 2 ^ 64) ≡ get_or bs 1 0 = ap (λ (cs : List ℕ). get_or cs 1 0) is in
-    omega (arith, first, second, small 0, small 1)
-
-small-half : (m : Mem) (a b k : ℕ) (low high : List ℕ) → b % 2 ^ 64 ≡ (a + 2) % 2 ^ 64 → bytes_at m a 2 ≡ low → bytes_at m b 2 ≡ high →
-    ((j : ℕ) → get_or low j 0 < 256) → ((j : ℕ) → get_or high j 0 < 256) → k < 4 → (k < 2) ⊎ (2 ≤ k) → m.byte ((a + k) % 2 ^ 64) < 256
-small-half m a b k low high e low_is high_is low_small high_small within (inl first) =
-    let at : m.byte ((a + k) % 2 ^ 64) ≡ get_or low k 0 = sym (byte-of-bytes m a 2 k first) ∙ ap (λ (bs : List ℕ). get_or bs k 0) low_is in
-    omega (arith, at, low_small k)
-small-half m a b k low high e low_is high_is low_small high_small within (inr second) =
-    let there : (a + k) % 2 ^ 64 ≡ (b + (k - 2)) % 2 ^ 64 = omega (arith, e) in
-    let at : m.byte ((b + (k - 2)) % 2 ^ 64) ≡ get_or high (k - 2) 0 =
-    sym (byte-of-bytes m b 2 (k - 2) (omega arith)) ∙ ap (λ (bs : List ℕ). get_or bs (k - 2) 0) high_is in
-    let here : m.byte ((a + k) % 2 ^ 64) ≡ get_or high (k - 2) 0 = ap m.byte there ∙ at in
-    omega (arith, here, high_small (k - 2))
-
-which-half : (k : ℕ) → (k < 2) ⊎ (2 ≤ k)
-which-half k = grind (arith, cases_order k 2)
-
-pub small-halves : (m : Mem) (a b n k : ℕ) (low high : List ℕ) → n ≡ 4 → b % 2 ^ 64 ≡ (a + 2) % 2 ^ 64 → bytes_at m a 2 ≡ low → bytes_at m b 2 ≡ high →
-    ((j : ℕ) → get_or low j 0 < 256) → ((j : ℕ) → get_or high j 0 < 256) → k < n → m.byte ((a + k) % 2 ^ 64) < 256
-small-halves m a b n k low high four e low_is high_is low_small high_small within =
-    small-half m a b k low high e low_is high_is low_small high_small (omega (arith, four, within)) (which-half k)

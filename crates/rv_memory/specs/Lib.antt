@@ -1,5 +1,5 @@
 pub mod Rights
 pub mod Flat
 pub mod Held
-pub mod Pages
+pub mod Stretches
 pub mod HeldPages

@@ -1,7 +1,8 @@
 //! A memory that keeps each segment as one piece.
 //!
 //! An access looks first at the segment where the latest search ended, a fetch at the first segment, where linkers put
-//! code: a constant index costs least. Each guess is tested like any other index, so no contract speaks of it.
+//! code: a constant index costs least. Each guess is tested like any other index, so no contract speaks of it. The
+//! segments are moved out of the image, so no zero of theirs is written again.
 
 ghost use Rattle.std.specs.Prelude.{
   ◌≡◌,
@@ -24,6 +25,8 @@ ghost use Rattle.std.specs.Prelude.{
   ◌++◌,
   IfSome,
   IfOk,
+  OnOk,
+  replicate,
   MatchOption,
   MatchBool,
   slice_get,
@@ -37,16 +40,19 @@ ghost use Rattle.rv_isa_laws.specs.Memory.{
   with_bytes,
   number_at,
   with_number,
+  Right as ARight,
   Write as ToWrite,
 };
 ghost use Rattle.rv_image.specs.Segment.{segment_of};
 ghost use Rattle.rv_memory.specs.Rights.{right_of, IsWidth, IsToLoad, MayLoad};
 ghost use Rattle.rv_memory.specs.Flat.{memory_of, AreDisjoint, no_segment, with_part};
+ghost use Rattle.rv_memory.specs.Stretches.{AreAlike, IsStretch};
 ghost use Rattle.rv_image.specs.Memory.{lies_in, has_flag, segment_at, mem_of};
 ghost use Rattle.rv_image.specs.Image.{image_of};
 
 use crate::memory::{Memory, Right};
 use crate::pieces::{Pieces, have_right, load_number, number, store_number};
+use crate::stretch::Stretch;
 use rv_image::{Image, STACK_BYTES, STACK_START, Segment};
 use std::alloc::{AllocError, Global};
 use std::cell::Cell;
@@ -56,12 +62,24 @@ use std::cell::Cell;
 /// latest one was found. A scan finds the segment where none of these holds it.
 #[derive(Drop)]
 pub struct Flat {
-    segments: Vec<Segment>,
+    pub(crate) segments: Vec<Segment>,
     /// The index of the segment where the latest search for bytes to execute ended.
     code: Cell<usize>,
     /// The index of the segment where the latest search for bytes below or above the stack ended.
     data: Cell<usize>,
-    ghost apart: { AreDisjoint (map segment_of segments.items) },
+    pub(crate) ghost apart: { AreDisjoint (map segment_of segments.items) },
+}
+
+/// How many zeros are written at once: vectors fill few bytes in fewer instructions than the processor's loop for many.
+const FILLED_AT_ONCE: usize = 1024;
+
+/// Fills a list up to a length with zeros.
+fn extend(list: &mut Vec<u8>, long: usize) -> Result<(), AllocError>
+    requires { length list.old.items ≤ long }
+    ensures { OnOk result
+        (list.new.items ≡ list.old.items ++ replicate (long - length list.old.items) 0) }
+{
+    list.resize(long, 0)
 }
 
 /// So many zeros.
@@ -69,7 +87,14 @@ fn zeros(alloc: Global, count: usize) -> Result<Vec<u8>, AllocError>
     ensures count { IfOk result (λ v. length v.items ≡ count) }
     ensures zeros { IfOk result (λ v. (k : ℕ) → slice_index v.items k ≡ 0) }
 {
-    vec![in alloc; 0; count]
+    let mut zeros = Vec::with_capacity(alloc, count)?;
+    let mut done = 0;
+    while done < count {
+        let next = done + (count - done).min(FILLED_AT_ONCE);
+        extend(&mut zeros, next)?;
+        done = next;
+    }
+    Ok(zeros)
 }
 
 /// The segments of an image, and the stack after them.
@@ -90,7 +115,7 @@ pub(crate) fn with_stack(alloc: Global, image: Image) -> Result<Vec<Segment>, Al
 
 /// Whether the address lies in the segment.
 #[inline(always)]
-fn is_held(segment: &Segment, address: u64) -> bool
+pub(crate) fn is_held(segment: &Segment, address: u64) -> bool
     ensures { result ≡ lies_in (segment_of segment.now) address }
 {
     address.wrapping_sub(segment.address) < segment.bytes.len() as u64
@@ -98,7 +123,7 @@ fn is_held(segment: &Segment, address: u64) -> bool
 
 /// Whether the segment's bytes have the right.
 #[inline(always)]
-fn is_given(segment: &Segment, right: Right) -> bool
+pub(crate) fn is_given(segment: &Segment, right: Right) -> bool
     ensures { result ≡ has_flag segment.now.flags (right_of right) }
 {
     match right {
@@ -110,7 +135,7 @@ fn is_given(segment: &Segment, right: Right) -> bool
 
 /// The segment's bytes from one on.
 #[inline(always)]
-fn bytes_from(segment: &Segment, at: u64) -> &[u8]
+pub(crate) fn bytes_from(segment: &Segment, at: u64) -> &[u8]
     requires { at ≤ length segment.now.bytes.items }
     ensures value { result.now ≡ drop at segment.now.bytes.items }
     ensures small { (k : ℕ) → slice_index result.now k < 256 }
@@ -144,7 +169,7 @@ impl Flat {
 
     /// The index of the segment in which an address lies.
     #[inline(always)]
-    fn position(&self, address: u64) -> Option<usize>
+    pub(crate) fn position(&self, address: u64) -> Option<usize>
         ensures within { IfSome result (λ i. i < length self.now.segments.items) }
         ensures found { MatchOption result (segment_at (pieces self.now) address ≡ None)
             (λ i. segment_at (pieces self.now) address ≡ slice_get (pieces self.now) i) }
@@ -171,26 +196,89 @@ impl Flat {
 
     /// The index of the segment where the latest search ended.
     #[inline(always)]
-    fn latest(&self, right: Right) -> usize {
+    pub(crate) fn latest(&self, right: Right) -> usize {
         match right {
             Right::Execute => self.code.get(),
             Right::Read | Right::Write => self.data.get(),
         }
     }
 
-    /// Has the next accesses look first at the segment of an address.
-    fn remember(&self, address: u64, right: Right) {
-        if let Some(i) = self.position(address) {
-            match right {
-                Right::Execute => self.code.set(i),
-                Right::Read | Right::Write => self.data.set(i),
-            }
+    /// Has the next accesses look first at the segment at the index.
+    pub(crate) fn remember(&self, i: usize, right: Right) {
+        match right {
+            Right::Execute => self.code.set(i),
+            Right::Read | Right::Write => self.data.set(i),
         }
+    }
+
+    /// Whether an address lies in the segment at the index.
+    pub(crate) fn holds(&self, i: usize, address: u64) -> bool
+        ensures within { result ≡ true → i < length self.now.segments.items }
+        ensures found { result ≡ true → segment_at (pieces self.now) address
+            ≡ slice_get (pieces self.now) i }
+    {
+        if i >= self.segments.len() {
+            return false;
+        }
+        let segment = &self.segments[i];
+        is_held(segment, address)
+    }
+
+    /// How many bytes from an address on have the right, as far as its segment goes, whose index is given.
+    #[inline(always)]
+    pub(crate) fn run_from(&self, i: usize, address: u64, right: Right) -> u64
+        requires within { i < length self.now.segments.items }
+        requires found { segment_at (pieces self.now) address ≡ slice_get (pieces self.now) i }
+        ensures all { may (held self.now) address result (right_of right) ≡ true }
+        ensures none { result ≡ 0 → (held self.now).has address (right_of right) ≡ false }
+    {
+        let segment = &self.segments[i];
+        if is_given(segment, right) {
+            segment.bytes.len() as u64 - (address - segment.address)
+        } else {
+            0
+        }
+    }
+
+    /// The bytes from an address on, as far as its segment goes, whose index is given.
+    #[inline(always)]
+    pub(crate) fn rest_from(&self, i: usize, address: u64) -> &[u8]
+        requires within { i < length self.now.segments.items }
+        requires found { segment_at (pieces self.now) address ≡ slice_get (pieces self.now) i }
+        ensures bytes { bytes_at (held self.now) address (length result.now) ≡ result.now }
+        ensures small { (k : ℕ) → slice_index result.now k < 256 }
+        ensures none { result.now ≡ [] →
+            (right : ARight) → (held self.now).has address right ≡ false }
+    {
+        let segment = &self.segments[i];
+        let bytes = segment.bytes.as_slice();
+        bytes.split_at((address - segment.address) as usize).1
+    }
+
+    /// Puts bytes that lie in the segment of an address, whose index is given; whether they do.
+    #[inline(always)]
+    pub(crate) fn put_from(&mut self, i: usize, address: u64, bytes: &[u8]) -> bool
+        requires within { i < length self.old.segments.items }
+        requires found { segment_at (pieces self.old) address ≡ slice_get (pieces self.old) i }
+        ensures put { MatchBool result
+            (held self.new ≡ with_bytes (held self.old) address bytes.now)
+            (held self.new ≡ held self.old) }
+        ensures one { length bytes.now ≡ 1 → result ≡ true }
+        ensures alike { AreAlike (pieces self.old) (pieces self.new) }
+    {
+        let segment = &self.segments[i];
+        let at = (address - segment.address) as usize;
+        let room = segment.bytes.len() - at;
+        if bytes.len() <= room {
+            self.write(i, at, bytes);
+            return true;
+        }
+        false
     }
 
     /// The bytes from an address on, where the segment at the index holds them and gives the right.
     #[inline(always)]
-    fn part(&self, i: usize, address: u64, bytes: u64, right: Right) -> Option<&[u8]>
+    pub(crate) fn part(&self, i: usize, address: u64, bytes: u64, right: Right) -> Option<&[u8]>
         ensures right { IfSome result
             (λ _. may (held self.now) address bytes (right_of right) ≡ true) }
         ensures length { IfSome result (λ part. length part.now ≡ bytes) }
@@ -209,12 +297,43 @@ impl Flat {
         Some(bytes_from(segment, at).split_at(bytes as usize).0)
     }
 
+    /// The number of bytes from an address on, where the stretch of the segment at the index holds it.
+    #[inline(always)]
+    pub(crate) fn near(
+        &self,
+        i: usize,
+        stretch: Stretch,
+        address: u64,
+        bytes: u64,
+        right: Right,
+    ) -> Option<u64>
+        requires width { IsWidth bytes }
+        requires known { IsStretch (pieces self.now) i stretch.start stretch.room bytes
+            (right_of right) }
+        ensures right { IfSome result
+            (λ _. may (held self.now) address bytes (right_of right) ≡ true) }
+        ensures number { IfSome result
+            (λ number. number ≡ number_at (held self.now) address bytes) }
+        ensures bytes { IfSome result
+            (λ _. (k : ℕ) → k < bytes → (held self.now).byte ((address + k) % 2 ^ 64) < 256) }
+    {
+        let at = address.wrapping_sub(stretch.start);
+        if at >= stretch.room {
+            return None;
+        }
+        let segment = &self.segments[i];
+        let part = bytes_from(segment, at).split_at(bytes as usize).0;
+        Some(number(part))
+    }
+
     /// Whether bytes have the right, by a search; the next accesses look first where it ended.
     #[inline(never)]
     fn search(&self, address: u64, bytes: u64, right: Right) -> bool
         ensures { result ≡ may (held self.now) address bytes (right_of right) }
     {
-        self.remember(address, right);
+        if let Some(i) = self.position(address) {
+            self.remember(i, right);
+        }
         self.may(address, bytes, right)
     }
 
@@ -254,11 +373,12 @@ impl Flat {
 
     /// Puts bytes where the segment at the index holds them and gives the right to write; whether it does.
     #[inline(always)]
-    fn put_part(&mut self, i: usize, address: u64, bytes: &[u8]) -> bool
-        ensures { MatchBool result
+    pub(crate) fn put_part(&mut self, i: usize, address: u64, bytes: &[u8]) -> bool
+        ensures put { MatchBool result
             ((may (held self.old) address (length bytes.now) ToWrite ≡ true)
             × (held self.new ≡ with_bytes (held self.old) address bytes.now))
             (pieces self.new ≡ pieces self.old) }
+        ensures alike { AreAlike (pieces self.old) (pieces self.new) }
     {
         if i >= self.segments.len() {
             return false;
@@ -270,6 +390,26 @@ impl Flat {
             return false;
         }
         self.write(i, at as usize, bytes);
+        true
+    }
+
+    /// Puts bytes where the stretch holds the address; whether it does.
+    #[inline(always)]
+    pub(crate) fn put_near(&mut self, stretch: Stretch, address: u64, bytes: &[u8]) -> bool
+        requires width { IsWidth (length bytes.now) }
+        requires known { IsStretch (pieces self.old) stretch.segment stretch.start stretch.room
+            (length bytes.now) ToWrite }
+        ensures put { MatchBool result
+            ((may (held self.old) address (length bytes.now) ToWrite ≡ true)
+            × (held self.new ≡ with_bytes (held self.old) address bytes.now))
+            (pieces self.new ≡ pieces self.old) }
+        ensures alike { AreAlike (pieces self.old) (pieces self.new) }
+    {
+        let offset = address.wrapping_sub(stretch.start);
+        if offset >= stretch.room {
+            return false;
+        }
+        self.write(stretch.segment, offset as usize, bytes);
         true
     }
 
@@ -285,13 +425,14 @@ impl Flat {
 
     /// Puts bytes into a segment, from one of its bytes on.
     #[inline(always)]
-    fn write(&mut self, i: usize, at: usize, bytes: &[u8])
+    pub(crate) fn write(&mut self, i: usize, at: usize, bytes: &[u8])
         requires index { i < length self.old.segments.items }
         requires within { at + length bytes.now
             ≤ length (slice_index_or (pieces self.old) i no_segment).bytes }
-        ensures { pieces self.new
+        ensures set { pieces self.new
             ≡ set (pieces self.old) i
             (with_part (slice_index_or (pieces self.old) i no_segment) at bytes.now) }
+        ensures alike { AreAlike (pieces self.old) (pieces self.new) }
     {
         let segment = &mut self.segments[i];
         overwrite(&mut segment.bytes, at, bytes);
@@ -306,14 +447,7 @@ impl Pieces for Flat {
     #[inline(always)]
     fn run(&self, address: u64, _most: u64, right: Right) -> u64 {
         match self.position(address) {
-            Some(i) => {
-                let segment = &self.segments[i];
-                if is_given(segment, right) {
-                    segment.bytes.len() as u64 - (address - segment.address)
-                } else {
-                    0
-                }
-            }
+            Some(i) => self.run_from(i, address, right),
             None => 0,
         }
     }
@@ -321,11 +455,7 @@ impl Pieces for Flat {
     #[inline(always)]
     fn rest(&self, address: u64) -> &[u8] {
         match self.position(address) {
-            Some(i) => {
-                let segment = &self.segments[i];
-                let bytes = segment.bytes.as_slice();
-                bytes.split_at((address - segment.address) as usize).1
-            }
+            Some(i) => self.rest_from(i, address),
             None => &[],
         }
     }
@@ -333,16 +463,7 @@ impl Pieces for Flat {
     #[inline(always)]
     fn put_within(&mut self, address: u64, bytes: &[u8]) -> bool {
         match self.position(address) {
-            Some(i) => {
-                let segment = &self.segments[i];
-                let at = (address - segment.address) as usize;
-                let room = segment.bytes.len() - at;
-                if bytes.len() <= room {
-                    self.write(i, at, bytes);
-                    return true;
-                }
-                false
-            }
+            Some(i) => self.put_from(i, address, bytes),
             None => false,
         }
     }

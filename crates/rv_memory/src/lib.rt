@@ -1,7 +1,8 @@
 //! Guest memory: bytes with rights, as a hart reads and writes them.
 //!
 //! It takes an image and gives a memory, [`Flat`] or [`Paged`], and the trait [`Memory`] by which a hart sees it. A
-//! `Flat` keeps each segment as one piece, a `Paged` pages of 4096 bytes in the order of their numbers.
+//! `Flat` keeps each segment as one piece; a `Paged` has them looked up by pages of 4096 bytes, in the order of their
+//! numbers.
 //!
 //! Main contract: the clauses of the trait tie every call to `mem`, the memory as data: `load` answers the little-endian
 //! number that stands there, `store` changes exactly its bytes, and `try_load` and `try_store` do so exactly where
@@ -25,6 +26,7 @@ mod page;
 mod paged;
 mod pieces;
 mod ranges;
+mod stretch;
 
 pub use flat::Flat;
 pub use memory::{Memory, Right};

@@ -1,169 +1,60 @@
-//! A page: bytes with a right each.
+//! Pages of 4096 bytes, and the list that finds their bytes.
 //!
-//! The rights of 1, 2, 4 or 8 bytes are tested as one number.
+//! The bytes of neighbouring pages lie side by side in their segment, whose rights are those of each of its bytes: a page
+//! keeps neither.
 
-ghost use Rattle.std.specs.Prelude.{
-  ◌≡◌,
-  ℕ,
-  ◌+◌,
-  ◌*◌,
-  ◌/◌,
-  ◌%◌,
-  ◌≤◌,
-  ◌<◌,
-  ◌++◌,
-  true,
-  false,
-  length,
-  take,
-  drop,
-  replicate,
-  IfOk,
-  IfSome,
-  slice_index,
-};
-ghost use Rattle.std.specs.List.{list_all};
-ghost use Rattle.rv_isa_laws.specs.Bytes.{number_in};
-ghost use Rattle.rv_image.specs.Memory.{has_flag};
-ghost use Rattle.rv_memory.specs.Rights.{right_of, flag_of, IsWidth};
+ghost use Rattle.std.specs.Prelude.{◌≤◌, ◌<◌, length, IfOk, IfErr};
 
-use crate::memory::Right;
-use crate::pieces::number;
-use std::alloc::{AllocError, Global};
+use rv_image::Segment;
+use std::alloc::AllocError;
 
 /// How many bytes a page has.
 pub const PAGE_BYTES: u64 = 4096;
 
-/// The bytes and the rights of the addresses whose quotient by 4096 is its number.
-#[derive(Drop)]
+/// A page that has a byte in a segment.
+#[derive(Clone, Copy, Drop)]
 pub struct Page {
+    /// The quotient of its addresses by 4096.
     pub number: u64,
-    /// The first of its addresses.
-    pub start: u64,
-    pub bytes: Box<[u8; 4096]>,
-    /// The rights of each byte: 1 to execute, 2 to write, 4 to read.
-    pub rights: Box<[u8; 4096]>,
-    pub ghost starts: { start ≡ 4096 * number },
-    pub ghost bytes_long: { length bytes.value ≡ 4096 },
-    pub ghost rights_long: { length rights.value ≡ 4096 },
+    /// The index of the segment that was first found on it.
+    pub segment: usize,
 }
 
-impl Page {
-    /// The page of an address, of zeros and without rights.
-    pub fn new(alloc: Global, address: u64) -> Result<Page, AllocError>
-        ensures number { IfOk result (λ page. page.number ≡ address / 4096) }
-        ensures bytes { IfOk result (λ page. (k : ℕ) → slice_index page.bytes.value k ≡ 0) }
-        ensures rights { IfOk result (λ page. (k : ℕ) → slice_index page.rights.value k ≡ 0) }
-    {
-        let number = address / PAGE_BYTES;
-        let start = number * PAGE_BYTES;
-        let bytes = Box::new(alloc, [0; 4096])?;
-        let rights = Box::new(alloc, [0; 4096])?;
-        Ok(Page {
-            number,
-            start,
-            bytes,
-            rights,
-        })
-    }
+/// Where the page of a number is in the list, or where it would go.
+fn position(pages: &[Page], number: u64) -> Result<usize, usize>
+    ensures found { IfOk result (λ i. i < length pages.now) }
+    ensures gap { IfErr result (λ i. i ≤ length pages.now) }
+{
+    pages.binary_search_by_key(&number, |page| page.number)
+}
 
-    /// Where an address stands in the page, where 1, 2, 4 or 8 bytes from it on are all the page's.
-    #[inline(always)]
-    pub fn place(&self, address: u64, bytes: usize) -> Option<usize>
-        requires { IsWidth bytes }
-        ensures number { IfSome result (λ _. self.now.number ≡ address / 4096) }
-        ensures place { IfSome result (λ at. at ≡ address % 4096) }
-        ensures within { IfSome result (λ at. at + bytes ≤ 4096) }
-    {
-        let at = address.wrapping_sub(self.start);
-        if at <= PAGE_BYTES - bytes as u64 {
-            Some(at as usize)
-        } else {
-            None
+/// The index of the segment to look at for an address, where it has a page.
+pub fn segment_of_page(pages: &[Page], address: u64) -> Option<usize> {
+    match position(pages, address / PAGE_BYTES) {
+        Ok(i) => Some(pages[i].segment),
+        Err(_) => None,
+    }
+}
+
+/// Adds the page of a number, where there is none.
+fn add_page(pages: &mut Vec<Page>, number: u64, segment: usize) -> Result<(), AllocError> {
+    match position(pages, number) {
+        Ok(_) => Ok(()),
+        Err(at) => {
+            pages.insert(at, Page { number, segment })?;
+            Ok(())
         }
     }
 }
 
-/// The flag of a right: PF_R, PF_W or PF_X.
-#[inline(always)]
-pub fn flag(right: Right) -> u8
-    ensures { result ≡ flag_of right }
-{
-    match right {
-        Right::Execute => 1,
-        Right::Write => 2,
-        Right::Read => 4,
+/// Adds the pages of a segment.
+pub fn add_pages(pages: &mut Vec<Page>, segment: &Segment, index: usize) -> Result<(), AllocError> {
+    let mut at = 0;
+    while at < segment.bytes.len() {
+        let address = segment.address + at as u64;
+        add_page(pages, address / PAGE_BYTES, index)?;
+        let room = (PAGE_BYTES - address % PAGE_BYTES) as usize;
+        at += room.min(segment.bytes.len() - at);
     }
-}
-
-/// The number of 1, 2, 4 or 8 bytes that each are the flag of the right.
-#[inline(always)]
-fn flags(count: usize, right: Right) -> u64
-    requires { IsWidth count }
-    ensures { result ≡ number_in (replicate count (flag_of right)) }
-{
-    let flag = u64::from(flag(right));
-    match count {
-        1 => flag,
-        2 => 0x101 * flag,
-        4 => 0x101_0101 * flag,
-        _ => 0x101_0101_0101_0101 * flag,
-    }
-}
-
-/// Whether 1, 2, 4 or 8 bytes with these rights all have the right.
-#[inline(always)]
-pub fn all_have(rights: &[u8], right: Right) -> bool
-    requires { IsWidth (length rights.now) }
-    ensures { result ≡ list_all (λ flags. has_flag flags (right_of right)) rights.now }
-{
-    let wanted = flags(rights.len(), right);
-    number(rights) & wanted == wanted
-}
-
-/// How many bytes with these rights, from the first on, have the right.
-pub fn count_having(rights: &[u8], right: Right) -> usize
-    ensures bound { result ≤ length rights.now }
-    ensures all { list_all (λ flags. has_flag flags (right_of right))
-        (take result rights.now) ≡ true }
-    ensures none { result ≡ 0 → 0 < length rights.now →
-        has_flag (slice_index rights.now 0) (right_of right) ≡ false }
-{
-    for (k, flags) in rights.iter().enumerate() {
-        if !is_given(*flags, right) {
-            return k;
-        }
-    }
-    rights.len()
-}
-
-/// Whether flags have the right.
-#[inline]
-fn is_given(flags: u8, right: Right) -> bool
-    ensures { result ≡ has_flag flags (right_of right) }
-{
-    match right {
-        Right::Execute => flags % 2 == 1,
-        Right::Write => flags / 2 % 2 == 1,
-        Right::Read => flags / 4 % 2 == 1,
-    }
-}
-
-/// So many elements from the one at `at` on.
-#[inline(always)]
-pub fn cut(elements: &[u8], at: usize, count: usize) -> &[u8]
-    requires { at + count ≤ length elements.now }
-    ensures value { result.now ≡ take count (drop at elements.now) }
-    ensures small { (k : ℕ) → slice_index result.now k < 256 }
-{
-    &elements[at..at + count]
-}
-
-/// Replaces `count` elements, from the one at `at` on, by one.
-pub fn overwrite_all(elements: &mut [u8], at: usize, count: usize, by: u8)
-    requires { at + count ≤ length elements.old }
-    ensures { elements.new
-        ≡ take at elements.old ++ (replicate count by ++ drop (at + count) elements.old) }
-{
-    elements[at..at + count].fill(by);
+    Ok(())
 }

@@ -1,9 +1,11 @@
-use Rattle.std.proofs.Common.{◌≡◌, ◌≤◌, ◌+◌, ◌++◌, ◌∙◌, ap, subst, length, take, drop, List, ℕ, arith}
+use Rattle.std.proofs.Common.{◌≡◌, ◌≤◌, ◌+◌, ◌++◌, ◌∙◌, ap, sym, subst, map, length, take, drop, List, ℕ, arith}
 use Rattle.std.proofs.Math.Seq.{take-append_seam}
 use Rattle.std.specs.Vec.{vec_len}
 use Rattle.rv_image.specs.Segment.{Segment, segment_of}
 use Rattle.rv_memory.specs.Flat.{with_part}
 use Rattle.rv_memory.proofs.FlatLemmas.{disjoint-written, segments-written, element-or, length-with_part}
+use Rattle.rv_memory.specs.Stretches.{AreAlike}
+use Rattle.rv_memory.proofs.StretchLemmas.{alike-set}
 use Rattle.rv_memory.proofs.flat.Flat.write.Goals as goal
 
 -- the segment with the bytes that the vector has after the write
@@ -27,8 +29,8 @@ invariant_of-self c =
           (rw (c.overwrite.ensures, c.deref_mut.ensures.value) (written (segment_of c.index_mut-segment.result.now) c.args.at (vec_len c.index_mut-segment.result.now.bytes) c.args.bytes.now _ fits long));
     }
 
-pub returns : goal.returns
-returns c =
+pub returns-clause-set : goal.returns-clause-set
+returns-clause-set c =
     let is = c.index_mut-segment.ensures.value in
     let e = element-or c.args.self.now.segments.items c.args.i c.index_mut-segment.result.now c.requires.index is in
     let fits : c.args.at + length c.args.bytes.now ≤ length c.index_mut-segment.result.now.bytes.items =
@@ -36,3 +38,14 @@ returns c =
     let long : length c.index_mut-segment.result.now.bytes.items ≡ vec_len c.index_mut-segment.result.now.bytes = omega (arith, c.deref_mut.ensures.len, ap length c.deref_mut.ensures.value) in
     segments-written c.args.self.now.segments.items c.args.i c.args.at c.index_mut-segment.result.now _ c.args.bytes.now c.requires.index is
     (rw (c.overwrite.ensures, c.deref_mut.ensures.value) (written (segment_of c.index_mut-segment.result.now) c.args.at (vec_len c.index_mut-segment.result.now.bytes) c.args.bytes.now _ fits long))
+
+pub returns-clause-alike : goal.returns-clause-alike
+returns-clause-alike c =
+    let is = c.index_mut-segment.ensures.value in
+    let e = element-or c.args.self.now.segments.items c.args.i c.index_mut-segment.result.now c.requires.index is in
+    let fits : c.args.at + length c.args.bytes.now ≤ length c.index_mut-segment.result.now.bytes.items =
+    subst (λ (s : Segment). c.args.at + length c.args.bytes.now ≤ length s.bytes) e c.requires.within in
+    let long : length c.index_mut-segment.result.now.bytes.items ≡ vec_len c.index_mut-segment.result.now.bytes = omega (arith, c.deref_mut.ensures.len, ap length c.deref_mut.ensures.value) in
+    let new = segments-written c.args.self.now.segments.items c.args.i c.args.at c.index_mut-segment.result.now _ c.args.bytes.now c.requires.index is
+    (rw (c.overwrite.ensures, c.deref_mut.ensures.value) (written (segment_of c.index_mut-segment.result.now) c.args.at (vec_len c.index_mut-segment.result.now.bytes) c.args.bytes.now _ fits long)) in
+    subst (AreAlike (map segment_of c.args.self.now.segments.items)) (sym new) (alike-set (map segment_of c.args.self.now.segments.items) c.args.i c.args.at c.args.bytes.now c.requires.within)

@@ -5,4 +5,4 @@ use Rattle.rv_memory.proofs.flat.FlatMemory.try_store.Goals as goal
 pub returns-then-put_part-clause-put : goal.returns-then-put_part-clause-put
 returns-then-put_part-clause-put c =
     put-low _ _ c.args.address c.args.bytes c.args.value c.to_le_bytes-digits.result (omega (arith, c.requires)) c.to_le_bytes-digits.ensures
-    c.if-put_part.ensures.1
+    c.if-put_part.ensures.put.1

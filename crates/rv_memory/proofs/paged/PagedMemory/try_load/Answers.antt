@@ -1,12 +1,8 @@
-use Rattle.std.proofs.Common.{◌≡◌, ◌+◌, ◌%◌, ◌^◌, sym, ◌∙◌, ap, get_or, arith, List, ℕ}
-use Rattle.rv_isa_laws.specs.Memory.{Mem}
-use Rattle.rv_memory.specs.HeldPages.{held_pages}
-use Rattle.rv_memory.proofs.MemoryLemmas.{byte-of-bytes}
+use Rattle.std.proofs.Common.{arith}
+use Rattle.rv_memory.proofs.StretchLemmas.{narrower}
 use Rattle.rv_memory.proofs.paged.PagedMemory.try_load.Goals as goal
 
-pub returns-in-Some-clause-bytes : goal.returns-in-Some-clause-bytes
-returns-in-Some-clause-bytes c = λ k low.
-    let m : Mem = held_pages c.args.self.now in
-    let e : m.byte ((c.args.address + k) % 2 ^ 64) ≡ get_or c.in-Some.part.now k 0 =
-    sym (byte-of-bytes m c.args.address c.args.bytes k low) ∙ ap (λ (bs : List ℕ). get_or bs k 0) c.in-Some.ensures.bytes in
-    omega (arith, e, c.in-Some.ensures.small k)
+pub near-requires-in-Read-clause-known : goal.near-requires-in-Read-clause-known
+near-requires-in-Read-clause-known c =
+    let known = narrower _ _ _ _ 8 c.args.bytes _ (omega (arith, c.requires.width)) c.first-stretch.ensures.reads in
+    rw c.in-Read.is known
