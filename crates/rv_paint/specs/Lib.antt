@@ -1,0 +1,2 @@
+pub mod Unpainted
+pub mod Painting

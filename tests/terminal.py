@@ -1,0 +1,82 @@
+#!/usr/bin/env python3
+"""Looks at when rv shows colours: on a terminal, and neither in a pipe nor a file, nor where NO_COLOR is set.
+
+Without its colours what a terminal shows is what a pipe has. Standard library alone; the last line is 'N passed, M failed'.
+"""
+
+import os
+import pty
+import re
+import subprocess
+import sys
+import tempfile
+from pathlib import Path
+
+ROOT = Path(__file__).resolve().parent.parent
+RV = str(ROOT / "rv")
+SOURCE = ROOT / "examples" / "exit7.s"
+COLOUR = re.compile(rb"\x1b\[[\d;]*m")
+# Words that print listings, and those that trace to standard error.
+TRACES = [["trace", str(SOURCE)], ["run", "--report", "--limit", "1", str(SOURCE)]]
+LISTINGS = [
+    ["objdump", "--map", "exit7.map", "exit7"],
+    ["objdump", "--raw", "exit7"],
+    ["dis", "exit7"],
+    ["dis", "--base", "--map", "exit7.map", "exit7"],
+    ["list", str(SOURCE)],
+]
+
+
+def in_pipe(words, folder):
+    ran = subprocess.run([RV, *words], cwd=folder, capture_output=True, timeout=60)
+    return ran.stderr if words in TRACES else ran.stdout
+
+
+def on_terminal(words, folder, **more):
+    """What a program writes to a terminal, with the line ends that it wrote."""
+    stream = "stderr" if words in TRACES else "stdout"
+    ours, theirs = pty.openpty()
+    environment = {key: value for key, value in os.environ.items() if key != "NO_COLOR"} | more
+    with subprocess.Popen([RV, *words], cwd=folder, env=environment, **{stream: theirs}) as started:
+        os.close(theirs)
+        came = b""
+        try:
+            while piece := os.read(ours, 4096):
+                came += piece
+        except OSError:
+            pass
+        started.wait(60)
+    os.close(ours)
+    return came.replace(b"\r\n", b"\n")
+
+
+def faults(words, folder):
+    """What is wrong with a listing."""
+    plain, shown = in_pipe(words, folder), on_terminal(words, folder)
+    if COLOUR.search(plain) or not plain:
+        yield "a pipe has colours, or nothing"
+    if not COLOUR.search(shown):
+        yield "a terminal has no colours"
+    if COLOUR.sub(b"", shown) != plain:
+        yield f"a terminal shows {shown!r}, and a pipe {plain!r}"
+    if on_terminal(words, folder, NO_COLOR="1") != plain:
+        yield "NO_COLOR has no effect"
+    if not COLOUR.search(on_terminal(words, folder, NO_COLOR="")):
+        yield "NO_COLOR has an effect where it is empty"
+
+
+def main():
+    failed = 0
+    with tempfile.TemporaryDirectory() as folder:
+        subprocess.run([RV, "build", "-o", "exit7", "--map", "exit7.map", str(SOURCE)], cwd=folder, check=True)
+        for words in LISTINGS + TRACES:
+            found = list(faults(words, folder))
+            failed += bool(found)
+            for fault in found:
+                print(f"rv {' '.join(words)}: {fault}")
+    print(f"{len(LISTINGS + TRACES) - failed} passed, {failed} failed")
+    return int(failed > 0)
+
+
+if __name__ == "__main__":
+    sys.exit(main())
