@@ -1,0 +1,353 @@
+//! The lines of a section's code: addresses, raw bytes and instructions, in the columns of GNU's `objdump -d -r`.
+
+use crate::alias_text::{put_alias, put_parcel_alias};
+use crate::columns::{put, put_blanks, put_decimal, put_hexadecimal_right, put_name, put_prefixed};
+use crate::instruction_text::{is_plain_fence, put_instruction};
+use crate::marks::Mark;
+use crate::pairs::Pairs;
+use crate::parcel_text::put_parcel;
+use crate::relocations::{Relocation, put_relocation};
+use crate::scope::{Scope, put_address, put_place};
+use rv_compress::{Compressed, next_inst, read};
+use rv_isa::{Format, Inst};
+use rv_map::put_padded;
+use std::alloc::AllocError;
+
+/// So many zeros or more are one line.
+const ZEROS: usize = 8;
+/// Fewer zeros than these at the end are one line.
+const LAST_ZEROS: usize = 3;
+/// What assemblers write for `unimp`: a read-only register is written.
+const UNIMP: u64 = 0xC000_1073;
+
+/// A section's bytes and what stands beside them.
+#[derive(Debug, Drop)]
+pub(crate) struct Code<'a> {
+    pub(crate) scope: Scope<'a>,
+    pub(crate) bytes: &'a [u8],
+    /// Where code and data begin in it, by their places.
+    pub(crate) marks: &'a [Mark],
+    /// Its relocations, by their places.
+    pub(crate) relocations: &'a [Relocation<'a>],
+    pub(crate) aliases: bool,
+}
+
+/// How far the lines are.
+#[derive(Debug, Drop)]
+struct Cursor<'p> {
+    /// How many marks stand there or before.
+    marks: usize,
+    /// How many relocations stand before.
+    relocations: usize,
+    pairs: &'p mut Pairs,
+}
+
+impl Code<'_> {
+    /// The address of the byte at an offset.
+    fn address(&self, offset: usize) -> u64 {
+        self.scope.start.saturating_add(offset as u64)
+    }
+
+    /// The offset of the byte at an address, as far as there are bytes.
+    fn offset(&self, address: u64) -> usize {
+        usize::try_from(address.saturating_sub(self.scope.start))
+            .unwrap_or(usize::MAX)
+            .min(self.bytes.len())
+    }
+}
+
+/// Adds the lines of a section.
+pub(crate) fn put_code(
+    text: &mut Vec<u8>,
+    code: &Code<'_>,
+    pairs: &mut Pairs,
+) -> Result<(), AllocError> {
+    put(text, b"\nDisassembly of section ")?;
+    put_name(text, code.scope.name, 0)?;
+    put(text, b":\n")?;
+    let mut cursor = Cursor {
+        marks: 0,
+        relocations: 0,
+        pairs,
+    };
+    let mut offset = 0;
+    for label in code.scope.own {
+        let next = code.offset(label.address);
+        if offset < next {
+            put_stretch(text, code, &mut cursor, offset, next)?;
+            offset = next;
+        }
+    }
+    if offset < code.bytes.len() {
+        put_stretch(text, code, &mut cursor, offset, code.bytes.len())?;
+    }
+    Ok(())
+}
+
+/// Adds the lines from an offset to that of the next name.
+fn put_stretch(
+    text: &mut Vec<u8>,
+    code: &Code<'_>,
+    cursor: &mut Cursor<'_>,
+    start: usize,
+    stop: usize,
+) -> Result<(), AllocError> {
+    put_label(text, &code.scope, code.address(start))?;
+    let mut offset = start;
+    for _ in start..stop {
+        if stop <= offset {
+            break;
+        }
+        let bytes = code.bytes.get(offset..).unwrap_or(b"");
+        let inside = bytes.get(..stop - offset).unwrap_or(bytes);
+        let count = match skipped(inside) {
+            Some(zeros) => {
+                put(text, b"\t...\n")?;
+                zeros
+            }
+            None => put_line(text, code, cursor, offset, bytes)?,
+        };
+        offset = offset.saturating_add(count);
+        put_relocations(text, code, cursor, code.address(offset))?;
+    }
+    Ok(())
+}
+
+/// Adds the line of a place with a name.
+fn put_label(text: &mut Vec<u8>, scope: &Scope<'_>, address: u64) -> Result<(), AllocError> {
+    put(text, b"\n")?;
+    put_padded(text, address, 16)?;
+    put(text, b" ")?;
+    put_place(text, scope, scope.own, address)?;
+    put(text, b":\n")
+}
+
+/// How many of these bytes are zeros without a line of their own: whole words of many zeros, or all where these are few.
+fn skipped(bytes: &[u8]) -> Option<usize> {
+    let zeros = count_zeros(bytes);
+    if zeros == bytes.len() {
+        if zeros >= ZEROS || zeros < LAST_ZEROS {
+            return Some(zeros);
+        }
+        return None;
+    }
+    if zeros >= ZEROS {
+        Some(zeros - zeros % 4)
+    } else {
+        None
+    }
+}
+
+fn count_zeros(bytes: &[u8]) -> usize {
+    let mut count = 0usize;
+    for byte in bytes {
+        if *byte != 0 {
+            break;
+        }
+        count = count.saturating_add(1);
+    }
+    count
+}
+
+/// Adds the line of the front of bytes; answers how many of them it shows.
+fn put_line(
+    text: &mut Vec<u8>,
+    code: &Code<'_>,
+    cursor: &mut Cursor<'_>,
+    offset: usize,
+    bytes: &[u8],
+) -> Result<usize, AllocError> {
+    let address = code.address(offset);
+    put_hexadecimal_right(text, address, width_below(code.scope.end))?;
+    put(text, b":\t")?;
+    let data = data_at(code, cursor, address, bytes.len());
+    if data != 0 {
+        return put_data(text, bytes, data);
+    }
+    match next_inst(bytes) {
+        Some((inst, 2)) => {
+            put_raw(text, bytes, 2)?;
+            put_parcel_line(text, code, cursor, address, &inst, bytes)?;
+            Ok(2)
+        }
+        Some((inst, _)) if !is_odd_fence(&inst) => {
+            put_raw(text, bytes, 4)?;
+            put_word_line(text, code, cursor, address, &inst)?;
+            Ok(4)
+        }
+        _ => put_unknown(text, code.aliases, bytes),
+    }
+}
+
+/// Whether an instruction is a fence with fields that no text of a fence has.
+fn is_odd_fence(inst: &Inst) -> bool {
+    match (*inst).format() {
+        Format::Fence(x) => !is_plain_fence(&x),
+        _ => false,
+    }
+}
+
+/// The digits of addresses below an end: a multiple of 4, with a blank at least in front.
+fn width_below(end: u64) -> usize {
+    let zeros = end.leading_zeros() / 4;
+    let digits = 16u32.saturating_sub(zeros).max(1) as usize;
+    ((digits / 4 + 1) * 4).min(16)
+}
+
+/// How many bytes of data are on the line of an address; 0 where code stands there.
+fn data_at(code: &Code<'_>, cursor: &mut Cursor<'_>, address: u64, left: usize) -> usize {
+    let rest = code.marks.get(cursor.marks..).unwrap_or(&[]);
+    let passed = rest.partition_point(|mark| mark.address <= address);
+    cursor.marks = cursor.marks.saturating_add(passed);
+    let Some(last) = cursor.marks.checked_sub(1) else {
+        return 0;
+    };
+    match code.marks.get(last) {
+        Some(mark) if mark.is_data => {}
+        _ => return 0,
+    }
+    let whole = match code.marks.get(cursor.marks) {
+        Some(next) => next.address.saturating_sub(address),
+        None => left as u64,
+    };
+    match whole {
+        0..=2 => whole as usize,
+        3 => 2,
+        _ => 4,
+    }
+}
+
+/// Adds the text of a parcel, and the address that it adds up to.
+fn put_parcel_line(
+    text: &mut Vec<u8>,
+    code: &Code<'_>,
+    cursor: &mut Cursor<'_>,
+    address: u64,
+    inst: &Inst,
+    bytes: &[u8],
+) -> Result<(), AllocError> {
+    let Some(parcel) = parcel_of(bytes) else {
+        return put(text, b"\n");
+    };
+    if code.aliases {
+        put_parcel_alias(text, &code.scope, address, &parcel, inst)?;
+    } else {
+        put_parcel(text, &code.scope, address, &parcel)?;
+    }
+    let sum = cursor.pairs.follow_parcel(parcel, code.aliases);
+    put_end(text, &code.scope, sum)
+}
+
+fn parcel_of(bytes: &[u8]) -> Option<Compressed> {
+    let low = *bytes.first()?;
+    let high = *bytes.get(1)?;
+    read(u16::from_le_bytes([low, high]))
+}
+
+/// Adds the text of a word, and the address that it adds up to.
+fn put_word_line(
+    text: &mut Vec<u8>,
+    code: &Code<'_>,
+    cursor: &mut Cursor<'_>,
+    address: u64,
+    inst: &Inst,
+) -> Result<(), AllocError> {
+    if code.aliases {
+        put_alias(text, &code.scope, address, inst)?;
+    } else {
+        put_instruction(text, &code.scope, address, inst)?;
+    }
+    let sum = cursor.pairs.follow_word(address, inst, code.aliases);
+    put_end(text, &code.scope, sum)
+}
+
+/// Ends a line, with an address where there is one.
+fn put_end(text: &mut Vec<u8>, scope: &Scope<'_>, sum: Option<u64>) -> Result<(), AllocError> {
+    if let Some(address) = sum {
+        put(text, b" # ")?;
+        put_address(text, scope, address)?;
+    }
+    put(text, b"\n")
+}
+
+/// Adds the first bytes as one number, the lowest byte last, with blanks up to the column of the instruction.
+fn put_raw(text: &mut Vec<u8>, bytes: &[u8], count: usize) -> Result<(), AllocError> {
+    put_number(text, bytes, count)?;
+    put_blanks(text, if count < 4 { 16 } else { 10 })?;
+    put(text, b"\t")
+}
+
+fn put_number(text: &mut Vec<u8>, bytes: &[u8], count: usize) -> Result<(), AllocError> {
+    for byte in bytes.get(..count).unwrap_or(bytes).iter().rev() {
+        put_padded(text, u64::from(*byte), 2)?;
+    }
+    Ok(())
+}
+
+/// Adds the bytes of a word or a parcel that spells no instruction; answers how many.
+fn put_unknown(text: &mut Vec<u8>, aliases: bool, bytes: &[u8]) -> Result<usize, AllocError> {
+    let is_word = match bytes.first() {
+        Some(first) => *first % 4 == 3,
+        None => false,
+    };
+    let count = bytes.len().min(if is_word { 4 } else { 2 });
+    put_raw(text, bytes, count)?;
+    let number = number_of(bytes, count);
+    match (number, count) {
+        (0, 2) => put(text, if aliases { b"unimp" } else { b"c.unimp" })?,
+        (UNIMP, 4) => put(text, b"unimp")?,
+        _ => put_unknown_number(text, number, count)?,
+    }
+    put(text, b"\n")?;
+    Ok(count.max(1))
+}
+
+fn put_unknown_number(text: &mut Vec<u8>, number: u64, count: usize) -> Result<(), AllocError> {
+    put(text, b".")?;
+    put_decimal(text, count as u64, 0)?;
+    put(text, b"byte\t")?;
+    put_prefixed(text, number)
+}
+
+/// The first bytes as a number, the lowest first.
+fn number_of(bytes: &[u8], count: usize) -> u64 {
+    let mut number = 0u64;
+    for byte in bytes.get(..count).unwrap_or(bytes).iter().rev() {
+        number = number.wrapping_shl(8) | u64::from(*byte);
+    }
+    number
+}
+
+/// Adds 1, 2 or 4 bytes of data as a number; answers how many.
+fn put_data(text: &mut Vec<u8>, bytes: &[u8], count: usize) -> Result<usize, AllocError> {
+    put_raw(text, bytes, count)?;
+    put(
+        text,
+        match count {
+            1 => b".byte\t0x",
+            2 => b".short\t0x",
+            _ => b".word\t0x",
+        },
+    )?;
+    put_number(text, bytes, count)?;
+    put(text, b"\n")?;
+    Ok(count.max(1))
+}
+
+/// Adds the lines of the relocations before an address.
+fn put_relocations(
+    text: &mut Vec<u8>,
+    code: &Code<'_>,
+    cursor: &mut Cursor<'_>,
+    end: u64,
+) -> Result<(), AllocError> {
+    let rest = code.relocations.get(cursor.relocations..).unwrap_or(&[]);
+    for relocation in rest {
+        if end <= relocation.place {
+            break;
+        }
+        put_relocation(text, relocation)?;
+        cursor.relocations = cursor.relocations.saturating_add(1);
+    }
+    Ok(())
+}

@@ -1,0 +1,162 @@
+//! The names of a file's code and where code and data begin there, from its symbols or from a map.
+//!
+//! Data in code is told by the marks `$d` and `$x` that GNU's assembler makes. Sources of `rv` have none: there, what is no
+//! instruction is the filling of an alignment.
+
+use crate::labels::{Label, Labels};
+use crate::marks::{Mark, Marks};
+use crate::parts::{bytes_of, count_symbols, section_named, symbol_at, symbol_table};
+use crate::relocations::{Relocation, file_relocations};
+use rv_elf::{
+    ET_REL, ElfView, FileFault, SHN_ABS, SHN_UNDEF, STB_GLOBAL, STB_LOCAL, Symbol, string_in,
+};
+use rv_map::Map;
+use std::alloc::{AllocError, Global};
+
+/// The lower half of `st_info`: a variable (gABI, STT_OBJECT).
+const STT_OBJECT: u8 = 1;
+/// The lower half of `st_info`: a function (gABI, STT_FUNC).
+const STT_FUNC: u8 = 2;
+/// The lower half of `st_info`: the symbol stands for a section (gABI, STT_SECTION).
+const STT_SECTION: u8 = 3;
+/// The lower half of `st_info`: the symbol is the name of a source (gABI, STT_FILE).
+const STT_FILE: u8 = 4;
+/// From here on, `st_shndx` names no section (gABI, SHN_LORESERVE).
+const FIRST_RESERVED: u16 = 0xFF00;
+
+/// What stands where in a file.
+#[derive(Debug, Drop)]
+pub(crate) struct CodeNames<'a> {
+    pub(crate) labels: Labels<'a>,
+    pub(crate) marks: Marks,
+    /// The value of `__global_pointer$`.
+    pub(crate) pointer: Option<u64>,
+    /// The relocations of an object, by their sections and places.
+    pub(crate) relocations: Vec<Relocation<'a>>,
+}
+
+/// Those of a file's symbols.
+pub(crate) fn file_names<'a>(
+    alloc: Global,
+    view: &ElfView<'a>,
+) -> Result<CodeNames<'a>, FileFault> {
+    let mut labels = Vec::new(alloc);
+    let mut marks = Vec::new(alloc);
+    let mut pointer = None;
+    let relocations = if view.header().e_type == ET_REL {
+        file_relocations(alloc, view)?
+    } else {
+        Vec::new(alloc)
+    };
+    if let Some(table) = symbol_table(view) {
+        let symbols = bytes_of(view, &table)?;
+        let strings = bytes_of(view, &section_named(view, table.sh_link)?)?;
+        for index in 1..count_symbols(symbols).max(1) {
+            let symbol = symbol_at(symbols, index).ok_or(FileFault::Truncated)?;
+            let name = string_in(strings, symbol.st_name).ok_or(FileFault::BadString)?;
+            add_symbol(&mut labels, &mut marks, &symbol, name)?;
+            if name == b"__global_pointer$".as_slice() && symbol.st_shndx != SHN_UNDEF {
+                pointer = Some(symbol.st_value);
+            }
+        }
+    }
+    Ok(CodeNames {
+        labels: Labels::of(labels)?,
+        marks: Marks::of(marks)?,
+        pointer,
+        relocations,
+    })
+}
+
+/// Adds what a symbol says.
+fn add_symbol<'a>(
+    labels: &mut Vec<Label<'a>>,
+    marks: &mut Vec<Mark>,
+    symbol: &Symbol,
+    name: &'a [u8],
+) -> Result<(), AllocError> {
+    if let Some(is_data) = mark_named(name) {
+        marks.push(Mark {
+            section: u32::from(symbol.st_shndx),
+            address: symbol.st_value,
+            is_data,
+        })?;
+    } else if is_label(symbol, name) {
+        labels.push(Label {
+            section: u32::from(symbol.st_shndx),
+            address: symbol.st_value,
+            rank: rank_of(symbol, name),
+            size: symbol.st_size,
+            name,
+        })?;
+    }
+    Ok(())
+}
+
+/// Whether a name says that data begins, or that code does; none of another name.
+fn mark_named(name: &[u8]) -> Option<bool> {
+    if name == b"$d".as_slice() || name.starts_with(b"$d.") {
+        Some(true)
+    } else if name == b"$x".as_slice() || name.starts_with(b"$x.") || name.starts_with(b"$xrv") {
+        Some(false)
+    } else {
+        None
+    }
+}
+
+/// Whether a symbol names a place.
+fn is_label(symbol: &Symbol, name: &[u8]) -> bool {
+    let kind = symbol.st_info % 16;
+    let section = symbol.st_shndx;
+    let stands = section == SHN_ABS || (section != SHN_UNDEF && section < FIRST_RESERVED);
+    stands
+        && kind != STT_SECTION
+        && kind != STT_FILE
+        && !name.is_empty()
+        && name != b".L0 ".as_slice()
+}
+
+fn rank_of(symbol: &Symbol, name: &[u8]) -> u8 {
+    let kind = match symbol.st_info % 16 {
+        STT_FUNC => 0,
+        STT_OBJECT => 8,
+        _ => 16,
+    };
+    let binding = match symbol.st_info / 16 {
+        STB_GLOBAL => 0,
+        STB_LOCAL => 4,
+        _ => 2,
+    };
+    kind + binding + u8::from(name.starts_with(b"."))
+}
+
+/// The names of a map, of which those inside a segment are told from the others.
+pub(crate) fn names_of_map<'a>(
+    alloc: Global,
+    map: &'a Map,
+    start: u64,
+    end: u64,
+) -> Result<CodeNames<'a>, AllocError> {
+    let mut labels = Vec::new(alloc);
+    let mut pointer = None;
+    for global in &map.globals {
+        let name = global.name.as_slice();
+        if name == b"__global_pointer$".as_slice() {
+            pointer = Some(global.address);
+        }
+        let is_inside = start <= global.address && global.address < end;
+        labels.push(Label {
+            section: u32::from(!is_inside),
+            address: global.address,
+            rank: 0,
+            size: 0,
+            name,
+        })?;
+    }
+    Ok(CodeNames {
+        labels: Labels::of(labels)?,
+        marks: Marks::of(Vec::new(alloc))?,
+        pointer,
+        relocations: Vec::new(alloc),
+    })
+}

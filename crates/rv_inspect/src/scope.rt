@@ -1,0 +1,66 @@
+//! What the code of a section is shown by.
+
+use crate::columns::{put, put_name};
+use crate::labels::{Label, nearest};
+use rv_map::put_hexadecimal;
+use std::alloc::AllocError;
+
+/// A section or a segment, and the names around it.
+#[derive(Clone, Copy, Debug, Drop)]
+pub(crate) struct Scope<'a> {
+    /// Its name.
+    pub(crate) name: &'a [u8],
+    /// The address of its first byte; 0 of an object.
+    pub(crate) start: u64,
+    /// The address after its last byte.
+    pub(crate) end: u64,
+    /// Whether its addresses are offsets, which other sections have too.
+    pub(crate) is_object: bool,
+    /// The names in it, by their places.
+    pub(crate) own: &'a [Label<'a>],
+    /// All names, by their places.
+    pub(crate) all: &'a [Label<'a>],
+}
+
+/// Adds an address and where that is: `10008 <f+0x8>`.
+pub(crate) fn put_address(
+    text: &mut Vec<u8>,
+    scope: &Scope<'_>,
+    address: u64,
+) -> Result<(), AllocError> {
+    put_hexadecimal(text, address)?;
+    put(text, b" ")?;
+    let is_own = scope.is_object && scope.start <= address && address < scope.end;
+    put_place(
+        text,
+        scope,
+        if is_own { scope.own } else { scope.all },
+        address,
+    )
+}
+
+/// Adds where an address is, by the nearest of these names, or by the section where there is none: `<f+0x8>`.
+pub(crate) fn put_place(
+    text: &mut Vec<u8>,
+    scope: &Scope<'_>,
+    labels: &[Label<'_>],
+    address: u64,
+) -> Result<(), AllocError> {
+    let (name, place) = match nearest(labels, address) {
+        Some(label) => (label.name, label.address),
+        None => (scope.name, scope.start),
+    };
+    put(text, b"<")?;
+    put_name(text, name, 0)?;
+    put_distance(text, place, address)?;
+    put(text, b">")
+}
+
+/// Adds how far an address is from a place: `+0x8`; nothing where it is that place.
+fn put_distance(text: &mut Vec<u8>, place: u64, address: u64) -> Result<(), AllocError> {
+    if address == place {
+        return Ok(());
+    }
+    put(text, if address < place { b"-0x" } else { b"+0x" })?;
+    put_hexadecimal(text, address.abs_diff(place))
+}
