@@ -527,6 +527,8 @@ def calls(pick, kind, at):
     twice = ["file"] * pick.choice([1, 1, 1, 1, 2])
     if pick.random() < 0.05:
         yield ["dump", "file"]
+    if pick.random() < 0.1:
+        yield pick.choice([["size", *twice], ["nm", "file"], ["elf", "file"]])
     if pick.random() < 0.05 and kind in ("source", "exe"):
         yield [*run, "-"]
     if kind == "source":
@@ -542,6 +544,8 @@ def calls(pick, kind, at):
     elif kind == "exe":
         yield [*run, "file"]
         yield ["objdump", "--map", "other", "file"]
+        if pick.random() < 0.1:
+            yield ["nm", "--map", "other", "file"]
     else:
         yield ["objdump", "--map", "file", "other"]
     if (at / "exe").exists():

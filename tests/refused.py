@@ -135,7 +135,16 @@ class Case:
     def wrong(self, wanted, shim=None, number=0):
         """The line of an answer that is not wanted, or nothing."""
         came = self.answer(shim, number)
-        return f"{self.name}: request {number}: {came}" if came != wanted else None
+        is_wanted = came == wanted or (wanted == REFUSED and self.is_looked_at and self.was_begun(came))
+        return None if is_wanted else f"{self.name}: request {number}: {came}"
+
+    @property
+    def is_looked_at(self):
+        return self.words[1] in ("trace", "stats")
+
+    def was_begun(self, came):
+        """Whether lines of a run were told, the last of them perhaps in part, and then that memory ran out."""
+        return came.said.endswith(REFUSED.said) and replace(came, said=REFUSED.said) == REFUSED
 
 
 def made(at, *words):
@@ -166,6 +175,9 @@ def commands(name, source, at, texts):
     wrote = lambda **files: Answer(0, b"", "", 0, tuple(files.items()))
     shown = lambda out: Answer(0, out, "", 0, ())
     dump = made(at, "dump", "exe")
+    objs = [str(at / it.replace(".s", ".o")) for it in texts]
+    looked = [["size", *objs], ["nm", objs[0]], ["nm", "--map", str(at / "map"), str(at / "exe")], ["elf", objs[0]],
+              ["dis", objs[0]], ["dis", "--map", str(at / "map"), str(at / "exe")], ["list", *paths]]
     calls = [(f"as {name}" + f" {text}" * (len(texts) > 1), ["as", "-o", "obj", path], wrote(obj=held))
         for text, path, held in zip(texts, paths[len(source.options):], objects)]
     calls += [
@@ -176,12 +188,26 @@ def commands(name, source, at, texts):
         (f"objdump {name}", ["objdump", "--map", str(at / "map"), str(at / "exe")], shown(listing)),
         (f"map {name}", ["map", *paths], shown(map_)),
         (f"dump {name}", ["dump", str(at / "exe")], shown(dump)),
+        (f"check {name}", ["check", *paths], shown(made(at, "check", *paths))),
+        (f"explain {name}", ["explain"], shown(made(at, "explain"))),
+        (f"explain E14 {name}", ["explain", "E14"], shown(made(at, "explain", "E14"))),
     ]
+    calls += [(f"{it[0]} {name} {number}", it, shown(made(at, *it))) for number, it in enumerate(looked)]
     raw = raw_listing(at)
     calls += [(f"objdump --raw {name}", ["objdump", "--raw", str(at / "exe")], shown(raw))] if raw else []
     calls += [(f"run of a source {name}", ["run", *paths], ran)] if len(texts) == 1 else []
+    shells = [["completions", shell] for shell in ("bash", "zsh", "fish")] if name == "exit7" else []
+    calls += [(f"{' '.join(it)} {name}", it, shown(made(at, *it))) for it in shells]
+    calls += watched(name, source, at, paths) if name == "exit7" else []
     for called, words, wanted in calls:
         yield Case(called, [RV, *words], at, source.given if wanted is ran else b"", wanted)
+
+
+def watched(name, source, at, paths):
+    """Runs of a source that are looked at; they take memory while the guest runs, so it is one that writes nothing."""
+    for words in (["stats", "--lines", *paths], ["trace", *paths]):
+        told = subprocess.run([RV, *words], timeout=SECONDS, stderr=subprocess.PIPE).stderr.decode()
+        yield f"{words[0]} {name}", words, Answer(source.status, b"", told.replace(f"{at}/", ""), 0, ())
 
 
 def faulty(name, source, at, texts):
@@ -190,6 +216,8 @@ def faulty(name, source, at, texts):
     for words in (["build", "-o", "exe", "--map", "map"], ["build", "-o", "exe"], ["map"]):
         wanted = Answer(1, b"", f"rv: {source.fault}\n", 0, ())
         yield Case(" ".join([words[0], name]), [RV, *words, *paths], at, b"", wanted)
+    shown = subprocess.run([RV, "check", *paths], cwd=at, timeout=SECONDS, stdout=subprocess.PIPE).stdout
+    yield Case(f"check {name}", [RV, "check", *paths], at, b"", Answer(1, shown, "", 0, ()))
 
 
 def of_bad_files(name, at):

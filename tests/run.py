@@ -212,8 +212,10 @@ def look_at(folder, words, head):
     for key, value in head:
         if key == "out has" and value not in ran.stdout.decode("utf8", "replace").splitlines():
             raise Failed(f"out has: {value}\n  came   {ran.stdout!r}")
-        if key == "out is":
-            same(key, (folder / value).read_bytes(), ran.stdout)
+        if key == "errors has" and value not in said:
+            raise Failed(f"errors has: {value}\n  came   {ran.stderr!r}")
+        if key in ("out is", "errors is"):
+            same(key, (folder / value).read_bytes(), ran.stdout if key == "out is" else ran.stderr)
         look_at_files(folder, words, key, value)
     mapped, listing = ([value for key, value in head if key == it] for it in ("map", "listing"))
     if "rvmap 1" in mapped:

@@ -3,6 +3,10 @@
 # out is: rv.txt
 # rv: run --help
 # out is: run.txt
+# rv: trace --help
+# out is: trace.txt
+# rv: stats --help
+# out is: stats.txt
 # rv: build --help
 # out is: build.txt
 # rv: as --help
@@ -13,8 +17,26 @@
 # out is: map.txt
 # rv: objdump --help
 # out is: objdump.txt
+# rv: dis --help
+# out is: dis.txt
+# rv: list --help
+# out is: list.txt
 # rv: dump --help
 # out is: dump.txt
+# rv: size --help
+# out is: size.txt
+# rv: nm --help
+# out is: nm.txt
+# rv: elf --help
+# out is: elf.txt
+# rv: image --help
+# out is: image.txt
+# rv: check --help
+# out is: check.txt
+# rv: explain --help
+# out is: explain.txt
+# rv: completions --help
+# out is: completions.txt
 # rv: --version
 # out: rv 0.1.0\n
 #--- rv.txt
@@ -23,14 +45,25 @@ Assembles, links and runs bare RISC-V programs (RV64IMAC).
 Usage: rv [COMMAND]
 
 Commands:
-  run      Runs an executable, or builds a source and runs it
-  build    Builds an executable from sources
-  as       Assembles a source to an object
-  ld       Links objects to an executable
-  map      Prints the map of what the sources build
-  objdump  Prints the instructions of an executable, statement by statement or as a source
-  dump     Prints the bytes of a file in hexadecimal
-  help     Print this message or the help of the given subcommand(s)
+  run          Runs an executable, or builds a source and runs it
+  trace        Runs a program and shows each instruction
+  stats        Runs a program and counts what it executes
+  build        Builds an executable from sources
+  as           Assembles a source to an object
+  ld           Links objects to an executable
+  map          Prints the map of what the sources build
+  objdump      Prints the instructions of an executable, statement by statement or as a source
+  dis          Prints the instructions of a file, with names, bytes and relocations
+  list         Prints the lines of sources, each with its address and its bytes
+  dump         Prints the bytes of a file in hexadecimal
+  size         Prints the sizes of files: code and constants, variables, zeros
+  nm           Prints the names of a file and where they stand
+  elf          Prints the header, sections, segments, relocations and symbols of a file
+  image        Writes an image of an executable for flash memory
+  check        Says what is wrong with sources, and where, without writing anything
+  explain      Explains a code: its cause, an example and the cure
+  completions  Prints what a shell completes the words of rv by
+  help         Print this message or the help of the given subcommand(s)
 
 Options:
   -h, --help     Print help
@@ -38,13 +71,25 @@ Options:
 
 Examples:
   rv run prog.s                             builds a source and runs it
+  rv run --report prog.s                    says why a run ended
+  rv trace prog.s                           shows each instruction of a run
+  rv stats --lines prog.s                   counts what a run executes
   rv build -o prog --map prog.map prog.s    writes the executable and its map
   rv as -o prog.o prog.s                    writes the object of a source
   rv ld -o prog prog.o other.o              links objects
   rv map prog.s                             shows where each statement stands
   rv objdump --map prog.map prog            shows the instructions of each statement
   rv objdump --raw prog                     shows the text as a source that builds it again
+  rv dis prog.o                             shows the instructions of any file, with names
+  rv list prog.s                            shows each line with its address and bytes
   rv dump prog                              shows the bytes of a file
+  rv size prog.o other.o                    shows the sizes of files
+  rv nm prog.o                              shows the names of a file
+  rv elf prog                               shows the headers and tables of a file
+  rv image --ihex -o prog.hex prog          writes an image for flash memory
+  rv check prog.s                           says what is wrong with a source, and where
+  rv explain E14                            says what a code means
+  rv completions bash                       writes what a shell completes words by
 
 Without words rv does the same as 'rv run -'.
 Exit status: 0 done; 1 refused, the fault stands on standard error; 2 wrong words.
@@ -59,14 +104,61 @@ Arguments:
 
 Options:
       --limit <N>  The most instructions to execute [default: 1000000000000]
+      --report     Says why the run ended where the program did not exit
+      --map <F>    The map of an executable, for its symbols and lines
   -h, --help       Print help
 
 Examples:
   rv run prog.s
   rv run --limit 1000000 prog < input
+  rv run --report --map prog.map prog
   rv run - < prog.s
 
 Standard input is the guest's input, and its console is standard output.
+#--- trace.txt
+Runs a program and shows each instruction
+
+Usage: rv trace [OPTIONS] <FILE>
+
+Arguments:
+  <FILE>  An executable or a source; - is standard input
+
+Options:
+      --from <N>   The number of the first instruction that is shown [default: 1]
+      --count <N>  How many instructions are shown; the run ends after them
+  -o <FILE>        Writes the lines to a file instead of standard error
+      --map <F>    The map of an executable, for its symbols and lines
+      --limit <N>  The most instructions to execute [default: 1000000000000]
+  -h, --help       Print help
+
+Examples:
+  rv trace prog.s
+  rv trace --from 1000 --count 20 prog.s
+  rv trace -o prog.trace --map prog.map prog
+
+A line has the instruction's number, address, symbol, bytes and text, what it wrote, where it
+loaded or stored, and at the first instruction of a line of the source that line.
+#--- stats.txt
+Runs a program and counts what it executes
+
+Usage: rv stats [OPTIONS] <FILE>
+
+Arguments:
+  <FILE>  An executable or a source; - is standard input
+
+Options:
+      --lines        Shows how often each line was executed
+      --lcov <FILE>  Writes how often each line was executed as lcov does
+      --map <F>      The map of an executable, for its symbols and lines
+      --limit <N>    The most instructions to execute [default: 1000000000000]
+  -h, --help         Print help
+
+Examples:
+  rv stats prog.s
+  rv stats --lines prog.s
+  rv stats --lcov prog.info --map prog.map prog
+
+The counts stand on standard error, and genhtml draws the file that --lcov names.
 #--- build.txt
 Builds an executable from sources
 
@@ -88,17 +180,27 @@ Example:
 #--- as.txt
 Assembles a source to an object
 
-Usage: rv as -o <OBJ> <SRC>
+Usage: rv as [OPTIONS] -o <OBJ> <SRC>
 
 Arguments:
   <SRC>  The source
 
 Options:
-  -o <OBJ>    The object to write
-  -h, --help  Print help
+  -o <OBJ>                  The object to write
+  -m <OPTION>               As GCC says it: arch=rv64imac, abi=lp64, isa-spec=20191213, no-relax
+  -f <OPTION>               As GCC says it: no-pic
+  -I <DIR>                  As GCC says it; no source includes a file
+      --traditional-format  As GCC says it; has no effect
+  -W                        As GCC says it; has no effect
+  -v                        As GCC says it; has no effect
+  -h, --help                Print help
 
-Example:
+Examples:
   rv as -o prog.o prog.s
+  riscv64-unknown-elf-gcc -B PREFIX/libexec/rv/ -march=rv64imac -mabi=lp64 -c prog.c
+
+What GCC says of the code that it made is taken where it agrees with RV64IMAC and lp64.
+-mno-relax leaves every call its eight bytes.
 #--- ld.txt
 Links objects to an executable
 
@@ -162,3 +264,156 @@ Options:
 
 Example:
   rv dump prog
+#--- size.txt
+Prints the sizes of files: code and constants, variables, zeros
+
+Usage: rv size <FILE>...
+
+Arguments:
+  <FILE>...  Objects and executables
+
+Options:
+  -h, --help  Print help
+
+Example:
+  rv size prog.o other.o prog
+
+Several files have a line of their total.
+#--- nm.txt
+Prints the names of a file and where they stand
+
+Usage: rv nm [OPTIONS] <FILE>
+
+Arguments:
+  <FILE>  An object, or an executable
+
+Options:
+      --map <F>  The map of the executable, which has its names
+  -h, --help     Print help
+
+Examples:
+  rv nm prog.o
+  rv nm --map prog.map prog
+#--- elf.txt
+Prints the header, sections, segments, relocations and symbols of a file
+
+Usage: rv elf <FILE>
+
+Arguments:
+  <FILE>  An object or an executable
+
+Options:
+  -h, --help  Print help
+
+Example:
+  rv elf prog.o
+#--- image.txt
+Writes an image of an executable for flash memory
+
+Usage: rv image [OPTIONS] -o <OUT> <EXE>
+
+Arguments:
+  <EXE>  The executable
+
+Options:
+      --bin          Raw bytes, from the lowest address on
+      --ihex         Intel HEX
+      --srec         Motorola S-records
+      --vhex         What Verilog's $readmemh reads
+      --fill <BYTE>  Fills the gaps between segments [default: none, in a binary 0]
+  -o <OUT>           The image to write
+  -h, --help         Print help
+
+Examples:
+  rv image --bin -o prog.bin prog
+  rv image --ihex -o prog.hex prog
+  rv image --srec --fill 0xff -o prog.srec prog
+
+An image has what the file holds of its segments, at their physical addresses.
+#--- check.txt
+Says what is wrong with sources, and where, without writing anything
+
+Usage: rv check [OPTIONS] <SRC>...
+
+Arguments:
+  <SRC>...  The sources, in the order of their sections
+
+Options:
+      --text-start <N>  The address of the text, decimal or 0x and hexadecimal [default: 0x10000]
+      --no-relax        Leaves every call its eight bytes
+      --gc-sections     Leaves out sections to which nothing leads from the entry
+  -h, --help            Print help
+
+Example:
+  rv check prog.s
+
+Status 0 where the sources can be built, and 1 where they have a fault.
+#--- explain.txt
+Explains a code: its cause, an example and the cure
+
+Usage: rv explain [CODE]
+
+Arguments:
+  [CODE]  A code as E14, or the name of an end of a run; without it all are listed
+
+Options:
+  -h, --help  Print help
+
+Examples:
+  rv explain E14
+  rv explain FetchOutside
+  rv explain
+#--- completions.txt
+Prints what a shell completes the words of rv by
+
+Usage: rv completions <SHELL>
+
+Arguments:
+  <SHELL>  bash, zsh or fish
+
+Options:
+  -h, --help  Print help
+
+Examples:
+  rv completions bash > /usr/share/bash-completion/completions/rv
+  rv completions zsh > /usr/share/zsh/site-functions/_rv
+  rv completions fish > /usr/share/fish/vendor_completions.d/rv.fish
+#--- dis.txt
+Prints the instructions of a file, with names, bytes and relocations
+
+Usage: rv dis [OPTIONS] <FILE>
+
+Arguments:
+  <FILE>  An object, or an executable
+
+Options:
+      --map <F>  The map of the executable, which has its names
+      --base     Shows base instructions and no aliases
+  -h, --help     Print help
+
+Examples:
+  rv dis prog.o
+  rv dis --map prog.map prog
+  rv dis --base prog.o
+
+The columns are those of GNU's objdump -d -r.
+#--- list.txt
+Prints the lines of sources, each with its address and its bytes
+
+Usage: rv list [OPTIONS] <SRC>...
+
+Arguments:
+  <SRC>...  The sources, in the order of their sections
+
+Options:
+      --all             Shows all bytes of a line, and not the first rows alone
+      --text-start <N>  The address of the text, decimal or 0x and hexadecimal [default: 0x10000]
+      --no-relax        Leaves every call its eight bytes
+      --gc-sections     Leaves out sections to which nothing leads from the entry
+  -h, --help            Print help
+
+Examples:
+  rv list prog.s
+  rv list --all prog.s other.s
+
+The columns are those of GNU's as -al; the addresses are those of the executable.

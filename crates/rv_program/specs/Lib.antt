@@ -1,3 +1,3 @@
+pub mod AssemblerOptions
 pub mod Numbers
-pub mod Messages
 pub mod Status

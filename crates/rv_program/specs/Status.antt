@@ -1,11 +1,9 @@
--- The exit status of what was not done, and of runs (this program's own).
+-- The exit status of what was not done (this program's own).
 
 use Rattle.std.specs.Prelude.{◌≡◌, ◌⊎◌, ℕ}
 use Rattle.clap.specs.Values.{kind_of}
 use Rattle.clap.specs.declared.error.kind.ErrorKind.{ErrorKind}
 use Rattle.clap.specs.declared.error.kind.ErrorKind.TheVariants.{DisplayHelp, DisplayVersion}
-use Rattle.rv_machine.specs.declared.end.End.{End}
-use Rattle.rv_machine.specs.declared.end.End.TheVariants.{Exited}
 use Rattle.rv_program.specs.declared.error.CliError.{CliError}
 use Rattle.rv_program.specs.declared.error.CliError.TheVariants.{Usage, NotText, Line, Memory}
 
@@ -21,10 +19,6 @@ refused = 1
 abbrev pub wrong_words : ℕ
 wrong_words = 2
 
--- the guest did not exit
-abbrev pub not_exited : ℕ
-not_exited = 125
-
 -- words that ask for help or the version are done, others are wrong
 abbrev pub usage_status : ErrorKind → ℕ
 usage_status DisplayHelp = done
@@ -38,8 +32,3 @@ IsErrorStatus (Usage error) status =
 IsErrorStatus NotText status = status ≡ wrong_words
 IsErrorStatus (Line line) status = status ≡ refused
 IsErrorStatus Memory status = status ≡ refused
-
--- the status of a run is the guest's, where it has one
-abbrev pub run_status : End → ℕ
-run_status (Exited code) = code
-run_status _ = not_exited

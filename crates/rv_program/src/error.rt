@@ -1,6 +1,7 @@
 //! Why the program does not do what its words ask for.
 
 use clap::error::ErrorKind;
+use rv_system::JobError;
 use std::alloc::{AllocError, AllocFailed};
 use thiserror::Error;
 
@@ -26,6 +27,15 @@ impl From<clap::Error> for CliError {
             CliError::Memory
         } else {
             CliError::Usage(error)
+        }
+    }
+}
+
+impl From<JobError> for CliError {
+    fn from(error: JobError) -> Self {
+        match error {
+            JobError::Line(line) => CliError::Line(line),
+            JobError::Memory => CliError::Memory,
         }
     }
 }

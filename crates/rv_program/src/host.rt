@@ -3,13 +3,16 @@
 //! The real system is in this library, and not in `rv_cli`, where one test of a real disk would have the whole program
 //! proved twice.
 
-use crate::system::{FILE_LIMIT, GuestInput, Purpose, System};
 use rv_image::Image;
-use rv_machine::{End, Io, RunFault, run_io};
+use rv_machine::{End, Io, RunFault, WatchFault, Watched, Watcher, run_io, run_watched};
+use rv_memory::Paged;
+use rv_paint::painted;
 use rv_streams::{ReadFault, read_whole};
+use rv_system::{FILE_LIMIT, GuestInput, Purpose, System};
 use std::alloc::Global;
+use std::env::{Env, FillError};
 use std::fs::File;
-use std::io::{self, Write};
+use std::io::{self, IsTerminal, Stderr, Write};
 use std::os::unix::fs::PermissionsExt;
 
 /// The system itself.
@@ -18,7 +21,35 @@ pub struct Host<'a> {
     pub rt: &'a HostRuntime,
 }
 
+/// Standard error or a file, for lines that are written while a guest runs.
+#[derive(Drop)]
+pub enum HostLines {
+    Errors(Stderr),
+    /// Standard error with colours.
+    Colours(Global, Stderr),
+    File(File),
+}
+
+impl Write for HostLines {
+    fn write(&mut self, bytes: &[u8]) -> io::Result<usize> {
+        match self {
+            HostLines::Errors(errors) => errors.write(bytes),
+            HostLines::Colours(alloc, errors) => {
+                errors.write_all(painted(*alloc, bytes)?.as_slice())?;
+                Ok(bytes.len())
+            }
+            HostLines::File(file) => file.write(bytes),
+        }
+    }
+
+    fn flush(&mut self) -> io::Result<()> {
+        Ok(())
+    }
+}
+
 impl System for Host<'_> {
+    type Lines = HostLines;
+
     fn alloc(&self) -> Global {
         self.rt.alloc()
     }
@@ -44,6 +75,10 @@ impl System for Host<'_> {
         Ok(())
     }
 
+    fn shows_colours(&self) -> bool {
+        self.rt.stdout().is_terminal() && wants_colours(self.rt)
+    }
+
     fn print(&mut self, bytes: &[u8]) -> io::Result<()> {
         self.rt.stdout().write_all(bytes)
     }
@@ -63,12 +98,57 @@ impl System for Host<'_> {
         }
     }
 
+    fn watch<T: Watcher<Paged>>(
+        &mut self,
+        machine: &mut Watched<Paged>,
+        input: GuestInput,
+        watcher: &mut T,
+        limit: u64,
+    ) -> Result<End, WatchFault> {
+        let mut output = Io::new(self.rt.stdout());
+        match input {
+            GuestInput::Standard => {
+                let mut input = Io::new(self.rt.stdin());
+                run_watched(machine, &mut input, &mut output, watcher, limit)
+            }
+            GuestInput::Empty => {
+                let mut input = Io::new(io::empty());
+                run_watched(machine, &mut input, &mut output, watcher, limit)
+            }
+        }
+    }
+
+    fn lines(&mut self, name: Option<&str>) -> io::Result<HostLines> {
+        match name {
+            Some(name) => Ok(HostLines::File(File::create(self.rt, name)?)),
+            None => Ok(errors_of(self.rt)),
+        }
+    }
+
     fn show(&mut self, text: &str) {
         let _ = eprint!(self.rt; "{text}");
     }
 
     fn tell(&mut self, line: &str) {
         let _ = eprintln!(self.rt; "rv: {line}");
+    }
+}
+
+/// Standard error, with colours where it is a terminal.
+fn errors_of(rt: &HostRuntime) -> HostLines {
+    if rt.stderr().is_terminal() && wants_colours(rt) {
+        HostLines::Colours(rt.alloc(), rt.stderr())
+    } else {
+        HostLines::Errors(rt.stderr())
+    }
+}
+
+/// Whether the environment's `NO_COLOR` is empty or not there.
+fn wants_colours(rt: &HostRuntime) -> bool {
+    match rt.var("NO_COLOR", &mut [0u8; 1]) {
+        Ok(length) => length == 0,
+        Err(FillError::TooLong) => false,
+        Err(FillError::NotPresent) => true,
     }
 }
 

@@ -1,26 +1,22 @@
-//! What the program does: runs, builds, assembles, links, prints a map, a listing or a dump.
+//! What the program does: runs, builds, assembles, links, and what the crates of further jobs do.
 //!
 //! Files and streams are reached through [`System`] alone, so that a test sees each exit status and each line without starting
 //! a process. A job writes no file before all that it writes is made.
 
-ghost use Rattle.std.specs.Prelude.{◌≡◌};
-ghost use Rattle.rv_program.specs.Status.{run_status};
-
-use crate::disassembly::{dump, objdump, raw};
-use crate::error::CliError;
-use crate::messages::{end_line, fault_line, run_line};
-use crate::system::{FILE_LIMIT, GuestInput, Purpose, System};
-use crate::words::default_options;
 use rv_chain::{
-    Built, End, Fault, LinkOptions, assemble_object, build, build_exe, link_objects,
-    link_objects_exe,
+    Built, Fault, LinkOptions, assemble_object, build, build_exe, link_objects, link_objects_exe,
 };
-use rv_image::{Image, load};
-use rv_streams::ReadFault;
+use rv_command_line::{Shell, completions};
+use rv_file_jobs::{
+    AskedCode, AskedImage, code, dump, elf, names, objdump, raw, sizes, write_image,
+};
+use rv_source_jobs::{check_files, explain, list};
+use rv_system::{
+    GuestInput, JobError, Purpose, System, borrowed, default_options, fault_line, file_bytes,
+    files_bytes, given_bytes, image_in, print, report_end, run_line, write,
+};
+use rv_watched_jobs::{Asked, Coverage, Shown, run_with_report, stats, trace};
 use std::alloc::{AllocError, Global};
-
-/// The exit status of a run that the guest did not end by an exit.
-const NOT_EXITED: u8 = 125;
 
 /// What the command line asks for.
 #[derive(Drop)]
@@ -30,6 +26,12 @@ pub(crate) enum Job<'a> {
         file: &'a str,
         limit: u64,
     },
+    /// Runs, and says why a run ended where the guest did not exit.
+    Report(Asked<'a>),
+    /// Runs, and writes a line for each instruction.
+    Trace(Asked<'a>, Shown<'a>),
+    /// Runs, and counts what is executed.
+    Stats(Asked<'a>, Coverage<'a>),
     /// Writes the executable, and the map where a file is named for it.
     Build {
         exe: &'a str,
@@ -41,6 +43,8 @@ pub(crate) enum Job<'a> {
     Assemble {
         object: &'a str,
         source: &'a str,
+        /// Whether calls may be shortened.
+        relax: bool,
     },
     /// Links objects: writes the executable, and the map where a file is named for it.
     Link {
@@ -64,61 +68,125 @@ pub(crate) enum Job<'a> {
     Raw {
         exe: &'a str,
     },
+    /// Prints the instructions of a file.
+    Code(AskedCode<'a>),
+    /// Prints the lines of sources with what they become.
+    List {
+        all: bool,
+        options: LinkOptions,
+        sources: Vec<&'a str>,
+    },
     /// Prints the bytes of a file.
     Dump {
         file: &'a str,
     },
+    /// Prints the sizes of files.
+    Size {
+        files: Vec<&'a str>,
+    },
+    /// Prints the names of a file, or of the map of an executable.
+    Names {
+        map: Option<&'a str>,
+        file: &'a str,
+    },
+    /// Prints the headers and tables of a file.
+    Elf {
+        file: &'a str,
+    },
+    /// Prints what is wrong with sources, or what they come to.
+    Check {
+        options: LinkOptions,
+        sources: Vec<&'a str>,
+    },
+    /// Prints the entry of a code, or the list of codes.
+    Explain {
+        entry: Option<&'static str>,
+    },
+    /// Writes an image of an executable.
+    Image(AskedImage<'a>),
+    /// Prints what a shell completes words by.
+    Completions {
+        shell: Shell,
+    },
 }
 
 /// Does a job; the exit status.
-pub(crate) fn run_job<S: System>(system: &mut S, job: &Job<'_>) -> Result<u8, CliError> {
+pub(crate) fn run_job<S: System>(system: &mut S, job: &Job<'_>) -> Result<u8, JobError> {
     match job {
         Job::Run { file, limit } => run(system, file, *limit),
+        Job::Report(asked) => run_with_report(system, asked),
+        Job::Trace(asked, shown) => trace(system, asked, shown),
+        Job::Stats(asked, coverage) => stats(system, asked, coverage),
         Job::Build {
             exe,
             map,
             options,
             sources,
         } => build_files(system, exe, *map, sources.as_slice(), *options),
-        Job::Assemble { object, source } => assemble(system, object, source),
+        Job::Assemble {
+            object,
+            source,
+            relax,
+        } => assemble(system, object, source, *relax),
         Job::Link {
             exe,
             map,
             options,
             objects,
         } => link_files(system, exe, *map, objects.as_slice(), *options),
-        Job::Map { options, sources } => {
-            let built = build_with_map(system, sources.as_slice(), *options)?;
-            print(system, built.map.as_slice())?;
-            Ok(0)
-        }
+        Job::Map { options, sources } => print_map(system, sources.as_slice(), *options),
         Job::Objdump {
             map,
             exe,
             map_first,
         } => objdump(system, map, exe, *map_first),
         Job::Raw { exe } => raw(system, exe),
+        Job::Code(asked) => code(system, asked),
+        Job::List {
+            all,
+            options,
+            sources,
+        } => list(system, sources.as_slice(), *options, *all),
         Job::Dump { file } => dump(system, file),
+        Job::Size { files } => sizes(system, files.as_slice()),
+        Job::Names { map, file } => names(system, *map, file),
+        Job::Elf { file } => elf(system, file),
+        Job::Check { options, sources } => check_files(system, sources.as_slice(), *options),
+        Job::Explain { entry } => explain(system, *entry),
+        Job::Image(asked) => write_image(system, asked),
+        Job::Completions { shell } => complete(system, *shell),
     }
 }
 
+/// Prints the map of what sources build; the exit status.
+fn print_map<S: System>(
+    system: &mut S,
+    sources: &[&str],
+    options: LinkOptions,
+) -> Result<u8, JobError> {
+    let built = build_with_map(system, sources, options)?;
+    print(system, built.map.as_slice())?;
+    Ok(0)
+}
+
+/// Prints what a shell completes words by; the exit status.
+fn complete<S: System>(system: &mut S, shell: Shell) -> Result<u8, JobError> {
+    let text = completions(system.alloc(), shell)?;
+    print(system, text.as_bytes())?;
+    Ok(0)
+}
+
 /// Runs an executable, or builds a source and runs it; the exit status.
-fn run<S: System>(system: &mut S, name: &str, limit: u64) -> Result<u8, CliError> {
+fn run<S: System>(system: &mut S, name: &str, limit: u64) -> Result<u8, JobError> {
     let alloc: Global = system.alloc();
-    let from_input = name == "-";
-    let read = if from_input {
-        system.input(FILE_LIMIT)
-    } else {
-        system.file(name)
-    };
-    let bytes = contents(alloc, name, read)?;
+    let bytes = given_bytes(system, name)?;
     let exe = if bytes.as_slice().starts_with(b"\x7fELF") {
         bytes
     } else {
         executable(alloc, name, bytes.as_slice())?
     };
     let image = image_in(alloc, name, exe.as_slice())?;
-    let input = if from_input {
+    let input = if name == "-" {
         GuestInput::Empty
     } else {
         GuestInput::Standard
@@ -129,32 +197,11 @@ fn run<S: System>(system: &mut S, name: &str, limit: u64) -> Result<u8, CliError
     }
 }
 
-/// The image that a file is loaded as.
-pub(crate) fn image_in(alloc: Global, name: &str, file: &[u8]) -> Result<Image, CliError> {
-    match load(alloc, file) {
-        Ok(image) => Ok(image),
-        Err(fault) => Err(fault_line(alloc, &Fault::File(1, fault), &[name])?),
-    }
-}
-
 /// The executable of one source, with the default options.
-fn executable(alloc: Global, name: &str, source: &[u8]) -> Result<Vec<u8>, CliError> {
+fn executable(alloc: Global, name: &str, source: &[u8]) -> Result<Vec<u8>, JobError> {
     match build_exe(alloc, &[source], default_options()) {
         Ok(exe) => Ok(exe),
         Err(fault) => Err(fault_line(alloc, &fault, &[name])?),
-    }
-}
-
-/// Says how a run ended where the guest did not exit; the exit status.
-fn report_end<S: System>(system: &mut S, end: &End) -> u8
-    ensures { result ≡ run_status end.now }
-{
-    match end {
-        End::Exited(code) => *code,
-        _ => {
-            system.tell(end_line(end).as_str());
-            NOT_EXITED
-        }
     }
 }
 
@@ -165,7 +212,7 @@ fn build_files<S: System>(
     map: Option<&str>,
     sources: &[&str],
     options: LinkOptions,
-) -> Result<u8, CliError> {
+) -> Result<u8, JobError> {
     if map.is_some() {
         let built = build_with_map(system, sources, options)?;
         return write_built(system, exe, map, &built);
@@ -180,9 +227,9 @@ fn build_with_map<S: System>(
     system: &mut S,
     names: &[&str],
     options: LinkOptions,
-) -> Result<Built, CliError> {
+) -> Result<Built, JobError> {
     let alloc: Global = system.alloc();
-    let read = read_files(system, names)?;
+    let read = files_bytes(system, names)?;
     let sources = borrowed(alloc, read.as_slice())?;
     match build(alloc, sources.as_slice(), options) {
         Ok(built) => Ok(built),
@@ -195,9 +242,9 @@ fn build_without_map<S: System>(
     system: &mut S,
     names: &[&str],
     options: LinkOptions,
-) -> Result<Vec<u8>, CliError> {
+) -> Result<Vec<u8>, JobError> {
     let alloc: Global = system.alloc();
-    let read = read_files(system, names)?;
+    let read = files_bytes(system, names)?;
     let sources = borrowed(alloc, read.as_slice())?;
     match build_exe(alloc, sources.as_slice(), options) {
         Ok(exe) => Ok(exe),
@@ -206,9 +253,17 @@ fn build_without_map<S: System>(
 }
 
 /// Reads a source, assembles it, and writes its object; the exit status.
-fn assemble<S: System>(system: &mut S, object: &str, source: &str) -> Result<u8, CliError> {
+fn assemble<S: System>(
+    system: &mut S,
+    object: &str,
+    source: &str,
+    relax: bool,
+) -> Result<u8, JobError> {
     let alloc: Global = system.alloc();
-    let text = contents(alloc, source, system.file(source))?;
+    let mut text = file_bytes(system, source)?;
+    if !relax {
+        text = without_relaxation(alloc, text.as_slice())?;
+    }
     match assemble_object(alloc, text.as_slice()) {
         Ok(file) => {
             write(system, object, Purpose::ToRead, file.as_slice())?;
@@ -218,6 +273,13 @@ fn assemble<S: System>(system: &mut S, object: &str, source: &str) -> Result<u8,
     }
 }
 
+/// A source that leaves each of its calls its eight bytes; its lines stay.
+fn without_relaxation(alloc: Global, text: &[u8]) -> Result<Vec<u8>, AllocError> {
+    let mut option = Vec::from_slice(alloc, b".option norelax; ")?;
+    option.extend_from_slice(text)?;
+    Ok(option)
+}
+
 /// Links objects: writes the executable, and the map where a file is named for it; the exit status.
 fn link_files<S: System>(
     system: &mut S,
@@ -225,9 +287,9 @@ fn link_files<S: System>(
     map: Option<&str>,
     names: &[&str],
     options: LinkOptions,
-) -> Result<u8, CliError> {
+) -> Result<u8, JobError> {
     let alloc: Global = system.alloc();
-    let read = read_files(system, names)?;
+    let read = files_bytes(system, names)?;
     let objects = borrowed(alloc, read.as_slice())?;
     if map.is_some() {
         return match link_objects(alloc, objects.as_slice(), options) {
@@ -244,73 +306,16 @@ fn link_files<S: System>(
     }
 }
 
-/// The bytes of the files, in their order.
-fn read_files<S: System>(system: &mut S, names: &[&str]) -> Result<Vec<Vec<u8>>, CliError> {
-    let alloc: Global = system.alloc();
-    let mut read: Vec<Vec<u8>> = Vec::new(alloc);
-    for name in names {
-        read.push(contents(alloc, name, system.file(name))?)?;
-    }
-    Ok(read)
-}
-
-/// The same bytes, borrowed.
-fn borrowed<'a>(alloc: Global, read: &'a [Vec<u8>]) -> Result<Vec<&'a [u8]>, AllocError> {
-    let mut borrowed: Vec<&'a [u8]> = Vec::new(alloc);
-    for bytes in read {
-        borrowed.push(bytes.as_slice())?;
-    }
-    Ok(borrowed)
-}
-
-/// The bytes that were read, or the line that says that they weren't.
-pub(crate) fn contents(
-    alloc: Global,
-    name: &str,
-    read: Result<Vec<u8>, ReadFault>,
-) -> Result<Vec<u8>, CliError> {
-    match read {
-        Ok(bytes) => Ok(bytes),
-        Err(ReadFault::Failed) => Err(cannot(alloc, "read", name)?),
-        Err(ReadFault::Memory) => Err(CliError::Memory),
-    }
-}
-
 /// Writes an executable, and then its map where a file is named for it; the exit status.
 fn write_built<S: System>(
     system: &mut S,
     exe: &str,
     map: Option<&str>,
     built: &Built,
-) -> Result<u8, CliError> {
+) -> Result<u8, JobError> {
     write(system, exe, Purpose::ToRun, built.exe.as_slice())?;
     if let Some(map) = map {
         write(system, map, Purpose::ToRead, built.map.as_slice())?;
     }
     Ok(0)
-}
-
-fn write<S: System>(
-    system: &mut S,
-    name: &str,
-    purpose: Purpose,
-    bytes: &[u8],
-) -> Result<(), CliError> {
-    match system.write(name, purpose, bytes) {
-        Ok(()) => Ok(()),
-        Err(_) => Err(cannot(system.alloc(), "write", name)?),
-    }
-}
-
-/// Writes to standard output, which messages call `-`.
-pub(crate) fn print<S: System>(system: &mut S, bytes: &[u8]) -> Result<(), CliError> {
-    match system.print(bytes) {
-        Ok(()) => Ok(()),
-        Err(_) => Err(cannot(system.alloc(), "write", "-")?),
-    }
-}
-
-/// The line of a file that cannot be read or written.
-fn cannot(alloc: Global, verb: &str, name: &str) -> Result<CliError, AllocError> {
-    Ok(CliError::Line(format!(in alloc; "{name}: cannot {verb}")?))
 }

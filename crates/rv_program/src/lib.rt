@@ -6,8 +6,7 @@
 //! Main function: `exit_status`. What it prints, and when, is tested. What runs, builds and links give is said by
 //! the clauses of `load`, `run_io`, `build`, `build_exe`, `assemble_object` and `link_objects`, of which it hands on the
 //! bytes as they are; which numbers its words write, by those of `decimal` and `text_start` (`specs/Numbers`); the
-//! lines of faults and ends, by `fault_line`, `run_line` and `end_line` (`specs/Messages`); the status of an error, by `report`
-//! (`specs/Status`). It does not know how statements are read or instructions executed, and of the system only what
+//! status of an error, by `report` (`specs/Status`). The lines of faults and ends are those of `rv_system`. It does not know how statements are read or instructions executed, and of the system only what
 //! [`System`] has: [`Host`] is the real one, and a test stands in for it.
 //!
 //! ```text
@@ -19,20 +18,17 @@
 //! ```
 #![tactic(auto)]
 
-mod digits;
-mod disassembly;
+mod assembler_options;
 mod error;
 mod host;
 mod jobs;
-mod messages;
-mod shown;
 mod status;
-mod system;
 mod words;
+mod words_of_assembling;
+mod words_of_images;
+mod words_of_runs;
 
 pub use error::CliError;
-pub use host::Host;
-pub use messages::{end_line, fault_line, run_line};
+pub use host::{Host, HostLines};
 pub use status::{exit_status, report};
-pub use system::{GuestInput, Purpose, System};
-pub use words::{decimal, default_options, text_start};
+pub use words::{decimal, text_start};

@@ -6,8 +6,8 @@ ghost use Rattle.rv_program.specs.Status.{IsErrorStatus, refused, usage_status};
 
 use crate::error::CliError;
 use crate::jobs::run_job;
-use crate::system::System;
 use crate::words::parse_job;
+use rv_system::System;
 use std::alloc::Global;
 
 /// The exit status of a refused job.
@@ -31,7 +31,7 @@ fn work<S: System>(system: &mut S, words: &[String]) -> Result<u8, CliError> {
         given.push(word.as_str())?;
     }
     let job = parse_job(alloc, given.as_slice())?;
-    run_job(system, &job)
+    Ok(run_job(system, &job)?)
 }
 
 /// Shows why a job was not done; the exit status.

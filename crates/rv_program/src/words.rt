@@ -1,232 +1,104 @@
 //! The command line: which words mean which job.
 //!
-//! `clap` takes the words apart and writes the help. Numbers are read here, since their bounds and digits are promised
-//! (`decimal`, `text_start`). Each command has a function of its own: one function for all of them takes minutes to prove.
+//! The table of `rv_command_line` says which words there are, and `clap` takes them apart by it. Numbers are read here, since their
+//! bounds and digits are promised (`decimal`, `text_start`).
 
-ghost use Rattle.std.specs.Prelude.{◌≡◌, ◌≤◌, ℕ, true, false, IfSome, IfNone};
+ghost use Rattle.std.specs.Prelude.{◌≡◌, ◌≤◌, ℕ, IfSome, IfNone};
 ghost use Rattle.rv_program.specs.Numbers.{IsNumber, IsStart};
 
 use crate::error::CliError;
 use crate::jobs::Job;
+use crate::words_of_assembling::parse_assemble;
+use crate::words_of_images::parse_image;
+use crate::words_of_runs::{parse_report, parse_stats, parse_trace};
 use clap::error::ErrorKind;
-use clap::{Arg, ArgAction, ArgMatches, Command, Error};
+use clap::{ArgMatches, Command};
 use rv_chain::LinkOptions;
+use rv_command_line::{Shell, command};
+use rv_file_jobs::AskedCode;
+use rv_report::explanation;
+use rv_system::TEXT_START;
 use std::alloc::Global;
 
-/// Where the text of a program starts unless the words say otherwise.
-const TEXT_START: u64 = 0x1_0000;
 /// The most instructions that `run` executes unless the words say otherwise.
-const LIMIT: u64 = 1_000_000_000_000;
-
-/// What stands below the options in the help of the program and of each of its jobs.
-const HELP: &str = "Examples:
-  rv run prog.s                             builds a source and runs it
-  rv build -o prog --map prog.map prog.s    writes the executable and its map
-  rv as -o prog.o prog.s                    writes the object of a source
-  rv ld -o prog prog.o other.o              links objects
-  rv map prog.s                             shows where each statement stands
-  rv objdump --map prog.map prog            shows the instructions of each statement
-  rv objdump --raw prog                     shows the text as a source that builds it again
-  rv dump prog                              shows the bytes of a file
-
-Without words rv does the same as 'rv run -'.
-Exit status: 0 done; 1 refused, the fault stands on standard error; 2 wrong words.
-'rv run' exits with the guest's status, or with 125 where the guest did not exit.";
-
-const RUN_HELP: &str = "Examples:
-  rv run prog.s
-  rv run --limit 1000000 prog < input
-  rv run - < prog.s
-
-Standard input is the guest's input, and its console is standard output.";
-
-const BUILD_HELP: &str = "Example:
-  rv build -o prog --map prog.map prog.s";
-
-const AS_HELP: &str = "Example:
-  rv as -o prog.o prog.s";
-
-const LD_HELP: &str = "Example:
-  rv ld -o prog --map prog.map prog.o other.o";
-
-const MAP_HELP: &str = "Example:
-  rv map --text-start 0x20000 prog.s";
-
-const OBJDUMP_HELP: &str = "Examples:
-  rv objdump --map prog.map prog
-  rv objdump --raw prog > again.s";
-
-const DUMP_HELP: &str = "Example:
-  rv dump prog";
-
-/// How a command names its files.
-#[derive(Clone, Copy)]
-struct Files {
-    name: &'static str,
-    help: &'static str,
-}
-
-const SOURCES: Files = Files {
-    name: "SRC",
-    help: "The sources, in the order of their sections",
-};
-
-const OBJECTS: Files = Files {
-    name: "OBJ",
-    help: "The objects, in the order of their sections",
-};
+pub(crate) const LIMIT: u64 = 1_000_000_000_000;
 
 /// What the words ask for; the first word is the program's own name.
 pub(crate) fn parse_job<'a>(alloc: Global, words: &'a [&'a str]) -> Result<Job<'a>, CliError> {
-    let mut command = command(alloc)?;
+    let mut command = command(alloc, words.get(1).copied())?;
     let matches = command.try_get_matches_from_mut(words)?;
     match matches.subcommand() {
-        Some(("run", found)) => parse_run(&mut command, found),
-        Some(("build", found)) => parse_build(alloc, &mut command, found),
-        Some(("as", found)) => Ok(parse_as(found)),
-        Some(("ld", found)) => parse_ld(alloc, &mut command, found),
-        Some(("map", found)) => parse_map(alloc, &mut command, found),
-        Some(("objdump", found)) => Ok(parse_objdump(found)),
-        Some(("dump", found)) => Ok(parse_dump(found)),
-        _ => Ok(Job::Run {
+        Some((name, found)) => parse_running(alloc, &mut command, name, found),
+        None => Ok(Job::Run {
             file: "-",
             limit: LIMIT,
         }),
     }
 }
 
-fn command<'a>(alloc: Global) -> Result<Command<'a>, Error> {
-    let all = Command::new(alloc, "rv")
-        .version("0.1.0")
-        .about("Assembles, links and runs bare RISC-V programs (RV64IMAC).")
-        .after_help(HELP);
-    let all = all.subcommand(run_command(alloc)?)?;
-    let all = all.subcommand(build_command(alloc)?)?;
-    let all = all.subcommand(as_command(alloc)?)?;
-    let all = all.subcommand(ld_command(alloc)?)?;
-    let all = all.subcommand(map_command(alloc)?)?;
-    let all = all.subcommand(objdump_command(alloc)?)?;
-    Ok(all.subcommand(dump_command(alloc)?)?)
+/// The job of a word that runs a guest, or else of another. (One function for all words would take minutes to prove.)
+fn parse_running<'a>(
+    alloc: Global,
+    command: &mut Command<'a>,
+    name: &str,
+    found: &ArgMatches<'a>,
+) -> Result<Job<'a>, CliError> {
+    match name {
+        "run" => parse_run(command, found),
+        "trace" => parse_trace(command, found),
+        "stats" => parse_stats(command, found),
+        _ => parse_building(alloc, command, name, found),
+    }
 }
 
-fn run_command<'a>(alloc: Global) -> Result<Command<'a>, Error> {
-    let limit = Arg::new(alloc, "limit").long("limit").value_name("N").help(
-        "The most instructions to execute [default: 1000000000000]",
-    );
-    let file = Arg::new(alloc, "file")
-        .value_name("FILE")
-        .required(true)
-        .help("An executable or a source; - is standard input");
-    let run = Command::new(alloc, "run")
-        .about("Runs an executable, or builds a source and runs it")
-        .after_help(RUN_HELP);
-    Ok(run.arg(limit)?.arg(file)?)
+/// The job of a word that builds, or else of another.
+fn parse_building<'a>(
+    alloc: Global,
+    command: &mut Command<'a>,
+    name: &str,
+    found: &ArgMatches<'a>,
+) -> Result<Job<'a>, CliError> {
+    match name {
+        "build" => parse_build(alloc, command, found),
+        "as" => parse_assemble(alloc, command, found),
+        "ld" => parse_ld(alloc, command, found),
+        "map" => parse_map(alloc, command, found),
+        "image" => parse_image(command, found),
+        _ => parse_showing(alloc, command, name, found),
+    }
 }
 
-fn build_command<'a>(alloc: Global) -> Result<Command<'a>, Error> {
-    let build = Command::new(alloc, "build")
-        .about("Builds an executable from sources")
-        .after_help(BUILD_HELP);
-    with_files(alloc, with_outputs(alloc, build)?, SOURCES)
+/// The job of a word that shows what stands in a file, or else of another.
+fn parse_showing<'a>(
+    alloc: Global,
+    command: &mut Command<'a>,
+    name: &str,
+    found: &ArgMatches<'a>,
+) -> Result<Job<'a>, CliError> {
+    match name {
+        "objdump" => Ok(parse_objdump(found)),
+        "dis" => Ok(parse_code(found)),
+        "dump" => Ok(parse_dump(found)),
+        "size" => parse_size(alloc, found),
+        "nm" => Ok(parse_nm(found)),
+        "elf" => Ok(parse_elf(found)),
+        _ => parse_telling(alloc, command, name, found),
+    }
 }
 
-fn as_command<'a>(alloc: Global) -> Result<Command<'a>, Error> {
-    let output = Arg::new(alloc, "output")
-        .short('o')
-        .value_name("OBJ")
-        .required(true)
-        .help("The object to write");
-    let source = Arg::new(alloc, "source")
-        .value_name("SRC")
-        .required(true)
-        .help("The source");
-    let assemble = Command::new(alloc, "as")
-        .about("Assembles a source to an object")
-        .after_help(AS_HELP);
-    Ok(assemble.arg(output)?.arg(source)?)
-}
-
-fn ld_command<'a>(alloc: Global) -> Result<Command<'a>, Error> {
-    let link = Command::new(alloc, "ld")
-        .about("Links objects to an executable")
-        .after_help(LD_HELP);
-    with_files(alloc, with_outputs(alloc, link)?, OBJECTS)
-}
-
-fn map_command<'a>(alloc: Global) -> Result<Command<'a>, Error> {
-    let map = Command::new(alloc, "map")
-        .about("Prints the map of what the sources build")
-        .after_help(MAP_HELP);
-    with_files(alloc, map, SOURCES)
-}
-
-fn objdump_command<'a>(alloc: Global) -> Result<Command<'a>, Error> {
-    let map = Arg::new(alloc, "map")
-        .long("map")
-        .value_name("F")
-        .help("The map of the executable")
-        .required_unless_present("raw")?;
-    let raw = Arg::new(alloc, "raw")
-        .long("raw")
-        .action(ArgAction::SetTrue)
-        .help("Prints a source that builds the same text again")
-        .conflicts_with("map")?;
-    let exe = Arg::new(alloc, "exe")
-        .value_name("EXE")
-        .required(true)
-        .help("The executable");
-    let objdump = Command::new(alloc, "objdump")
-        .about("Prints the instructions of an executable, statement by statement or as a source")
-        .after_help(OBJDUMP_HELP);
-    Ok(objdump.arg(map)?.arg(raw)?.arg(exe)?)
-}
-
-fn dump_command<'a>(alloc: Global) -> Result<Command<'a>, Error> {
-    let file = Arg::new(alloc, "file")
-        .value_name("FILE")
-        .required(true)
-        .help("Any file");
-    let dump = Command::new(alloc, "dump")
-        .about("Prints the bytes of a file in hexadecimal")
-        .after_help(DUMP_HELP);
-    Ok(dump.arg(file)?)
-}
-
-/// The command with what `build` and `ld` write.
-fn with_outputs<'a>(alloc: Global, command: Command<'a>) -> Result<Command<'a>, Error> {
-    let output = Arg::new(alloc, "output")
-        .short('o')
-        .value_name("EXE")
-        .required(true)
-        .help("The executable to write");
-    let map = Arg::new(alloc, "map")
-        .long("map")
-        .value_name("F")
-        .help("Writes the map as well");
-    Ok(command.arg(output)?.arg(map)?)
-}
-
-/// The command with what `build`, `ld` and `map` share: how to link, and the files.
-fn with_files<'a>(alloc: Global, command: Command<'a>, files: Files) -> Result<Command<'a>, Error> {
-    let start = Arg::new(alloc, "text-start")
-        .long("text-start")
-        .value_name("N")
-        .help("The address of the text, decimal or 0x and hexadecimal [default: 0x10000]");
-    let no_relax = Arg::new(alloc, "no-relax")
-        .long("no-relax")
-        .action(ArgAction::SetTrue)
-        .help("Leaves every call its eight bytes");
-    let gc = Arg::new(alloc, "gc-sections")
-        .long("gc-sections")
-        .action(ArgAction::SetTrue)
-        .help("Leaves out sections to which nothing leads from the entry");
-    let files = Arg::new(alloc, "files")
-        .value_name(files.name)
-        .required(true)
-        .action(ArgAction::Append)
-        .num_args(1..)
-        .help(files.help);
-    Ok(command.arg(start)?.arg(no_relax)?.arg(gc)?.arg(files)?)
+/// The job of a word that says something of sources, of codes or of the words.
+fn parse_telling<'a>(
+    alloc: Global,
+    command: &mut Command<'a>,
+    name: &str,
+    found: &ArgMatches<'a>,
+) -> Result<Job<'a>, CliError> {
+    match name {
+        "list" => parse_list(alloc, command, found),
+        "check" => parse_check(alloc, command, found),
+        "explain" => parse_explain(command, found),
+        _ => parse_completions(command, found),
+    }
 }
 
 fn parse_run<'a>(command: &mut Command<'a>, found: &ArgMatches<'a>) -> Result<Job<'a>, CliError> {
@@ -238,6 +110,9 @@ fn parse_run<'a>(command: &mut Command<'a>, found: &ArgMatches<'a>) -> Result<Jo
             "a limit is a decimal number below 2^64",
         )?,
     };
+    if found.get_flag("report") {
+        return Ok(parse_report(found, limit));
+    }
     Ok(Job::Run {
         file: found.get_str("file").unwrap_or("-"),
         limit,
@@ -256,13 +131,6 @@ fn parse_build<'a>(
         options,
         sources: file_names(alloc, found)?,
     })
-}
-
-fn parse_as<'a>(found: &ArgMatches<'a>) -> Job<'a> {
-    Job::Assemble {
-        object: found.get_str("output").unwrap_or(""),
-        source: found.get_str("source").unwrap_or(""),
-    }
 }
 
 fn parse_ld<'a>(
@@ -303,13 +171,99 @@ fn parse_objdump<'a>(found: &ArgMatches<'a>) -> Job<'a> {
     }
 }
 
+fn parse_code<'a>(found: &ArgMatches<'a>) -> Job<'a> {
+    let map = found.get_str("map");
+    Job::Code(AskedCode {
+        file: found.get_str("file").unwrap_or(""),
+        map,
+        map_first: map.is_some() && found.index_of("map") < found.index_of("file"),
+        aliases: !found.get_flag("base"),
+    })
+}
+
+fn parse_list<'a>(
+    alloc: Global,
+    command: &mut Command<'a>,
+    found: &ArgMatches<'a>,
+) -> Result<Job<'a>, CliError> {
+    let options = link_options(command, found)?;
+    Ok(Job::List {
+        all: found.get_flag("all"),
+        options,
+        sources: file_names(alloc, found)?,
+    })
+}
+
 fn parse_dump<'a>(found: &ArgMatches<'a>) -> Job<'a> {
     Job::Dump {
         file: found.get_str("file").unwrap_or(""),
     }
 }
 
-/// The options that `build`, `ld` and `map` share.
+fn parse_size<'a>(alloc: Global, found: &ArgMatches<'a>) -> Result<Job<'a>, CliError> {
+    Ok(Job::Size {
+        files: file_names(alloc, found)?,
+    })
+}
+
+fn parse_nm<'a>(found: &ArgMatches<'a>) -> Job<'a> {
+    Job::Names {
+        map: found.get_str("map"),
+        file: found.get_str("file").unwrap_or(""),
+    }
+}
+
+fn parse_elf<'a>(found: &ArgMatches<'a>) -> Job<'a> {
+    Job::Elf {
+        file: found.get_str("file").unwrap_or(""),
+    }
+}
+
+fn parse_check<'a>(
+    alloc: Global,
+    command: &mut Command<'a>,
+    found: &ArgMatches<'a>,
+) -> Result<Job<'a>, CliError> {
+    let options = link_options(command, found)?;
+    Ok(Job::Check {
+        options,
+        sources: file_names(alloc, found)?,
+    })
+}
+
+fn parse_explain<'a>(
+    command: &mut Command<'a>,
+    found: &ArgMatches<'a>,
+) -> Result<Job<'a>, CliError> {
+    let Some(code) = found.get_str("code") else {
+        return Ok(Job::Explain { entry: None });
+    };
+    match explanation(code) {
+        Some(entry) => Ok(Job::Explain { entry: Some(entry) }),
+        None => Err(CliError::from(command.error(
+            ErrorKind::ValueValidation,
+            "'rv explain' lists the codes that there are",
+        )?)),
+    }
+}
+
+fn parse_completions<'a>(
+    command: &mut Command<'a>,
+    found: &ArgMatches<'a>,
+) -> Result<Job<'a>, CliError> {
+    let shell = match found.get_str("shell") {
+        Some("bash") => Shell::Bash,
+        Some("zsh") => Shell::Zsh,
+        Some("fish") => Shell::Fish,
+        _ => {
+            let wanted = "a shell is bash, zsh or fish";
+            return Err(CliError::from(command.error(ErrorKind::ValueValidation, wanted)?));
+        }
+    };
+    Ok(Job::Completions { shell })
+}
+
+/// The options that `build`, `ld`, `map` and `check` share.
 fn link_options(
     command: &mut Command<'_>,
     found: &ArgMatches<'_>,
@@ -341,7 +295,11 @@ fn file_names<'a>(alloc: Global, found: &ArgMatches<'a>) -> Result<Vec<&'a str>,
 }
 
 /// The number, or a usage fault that says what was wanted.
-fn number(command: &mut Command<'_>, read: Option<u64>, wanted: &str) -> Result<u64, CliError> {
+pub(crate) fn number(
+    command: &mut Command<'_>,
+    read: Option<u64>,
+    wanted: &str,
+) -> Result<u64, CliError> {
     match read {
         Some(number) => Ok(number),
         None => Err(CliError::from(command.error(ErrorKind::ValueValidation, wanted)?)),
@@ -376,18 +334,5 @@ pub fn text_start(text: &str) -> Option<u64>
     match text.strip_prefix("0x") {
         Some(digits) => in_radix(digits, 16),
         None => decimal(text),
-    }
-}
-
-/// The options of a build whose words say nothing else.
-pub fn default_options() -> LinkOptions
-    ensures start { result.text_start ≡ 0x1_0000 }
-    ensures relax { result.relax ≡ true }
-    ensures gc { result.gc ≡ false }
-{
-    LinkOptions {
-        text_start: TEXT_START,
-        relax: true,
-        gc: false,
     }
 }

@@ -1,8 +1,9 @@
 //! Streams, files and memory that fail.
 
 use super::fake::{Fake, Reader, Scene};
-use rv_program::{CliError, Purpose, report};
+use rv_program::{CliError, report};
 use rv_streams::{ReadFault, read_whole};
+use rv_system::Purpose;
 use std::alloc::{AllocError, Global};
 use std::test::Fail;
 
@@ -31,12 +32,45 @@ type Row = (
 );
 
 /// Standard input cannot be read. `-` names it for `run`, and standard output where that is not written.
-const FAILURES: [Row; 13] = [
+const FAILURES: [Row; 17] = [
     ("rv run -", WRITES_H, true, 1, "", "rv: -: cannot read\n"),
     ("rv run a.s", ECHO_FOUR, true, 1, "", "rv: X1 InputFault\n"),
     // what the guest does not read cannot fail
     ("rv run a.s", WRITES_H, true, 0, "h", ""),
     ("rv run a.s", WRITES_H, false, 1, "", "rv: X2 OutputFault\n"),
+    // the guest's streams, and the lines of a trace
+    (
+        "rv run --report a.s",
+        ECHO_FOUR,
+        true,
+        1,
+        "",
+        "rv: X1 InputFault\n",
+    ),
+    (
+        "rv stats a.s",
+        ECHO_FOUR,
+        true,
+        1,
+        "",
+        "rv: X1 InputFault\n",
+    ),
+    (
+        "rv stats a.s",
+        WRITES_H,
+        false,
+        1,
+        "",
+        "rv: X2 OutputFault\n",
+    ),
+    (
+        "rv trace a.s",
+        WRITES_H,
+        false,
+        1,
+        "",
+        "rv: -: cannot write\n",
+    ),
     (
         "rv map a.s",
         WRITES_H,
@@ -97,6 +131,7 @@ fn ends(alloc: Global, row: &Row) -> Result<bool, AllocError> {
         source,
         input: None,
         closed: !open,
+        colours: false,
     };
     let mut fake = Fake::new(alloc, scene);
     let found = fake.does(words)?;
@@ -117,6 +152,7 @@ fn what_is_written(rt: HostRuntime) -> Result<(), Fail> {
         source: WRITES_H,
         input: Some(b""),
         closed: false,
+        colours: false,
     };
     let mut fake = Fake::new(rt.alloc(), scene);
     assert!(rt; fake.does("rv build --map m -o a a.s")? == 0);

@@ -1,9 +1,11 @@
 //! A system that stands in for the real one, and fails where it is told to.
 
 use rv_image::Image;
-use rv_machine::{End, Io, RunFault, run_io};
-use rv_program::{GuestInput, Purpose, System, exit_status};
+use rv_machine::{End, Io, RunFault, WatchFault, Watched, Watcher, run_io, run_watched};
+use rv_memory::Paged;
+use rv_program::exit_status;
 use rv_streams::ReadFault;
+use rv_system::{GuestInput, Purpose, System};
 use std::alloc::{AllocError, Global};
 use std::io::{self, ErrorKind, Read, Write};
 
@@ -16,6 +18,8 @@ pub(super) struct Scene<'a> {
     pub(super) input: Option<&'a [u8]>,
     /// Whether nothing can be written, neither files nor standard output.
     pub(super) closed: bool,
+    /// Whether standard output shows colours.
+    pub(super) colours: bool,
 }
 
 /// A reader that gives its bytes one by one, and then ends, or fails.
@@ -41,9 +45,9 @@ impl Read for Reader<'_> {
     }
 }
 
-/// Standard output.
+/// Standard output, or what lines are written to.
 #[derive(Drop)]
-struct Output {
+pub(super) struct Output {
     bytes: Vec<u8>,
     closed: bool,
 }
@@ -104,6 +108,8 @@ impl<'a> Fake<'a> {
 }
 
 impl System for Fake<'_> {
+    type Lines = Output;
+
     fn alloc(&self) -> Global {
         self.alloc
     }
@@ -129,6 +135,10 @@ impl System for Fake<'_> {
         }
         self.written.push(purpose)?;
         Ok(())
+    }
+
+    fn shows_colours(&self) -> bool {
+        self.scene.colours
     }
 
     fn print(&mut self, bytes: &[u8]) -> io::Result<()> {
@@ -162,6 +172,32 @@ impl System for Fake<'_> {
             return Err(RunFault::OutOfMemory);
         }
         ended
+    }
+
+    fn watch<T: Watcher<Paged>>(
+        &mut self,
+        machine: &mut Watched<Paged>,
+        _: GuestInput,
+        watcher: &mut T,
+        limit: u64,
+    ) -> Result<End, WatchFault> {
+        let mut output = Output {
+            bytes: Vec::new(self.alloc),
+            closed: self.scene.closed,
+        };
+        let mut reader = Io::new(Reader {
+            bytes: self.scene.input.unwrap_or_default(),
+            fails: self.scene.input.is_none(),
+        });
+        let mut writer = Io::new(&mut output);
+        run_watched(machine, &mut reader, &mut writer, watcher, limit)
+    }
+
+    fn lines(&mut self, _: Option<&str>) -> io::Result<Output> {
+        Ok(Output {
+            bytes: Vec::new(self.alloc),
+            closed: self.scene.closed,
+        })
     }
 
     fn show(&mut self, text: &str) {

@@ -2,7 +2,7 @@
 
 use rv_chain::{End, Fault, FileFault, LinkFault, SourceCode, SourceFault};
 use rv_machine::RunFault;
-use rv_program::{CliError, end_line, fault_line, run_line};
+use rv_system::{JobError, end_line, fault_line, run_line};
 use std::alloc::{AllocError, Global};
 
 /// Whether this is what is told of a fault of files `a.s` and `b.s`; want of memory has no line.
@@ -10,11 +10,10 @@ fn shows(alloc: Global, fault: Fault, wanted: Option<&str>) -> Result<bool, Allo
     Ok(tells(&fault_line(alloc, &fault, &["a.s", "b.s"])?, wanted))
 }
 
-fn tells(error: &CliError, wanted: Option<&str>) -> bool {
+fn tells(error: &JobError, wanted: Option<&str>) -> bool {
     match error {
-        CliError::Line(line) => wanted == Some(line.as_str()),
-        CliError::Memory => wanted.is_none(),
-        _ => false,
+        JobError::Line(line) => wanted == Some(line.as_str()),
+        JobError::Memory => wanted.is_none(),
     }
 }
 

@@ -1,0 +1,74 @@
+//! The table as commands of `clap`, which takes the words apart and writes the help.
+
+use crate::table::{Entry, Form, HELP, Need, WORDS, Word, word_at, word_of};
+use clap::{Arg, ArgAction, Command, Error};
+use std::alloc::{AllocError, Global};
+
+/// The command of the program. Where `first` names a word, it has that one alone, which is all that the rest of the words
+/// speak to.
+pub fn command<'a>(alloc: Global, first: Option<&str>) -> Result<Command<'a>, Error> {
+    let plain = Command::new(alloc, "rv")
+        .version("0.1.0")
+        .about("Assembles, links and runs bare RISC-V programs (RV64IMAC).")
+        .after_help(HELP);
+    match first.and_then(word_of) {
+        Some(word) => Ok(plain.subcommand(word_command(alloc, &word)?)?),
+        None => with_all(alloc, plain),
+    }
+}
+
+/// The command with all words.
+fn with_all<'a>(alloc: Global, plain: Command<'a>) -> Result<Command<'a>, Error> {
+    let mut all = plain;
+    for place in 0..WORDS {
+        if let Some(word) = word_at(place) {
+            all = all.subcommand(word_command(alloc, &word)?)?;
+        }
+    }
+    Ok(all)
+}
+
+fn word_command<'a>(alloc: Global, word: &Word) -> Result<Command<'a>, Error> {
+    let mut command = Command::new(alloc, word.name)
+        .about(word.about)
+        .after_help(word.after_help);
+    for entry in word.entries {
+        command = command.arg(argument(alloc, entry)?)?;
+    }
+    Ok(command)
+}
+
+fn argument<'a>(alloc: Global, entry: &Entry) -> Result<Arg<'a>, AllocError> {
+    let plain = Arg::new(alloc, entry.id).help(entry.help);
+    needed(written(plain, entry.form), entry.need)
+}
+
+/// The argument as it is written.
+fn written<'a>(arg: Arg<'a>, form: Form) -> Arg<'a> {
+    match form {
+        Form::Flag { long } => arg.long(long).action(ArgAction::SetTrue),
+        Form::Letter { letter } => arg.short(letter).action(ArgAction::SetTrue),
+        Form::Long { long, value } => arg.long(long).value_name(value),
+        Form::Short { letter, value } => arg.short(letter).value_name(value),
+        Form::Repeated { letter, value } => arg
+            .short(letter)
+            .value_name(value)
+            .action(ArgAction::Append),
+        Form::Single { value } => arg.value_name(value),
+        Form::Several { value } => arg
+            .value_name(value)
+            .action(ArgAction::Append)
+            .num_args(1..),
+    }
+}
+
+/// The argument that has to be there, or may.
+fn needed<'a>(arg: Arg<'a>, need: Need) -> Result<Arg<'a>, AllocError> {
+    match need {
+        Need::Optional => Ok(arg),
+        Need::Required => Ok(arg.required(true)),
+        Need::Unless(id) => arg.required_unless_present(id),
+        Need::Beside(id) => arg.requires_arg(id),
+        Need::Against(id) => arg.conflicts_with(id),
+    }
+}

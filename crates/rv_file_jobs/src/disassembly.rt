@@ -1,0 +1,110 @@
+//! What the program shows of files: the listings of an executable, and the bytes of any file.
+
+use rv_chain::Fault;
+use rv_disasm::{hex_dump, listing, raw_listing};
+use rv_inspect::{Style, code_text};
+use rv_map::Map;
+use rv_system::{JobError, System, fault_line, file_bytes, image_in, map_in, print, print_listing};
+use std::alloc::Global;
+
+/// Prints the listing of an executable by its map; the exit status.
+pub fn objdump<S: System>(
+    system: &mut S,
+    map_name: &str,
+    exe_name: &str,
+    map_first: bool,
+) -> Result<u8, JobError> {
+    let alloc: Global = system.alloc();
+    let (map, exe) = if map_first {
+        read_both(system, map_name, exe_name)?
+    } else {
+        let (exe, map) = read_both(system, exe_name, map_name)?;
+        (map, exe)
+    };
+    let map = map_in(alloc, map_name, map.as_slice())?;
+    let image = image_in(alloc, exe_name, exe.as_slice())?;
+    let text = listing(alloc, &image, &map)?;
+    print_listing(system, text.as_slice())?;
+    Ok(0)
+}
+
+/// Prints the raw listing of an executable, if it has one; the exit status.
+pub fn raw<S: System>(system: &mut S, name: &str) -> Result<u8, JobError> {
+    let alloc: Global = system.alloc();
+    let exe = file_bytes(system, name)?;
+    let image = image_in(alloc, name, exe.as_slice())?;
+    match raw_listing(alloc, &image)? {
+        Some(text) => {
+            print_listing(system, text.as_slice())?;
+            Ok(0)
+        }
+        None => Err(JobError::Line(format!(in alloc; "{name}: no raw listing")?)),
+    }
+}
+
+/// A file whose instructions are asked for.
+#[derive(Clone, Copy, Debug, Drop)]
+pub struct AskedCode<'a> {
+    pub file: &'a str,
+    /// The map of an executable.
+    pub map: Option<&'a str>,
+    /// Whether the map comes before the file in the words.
+    pub map_first: bool,
+    /// Whether instructions are shown by their aliases.
+    pub aliases: bool,
+}
+
+/// Prints the instructions of an object or an executable; the exit status.
+pub fn code<S: System>(system: &mut S, asked: &AskedCode<'_>) -> Result<u8, JobError> {
+    let alloc: Global = system.alloc();
+    let (map, file) = read_code(system, asked)?;
+    let style = Style {
+        aliases: asked.aliases,
+    };
+    match code_text(alloc, asked.file, file.as_slice(), map.as_ref(), style) {
+        Ok(text) => {
+            print_listing(system, text.as_slice())?;
+            Ok(0)
+        }
+        Err(fault) => Err(fault_line(alloc, &Fault::File(1, fault), &[asked.file])?),
+    }
+}
+
+/// The map and the bytes of a file, which are read in the order of the words.
+fn read_code<S: System>(
+    system: &mut S,
+    asked: &AskedCode<'_>,
+) -> Result<(Option<Map>, Vec<u8>), JobError> {
+    let alloc: Global = system.alloc();
+    let Some(name) = asked.map else {
+        return Ok((None, file_bytes(system, asked.file)?));
+    };
+    let (map, file) = if asked.map_first {
+        read_both(system, name, asked.file)?
+    } else {
+        let (file, map) = read_both(system, asked.file, name)?;
+        (map, file)
+    };
+    Ok((Some(map_in(alloc, name, map.as_slice())?), file))
+}
+
+/// Prints the bytes of a file; the exit status.
+pub fn dump<S: System>(system: &mut S, name: &str) -> Result<u8, JobError> {
+    let alloc: Global = system.alloc();
+    let bytes = file_bytes(system, name)?;
+    let text = hex_dump(alloc, bytes.as_slice())?;
+    print(system, text.as_slice())?;
+    Ok(0)
+}
+
+/// The bytes of two files, the first read before the second.
+fn read_both<S: System>(
+    system: &mut S,
+    first: &str,
+    second: &str,
+) -> Result<(Vec<u8>, Vec<u8>), JobError> {
+    let alloc: Global = system.alloc();
+    let one = file_bytes(system, first)?;
+    let other = file_bytes(system, second)?;
+    Ok((one, other))
+}

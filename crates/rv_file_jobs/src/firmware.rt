@@ -1,0 +1,102 @@
+//! Images of executables for programmers of flash memory and simulators of hardware.
+
+use rv_chain::Fault;
+use rv_firmware::{Firmware, FirmwareFault, binary, intel_hex, memory_text, s_records};
+use rv_system::{JobError, Purpose, System, fault_line, file_bytes, write};
+use std::alloc::{AllocError, Global};
+
+/// How an image is written.
+#[derive(Clone, Copy, Debug, PartialEq, Eq, Drop)]
+pub enum ImageFormat {
+    /// The bytes themselves, from the lowest address on.
+    Binary,
+    /// Lines with addresses, as text.
+    Text(TextFormat),
+}
+
+/// The texts that have addresses.
+#[derive(Clone, Copy, Debug, PartialEq, Eq, Drop)]
+pub enum TextFormat {
+    /// Intel HEX.
+    IntelHex,
+    /// Motorola S-records.
+    SRecords,
+    /// What Verilog's `$readmemh` reads.
+    MemoryText,
+}
+
+/// An image that the words ask for.
+#[derive(Clone, Copy, Drop)]
+pub struct AskedImage<'a> {
+    pub exe: &'a str,
+    pub output: &'a str,
+    pub format: ImageFormat,
+    /// What gaps are filled with; where none is given, a text leaves them out, and a binary has zeros.
+    pub fill: Option<u8>,
+}
+
+/// Writes an image of an executable; the exit status.
+pub fn write_image<S: System>(system: &mut S, asked: &AskedImage<'_>) -> Result<u8, JobError> {
+    let alloc: Global = system.alloc();
+    let file = file_bytes(system, asked.exe)?;
+    let firmware = match Firmware::of(alloc, file.as_slice()) {
+        Ok(firmware) => firmware,
+        Err(fault) => return Err(firmware_line(alloc, fault, asked.exe)?),
+    };
+    match image(alloc, &firmware, asked.format, asked.fill) {
+        Ok(image) => {
+            write(system, asked.output, Purpose::ToRead, image.as_slice())?;
+            Ok(0)
+        }
+        Err(fault) => Err(firmware_line(alloc, fault, asked.exe)?),
+    }
+}
+
+/// The bytes of an image.
+fn image(
+    alloc: Global,
+    firmware: &Firmware<'_>,
+    format: ImageFormat,
+    fill: Option<u8>,
+) -> Result<Vec<u8>, FirmwareFault> {
+    match format {
+        ImageFormat::Binary => Ok(binary(alloc, firmware, fill.unwrap_or(0))?),
+        ImageFormat::Text(format) => match fill {
+            None => Ok(text(alloc, firmware, format)?),
+            Some(byte) => filled_text(alloc, firmware, format, byte),
+        },
+    }
+}
+
+/// The text of an image whose gaps are filled.
+fn filled_text(
+    alloc: Global,
+    firmware: &Firmware<'_>,
+    format: TextFormat,
+    fill: u8,
+) -> Result<Vec<u8>, FirmwareFault> {
+    let bytes = binary(alloc, firmware, fill)?;
+    let first = firmware.first_address();
+    let whole = Firmware::of_bytes(alloc, first, bytes.as_slice(), firmware.entry)?;
+    Ok(text(alloc, &whole, format)?)
+}
+
+/// The text of an image.
+fn text(alloc: Global, firmware: &Firmware<'_>, format: TextFormat) -> Result<Vec<u8>, AllocError> {
+    match format {
+        TextFormat::IntelHex => intel_hex(alloc, firmware),
+        TextFormat::SRecords => s_records(alloc, firmware),
+        TextFormat::MemoryText => memory_text(alloc, firmware),
+    }
+}
+
+/// The line of an executable that has no image.
+fn firmware_line(alloc: Global, fault: FirmwareFault, name: &str) -> Result<JobError, AllocError> {
+    match fault {
+        FirmwareFault::File(fault) => fault_line(alloc, &Fault::File(1, fault), &[name]),
+        FirmwareFault::Address => Ok(JobError::Line(format!(in alloc;
+            "{name}: an address has over 32 bits"
+        )?)),
+        FirmwareFault::Memory => Ok(JobError::Memory),
+    }
+}

@@ -1,0 +1,74 @@
+//! What the program shows of files for people and scripts: sizes, names, headers and tables.
+
+use rv_chain::{Fault, FileFault};
+use rv_inspect::{SizeTable, elf_text, map_names, symbol_names};
+use rv_system::{JobError, System, fault_line, file_bytes, image_in, map_in, print};
+use std::alloc::{AllocError, Global};
+
+/// Prints the sizes of files, which are read in their order; the exit status.
+pub fn sizes<S: System>(system: &mut S, files: &[&str]) -> Result<u8, JobError> {
+    let alloc: Global = system.alloc();
+    let mut table = SizeTable::new(alloc)?;
+    for name in files {
+        let file = file_bytes(system, name)?;
+        match table.add(name, file.as_slice()) {
+            Ok(()) => {}
+            Err(fault) => return Err(refused(alloc, name, fault)?),
+        }
+    }
+    let text = table.finish()?;
+    print(system, text.as_slice())?;
+    Ok(0)
+}
+
+/// Prints the names of a file, or those that the map of an executable has; the exit status.
+pub fn names<S: System>(system: &mut S, map: Option<&str>, name: &str) -> Result<u8, JobError> {
+    match map {
+        Some(map) => names_by_map(system, map, name),
+        None => names_of_file(system, name),
+    }
+}
+
+/// Prints the names of a file by its symbol table; the exit status.
+fn names_of_file<S: System>(system: &mut S, name: &str) -> Result<u8, JobError> {
+    let alloc: Global = system.alloc();
+    let file = file_bytes(system, name)?;
+    match symbol_names(alloc, file.as_slice()) {
+        Ok(Some(text)) => {
+            print(system, text.as_slice())?;
+            Ok(0)
+        }
+        Ok(None) => Err(JobError::Line(format!(in alloc; "{name}: no symbols")?)),
+        Err(fault) => Err(refused(alloc, name, fault)?),
+    }
+}
+
+/// Prints the names that the map of an executable has; the exit status.
+fn names_by_map<S: System>(system: &mut S, map_name: &str, name: &str) -> Result<u8, JobError> {
+    let alloc: Global = system.alloc();
+    let text = file_bytes(system, map_name)?;
+    let exe = file_bytes(system, name)?;
+    let map = map_in(alloc, map_name, text.as_slice())?;
+    let _image = image_in(alloc, name, exe.as_slice())?;
+    let text = map_names(alloc, &map)?;
+    print(system, text.as_slice())?;
+    Ok(0)
+}
+
+/// Prints the headers and tables of a file; the exit status.
+pub fn elf<S: System>(system: &mut S, name: &str) -> Result<u8, JobError> {
+    let alloc: Global = system.alloc();
+    let file = file_bytes(system, name)?;
+    match elf_text(alloc, file.as_slice()) {
+        Ok(text) => {
+            print(system, text.as_slice())?;
+            Ok(0)
+        }
+        Err(fault) => Err(refused(alloc, name, fault)?),
+    }
+}
+
+/// The line of a file that is refused.
+fn refused(alloc: Global, name: &str, fault: FileFault) -> Result<JobError, AllocError> {
+    fault_line(alloc, &Fault::File(1, fault), &[name])
+}

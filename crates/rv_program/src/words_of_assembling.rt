@@ -1,0 +1,57 @@
+//! The words of an assembler, with those by which GCC calls one.
+
+use crate::assembler_options::{is_code_option, is_machine_option};
+use crate::error::CliError;
+use crate::jobs::Job;
+use clap::error::ErrorKind;
+use clap::{ArgMatches, Command};
+use std::alloc::Global;
+
+pub(crate) fn parse_assemble<'a>(
+    alloc: Global,
+    command: &mut Command<'a>,
+    found: &ArgMatches<'a>,
+) -> Result<Job<'a>, CliError> {
+    let machine = found.get_strs("machine").unwrap_or_default();
+    for option in machine {
+        if !is_machine_option(option) {
+            return Err(refused(alloc, command, "-m", option)?);
+        }
+    }
+    for option in found.get_strs("code").unwrap_or_default() {
+        if !is_code_option(option) {
+            return Err(refused(alloc, command, "-f", option)?);
+        }
+    }
+    Ok(Job::Assemble {
+        object: found.get_str("output").unwrap_or(""),
+        source: found.get_str("source").unwrap_or(""),
+        relax: relaxes(machine),
+    })
+}
+
+/// Whether calls may be shortened, by the last option that says so.
+fn relaxes(machine: &[&str]) -> bool {
+    let mut last = true;
+    for option in machine {
+        match *option {
+            "relax" => last = true,
+            "no-relax" => last = false,
+            _ => {}
+        }
+    }
+    last
+}
+
+/// The usage fault of an option that does not agree with what is assembled.
+fn refused(
+    alloc: Global,
+    command: &mut Command<'_>,
+    letter: &str,
+    option: &str,
+) -> Result<CliError, CliError> {
+    let said = format!(in alloc;
+        "{letter}{option} is not for RV64IMAC and lp64 at fixed addresses"
+    )?;
+    Ok(CliError::from(command.error(ErrorKind::ValueValidation, said.as_str())?))
+}

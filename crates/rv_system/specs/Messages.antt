@@ -1,0 +1,106 @@
+-- The lines that say why something is refused and how a run ended (this program's own).
+
+use Rattle.std.specs.Prelude.{◌≡◌, ℕ, ◌-◌, ◌==◌, false, ⊤, if◌then◌else◌, List, [], ◌∷◌, ◌++◌, Option, Some, None, option_map, codes, flat_map, string_bytes}
+use Rattle.std.specs.Borrow.{Bor}
+use Rattle.std.specs.Fmt.{decimal, digits}
+use Rattle.std.specs.List.{slice_get}
+use Rattle.std.specs.Option.{option_map_or}
+use Rattle.hex.specs.Hex.{encode_lower}
+use Rattle.rv_map.specs.Name.{is_name_byte}
+use Rattle.rv_lexer.specs.declared.fault.SourceFault.{SourceFault}
+use Rattle.rv_lexer.specs.declared.fault.SourceFault.TheVariants.{At, OutOfMemory}
+use Rattle.rv_lexer.specs.Fault as sources
+use Rattle.rv_elf.specs.declared.fault.FileFault.{FileFault}
+use Rattle.rv_elf.specs.declared.fault.FileFault.TheVariants.{UnsupportedRelocation, UnsupportedSection}
+use Rattle.rv_elf.specs.Fault as files
+use Rattle.rv_machine.specs.declared.end.End.{End}
+use Rattle.rv_machine.specs.End as ends
+use Rattle.rv_machine.specs.declared.running.RunFault.{RunFault}
+use Rattle.rv_machine.specs.declared.running.RunFault.TheVariants as runs
+use Rattle.rv_link.specs.declared.fault.LinkFault.{LinkFault}
+use Rattle.rv_link.specs.declared.fault.LinkFault.TheVariants.{Undefined, Duplicate}
+use Rattle.rv_link.specs.Fault as links
+use Rattle.rv_chain.specs.declared.fault.Fault.{Fault}
+use Rattle.rv_chain.specs.declared.fault.Fault.TheVariants.{Source, File, Link, Memory}
+use Rattle.rv_system.specs.declared.error.JobError.{JobError}
+use Rattle.rv_system.specs.declared.error.JobError.TheVariants as errors
+
+-- the name of the file of a number, from 1; without bytes where there is no such file
+abbrev pub file_name : List (Bor (List ℕ)) → ℕ → List ℕ
+file_name names number =
+    if number == 0 then [] else option_map_or (λ name. name.now) (slice_get names (number - 1)) []
+
+-- words, and one more after them, if there is one
+abbrev pub with_word : List ℕ → Option (List ℕ) → List ℕ
+with_word words None = words
+with_word words (Some word) = words ++ (codes " " ++ word)
+
+-- `a.s:5: E7 BadOperands`
+abbrev pub source_text : List ℕ → SourceFault → Option (List ℕ)
+source_text name (At code line) =
+    Some
+    (name ++ (codes ":" ++ (decimal line ++ (codes ": E" ++ (decimal (sources.number_of code)
+    ++ (codes " " ++ sources.name_of code))))))
+source_text name OutOfMemory = None
+
+-- the kind of relocation or the type of section that a file's fault is about
+abbrev pub kind_in : FileFault → Option ℕ
+kind_in (UnsupportedRelocation kind) = Some kind
+kind_in (UnsupportedSection kind) = Some kind
+kind_in _ = None
+
+-- `a.o: F1 Truncated`, `a.o: F9 UnsupportedRelocation 20`
+abbrev pub file_text : List ℕ → FileFault → Option (List ℕ)
+file_text name fault =
+    option_map
+    (λ number. name ++ (codes ": F" ++ (decimal number
+    ++ (codes " " ++ with_word (files.name_of fault) (option_map decimal (kind_in fault))))))
+    (files.number_of fault)
+
+-- the name that a fault of the link is about
+abbrev pub name_in : LinkFault → Option (List ℕ)
+name_in (Undefined name) = Some name.items
+name_in (Duplicate name) = Some name.items
+name_in _ = None
+
+-- a byte as its number, `\x1b`
+abbrev pub escape_of : ℕ → List ℕ
+escape_of byte = codes "\\x" ++ encode_lower (byte ∷ [])
+
+-- a byte of a name that a map does not show stands as its number
+abbrev pub shown_byte : ℕ → List ℕ
+shown_byte byte = if is_name_byte byte then byte ∷ [] else escape_of byte
+
+abbrev pub shown_name : List ℕ → List ℕ
+shown_name = flat_map shown_byte
+
+-- `L7 EntryMissing`, `L5 Undefined f`
+abbrev pub link_text : LinkFault → Option (List ℕ)
+link_text fault =
+    option_map
+    (λ number. codes "L" ++ (decimal number
+    ++ (codes " " ++ with_word (links.name_of fault) (option_map shown_name (name_in fault)))))
+    (links.number_of fault)
+
+-- the line of a fault; want of memory has none
+abbrev pub fault_text : List (Bor (List ℕ)) → Fault → Option (List ℕ)
+fault_text names (Source file fault) = source_text (file_name names file) fault
+fault_text names (File file fault) = file_text (file_name names file) fault
+fault_text names (Link fault) = link_text fault
+fault_text names Memory = None
+
+-- the line of a stream that failed in a run; want of memory has none
+abbrev pub run_text : RunFault → Option (List ℕ)
+run_text runs.InputFault = Some (codes "X1 InputFault")
+run_text runs.OutputFault = Some (codes "X2 OutputFault")
+run_text runs.OutOfMemory = None
+
+-- an error with this line, or that of want of memory
+abbrev pub Tells : JobError → Option (List ℕ) → Type 0
+Tells (errors.Line line) (Some text) = string_bytes line ≡ text
+Tells errors.Memory None = ⊤
+Tells _ _ = ⊥
+
+-- `Limit`, `FetchOutside 8`: an address is hexadecimal, in lower case
+abbrev pub end_text : End → List ℕ
+end_text e = with_word (ends.name_of e) (option_map (λ a. digits 16 false a) (ends.address_of e))

@@ -1,0 +1,24 @@
+//! How a run of a guest ended, as an exit status.
+
+ghost use Rattle.std.specs.Prelude.{◌≡◌};
+ghost use Rattle.rv_system.specs.Status.{run_status};
+
+use crate::messages::end_line;
+use crate::system::System;
+use rv_chain::End;
+
+/// The exit status of a run that the guest did not end by an exit.
+const NOT_EXITED: u8 = 125;
+
+/// Says how a run ended where the guest did not exit; the exit status.
+pub fn report_end<S: System>(system: &mut S, end: &End) -> u8
+    ensures { result ≡ run_status end.now }
+{
+    match end {
+        End::Exited(code) => *code,
+        _ => {
+            system.tell(end_line(end).as_str());
+            NOT_EXITED
+        }
+    }
+}

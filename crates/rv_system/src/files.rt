@@ -1,0 +1,109 @@
+//! Files and standard output, and the lines of those that cannot be read or written.
+
+use crate::error::JobError;
+use crate::messages::fault_line;
+use crate::system::{FILE_LIMIT, Purpose, System};
+use rv_chain::Fault;
+use rv_image::{Image, load};
+use rv_map::{Map, read};
+use rv_paint::painted;
+use rv_streams::ReadFault;
+use std::alloc::{AllocError, Global};
+
+/// The bytes of a file.
+pub fn file_bytes<S: System>(system: &mut S, name: &str) -> Result<Vec<u8>, JobError> {
+    let read = system.file(name);
+    contents(system.alloc(), name, read)
+}
+
+/// The bytes of a file, or of standard input where the name is `-`.
+pub fn given_bytes<S: System>(system: &mut S, name: &str) -> Result<Vec<u8>, JobError> {
+    let read = if name == "-" {
+        system.input(FILE_LIMIT)
+    } else {
+        system.file(name)
+    };
+    contents(system.alloc(), name, read)
+}
+
+/// The bytes of the files, in their order.
+pub fn files_bytes<S: System>(system: &mut S, names: &[&str]) -> Result<Vec<Vec<u8>>, JobError> {
+    let mut read: Vec<Vec<u8>> = Vec::new(system.alloc());
+    for name in names {
+        read.push(file_bytes(system, name)?)?;
+    }
+    Ok(read)
+}
+
+/// The same bytes, borrowed.
+pub fn borrowed<'a>(alloc: Global, read: &'a [Vec<u8>]) -> Result<Vec<&'a [u8]>, AllocError> {
+    let mut borrowed: Vec<&'a [u8]> = Vec::new(alloc);
+    for bytes in read {
+        borrowed.push(bytes.as_slice())?;
+    }
+    Ok(borrowed)
+}
+
+/// The bytes that were read, or the line that says that they weren't.
+fn contents(
+    alloc: Global,
+    name: &str,
+    read: Result<Vec<u8>, ReadFault>,
+) -> Result<Vec<u8>, JobError> {
+    match read {
+        Ok(bytes) => Ok(bytes),
+        Err(ReadFault::Failed) => Err(cannot(alloc, "read", name)?),
+        Err(ReadFault::Memory) => Err(JobError::Memory),
+    }
+}
+
+/// The image that a file is loaded as.
+pub fn image_in(alloc: Global, name: &str, file: &[u8]) -> Result<Image, JobError> {
+    match load(alloc, file) {
+        Ok(image) => Ok(image),
+        Err(fault) => Err(fault_line(alloc, &Fault::File(1, fault), &[name])?),
+    }
+}
+
+/// The map that a file is the text of.
+pub fn map_in(alloc: Global, name: &str, text: &[u8]) -> Result<Map, JobError> {
+    match read(alloc, text)? {
+        Some(map) => Ok(map),
+        None => Err(JobError::Line(format!(in alloc; "{name}: not a map")?)),
+    }
+}
+
+/// Writes a file anew.
+pub fn write<S: System>(
+    system: &mut S,
+    name: &str,
+    purpose: Purpose,
+    bytes: &[u8],
+) -> Result<(), JobError> {
+    match system.write(name, purpose, bytes) {
+        Ok(()) => Ok(()),
+        Err(_) => Err(cannot(system.alloc(), "write", name)?),
+    }
+}
+
+/// Writes to standard output, which messages call `-`.
+pub fn print<S: System>(system: &mut S, bytes: &[u8]) -> Result<(), JobError> {
+    match system.print(bytes) {
+        Ok(()) => Ok(()),
+        Err(_) => Err(cannot(system.alloc(), "write", "-")?),
+    }
+}
+
+/// Writes a listing to standard output, in colours where it shows them.
+pub fn print_listing<S: System>(system: &mut S, text: &[u8]) -> Result<(), JobError> {
+    if !system.shows_colours() {
+        return print(system, text);
+    }
+    let painted = painted(system.alloc(), text)?;
+    print(system, painted.as_slice())
+}
+
+/// The line of a file that cannot be read or written.
+pub fn cannot(alloc: Global, verb: &str, name: &str) -> Result<JobError, AllocError> {
+    Ok(JobError::Line(format!(in alloc; "{name}: cannot {verb}")?))
+}

@@ -1,0 +1,72 @@
+//! What the program asks of the system: files, and the standard streams, whole or as a guest asks.
+//!
+//! Files and streams go through one trait, so that tests see each status and each line without starting a process. It
+//! has no ghost state, so what a command line gives and takes is tested and not proved.
+
+use rv_image::Image;
+use rv_machine::{End, RunFault, WatchFault, Watched, Watcher};
+use rv_memory::Paged;
+use rv_streams::ReadFault;
+use std::alloc::Global;
+use std::io::{self, Write};
+
+/// The most bytes of a file: 1 GiB.
+pub const FILE_LIMIT: usize = 1 << 30;
+
+/// What a file that is written is for.
+#[derive(Clone, Copy, PartialEq, Eq)]
+pub enum Purpose {
+    ToRun,
+    ToRead,
+}
+
+/// Where a guest's input comes from.
+#[derive(Clone, Copy, PartialEq, Eq)]
+pub enum GuestInput {
+    Standard,
+    Empty,
+}
+
+/// The system that the program runs on; a test stands in for it.
+pub trait System {
+    /// What lines are written to while a guest runs.
+    type Lines: Write + Drop;
+
+    fn alloc(&self) -> Global;
+
+    /// The bytes of a file.
+    fn file(&mut self, name: &str) -> Result<Vec<u8>, ReadFault>;
+
+    /// The bytes of standard input, up to a limit.
+    fn input(&mut self, limit: usize) -> Result<Vec<u8>, ReadFault>;
+
+    /// Writes a file anew.
+    fn write(&mut self, name: &str, purpose: Purpose, bytes: &[u8]) -> io::Result<()>;
+
+    /// Whether standard output shows colours: it is a terminal, and nobody asked for none.
+    fn shows_colours(&self) -> bool;
+
+    /// Writes to standard output.
+    fn print(&mut self, bytes: &[u8]) -> io::Result<()>;
+
+    /// Runs an image, at most `limit` instructions: it reads and writes the standard streams as the guest asks.
+    fn run(&mut self, image: Image, input: GuestInput, limit: u64) -> Result<End, RunFault>;
+
+    /// Runs a machine as `run` does, and has a watcher look at each step.
+    fn watch<T: Watcher<Paged>>(
+        &mut self,
+        machine: &mut Watched<Paged>,
+        input: GuestInput,
+        watcher: &mut T,
+        limit: u64,
+    ) -> Result<End, WatchFault>;
+
+    /// A file that is written anew, or standard error where none is named.
+    fn lines(&mut self, name: Option<&str>) -> io::Result<Self::Lines>;
+
+    /// Writes a text to standard error.
+    fn show(&mut self, text: &str);
+
+    /// Writes a line to standard error, with `rv: ` before it.
+    fn tell(&mut self, line: &str);
+}

@@ -1,0 +1,14 @@
+//! The jobs of the program that run a guest and look at it: reports of why it ended, traces, and counts.
+//!
+//! Main functions: `run_with_report`, `trace`, `stats`. That a run that is looked at is the run is said by the clause of
+//! `run_watched`; the texts are those of `rv_trace`. It does not know the words of a command line.
+//!
+//! ```text
+//! // rv run --report a.s
+//! let status = run_with_report(system, &Asked { file: "a.s", map: None, map_first: false, limit })?;
+//! ```
+#![tactic(auto)]
+
+mod watching;
+
+pub use watching::{Asked, Coverage, Shown, run_with_report, stats, trace};

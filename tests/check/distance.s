@@ -1,0 +1,15 @@
+# Of a distance that is wrong the statement is shown where it alone can be meant.
+# rv: check a.s
+# status: 1
+# errors:
+# out is: wanted
+#--- a.s
+.globl _start
+_start: j _start + 1
+#--- wanted
+L2 OddTarget
+  a.s:2:
+    _start: j _start + 1
+              ^^^^^^
+  a branch, a jump or a call goes to an odd address; instructions stand at even ones
+1 fault

@@ -1,0 +1,29 @@
+# Several statements in a line: the wrong token of one is shown, and of a later fault the statement that has it whatever the
+# others are; where any of them may have it, all of the line. The name of a label is none of an instruction.
+# rv: check a.s
+# status: 1
+# errors:
+# out is: wanted
+#--- a.s
+.globl _start; _start: c.flw fa0,0(a0)
+.data; ecall; .text
+nop; lw a0, 4096(sp); nop
+j 1f; j 2f; 1: nop
+#--- wanted
+a.s:1: E6 UnknownMnemonic
+    .globl _start; _start: c.flw fa0,0(a0)
+                           ^^^^^
+  c.flw is the name of no instruction
+a.s:2: E15 WrongSection
+    .data; ecall; .text
+    ^^^^^^^^^^^^^^^^^^^
+  a statement of this line cannot stand in this section: instructions go to .text, data to .data or .rodata
+a.s:3: E14 ImmediateRange
+    nop; lw a0, 4096(sp); nop
+                ^^^^
+  lw takes -2048 to 2047 here, 4096 is too large
+a.s:4: E12 UndefinedLocal
+    j 1f; j 2f; 1: nop
+    ^^^^^^^^^^^^^^^^^^
+  what this refers to is no label of this source
+4 faults
