@@ -6,9 +6,11 @@
 # make bench       measures rv beside GNU's tools, qemu-riscv64 and an interpreter in C, where they are installed,
 #                  and prints the table of targets last
 # make growth      draws how their times grow: bench/growth.svg
-# make install     PREFIX=/usr/local by default
+# make install     PREFIX=/usr/local by default; puts the man page and the completions of shells in place as well,
+#                  and an assembler for gcc -B PREFIX/libexec/rv/
 
 PREFIX ?= /usr/local
+TO = $(DESTDIR)$(PREFIX)
 EXAMPLE := examples/exit7.s
 PROGRAM := crates/rv_cli/out/rv_cli
 # What the program is made of: no test crate, and no edit that must fail.
@@ -33,6 +35,10 @@ rv_refused: crates.txt $(FILES)
 check: rv
 	tests/run.py
 	tests/damaged.py
+	tests/explained.py
+	tests/tour.py
+	tests/shells.py
+	tests/terminal.py
 	scripts/links.py
 	scripts/want_of_memory.py
 
@@ -50,7 +56,12 @@ growth: rv
 	python3 bench/growth.py
 
 install: rv
-	install -D -m 755 rv $(DESTDIR)$(PREFIX)/bin/rv
+	install -D -m 755 rv $(TO)/bin/rv
+	install -D -m 755 scripts/as.sh $(TO)/libexec/rv/as
+	scripts/manual_page.py | install -D -m 644 /dev/stdin $(TO)/share/man/man1/rv.1
+	./rv completions bash | install -D -m 644 /dev/stdin $(TO)/share/bash-completion/completions/rv
+	./rv completions zsh | install -D -m 644 /dev/stdin $(TO)/share/zsh/site-functions/_rv
+	./rv completions fish | install -D -m 644 /dev/stdin $(TO)/share/fish/vendor_completions.d/rv.fish
 
 clean:
 	rm -rf rv rv_refused out crates/*/out
