@@ -17,7 +17,9 @@ import gate_times
 
 ROOT = Path(__file__).resolve().parent.parent
 PROGRAMS = {"rv_cli": "rv", "rv_refused": "rv_refused"}
-OF_PROGRAMS = [["tests/run.py"], ["tests/collected.py"], ["tests/damaged.py", "--all"], ["tests/refused.py"]]
+OF_PROGRAMS = [["tests/run.py"], ["tests/collected.py"], ["tests/damaged.py", "--all"], ["tests/explained.py"],
+               ["tests/tour.py"], ["tests/shells.py"], ["tests/terminal.py"],
+               ["tests/refused.py"]]
 OF_FILES = [["scripts/links.py"], ["scripts/want_of_memory.py"]]
 
 
