@@ -30,7 +30,7 @@ sys.path.insert(0, str(ROOT / "examples" / "c" / "random"))
 from compare import FLAGS, GNU, HERE, LEFT_OUT, draw, is_limit, made, need, refusal, said  # noqa: E402
 
 BENCH = sorted((ROOT / "bench" / "programs").glob("*.c"))
-LEVELS = ["-O0 -fdata-sections", "-O1", "-O2", "-Os"]
+LEVELS = ["-O0 -fdata-sections", "-O1 -pipe", "-O2", "-Os"]
 LIMIT = "20000000"
 # How many rounds a program of bench/ does; the others do not read.
 INPUT = b"1\n"

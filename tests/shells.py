@@ -1,5 +1,6 @@
 #!/usr/bin/env python3
 """Completes words of rv in bash by what `rv completions bash` writes; zsh and fish read theirs, where they are installed.
+GCC's assembler, a script of the shell, reads a file, or standard input where none is named.
 
 Standard library alone; the last line is 'N passed, M failed'.
 """
@@ -11,7 +12,8 @@ import sys
 import tempfile
 from pathlib import Path
 
-RV = Path(__file__).resolve().parent.parent / "rv"
+TOP = Path(__file__).resolve().parent.parent
+RV = TOP / "rv"
 # What is typed, and what the last word is completed to.
 ROWS = [
     ("rv b", "build"),
@@ -31,8 +33,14 @@ echo "${{COMPREPLY[@]}}"
 """
 
 
-def output(words, folder):
-    return subprocess.run(words, cwd=folder, capture_output=True, text=True, timeout=60, stdin=subprocess.DEVNULL)
+SOURCE = "f: addi a0, a0, 1\n ret\n"
+# The words of `gcc -c` and of `gcc -pipe -I include -c`.
+ASSEMBLES = ["--traditional-format -march=rv64imac -mabi=lp64 -o file.o program.s",
+             "-I include --traditional-format -march=rv64imac -mabi=lp64 -o pipe.o"]
+
+
+def output(words, folder, given=""):
+    return subprocess.run(words, cwd=folder, capture_output=True, text=True, timeout=60, input=given)
 
 
 def completed(folder):
@@ -54,13 +62,27 @@ def read(folder):
             yield shell, "", came.stdout + came.stderr
 
 
+def assembled(folder):
+    """Whether the installed assembler makes the object of `rv as`, of a file and of standard input."""
+    for part in ("bin", "libexec/rv"):
+        Path(folder, part).mkdir(parents=True)
+    Path(folder, "bin/rv").symlink_to(RV)
+    shutil.copy(TOP / "scripts/as.sh", Path(folder, "libexec/rv/as"))
+    said = output([RV, "as", "-o", "wanted.o", "program.s"], folder).stderr
+    for words in ASSEMBLES:
+        came = output(["libexec/rv/as", *words.split()], folder, SOURCE).stderr
+        made = Path(folder, words.split()[words.split().index("-o") + 1])
+        same = made.exists() and made.read_bytes() == Path(folder, "wanted.o").read_bytes()
+        yield f"as {words}", "the same object", said + came + ("the same object" if same else "another object")
+
+
 def main():
     passed = failed = 0
     with tempfile.TemporaryDirectory() as folder:
-        Path(folder, "program.s").touch()
+        Path(folder, "program.s").write_text(SOURCE)
         for shell in ("bash", "zsh", "fish"):
             Path(folder, f"rv.{shell}").write_text(output([RV, "completions", shell], folder).stdout)
-        for name, wanted, came in [*completed(folder), *read(folder)]:
+        for name, wanted, came in [*completed(folder), *read(folder), *assembled(folder)]:
             if came == wanted:
                 passed += 1
                 continue
