@@ -6,9 +6,9 @@ usage: refused.py [WORD ..]     only cases whose names begin so, as `ld` or `run
 A case is a command of ./rv, or a call that ./rv_refused makes (crates/rv_refused), and a source. It runs once as it is,
 which gives the ordinary answer and the count of requests; then once for each number up to that count with that request
 refused (refuse.c), and once with the number after it. Of a command is wanted `rv: out of memory` with status 1, no
-output, no input taken and no file left; of a call that it answers so, and gives the ordinary answer when it is made
-again. In the end the ordinary answer is wanted. One line for each other answer. Needs a C compiler, `cc`, and glibc; the
-last line is 'N passed, M failed'.
+output but whole lines of a trace, no input taken and no file left; of a call that it answers so, and gives the ordinary
+answer when it is made again. In the end the ordinary answer is wanted. One line for each other answer. Needs a C
+compiler, `cc`, and glibc; the last line is 'N passed, M failed'.
 """
 
 import os
@@ -135,16 +135,18 @@ class Case:
     def wrong(self, wanted, shim=None, number=0):
         """The line of an answer that is not wanted, or nothing."""
         came = self.answer(shim, number)
-        is_wanted = came == wanted or (wanted == REFUSED and self.is_looked_at and self.was_begun(came))
+        is_wanted = came == wanted or (wanted == REFUSED and self.is_trace and self.was_begun(came))
         return None if is_wanted else f"{self.name}: request {number}: {came}"
 
     @property
-    def is_looked_at(self):
-        return self.words[1] in ("trace", "stats")
+    def is_trace(self):
+        return self.words[1] == "trace"
 
     def was_begun(self, came):
-        """Whether lines of a run were told, the last of them perhaps in part, and then that memory ran out."""
-        return came.said.endswith(REFUSED.said) and replace(came, said=REFUSED.said) == REFUSED
+        """Whether whole lines of a run were told, and then that memory ran out."""
+        lines, told, rest = came.said.partition(REFUSED.said)
+        is_part = lines.endswith("\n") and self.wanted.said.startswith(lines)
+        return is_part and not rest and replace(came, said=told) == REFUSED
 
 
 def made(at, *words):
@@ -205,9 +207,11 @@ def commands(name, source, at, texts):
 
 def watched(name, source, at, paths):
     """Runs of a source that are looked at; they take memory while the guest runs, so it is one that writes nothing."""
-    for words in (["stats", "--lines", *paths], ["trace", *paths]):
-        told = subprocess.run([RV, *words], timeout=SECONDS, stderr=subprocess.PIPE).stderr.decode()
-        yield f"{words[0]} {name}", words, Answer(source.status, b"", told.replace(f"{at}/", ""), 0, ())
+    calls = [(source.status, ["stats", "--lines"]), (source.status, ["trace"]), (125, ["run", "--report", "--limit", "1"])]
+    for status, words in calls:
+        told = subprocess.run([RV, *words, *paths], timeout=SECONDS, stderr=subprocess.PIPE).stderr.decode()
+        wanted = Answer(status, b"", told.replace(f"{at}/", ""), 0, ())
+        yield " ".join([*words, name]), [*words, *paths], wanted
 
 
 def faulty(name, source, at, texts):

@@ -87,11 +87,12 @@ pub fn run_with_report<S: System>(system: &mut S, asked: &Asked<'_>) -> Result<u
     let mut machine = machine_of(alloc, image)?;
     let watched = watch(system, &mut machine, asked, &mut latest, asked.limit);
     let end = ended(alloc, watched, "-")?;
-    let status = report_end(system, &end);
-    if !matches!(end, End::Exited(_)) {
-        let text = report_text(alloc, &machine, &latest, &places, &segments, &end)?;
-        put_lines(system, text.as_slice())?;
+    if matches!(end, End::Exited(_)) {
+        return Ok(report_end(system, &end));
     }
+    let text = report_text(alloc, &machine, &latest, &places, &segments, &end)?;
+    let status = report_end(system, &end);
+    put_lines(system, text.as_slice())?;
     Ok(status)
 }
 
@@ -109,16 +110,30 @@ pub fn stats<S: System>(
     let watched = watch(system, &mut machine, asked, &mut counts, asked.limit);
     let end = ended(alloc, watched, "-")?;
     counts.ended(&end);
-    let status = report_end(system, &end);
-    put_lines(system, counts_text(alloc, &counts, &places)?.as_slice())?;
+    let mut text = counts_text(alloc, &counts, &places)?;
     if coverage.lines {
-        put_lines(system, lines_text(alloc, &counts, &places)?.as_slice())?;
+        text.extend_from_slice(lines_text(alloc, &counts, &places)?.as_slice())?;
     }
+    let tracefile = tracefile(alloc, &counts, &places, coverage)?;
+    let status = report_end(system, &end);
+    put_lines(system, text.as_slice())?;
     if let Some(name) = coverage.lcov {
-        let text = lcov_text(alloc, &counts, &places)?;
-        write(system, name, Purpose::ToRead, text.as_slice())?;
+        write(system, name, Purpose::ToRead, tracefile.as_slice())?;
     }
     Ok(status)
+}
+
+/// The tracefile of lcov where one is asked for; else nothing.
+fn tracefile(
+    alloc: Global,
+    counts: &Counts,
+    places: &Places<'_>,
+    coverage: &Coverage<'_>,
+) -> Result<Vec<u8>, AllocError> {
+    match coverage.lcov {
+        Some(_) => lcov_text(alloc, counts, places),
+        None => Ok(Vec::new(alloc)),
+    }
 }
 
 /// Runs a program and writes a line for each instruction; the exit status.
@@ -156,6 +171,10 @@ fn trace_by<S: System>(
         &mut trace,
         asked.limit.min(last),
     );
+    // no line is told in part
+    if let Err(WatchFault::OutOfMemory) = watched {
+        return Err(JobError::Memory);
+    }
     let finished = trace.finish();
     let end = ended(alloc, watched, name)?;
     if let Err(fault) = finished {
