@@ -40,6 +40,18 @@ impl Access {
             AccessKind::Load | AccessKind::LoadReserved | AccessKind::Update
         )
     }
+
+    /// Whether it writes memory.
+    #[inline]
+    pub(crate) fn stores(&self) -> bool {
+        !matches!(self.kind, AccessKind::Load | AccessKind::LoadReserved)
+    }
+
+    /// The hexadecimal digits of what it loads or stores.
+    #[inline]
+    pub(crate) fn digits(&self) -> usize {
+        (self.bytes.min(8) * 2) as usize
+    }
 }
 
 /// The bytes of a load.

@@ -3,8 +3,6 @@
 use itoa::Buffer;
 use std::alloc::AllocError;
 
-/// The digits of a number in hexadecimal.
-const DIGITS: [u8; 16] = *b"0123456789abcdef";
 /// Blanks, which are added many at once.
 const BLANKS: [u8; 64] = [b' '; 64];
 
@@ -16,15 +14,53 @@ pub(crate) fn put(text: &mut Vec<u8>, added: &str) -> Result<(), AllocError> {
 
 /// Adds a number of `bytes` bytes, at most eight, in hexadecimal, two digits a byte.
 pub(crate) fn put_fixed(text: &mut Vec<u8>, number: u64, bytes: u64) -> Result<(), AllocError> {
-    let mut digits = [b'0'; 16];
-    let mut left = number;
-    for digit in digits.iter_mut().rev() {
-        *digit = DIGITS[(left % 16) as usize];
-        left /= 16;
-    }
+    let digits = digits_of(number);
     let shown = (bytes.min(8) * 2) as usize;
     text.extend_from_slice(&digits[16 - shown..])?;
     Ok(())
+}
+
+/// Writes the digits of a number in hexadecimal over what stands at an offset.
+#[inline]
+pub(crate) fn set_fixed(text: &mut [u8], start: usize, number: u64) {
+    if let Some(rest) = text.get_mut(start..) {
+        if let Some(place) = rest.first_chunk_mut::<16>() {
+            *place = digits_of(number);
+        }
+    }
+}
+
+/// Writes so many of the last digits of a number in hexadecimal over what stands at an offset.
+pub(crate) fn set_low_digits(text: &mut [u8], start: usize, count: usize, number: u64) {
+    let digits = digits_of(number);
+    if let Some(places) = text.get_mut(start..start.saturating_add(count)) {
+        for (place, digit) in places.iter_mut().rev().zip(digits.iter().rev()) {
+            *place = *digit;
+        }
+    }
+}
+
+/// The digits of a number in hexadecimal.
+#[inline]
+fn digits_of(number: u64) -> [u8; 16] {
+    let [a, b, c, d, e, f, g, h] = eight_digits(number >> 32);
+    let [i, j, k, l, m, n, o, p] = eight_digits(number & 0xFFFF_FFFF);
+    [a, b, c, d, e, f, g, h, i, j, k, l, m, n, o, p]
+}
+
+/// The digits of a number of 32 bits in hexadecimal, all at once: each gets a byte of its own.
+#[inline]
+fn eight_digits(number: u64) -> [u8; 8] {
+    let fours = (number | number << 16) & 0x0000_FFFF_0000_FFFF;
+    let twos = (fours | fours << 8) & 0x00FF_00FF_00FF_00FF;
+    let digits = (twos | twos << 4) & 0x0F0F_0F0F_0F0F_0F0F;
+    // a digit is a letter where adding 6 carries beyond its four bits
+    let letters = (digits.wrapping_add(0x0606_0606_0606_0606) >> 4) & 0x0101_0101_0101_0101;
+    let figures = digits.wrapping_add(0x3030_3030_3030_3030);
+    let gap = u64::from(b'a' - b'9' - 1);
+    figures
+        .wrapping_add(letters.wrapping_mul(gap))
+        .to_be_bytes()
 }
 
 /// Adds a number in decimal.

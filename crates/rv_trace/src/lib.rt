@@ -20,8 +20,10 @@
 
 mod access;
 mod columns;
+mod counter;
 mod counts;
 mod lines;
+mod pattern;
 mod places;
 mod report;
 mod sites;

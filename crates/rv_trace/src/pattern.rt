@@ -1,0 +1,214 @@
+//! The line of a site, made once: what all its lines have, with blanks for the digits that differ.
+
+use crate::access::{Access, access_of, destination};
+use crate::columns::{fill_column, put, put_blanks, put_decimal, put_fixed, put_near};
+use crate::places::Places;
+use crate::sites::Site;
+use rv_disasm::{Targets, put_instruction};
+use rv_isa::{Inst, Reg};
+use std::alloc::{AllocError, Global};
+
+/// The widths of the columns.
+const COUNT: usize = crate::counter::DIGITS;
+
+const SYMBOL: usize = 20;
+
+const BYTES: usize = 8;
+
+const TEXT: usize = 28;
+
+const EFFECT: usize = 42;
+/// Where the effects of an instruction begin in its line.
+const BEFORE_EFFECT: usize = COUNT + 1 + 16 + 1 + SYMBOL + 1 + BYTES + 1 + TEXT;
+/// Where the source begins.
+pub(crate) const BEFORE_SOURCE: usize = BEFORE_EFFECT + 1 + EFFECT;
+
+/// Where the line of a site stands among the texts, and what is written into it each time.
+#[derive(Clone, Copy, Drop)]
+pub(crate) struct Pattern {
+    start: usize,
+    /// Where the effects begin; the line of an instruction that was not executed to its end has none.
+    bare: usize,
+    /// Where the source begins, or the line feed where there is none.
+    source: usize,
+    end: usize,
+    pub effects: Effects,
+    pub is_ecall: bool,
+}
+
+/// What an instruction writes and where it loads or stores, and the offsets in the line of the digits of that.
+#[derive(Clone, Copy, Drop)]
+pub(crate) struct Effects {
+    pub written: Option<Reg>,
+    /// Where the value of the register stands.
+    pub value: usize,
+    pub access: Option<Access>,
+    /// Where the address of the access stands.
+    pub address: usize,
+    /// Where what is stored stands.
+    pub stored: usize,
+}
+
+/// The patterns of sites, in the order of the sites.
+#[derive(Drop)]
+pub(crate) struct Patterns {
+    texts: Vec<u8>,
+    patterns: Vec<Pattern>,
+}
+
+impl Patterns {
+    /// None yet.
+    pub(crate) fn new(alloc: Global) -> Self {
+        Patterns {
+            texts: Vec::new(alloc),
+            patterns: Vec::new(alloc),
+        }
+    }
+
+    pub(crate) fn len(&self) -> usize {
+        self.patterns.len()
+    }
+
+    #[inline]
+    pub(crate) fn get(&self, index: usize) -> Option<&Pattern> {
+        self.patterns.get(index)
+    }
+
+    /// The whole line.
+    #[inline]
+    pub(crate) fn line(&self, pattern: &Pattern) -> &[u8] {
+        self.texts.get(pattern.start..pattern.end).unwrap_or(b"")
+    }
+
+    /// The line up to the effects.
+    pub(crate) fn bare(&self, pattern: &Pattern) -> &[u8] {
+        self.texts.get(pattern.start..pattern.bare).unwrap_or(b"")
+    }
+
+    /// The source and the line feed.
+    pub(crate) fn rest(&self, pattern: &Pattern) -> &[u8] {
+        self.texts.get(pattern.source..pattern.end).unwrap_or(b"")
+    }
+
+    /// Adds the pattern of a site.
+    pub(crate) fn add(&mut self, places: &Places<'_>, site: &Site) -> Result<(), AllocError> {
+        let start = self.texts.len();
+        put_bare(&mut self.texts, places, site)?;
+        let bare = self.texts.len();
+        let effects = put_effects(&mut self.texts, start, site.inst)?;
+        let source = put_rest(&mut self.texts, start, places, site.pc)?;
+        self.patterns.push(Pattern {
+            start,
+            bare,
+            source,
+            end: self.texts.len(),
+            effects,
+            is_ecall: matches!(site.inst, Inst::Ecall),
+        })?;
+        Ok(())
+    }
+}
+
+/// Adds what a line says of its instruction alone, after blanks for its number.
+fn put_bare(text: &mut Vec<u8>, places: &Places<'_>, site: &Site) -> Result<(), AllocError> {
+    put_blanks(text, COUNT + 1)?;
+    put_fixed(text, site.pc, 8)?;
+    text.push(b' ')?;
+    let symbol = text.len();
+    put_near(text, places.symbol_at(site.pc))?;
+    fill_column(text, symbol, SYMBOL)?;
+    let bytes = text.len();
+    for byte in site.bits.to_le_bytes().iter().take(site.bytes() as usize) {
+        put_fixed(text, u64::from(*byte), 1)?;
+    }
+    fill_column(text, bytes, BYTES)?;
+    put_instruction(text, Targets::Addresses(site.pc), site.inst)
+}
+
+/// Adds the room of the effects to a line that began at an offset, as `a0 <- .. [..] <- ..`.
+fn put_effects(text: &mut Vec<u8>, start: usize, inst: Inst) -> Result<Effects, AllocError> {
+    let written = destination(inst);
+    let access = access_of(inst);
+    if written.is_some() || access.is_some() {
+        fill_column(text, start, BEFORE_EFFECT)?;
+    }
+    let value = put_written(text, written)?.saturating_sub(start);
+    if written.is_some() && access.is_some() {
+        text.push(b' ')?;
+    }
+    let address = text.len().saturating_add(1).saturating_sub(start);
+    let stored = put_accessed(text, &access)?.saturating_sub(start);
+    Ok(Effects {
+        written,
+        value,
+        access,
+        address,
+        stored,
+    })
+}
+
+/// Adds a register that is written, and room for its value; where that is.
+fn put_written(text: &mut Vec<u8>, written: Option<Reg>) -> Result<usize, AllocError> {
+    let Some(reg) = written else {
+        return Ok(0);
+    };
+    put(text, reg.abi_name())?;
+    put(text, " <- ")?;
+    let value = text.len();
+    put_blanks(text, 16)?;
+    Ok(value)
+}
+
+/// Adds room for an address in brackets and for what is stored there; where the latter is.
+fn put_accessed(text: &mut Vec<u8>, access: &Option<Access>) -> Result<usize, AllocError> {
+    let Some(access) = access else {
+        return Ok(0);
+    };
+    text.push(b'[')?;
+    put_blanks(text, 16)?;
+    text.push(b']')?;
+    if !access.stores() {
+        return Ok(0);
+    }
+    put(text, " <- ")?;
+    let stored = text.len();
+    put_blanks(text, access.digits())?;
+    Ok(stored)
+}
+
+/// Adds the source that an address begins, and a line feed, to a line that began at an offset; where that is.
+fn put_rest(
+    text: &mut Vec<u8>,
+    start: usize,
+    places: &Places<'_>,
+    pc: u64,
+) -> Result<usize, AllocError> {
+    let mut source = text.len();
+    if let Some(row) = places.row_at(pc) {
+        if places.begins_line(row, pc) {
+            fill_column(text, start, BEFORE_SOURCE)?;
+            source = text.len();
+            put(text, "# ")?;
+            put_line(text, places, row)?;
+        }
+    }
+    text.push(b'\n')?;
+    Ok(source)
+}
+
+/// Adds the file, the line and the text of a statement, as `a.s:3: li a0, 7`; the file's number where it has no name.
+pub(crate) fn put_line(
+    text: &mut Vec<u8>,
+    places: &Places<'_>,
+    row: &rv_map::Row,
+) -> Result<(), AllocError> {
+    crate::lines::put_file(text, places, row.file)?;
+    text.push(b':')?;
+    put_decimal(text, row.line)?;
+    let line = places.line(row.line);
+    if !line.is_empty() {
+        put(text, ": ")?;
+        text.extend_from_slice(line)?;
+    }
+    Ok(())
+}
