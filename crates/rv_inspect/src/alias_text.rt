@@ -3,9 +3,11 @@
 //! What takes a number in place of a register has the name of the other form: `add a0,a0,1`. A parcel has the text of the
 //! instruction that it stands for; one without effect (a HINT) keeps its `c.` mnemonic.
 
-use crate::columns::put;
+use crate::columns::Column::{Signed, Text};
+use crate::columns::{put, put_columns};
 use crate::instruction_text::{
-    put_base, put_fence, put_immediate, put_instruction, put_number, put_registers, put_target,
+    put_access, put_amount, put_base, put_fence, put_instruction, put_registers, put_sum,
+    put_target, target_of,
 };
 use crate::parcel_text::put_parcel;
 use crate::scope::Scope;
@@ -45,8 +47,7 @@ fn put_nop(text: &mut Vec<u8>, immediate: i32) -> Result<(), AllocError> {
     if immediate == 0 {
         return put(text, b"nop");
     }
-    put(text, b"c.nop\t")?;
-    put_immediate(text, immediate)
+    put_columns(text, &[Text(b"c.nop\t"), Signed(immediate)])
 }
 
 /// Adds the text of the instruction at an address.
@@ -142,17 +143,6 @@ fn short_name(operation: ImmediateOperation) -> &'static str {
     }
 }
 
-fn put_sum(
-    text: &mut Vec<u8>,
-    name: &str,
-    registers: &[Reg],
-    immediate: i32,
-) -> Result<(), AllocError> {
-    put_registers(text, name, registers)?;
-    put(text, b",")?;
-    put_immediate(text, immediate)
-}
-
 fn put_shift(text: &mut Vec<u8>, operation: ShiftOperation, x: &Shift) -> Result<(), AllocError> {
     let name = match operation {
         ShiftOperation::Slli => "sll",
@@ -162,8 +152,7 @@ fn put_shift(text: &mut Vec<u8>, operation: ShiftOperation, x: &Shift) -> Result
         ShiftOperation::Srliw => "srlw",
         ShiftOperation::Sraiw => "sraw",
     };
-    put_registers(text, name, &[x.rd, x.rs1])?;
-    put_number(text, u64::from(x.amount))
+    put_amount(text, name, &[x.rd, x.rs1], u64::from(x.amount))
 }
 
 fn put_branch(
@@ -175,16 +164,25 @@ fn put_branch(
 ) -> Result<(), AllocError> {
     let left = is_zero(x.rs1);
     let right = is_zero(x.rs2);
-    match operation {
-        BranchOperation::Beq if right => put_registers(text, "beqz", &[x.rs1])?,
-        BranchOperation::Bne if right => put_registers(text, "bnez", &[x.rs1])?,
-        BranchOperation::Bge if left => put_registers(text, "blez", &[x.rs2])?,
-        BranchOperation::Bge if right => put_registers(text, "bgez", &[x.rs1])?,
-        BranchOperation::Blt if right => put_registers(text, "bltz", &[x.rs1])?,
-        BranchOperation::Blt if left => put_registers(text, "bgtz", &[x.rs2])?,
-        other => put_registers(text, other.name(), &[x.rs1, x.rs2])?,
+    let target = target_of(address, x.offset);
+    match from_branch(operation, left, right) {
+        Some(name) if right => put_target(text, scope, name, &[x.rs1], target),
+        Some(name) => put_target(text, scope, name, &[x.rs2], target),
+        None => put_target(text, scope, operation.name(), &[x.rs1, x.rs2], target),
     }
-    put_target(text, scope, address, b",", x.offset)
+}
+
+/// The name of a branch that compares with `zero` on the left or the right.
+fn from_branch(operation: BranchOperation, left: bool, right: bool) -> Option<&'static str> {
+    match operation {
+        BranchOperation::Beq if right => Some("beqz"),
+        BranchOperation::Bne if right => Some("bnez"),
+        BranchOperation::Bge if left => Some("blez"),
+        BranchOperation::Bge if right => Some("bgez"),
+        BranchOperation::Blt if right => Some("bltz"),
+        BranchOperation::Blt if left => Some("bgtz"),
+        _ => None,
+    }
 }
 
 fn put_jump(
@@ -193,34 +191,24 @@ fn put_jump(
     address: u64,
     x: &JType,
 ) -> Result<(), AllocError> {
+    let target = target_of(address, x.offset);
     match x.rd.number() {
-        0 => put_target(text, scope, address, b"j\t", x.offset),
-        1 => put_target(text, scope, address, b"jal\t", x.offset),
-        _ => {
-            put_registers(text, "jal", &[x.rd])?;
-            put_target(text, scope, address, b",", x.offset)
-        }
+        0 => put_target(text, scope, "j", &[], target),
+        1 => put_target(text, scope, "jal", &[], target),
+        _ => put_target(text, scope, "jal", &[x.rd], target),
     }
 }
 
 fn put_register_jump(text: &mut Vec<u8>, x: &IType) -> Result<(), AllocError> {
-    let link = x.rd.number();
-    if link == 0 && x.rs1.number() == 1 && x.immediate == 0 {
-        return put(text, b"ret");
+    match (x.rd.number(), x.immediate) {
+        (0, 0) if x.rs1.number() == 1 => put(text, b"ret"),
+        (0, 0) => put_registers(text, "jr", &[x.rs1]),
+        (1, 0) => put_registers(text, "jalr", &[x.rs1]),
+        (_, 0) => put_registers(text, "jalr", &[x.rd, x.rs1]),
+        (0, offset) => put_base(text, b"jr\t", offset, x.rs1),
+        (1, offset) => put_base(text, b"jalr\t", offset, x.rs1),
+        (_, offset) => put_access(text, "jalr", x.rd, offset, x.rs1),
     }
-    match link {
-        0 => put(text, b"jr\t")?,
-        1 => put(text, b"jalr\t")?,
-        _ => {
-            put_registers(text, "jalr", &[x.rd])?;
-            put(text, b",")?;
-        }
-    }
-    if x.immediate == 0 {
-        return put(text, x.rs1.abi_name().as_bytes());
-    }
-    put_immediate(text, x.immediate)?;
-    put_base(text, x.rs1)
 }
 
 fn put_short_fence(text: &mut Vec<u8>, x: &Fence) -> Result<(), AllocError> {

@@ -1,7 +1,8 @@
 //! The lines of a section's code: addresses, raw bytes and instructions, in the columns of GNU's `objdump -d -r`.
 
 use crate::alias_text::{put_alias, put_parcel_alias};
-use crate::columns::{put, put_blanks, put_decimal, put_hexadecimal_right, put_name, put_prefixed};
+use crate::columns::Column::{Decimal, Hexadecimal, Left, Name, Padded, Text};
+use crate::columns::{Column, put, put_columns};
 use crate::instruction_text::{is_plain_fence, put_instruction};
 use crate::marks::Mark;
 use crate::pairs::Pairs;
@@ -10,7 +11,6 @@ use crate::relocations::{Relocation, put_relocation};
 use crate::scope::{Scope, put_address, put_place};
 use rv_compress::{Compressed, next_inst, read};
 use rv_isa::{Format, Inst};
-use rv_map::put_padded;
 use std::alloc::AllocError;
 
 /// So many zeros or more are one line.
@@ -21,7 +21,7 @@ const LAST_ZEROS: usize = 3;
 const UNIMP: u64 = 0xC000_1073;
 
 /// A section's bytes and what stands beside them.
-#[derive(Debug, Drop)]
+#[derive(Drop)]
 pub(crate) struct Code<'a> {
     pub(crate) scope: Scope<'a>,
     pub(crate) bytes: &'a [u8],
@@ -33,7 +33,7 @@ pub(crate) struct Code<'a> {
 }
 
 /// How far the lines are.
-#[derive(Debug, Drop)]
+#[derive(Drop)]
 struct Cursor<'p> {
     /// How many marks stand there or before.
     marks: usize,
@@ -62,9 +62,14 @@ pub(crate) fn put_code(
     code: &Code<'_>,
     pairs: &mut Pairs,
 ) -> Result<(), AllocError> {
-    put(text, b"\nDisassembly of section ")?;
-    put_name(text, code.scope.name, 0)?;
-    put(text, b":\n")?;
+    put_columns(
+        text,
+        &[
+            Text(b"\nDisassembly of section "),
+            Name(code.scope.name, 0),
+            Text(b":\n"),
+        ],
+    )?;
     let mut cursor = Cursor {
         marks: 0,
         relocations: 0,
@@ -115,9 +120,7 @@ fn put_stretch(
 
 /// Adds the line of a place with a name.
 fn put_label(text: &mut Vec<u8>, scope: &Scope<'_>, address: u64) -> Result<(), AllocError> {
-    put(text, b"\n")?;
-    put_padded(text, address, 16)?;
-    put(text, b" ")?;
+    put_columns(text, &[Text(b"\n"), Padded(address, 16), Text(b" ")])?;
     put_place(text, scope, scope.own, address)?;
     put(text, b":\n")
 }
@@ -158,8 +161,13 @@ fn put_line(
     bytes: &[u8],
 ) -> Result<usize, AllocError> {
     let address = code.address(offset);
-    put_hexadecimal_right(text, address, width_below(code.scope.end))?;
-    put(text, b":\t")?;
+    put_columns(
+        text,
+        &[
+            Hexadecimal(address, width_below(code.scope.end)),
+            Text(b":\t"),
+        ],
+    )?;
     let data = data_at(code, cursor, address, bytes.len());
     if data != 0 {
         return put_data(text, bytes, data);
@@ -272,41 +280,20 @@ fn put_end(text: &mut Vec<u8>, scope: &Scope<'_>, sum: Option<u64>) -> Result<()
 
 /// Adds the first bytes as one number, the lowest byte last, with blanks up to the column of the instruction.
 fn put_raw(text: &mut Vec<u8>, bytes: &[u8], count: usize) -> Result<(), AllocError> {
-    put_number(text, bytes, count)?;
-    put_blanks(text, if count < 4 { 16 } else { 10 })?;
-    put(text, b"\t")
+    put_columns(
+        text,
+        &[
+            digits_of(bytes, count),
+            Left(b"", if count < 4 { 16 } else { 10 }),
+            Text(b"\t"),
+        ],
+    )
 }
 
-fn put_number(text: &mut Vec<u8>, bytes: &[u8], count: usize) -> Result<(), AllocError> {
-    for byte in bytes.get(..count).unwrap_or(bytes).iter().rev() {
-        put_padded(text, u64::from(*byte), 2)?;
-    }
-    Ok(())
-}
-
-/// Adds the bytes of a word or a parcel that spells no instruction; answers how many.
-fn put_unknown(text: &mut Vec<u8>, aliases: bool, bytes: &[u8]) -> Result<usize, AllocError> {
-    let is_word = match bytes.first() {
-        Some(first) => *first % 4 == 3,
-        None => false,
-    };
-    let count = bytes.len().min(if is_word { 4 } else { 2 });
-    put_raw(text, bytes, count)?;
-    let number = number_of(bytes, count);
-    match (number, count) {
-        (0, 2) => put(text, if aliases { b"unimp" } else { b"c.unimp" })?,
-        (UNIMP, 4) => put(text, b"unimp")?,
-        _ => put_unknown_number(text, number, count)?,
-    }
-    put(text, b"\n")?;
-    Ok(count.max(1))
-}
-
-fn put_unknown_number(text: &mut Vec<u8>, number: u64, count: usize) -> Result<(), AllocError> {
-    put(text, b".")?;
-    put_decimal(text, count as u64, 0)?;
-    put(text, b"byte\t")?;
-    put_prefixed(text, number)
+/// The first bytes as digits, the lowest byte last.
+fn digits_of<'a>(bytes: &[u8], count: usize) -> Column<'a> {
+    let digits = count.min(bytes.len()).saturating_mul(2);
+    Padded(number_of(bytes, count), digits)
 }
 
 /// The first bytes as a number, the lowest first.
@@ -318,19 +305,46 @@ fn number_of(bytes: &[u8], count: usize) -> u64 {
     number
 }
 
+/// Adds the bytes of a word or a parcel that spells no instruction; answers how many.
+fn put_unknown(text: &mut Vec<u8>, aliases: bool, bytes: &[u8]) -> Result<usize, AllocError> {
+    let is_word = match bytes.first() {
+        Some(first) => *first % 4 == 3,
+        None => false,
+    };
+    let count = bytes.len().min(if is_word { 4 } else { 2 });
+    put_raw(text, bytes, count)?;
+    match (number_of(bytes, count), count) {
+        (0, 2) if !aliases => put(text, b"c.unimp\n")?,
+        (0, 2) | (UNIMP, 4) => put(text, b"unimp\n")?,
+        (number, _) => put_columns(
+            text,
+            &[
+                Text(b"."),
+                Decimal(count as u64, 0),
+                Text(b"byte\t0x"),
+                Hexadecimal(number, 0),
+                Text(b"\n"),
+            ],
+        )?,
+    }
+    Ok(count.max(1))
+}
+
 /// Adds 1, 2 or 4 bytes of data as a number; answers how many.
 fn put_data(text: &mut Vec<u8>, bytes: &[u8], count: usize) -> Result<usize, AllocError> {
     put_raw(text, bytes, count)?;
-    put(
+    put_columns(
         text,
-        match count {
-            1 => b".byte\t0x",
-            2 => b".short\t0x",
-            _ => b".word\t0x",
-        },
+        &[
+            match count {
+                1 => Text(b".byte\t0x"),
+                2 => Text(b".short\t0x"),
+                _ => Text(b".word\t0x"),
+            },
+            digits_of(bytes, count),
+            Text(b"\n"),
+        ],
     )?;
-    put_number(text, bytes, count)?;
-    put(text, b"\n")?;
     Ok(count.max(1))
 }
 

@@ -25,7 +25,7 @@ const STT_FILE: u8 = 4;
 const FIRST_RESERVED: u16 = 0xFF00;
 
 /// What stands where in a file.
-#[derive(Debug, Drop)]
+#[derive(Drop)]
 pub(crate) struct CodeNames<'a> {
     pub(crate) labels: Labels<'a>,
     pub(crate) marks: Marks,

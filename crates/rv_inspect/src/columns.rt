@@ -1,80 +1,92 @@
-//! Columns of a text: parts that are filled with blanks to a width.
+//! Lines, as lists of what stands in them from left to right.
 //!
 //! A text is bytes and no `String`, since names of files, sections and symbols are any bytes.
 
 use itoa::Buffer;
-use rv_map::put_hexadecimal;
+use rv_map::put_padded;
 use std::alloc::AllocError;
 
-/// Adds a part.
-pub(crate) fn put(text: &mut Vec<u8>, part: &[u8]) -> Result<(), AllocError> {
-    text.extend_from_slice(part)?;
+/// What stands in a line. Where a column has two values, the other is its least width.
+#[derive(Clone, Copy, Drop)]
+pub(crate) enum Column<'a> {
+    Text(&'a [u8]),
+    /// Bytes with blanks after them.
+    Left(&'a [u8], usize),
+    /// A name with blanks after it; control characters stand as `^A`.
+    Name(&'a [u8], usize),
+    /// A number in decimal with blanks before it.
+    Decimal(u64, usize),
+    /// A number in decimal with its sign.
+    Signed(i32),
+    /// A number in hexadecimal with blanks before it.
+    Hexadecimal(u64, usize),
+    /// A number in hexadecimal with zeros before it.
+    Padded(u64, usize),
+}
+
+/// Adds columns.
+pub(crate) fn put_columns(text: &mut Vec<u8>, columns: &[Column<'_>]) -> Result<(), AllocError> {
+    for column in columns {
+        put_column(text, column)?;
+    }
     Ok(())
 }
 
-/// Adds so many blanks.
-pub(crate) fn put_blanks(text: &mut Vec<u8>, count: usize) -> Result<(), AllocError> {
+fn put_column(text: &mut Vec<u8>, column: &Column<'_>) -> Result<(), AllocError> {
+    match *column {
+        Column::Text(bytes) => put(text, bytes),
+        Column::Left(bytes, width) => put_left(text, bytes, width),
+        Column::Name(name, width) => put_name(text, name, width),
+        Column::Decimal(number, width) => put_decimal(text, number, width),
+        Column::Signed(number) => put_signed(text, number),
+        Column::Hexadecimal(number, width) => put_hexadecimal(text, number, width),
+        Column::Padded(number, width) => put_padded(text, number, width.max(1)),
+    }
+}
+
+/// Adds bytes.
+pub(crate) fn put(text: &mut Vec<u8>, bytes: &[u8]) -> Result<(), AllocError> {
+    text.extend_from_slice(bytes)?;
+    Ok(())
+}
+
+fn put_blanks(text: &mut Vec<u8>, count: usize) -> Result<(), AllocError> {
     for _ in 0..count {
         text.push(b' ')?;
     }
     Ok(())
 }
 
-/// Adds a part with blanks before it, up to a width.
-pub(crate) fn put_right(text: &mut Vec<u8>, part: &[u8], width: usize) -> Result<(), AllocError> {
-    put_blanks(text, width.saturating_sub(part.len()))?;
-    put(text, part)
+fn put_left(text: &mut Vec<u8>, bytes: &[u8], width: usize) -> Result<(), AllocError> {
+    put(text, bytes)?;
+    put_blanks(text, width.saturating_sub(bytes.len()))
 }
 
-/// Adds a number in decimal with blanks before it, up to a width.
-pub(crate) fn put_decimal(text: &mut Vec<u8>, number: u64, width: usize) -> Result<(), AllocError> {
-    let mut digits = Buffer::new();
-    put_right(text, digits.format(number).as_bytes(), width)
-}
-
-/// Adds a number in hexadecimal with blanks before it, up to a width.
-pub(crate) fn put_hexadecimal_right(
-    text: &mut Vec<u8>,
-    number: u64,
-    width: usize,
-) -> Result<(), AllocError> {
-    let digits = 16u32.saturating_sub(number.leading_zeros() / 4).max(1);
-    put_blanks(text, width.saturating_sub(digits as usize))?;
-    put_hexadecimal(text, number)
-}
-
-/// Adds a part with blanks after it, up to a width.
-pub(crate) fn put_left(text: &mut Vec<u8>, part: &[u8], width: usize) -> Result<(), AllocError> {
-    put(text, part)?;
-    put_blanks(text, width.saturating_sub(part.len()))
-}
-
-/// Adds `0x` and a number in hexadecimal.
-pub(crate) fn put_prefixed(text: &mut Vec<u8>, number: u64) -> Result<(), AllocError> {
-    put(text, b"0x")?;
-    put_hexadecimal(text, number)
-}
-
-/// Adds a number in hexadecimal after the one sign or the other.
-pub(crate) fn put_signed(
-    text: &mut Vec<u8>,
-    plus: &[u8],
-    minus: &[u8],
-    number: i64,
-) -> Result<(), AllocError> {
-    put(text, if number < 0 { minus } else { plus })?;
-    put_hexadecimal(text, number.unsigned_abs())
-}
-
-/// Adds a name with blanks after it, up to a width; control characters stand as `^A`.
-pub(crate) fn put_name(text: &mut Vec<u8>, name: &[u8], width: usize) -> Result<(), AllocError> {
+fn put_name(text: &mut Vec<u8>, name: &[u8], width: usize) -> Result<(), AllocError> {
     for byte in name {
         if *byte < b' ' || *byte == 0x7F {
-            put(text, b"^")?;
-            text.push(byte ^ 0x40)?;
+            put(text, &[b'^', byte ^ 0x40])?;
         } else {
             text.push(*byte)?;
         }
     }
     put_blanks(text, width.saturating_sub(name.len()))
+}
+
+fn put_signed(text: &mut Vec<u8>, number: i32) -> Result<(), AllocError> {
+    put(text, if number < 0 { b"-" } else { b"" })?;
+    put_decimal(text, u64::from(number.unsigned_abs()), 0)
+}
+
+fn put_decimal(text: &mut Vec<u8>, number: u64, width: usize) -> Result<(), AllocError> {
+    let mut buffer = Buffer::new();
+    let digits = buffer.format(number).as_bytes();
+    put_blanks(text, width.saturating_sub(digits.len()))?;
+    put(text, digits)
+}
+
+fn put_hexadecimal(text: &mut Vec<u8>, number: u64, width: usize) -> Result<(), AllocError> {
+    let digits = 16u32.saturating_sub(number.leading_zeros() / 4).max(1);
+    put_blanks(text, width.saturating_sub(digits as usize))?;
+    put_padded(text, number, 1)
 }

@@ -1,8 +1,8 @@
 //! The lines of a file's header.
 
-use crate::columns::{put, put_decimal, put_prefixed};
+use crate::columns::Column::{Decimal, Hexadecimal, Padded, Text};
+use crate::columns::{put, put_columns};
 use rv_elf::{EF_RISCV_RVC, ET_EXEC, ET_REL, ElfView, FileHeader};
-use rv_map::put_padded;
 use std::alloc::AllocError;
 
 /// The bytes of `e_ident`.
@@ -17,148 +17,108 @@ const ET_CORE: u16 = 4;
 /// Adds the lines of the header.
 pub(crate) fn put_file_header(text: &mut Vec<u8>, view: &ElfView<'_>) -> Result<(), AllocError> {
     let header = view.header();
-    put(text, b"ELF Header:\n")?;
     put_ident(text, view.file())?;
     put_kind(text, header.e_type)?;
-    put(text, b"  Machine:                           RISC-V\n")?;
-    put(text, b"  Version:                           ")?;
-    put_prefixed(text, u64::from(header.e_version))?;
-    put(text, b"\n  Entry point address:               ")?;
-    put_prefixed(text, header.e_entry)?;
-    put(text, b"\n")?;
-    put_places(text, &header)?;
-    put_flags(text, header.e_flags)?;
+    put_starts(text, &header)?;
     put_counts(text, &header)
 }
 
 /// Adds the lines of `e_ident`; class, order of bytes and version are the same in all files of this machine.
 fn put_ident(text: &mut Vec<u8>, file: &[u8]) -> Result<(), AllocError> {
-    put(text, b"  Magic:   ")?;
+    put(text, b"ELF Header:\n  Magic:   ")?;
     for byte in file.iter().take(IDENT) {
-        put_padded(text, u64::from(*byte), 2)?;
-        put(text, b" ")?;
+        put_columns(text, &[Padded(u64::from(*byte), 2), Text(b" ")])?;
     }
-    put(text, b"\n  Class:                             ELF64")?;
-    put(
-        text,
-        b"\n  Data:                              2's complement, little endian",
-    )?;
-    put(text, b"\n  Version:                           1 (current)")?;
-    put(text, b"\n  OS/ABI:                            ")?;
-    match file.get(7) {
-        Some(0) => put(text, b"UNIX - System V")?,
-        Some(system) => put_unknown(text, u64::from(*system), b">")?,
-        None => put(text, b"")?,
-    }
-    put(text, b"\n  ABI Version:                       ")?;
+    let system = file.get(7).copied().unwrap_or(0);
     let version = file.get(8).copied().unwrap_or(0);
-    put_decimal(text, u64::from(version), 0)?;
-    put(text, b"\n")
+    put(
+        text,
+        b"
+  Class:                             ELF64
+  Data:                              2's complement, little endian
+  Version:                           1 (current)
+  OS/ABI:                            ",
+    )?;
+    match system {
+        0 => put(text, b"UNIX - System V")?,
+        _ => put_columns(
+            text,
+            &[
+                Text(b"<unknown: "),
+                Hexadecimal(u64::from(system), 0),
+                Text(b">"),
+            ],
+        )?,
+    }
+    put_columns(
+        text,
+        &[
+            Text(b"\n  ABI Version:                       "),
+            Decimal(u64::from(version), 0),
+            Text(b"\n  Type:                              "),
+        ],
+    )
 }
 
-/// Adds the line of `e_type`.
+/// Adds what `e_type` says.
 fn put_kind(text: &mut Vec<u8>, kind: u16) -> Result<(), AllocError> {
-    put(text, b"  Type:                              ")?;
     match kind {
-        0 => put(text, b"NONE (None)")?,
-        ET_REL => put(text, b"REL (Relocatable file)")?,
-        ET_EXEC => put(text, b"EXEC (Executable file)")?,
-        ET_DYN => put(text, b"DYN (Shared object file)")?,
-        ET_CORE => put(text, b"CORE (Core file)")?,
-        _ => put_unknown(text, u64::from(kind), b"")?,
+        0 => put(text, b"NONE (None)"),
+        ET_REL => put(text, b"REL (Relocatable file)"),
+        ET_EXEC => put(text, b"EXEC (Executable file)"),
+        ET_DYN => put(text, b"DYN (Shared object file)"),
+        ET_CORE => put(text, b"CORE (Core file)"),
+        _ => put_columns(
+            text,
+            &[Text(b"<unknown>: "), Hexadecimal(u64::from(kind), 0)],
+        ),
     }
-    put(text, b"\n")
 }
 
-/// Adds a number that has no name.
-fn put_unknown(text: &mut Vec<u8>, number: u64, end: &[u8]) -> Result<(), AllocError> {
-    put(
+/// Adds the lines of the machine, where the program and the tables start, and the flags.
+fn put_starts(text: &mut Vec<u8>, header: &FileHeader) -> Result<(), AllocError> {
+    let flags = header.e_flags;
+    let compressed = flags & EF_RISCV_RVC != 0;
+    let ordered = flags & EF_RISCV_TSO != 0;
+    put_columns(
         text,
-        if end.is_empty() {
-            b"<unknown>: "
-        } else {
-            b"<unknown: "
-        },
-    )?;
-    put_padded(text, number, 1)?;
-    put(text, end)
-}
-
-/// Adds the lines of where the tables stand.
-fn put_places(text: &mut Vec<u8>, header: &FileHeader) -> Result<(), AllocError> {
-    put(text, b"  Start of program headers:          ")?;
-    put_decimal(text, header.e_phoff, 0)?;
-    put(
-        text,
-        b" (bytes into file)\n  Start of section headers:          ",
-    )?;
-    put_decimal(text, header.e_shoff, 0)?;
-    put(text, b" (bytes into file)\n")
-}
-
-/// Adds the line of the machine's flags.
-fn put_flags(text: &mut Vec<u8>, flags: u32) -> Result<(), AllocError> {
-    put(text, b"  Flags:                             ")?;
-    put_prefixed(text, u64::from(flags))?;
-    if flags & EF_RISCV_RVC != 0 {
-        put(text, b", RVC")?;
-    }
-    if flags & EF_RISCV_TSO != 0 {
-        put(text, b", TSO")?;
-    }
-    if flags != 0 {
-        put(text, b", soft-float ABI")?;
-    }
-    put(text, b"\n")
+        &[
+            Text(b"\n  Machine:                           RISC-V"),
+            Text(b"\n  Version:                           0x"),
+            Hexadecimal(u64::from(header.e_version), 0),
+            Text(b"\n  Entry point address:               0x"),
+            Hexadecimal(header.e_entry, 0),
+            Text(b"\n  Start of program headers:          "),
+            Decimal(header.e_phoff, 0),
+            Text(b" (bytes into file)\n  Start of section headers:          "),
+            Decimal(header.e_shoff, 0),
+            Text(b" (bytes into file)\n  Flags:                             0x"),
+            Hexadecimal(u64::from(flags), 0),
+            Text(if compressed { b", RVC" } else { b"" }),
+            Text(if ordered { b", TSO" } else { b"" }),
+            Text(if flags != 0 { b", soft-float ABI" } else { b"" }),
+        ],
+    )
 }
 
 /// Adds the lines of the sizes and counts.
 fn put_counts(text: &mut Vec<u8>, header: &FileHeader) -> Result<(), AllocError> {
-    put_count(
+    put_columns(
         text,
-        b"  Size of this header:               ",
-        header.e_ehsize,
-        b" (bytes)\n",
-    )?;
-    put_count(
-        text,
-        b"  Size of program headers:           ",
-        header.e_phentsize,
-        b" (bytes)\n",
-    )?;
-    put_count(
-        text,
-        b"  Number of program headers:         ",
-        header.e_phnum,
-        b"\n",
-    )?;
-    put_count(
-        text,
-        b"  Size of section headers:           ",
-        header.e_shentsize,
-        b" (bytes)\n",
-    )?;
-    put_count(
-        text,
-        b"  Number of section headers:         ",
-        header.e_shnum,
-        b"\n",
-    )?;
-    put_count(
-        text,
-        b"  Section header string table index: ",
-        header.e_shstrndx,
-        b"\n",
+        &[
+            Text(b"\n  Size of this header:               "),
+            Decimal(u64::from(header.e_ehsize), 0),
+            Text(b" (bytes)\n  Size of program headers:           "),
+            Decimal(u64::from(header.e_phentsize), 0),
+            Text(b" (bytes)\n  Number of program headers:         "),
+            Decimal(u64::from(header.e_phnum), 0),
+            Text(b"\n  Size of section headers:           "),
+            Decimal(u64::from(header.e_shentsize), 0),
+            Text(b" (bytes)\n  Number of section headers:         "),
+            Decimal(u64::from(header.e_shnum), 0),
+            Text(b"\n  Section header string table index: "),
+            Decimal(u64::from(header.e_shstrndx), 0),
+            Text(b"\n"),
+        ],
     )
-}
-
-fn put_count(
-    text: &mut Vec<u8>,
-    before: &[u8],
-    count: u16,
-    after: &[u8],
-) -> Result<(), AllocError> {
-    put(text, before)?;
-    put_decimal(text, u64::from(count), 0)?;
-    put(text, after)
 }

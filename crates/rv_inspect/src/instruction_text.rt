@@ -1,9 +1,16 @@
 //! The text of an instruction as GNU's `objdump -M no-aliases` has it, with the names of targets.
 
-use crate::columns::{put, put_decimal, put_prefixed};
+use crate::columns::Column::{Hexadecimal, Signed, Text};
+use crate::columns::{put, put_columns};
 use crate::scope::{Scope, put_address};
 use rv_isa::{Atomic, Fence, Format, Inst, Reg, Reserve};
 use std::alloc::AllocError;
+
+/// The sets of accesses of a fence, by their bits.
+const SETS: [&[u8]; 16] = [
+    b"unknown", b"w", b"r", b"rw", b"o", b"ow", b"or", b"orw", b"i", b"iw", b"ir", b"irw", b"io",
+    b"iow", b"ior", b"iorw",
+];
 
 /// Adds the text of the instruction at an address.
 pub(crate) fn put_instruction(
@@ -17,30 +24,23 @@ pub(crate) fn put_instruction(
             put_registers(text, operation.name(), &[x.rd, x.rs1, x.rs2])
         }
         Format::Immediate(operation, x) => {
-            put_registers(text, operation.name(), &[x.rd, x.rs1])?;
-            put(text, b",")?;
-            put_immediate(text, x.immediate)
+            put_sum(text, operation.name(), &[x.rd, x.rs1], x.immediate)
         }
         Format::Shift(operation, x) => {
-            put_registers(text, operation.name(), &[x.rd, x.rs1])?;
-            put_number(text, u64::from(x.amount))
+            put_amount(text, operation.name(), &[x.rd, x.rs1], u64::from(x.amount))
         }
         Format::Upper(operation, x) => {
-            put_registers(text, operation.name(), &[x.rd])?;
-            put_number(text, u64::from(x.immediate))
+            put_amount(text, operation.name(), &[x.rd], u64::from(x.immediate))
         }
         Format::Load(operation, x) => put_access(text, operation.name(), x.rd, x.immediate, x.rs1),
         Format::Store(operation, x) => {
             put_access(text, operation.name(), x.rs2, x.immediate, x.rs1)
         }
         Format::Branch(operation, x) => {
-            put_registers(text, operation.name(), &[x.rs1, x.rs2])?;
-            put_target(text, scope, address, b",", x.offset)
+            let target = target_of(address, x.offset);
+            put_target(text, scope, operation.name(), &[x.rs1, x.rs2], target)
         }
-        Format::Jal(x) => {
-            put_registers(text, "jal", &[x.rd])?;
-            put_target(text, scope, address, b",", x.offset)
-        }
+        Format::Jal(x) => put_target(text, scope, "jal", &[x.rd], target_of(address, x.offset)),
         Format::Jalr(x) => put_access(text, "jalr", x.rd, x.immediate, x.rs1),
         Format::LoadReserved(double, x) => put_load_reserved(text, double, &x),
         Format::Atomic(operation, double, x) => put_atomic(text, operation.name(double), &x),
@@ -48,6 +48,11 @@ pub(crate) fn put_instruction(
         Format::Ecall => put(text, b"ecall"),
         Format::Ebreak => put(text, b"ebreak"),
     }
+}
+
+/// Where a branch or a jump leads to.
+pub(crate) fn target_of(address: u64, offset: i32) -> u64 {
+    address.wrapping_add_signed(i64::from(offset))
 }
 
 /// Adds a mnemonic and registers.
@@ -59,23 +64,32 @@ pub(crate) fn put_registers(
     put(text, name.as_bytes())?;
     let mut before: &[u8] = b"\t";
     for register in registers {
-        put(text, before)?;
-        put(text, register.abi_name().as_bytes())?;
+        put_columns(text, &[Text(before), Text(register.abi_name().as_bytes())])?;
         before = b",";
     }
     Ok(())
 }
 
-/// Adds a number with its sign in decimal.
-pub(crate) fn put_immediate(text: &mut Vec<u8>, number: i32) -> Result<(), AllocError> {
-    put(text, if number < 0 { b"-" } else { b"" })?;
-    put_decimal(text, u64::from(number.unsigned_abs()), 0)
+/// Adds what ends with a number that has a sign.
+pub(crate) fn put_sum(
+    text: &mut Vec<u8>,
+    name: &str,
+    registers: &[Reg],
+    number: i32,
+) -> Result<(), AllocError> {
+    put_registers(text, name, registers)?;
+    put_columns(text, &[Text(b","), Signed(number)])
 }
 
-/// Adds a number in hexadecimal, after a comma.
-pub(crate) fn put_number(text: &mut Vec<u8>, number: u64) -> Result<(), AllocError> {
-    put(text, b",")?;
-    put_prefixed(text, number)
+/// Adds what ends with a number in hexadecimal.
+pub(crate) fn put_amount(
+    text: &mut Vec<u8>,
+    name: &str,
+    registers: &[Reg],
+    number: u64,
+) -> Result<(), AllocError> {
+    put_registers(text, name, registers)?;
+    put_columns(text, &[Text(b",0x"), Hexadecimal(number, 0)])
 }
 
 /// Adds what reads or writes memory, or jumps to a register.
@@ -87,53 +101,80 @@ pub(crate) fn put_access(
     base: Reg,
 ) -> Result<(), AllocError> {
     put_registers(text, name, &[register])?;
-    put(text, b",")?;
-    put_immediate(text, offset)?;
-    put_base(text, base)
+    put_base(text, b",", offset, base)
 }
 
-/// Adds a register in parentheses.
-pub(crate) fn put_base(text: &mut Vec<u8>, base: Reg) -> Result<(), AllocError> {
-    put(text, b"(")?;
-    put(text, base.abi_name().as_bytes())?;
-    put(text, b")")
+/// Adds an offset and a register in parentheses.
+pub(crate) fn put_base(
+    text: &mut Vec<u8>,
+    before: &[u8],
+    offset: i32,
+    base: Reg,
+) -> Result<(), AllocError> {
+    put_columns(
+        text,
+        &[
+            Text(before),
+            Signed(offset),
+            Text(b"("),
+            Text(base.abi_name().as_bytes()),
+            Text(b")"),
+        ],
+    )
 }
 
-/// Adds where a branch or a jump leads to: `10008 <f+0x8>`.
+/// Adds what leads to an address: `jal ra,10008 <f+0x8>`.
 pub(crate) fn put_target(
     text: &mut Vec<u8>,
     scope: &Scope<'_>,
-    address: u64,
-    before: &[u8],
-    offset: i32,
+    name: &str,
+    registers: &[Reg],
+    target: u64,
 ) -> Result<(), AllocError> {
-    put(text, before)?;
-    put_address(text, scope, address.wrapping_add_signed(i64::from(offset)))
+    put_registers(text, name, registers)?;
+    put(text, if registers.is_empty() { b"\t" } else { b"," })?;
+    put_address(text, scope, target)
 }
 
 fn put_load_reserved(text: &mut Vec<u8>, double: bool, x: &Reserve) -> Result<(), AllocError> {
-    put(text, if double { b"lr.d" } else { b"lr.w" })?;
-    put_order(text, x.acquire, x.release)?;
-    put_registers(text, "", &[x.rd])?;
-    put(text, b",")?;
-    put_base(text, x.rs1)
+    put_columns(
+        text,
+        &[
+            Text(if double { b"lr.d" } else { b"lr.w" }),
+            Text(order_of(x.acquire, x.release)),
+            Text(b"\t"),
+            Text(x.rd.abi_name().as_bytes()),
+            Text(b",("),
+            Text(x.rs1.abi_name().as_bytes()),
+            Text(b")"),
+        ],
+    )
 }
 
 fn put_atomic(text: &mut Vec<u8>, name: &str, x: &Atomic) -> Result<(), AllocError> {
-    put(text, name.as_bytes())?;
-    put_order(text, x.acquire, x.release)?;
-    put_registers(text, "", &[x.rd, x.rs2])?;
-    put(text, b",")?;
-    put_base(text, x.rs1)
+    put_columns(
+        text,
+        &[
+            Text(name.as_bytes()),
+            Text(order_of(x.acquire, x.release)),
+            Text(b"\t"),
+            Text(x.rd.abi_name().as_bytes()),
+            Text(b","),
+            Text(x.rs2.abi_name().as_bytes()),
+            Text(b",("),
+            Text(x.rs1.abi_name().as_bytes()),
+            Text(b")"),
+        ],
+    )
 }
 
-/// Adds the bits of an atomic operation.
-fn put_order(text: &mut Vec<u8>, acquire: bool, release: bool) -> Result<(), AllocError> {
+/// The bits of an atomic operation.
+fn order_of(acquire: bool, release: bool) -> &'static [u8] {
     match (acquire, release) {
-        (false, false) => Ok(()),
-        (true, false) => put(text, b".aq"),
-        (false, true) => put(text, b".rl"),
-        (true, true) => put(text, b".aqrl"),
+        (false, false) => b"",
+        (true, false) => b".aq",
+        (false, true) => b".rl",
+        (true, true) => b".aqrl",
     }
 }
 
@@ -148,21 +189,13 @@ pub(crate) fn put_fence(text: &mut Vec<u8>, x: &Fence) -> Result<(), AllocError>
     if x.fm != 0 {
         return put(text, b"fence.tso");
     }
-    put(text, b"fence\t")?;
-    put_set(text, x.pred)?;
-    put(text, b",")?;
-    put_set(text, x.succ)
-}
-
-/// Adds a set of accesses.
-fn put_set(text: &mut Vec<u8>, set: u8) -> Result<(), AllocError> {
-    if set % 16 == 0 {
-        return put(text, b"unknown");
-    }
-    for (bit, letter) in [(8, b"i"), (4, b"o"), (2, b"r"), (1, b"w")] {
-        if set & bit != 0 {
-            put(text, letter)?;
-        }
-    }
-    Ok(())
+    put_columns(
+        text,
+        &[
+            Text(b"fence\t"),
+            Text(SETS[(x.pred % 16) as usize]),
+            Text(b","),
+            Text(SETS[(x.succ % 16) as usize]),
+        ],
+    )
 }

@@ -3,7 +3,7 @@
 use std::alloc::AllocError;
 
 /// A name and where it stands.
-#[derive(Clone, Copy, Debug, Drop)]
+#[derive(Clone, Copy, Drop)]
 pub(crate) struct Label<'a> {
     /// The number of its section; 0 of segments.
     pub(crate) section: u32,
@@ -18,7 +18,7 @@ pub(crate) struct Label<'a> {
 }
 
 /// Names by section and place, and by place alone.
-#[derive(Debug, Drop)]
+#[derive(Drop)]
 pub(crate) struct Labels<'a> {
     by_section: Vec<Label<'a>>,
     by_address: Vec<Label<'a>>,

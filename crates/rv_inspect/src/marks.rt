@@ -3,7 +3,7 @@
 use std::alloc::AllocError;
 
 /// Where code or data begins.
-#[derive(Clone, Copy, Debug, Drop)]
+#[derive(Clone, Copy, Drop)]
 pub(crate) struct Mark {
     /// The number of the section; 0 of segments.
     pub(crate) section: u32,
@@ -13,7 +13,7 @@ pub(crate) struct Mark {
 }
 
 /// Marks by where they stand.
-#[derive(Debug, Drop)]
+#[derive(Drop)]
 pub(crate) struct Marks {
     sorted: Vec<Mark>,
 }

@@ -1,10 +1,11 @@
 //! The names of a file and where they stand, in the columns of GNU's `nm`.
 
-use crate::columns::{put, put_blanks, put_name};
+use crate::columns::Column::{Left, Name, Padded, Text};
+use crate::columns::put_columns;
 use crate::letter::letter_of;
 use crate::parts::{bytes_of, count_symbols, section_named, symbol_at, symbol_table};
 use rv_elf::{ElfView, FileFault, SHN_UNDEF, Symbol, string_in};
-use rv_map::{Global as MapGlobal, Map, Region, put_padded};
+use rv_map::{Global as MapGlobal, Map, Region};
 use std::alloc::{AllocError, Global};
 
 /// The lower half of `st_info`: the symbol stands for a section (gABI, STT_SECTION).
@@ -13,7 +14,7 @@ const STT_SECTION: u8 = 3;
 const STT_FILE: u8 = 4;
 
 /// A line of the table.
-#[derive(Debug, Drop)]
+#[derive(Drop)]
 struct Named<'a> {
     name: &'a [u8],
     letter: u8,
@@ -125,13 +126,11 @@ fn lines(alloc: Global, mut names: Vec<Named<'_>>) -> Result<Vec<u8>, AllocError
 }
 
 fn put_line(text: &mut Vec<u8>, named: &Named<'_>) -> Result<(), AllocError> {
-    match named.value {
-        Some(value) => put_padded(text, value, 16)?,
-        None => put_blanks(text, 16)?,
-    }
-    put(text, b" ")?;
+    let value = match named.value {
+        Some(value) => Padded(value, 16),
+        None => Left(b"", 16),
+    };
+    put_columns(text, &[value, Text(b" ")])?;
     text.push(named.letter)?;
-    put(text, b" ")?;
-    put_name(text, named.name, 0)?;
-    put(text, b"\n")
+    put_columns(text, &[Text(b" "), Name(named.name, 0), Text(b"\n")])
 }

@@ -10,7 +10,7 @@ const GP: u8 = 3;
 const TP: u8 = 4;
 
 /// What registers hold that instructions before gave an upper part.
-#[derive(Debug, Drop)]
+#[derive(Drop)]
 pub(crate) struct Pairs {
     upper: [Option<u64>; 32],
     /// The value of `__global_pointer$`, where that is known.

@@ -1,7 +1,9 @@
 //! The text of a parcel, by its `c.` mnemonic, as GNU's `objdump -M no-aliases` has it.
 
 use crate::columns::put;
-use crate::instruction_text::{put_access, put_immediate, put_number, put_registers, put_target};
+use crate::instruction_text::{
+    put_access, put_amount, put_registers, put_sum, put_target, target_of,
+};
 use crate::scope::Scope;
 use rv_compress::Compressed;
 use rv_isa::Reg;
@@ -35,7 +37,7 @@ pub(crate) fn put_parcel(
         Compressed::Addi4spn { rd, immediate } => {
             put_sum(text, name, &[rd, Reg::SP], signed(immediate))
         }
-        Compressed::Lui { rd, immediate } => put_upper(text, name, rd, immediate),
+        Compressed::Lui { rd, immediate } => { put_amount(text, name, &[rd], u64::from(immediate)) }
         Compressed::Srli { rd, amount }
         | Compressed::Srai { rd, amount }
         | Compressed::Slli { rd, amount } => put_shift(text, name, rd, amount),
@@ -52,12 +54,10 @@ pub(crate) fn put_parcel(
             put_access(text, name, rs2, signed(offset), Reg::SP)
         }
         Compressed::J { offset } => {
-            put_registers(text, name, &[])?;
-            put_target(text, scope, address, b"\t", offset)
+            put_target(text, scope, name, &[], target_of(address, offset))
         }
         Compressed::Beqz { rs1, offset } | Compressed::Bnez { rs1, offset } => {
-            put_registers(text, name, &[rs1])?;
-            put_target(text, scope, address, b",", offset)
+            put_target(text, scope, name, &[rs1], target_of(address, offset))
         }
     }
 }
@@ -67,27 +67,10 @@ fn signed(offset: u32) -> i32 {
     i32::try_from(offset).unwrap_or(0)
 }
 
-fn put_sum(
-    text: &mut Vec<u8>,
-    name: &str,
-    registers: &[Reg],
-    immediate: i32,
-) -> Result<(), AllocError> {
-    put_registers(text, name, registers)?;
-    put(text, b",")?;
-    put_immediate(text, immediate)
-}
-
-fn put_upper(text: &mut Vec<u8>, name: &str, rd: Reg, immediate: u32) -> Result<(), AllocError> {
-    put_registers(text, name, &[rd])?;
-    put_number(text, u64::from(immediate))
-}
-
 fn put_shift(text: &mut Vec<u8>, name: &str, rd: Reg, amount: u8) -> Result<(), AllocError> {
-    put(text, name.as_bytes())?;
     if amount == 0 {
+        put(text, name.as_bytes())?;
         return put_registers(text, "64", &[rd]);
     }
-    put_registers(text, "", &[rd])?;
-    put_number(text, u64::from(amount))
+    put_amount(text, name, &[rd], u64::from(amount))
 }

@@ -1,12 +1,12 @@
 //! The lines of a file's relocations.
 
-use crate::columns::{put, put_blanks, put_decimal, put_left, put_name, put_signed};
+use crate::columns::Column::{Decimal, Hexadecimal, Left, Name, Padded, Text};
+use crate::columns::{put, put_columns};
 use crate::parts::{bytes_of, count_relas, rela_at, section_at, section_named, symbol_at};
 use crate::relocation_name::kind_name;
 use crate::section_lines::section_name;
 use crate::symbol_lines::symbol_name;
 use rv_elf::{ElfView, FileFault, Rela, SHT_RELA, SectionHeader};
-use rv_map::{put_hexadecimal, put_padded};
 use std::alloc::AllocError;
 
 const HEADING: &[u8] = b"    Offset             Info             Type               \
@@ -14,7 +14,7 @@ Symbol's Value  Symbol's Name + Addend
 ";
 
 /// The symbols that relocations name, and their names.
-#[derive(Debug, Drop)]
+#[derive(Drop)]
 struct Symbols<'a> {
     table: &'a [u8],
     strings: &'a [u8],
@@ -70,21 +70,23 @@ fn put_heading(
     header: &SectionHeader,
     count: usize,
 ) -> Result<(), AllocError> {
-    put(text, b"\nRelocation section '")?;
-    put_name(text, section_name(view, header), 0)?;
-    put(text, b"' at offset 0x")?;
-    put_hexadecimal(text, header.sh_offset)?;
-    put(text, b" contains ")?;
-    put_decimal(text, count as u64, 0)?;
-    put(
+    put_columns(
         text,
-        if count == 1 {
-            b" entry:\n"
-        } else {
-            b" entries:\n"
-        },
-    )?;
-    put(text, HEADING)
+        &[
+            Text(b"\nRelocation section '"),
+            Name(section_name(view, header), 0),
+            Text(b"' at offset 0x"),
+            Hexadecimal(header.sh_offset, 0),
+            Text(b" contains "),
+            Decimal(count as u64, 0),
+            Text(if count == 1 {
+                b" entry:\n"
+            } else {
+                b" entries:\n"
+            }),
+            Text(HEADING),
+        ],
+    )
 }
 
 /// Adds the line of a relocation.
@@ -94,35 +96,39 @@ fn put_relocation<'a>(
     symbols: &Symbols<'a>,
     rela: &Rela,
 ) -> Result<(), FileFault> {
-    put_padded(text, rela.r_offset, 16)?;
-    put(text, b"  ")?;
-    put_padded(text, u64::from(rela.r_sym), 8)?;
-    put_padded(text, u64::from(rela.r_type), 8)?;
-    put(text, b" ")?;
+    put_columns(
+        text,
+        &[
+            Padded(rela.r_offset, 16),
+            Text(b"  "),
+            Padded(u64::from(rela.r_sym), 8),
+            Padded(u64::from(rela.r_type), 8),
+            Text(b" "),
+        ],
+    )?;
     put_kind(text, rela.r_type)?;
     if rela.r_sym == 0 {
-        put_blanks(text, 20)?;
-        put_signed(text, b"", b"-", rela.r_addend)?;
+        put_columns(text, &[Left(b"", 20)])?;
+        put_addend(text, b"", b"-", rela.r_addend)?;
     } else {
         put_target(text, view, symbols, rela.r_sym)?;
-        put_signed(text, b" + ", b" - ", rela.r_addend)?;
+        put_addend(text, b" + ", b" - ", rela.r_addend)?;
     }
-    put(text, b"\n")?;
     Ok(())
 }
 
 /// Adds the kind of a relocation.
 fn put_kind(text: &mut Vec<u8>, kind: u32) -> Result<(), AllocError> {
     match kind_name(kind) {
-        Some(name) => {
-            put(text, b"R_RISCV_")?;
-            put_left(text, name, 14)
-        }
-        None => {
-            put(text, b"unrecognized: ")?;
-            put_hexadecimal(text, u64::from(kind))?;
-            put(text, b" ")
-        }
+        Some(name) => put_columns(text, &[Text(b"R_RISCV_"), Left(name, 14)]),
+        None => put_columns(
+            text,
+            &[
+                Text(b"unrecognized: "),
+                Hexadecimal(u64::from(kind), 0),
+                Text(b" "),
+            ],
+        ),
     }
 }
 
@@ -135,9 +141,32 @@ fn put_target<'a>(
 ) -> Result<(), FileFault> {
     let symbol = symbol_at(symbols.table, index as usize).ok_or(FileFault::BadIndex)?;
     let name = symbol_name(view, symbols.strings, &symbol)?;
-    put(text, b" ")?;
-    put_padded(text, symbol.st_value, 16)?;
-    put(text, b" ")?;
-    put_name(text, if name.is_empty() { b"<null>" } else { name }, 0)?;
+    let shown: &[u8] = if name.is_empty() { b"<null>" } else { name };
+    put_columns(
+        text,
+        &[
+            Text(b" "),
+            Padded(symbol.st_value, 16),
+            Text(b" "),
+            Name(shown, 0),
+        ],
+    )?;
     Ok(())
+}
+
+/// Adds the number that is added, after the one sign or the other, and ends the line.
+fn put_addend(
+    text: &mut Vec<u8>,
+    plus: &[u8],
+    minus: &[u8],
+    number: i64,
+) -> Result<(), AllocError> {
+    put_columns(
+        text,
+        &[
+            Text(if number < 0 { minus } else { plus }),
+            Hexadecimal(number.unsigned_abs(), 0),
+            Text(b"\n"),
+        ],
+    )
 }

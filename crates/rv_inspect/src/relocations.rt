@@ -1,15 +1,15 @@
 //! The relocations of an object's section, by their places.
 
-use crate::columns::{put, put_decimal, put_name, put_signed};
+use crate::columns::Column::{Decimal, Hexadecimal, Name, Text};
+use crate::columns::{put, put_columns};
 use crate::parts::{bytes_of, count_relas, rela_at, section_at, section_named, symbol_at};
 use crate::relocation_name::kind_name;
 use crate::section_lines::section_name;
 use rv_elf::{ElfView, FileFault, Rela, SHT_RELA, SectionHeader, Symbol, string_in};
-use rv_map::put_hexadecimal;
 use std::alloc::{AllocError, Global};
 
 /// A relocation and what it names.
-#[derive(Clone, Copy, Debug, Drop)]
+#[derive(Clone, Copy, Drop)]
 pub(crate) struct Relocation<'a> {
     /// The number of its section.
     section: u32,
@@ -108,21 +108,31 @@ pub(crate) fn put_relocation(
     text: &mut Vec<u8>,
     relocation: &Relocation<'_>,
 ) -> Result<(), AllocError> {
-    put(text, b"\t\t\t")?;
-    put_hexadecimal(text, relocation.place)?;
-    put(text, b": ")?;
-    match kind_name(relocation.kind) {
-        Some(name) => {
-            put(text, b"R_RISCV_")?;
-            put(text, name)?;
-        }
-        None => put_decimal(text, u64::from(relocation.kind), 0)?,
-    }
-    put(text, b"\t")?;
-    put_name(text, relocation.name, 0)?;
+    let name = kind_name(relocation.kind);
     let distance = relocation.addend.wrapping_add_unsigned(relocation.offset);
-    if distance != 0 {
-        put_signed(text, b"+0x", b"-0x", distance)?;
+    put_columns(
+        text,
+        &[
+            Text(b"\t\t\t"),
+            Hexadecimal(relocation.place, 0),
+            Text(if name.is_some() { b": R_RISCV_" } else { b": " }),
+            match name {
+                Some(name) => Text(name),
+                None => Decimal(u64::from(relocation.kind), 0),
+            },
+            Text(b"\t"),
+            Name(relocation.name, 0),
+        ],
+    )?;
+    if distance == 0 {
+        return put(text, b"\n");
     }
-    put(text, b"\n")
+    put_columns(
+        text,
+        &[
+            Text(if distance < 0 { b"-0x" } else { b"+0x" }),
+            Hexadecimal(distance.unsigned_abs(), 0),
+            Text(b"\n"),
+        ],
+    )
 }

@@ -1,12 +1,12 @@
 //! What the code of a section is shown by.
 
-use crate::columns::{put, put_name};
+use crate::columns::Column::{Hexadecimal, Name, Text};
+use crate::columns::{put, put_columns};
 use crate::labels::{Label, nearest};
-use rv_map::put_hexadecimal;
 use std::alloc::AllocError;
 
 /// A section or a segment, and the names around it.
-#[derive(Clone, Copy, Debug, Drop)]
+#[derive(Clone, Copy, Drop)]
 pub(crate) struct Scope<'a> {
     /// Its name.
     pub(crate) name: &'a [u8],
@@ -28,15 +28,10 @@ pub(crate) fn put_address(
     scope: &Scope<'_>,
     address: u64,
 ) -> Result<(), AllocError> {
-    put_hexadecimal(text, address)?;
-    put(text, b" ")?;
+    put_columns(text, &[Hexadecimal(address, 0), Text(b" ")])?;
     let is_own = scope.is_object && scope.start <= address && address < scope.end;
-    put_place(
-        text,
-        scope,
-        if is_own { scope.own } else { scope.all },
-        address,
-    )
+    let labels = if is_own { scope.own } else { scope.all };
+    put_place(text, scope, labels, address)
 }
 
 /// Adds where an address is, by the nearest of these names, or by the section where there is none: `<f+0x8>`.
@@ -50,17 +45,16 @@ pub(crate) fn put_place(
         Some(label) => (label.name, label.address),
         None => (scope.name, scope.start),
     };
-    put(text, b"<")?;
-    put_name(text, name, 0)?;
-    put_distance(text, place, address)?;
-    put(text, b">")
-}
-
-/// Adds how far an address is from a place: `+0x8`; nothing where it is that place.
-fn put_distance(text: &mut Vec<u8>, place: u64, address: u64) -> Result<(), AllocError> {
+    put_columns(text, &[Text(b"<"), Name(name, 0)])?;
     if address == place {
-        return Ok(());
+        return put(text, b">");
     }
-    put(text, if address < place { b"-0x" } else { b"+0x" })?;
-    put_hexadecimal(text, address.abs_diff(place))
+    put_columns(
+        text,
+        &[
+            Text(if address < place { b"-0x" } else { b"+0x" }),
+            Hexadecimal(address.abs_diff(place), 0),
+            Text(b">"),
+        ],
+    )
 }

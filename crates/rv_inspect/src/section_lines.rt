@@ -1,12 +1,12 @@
 //! The lines of a file's sections.
 
-use crate::columns::{put, put_blanks, put_decimal, put_left, put_name, put_right};
+use crate::columns::Column::{Decimal, Hexadecimal, Left, Name, Padded, Text};
+use crate::columns::{put, put_columns};
 use crate::parts::section_at;
 use rv_elf::{
     ElfView, FileFault, SHT_GROUP, SHT_NOBITS, SHT_NOTE, SHT_NULL, SHT_PROGBITS, SHT_RELA,
     SHT_STRTAB, SHT_SYMTAB, SectionHeader, SectionIndex,
 };
-use rv_map::{put_hexadecimal, put_padded};
 use std::alloc::AllocError;
 
 const HEADING: &[u8] = b"
@@ -57,51 +57,64 @@ fn put_section(
     index: u16,
     header: &SectionHeader,
 ) -> Result<(), AllocError> {
-    put(text, b"  [")?;
-    put_decimal(text, u64::from(index), 2)?;
-    put(text, b"] ")?;
-    put_name(text, section_name(view, header), 17)?;
-    put(text, b" ")?;
+    put_columns(
+        text,
+        &[
+            Text(b"  ["),
+            Decimal(u64::from(index), 2),
+            Text(b"] "),
+            Name(section_name(view, header), 17),
+            Text(b" "),
+        ],
+    )?;
     put_type(text, header.sh_type)?;
-    put(text, b" ")?;
-    put_extent(text, header)?;
+    put_columns(
+        text,
+        &[
+            Text(b" "),
+            Padded(header.sh_addr, 16),
+            Text(b" "),
+            Padded(header.sh_offset, 6),
+            Text(b" "),
+            Padded(header.sh_size, 6),
+            Text(b" "),
+            Padded(header.sh_entsize, 2),
+            Text(b" "),
+        ],
+    )?;
     put_flags(text, header.sh_flags)?;
-    put(text, b" ")?;
-    put_decimal(text, u64::from(header.sh_link), 2)?;
-    put(text, b" ")?;
-    put_decimal(text, u64::from(header.sh_info), 3)?;
-    put(text, b" ")?;
-    put_decimal(text, header.sh_addralign, 2)?;
-    put(text, b"\n")
-}
-
-/// Adds where a section stands in memory and in the file, its size and that of its records.
-fn put_extent(text: &mut Vec<u8>, header: &SectionHeader) -> Result<(), AllocError> {
-    put_padded(text, header.sh_addr, 16)?;
-    put(text, b" ")?;
-    put_padded(text, header.sh_offset, 6)?;
-    put(text, b" ")?;
-    put_padded(text, header.sh_size, 6)?;
-    put(text, b" ")?;
-    put_padded(text, header.sh_entsize, 2)?;
-    put(text, b" ")
+    put_columns(
+        text,
+        &[
+            Text(b" "),
+            Decimal(u64::from(header.sh_link), 2),
+            Text(b" "),
+            Decimal(u64::from(header.sh_info), 3),
+            Text(b" "),
+            Decimal(header.sh_addralign, 2),
+            Text(b"\n"),
+        ],
+    )
 }
 
 /// Adds the letters of the flags.
 fn put_flags(text: &mut Vec<u8>, flags: u64) -> Result<(), AllocError> {
-    let mut letters = Vec::new(*text.allocator());
-    for bit in 0..32u32 {
-        if (flags >> bit) % 2 == 1 {
-            letters.push(FLAGS.get(bit as usize).copied().unwrap_or(b'x'))?;
+    let count = (flags & u64::from(u32::MAX)).count_ones() as usize;
+    put_columns(text, &[Left(b"", 3usize.saturating_sub(count))])?;
+    let mut left = flags;
+    for letter in FLAGS {
+        if left % 2 == 1 {
+            text.push(*letter)?;
         }
+        left /= 2;
     }
-    put_right(text, letters.as_slice(), 3)
+    Ok(())
 }
 
 /// Adds the type of a section.
 fn put_type(text: &mut Vec<u8>, kind: u32) -> Result<(), AllocError> {
     match type_name(kind) {
-        Some(name) => put_left(text, name, 15),
+        Some(name) => put_columns(text, &[Left(name, 15)]),
         None => put_other_type(text, kind),
     }
 }
@@ -139,16 +152,14 @@ fn put_other_type(text: &mut Vec<u8>, kind: u32) -> Result<(), AllocError> {
     } else if number >= 0x6000_0000 {
         put_offset(text, b"LOOS+0x", number - 0x6000_0000)
     } else {
-        put_padded(text, number, 8)?;
-        put(text, b": <unknown>")
+        put_columns(text, &[Padded(number, 8), Text(b": <unknown>")])
     }
 }
 
 /// Adds the name of a range and a number, filled with blanks to the column's width.
 fn put_offset(text: &mut Vec<u8>, range: &[u8], number: u64) -> Result<(), AllocError> {
     let start = text.len();
-    put(text, range)?;
-    put_hexadecimal(text, number)?;
+    put_columns(text, &[Text(range), Hexadecimal(number, 0)])?;
     let length = text.len().saturating_sub(start);
-    put_blanks(text, 15usize.saturating_sub(length))
+    put_columns(text, &[Left(b"", 15usize.saturating_sub(length))])
 }

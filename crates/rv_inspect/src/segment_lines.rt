@@ -1,8 +1,8 @@
 //! The lines of a file's segments.
 
-use crate::columns::{put, put_left, put_prefixed};
+use crate::columns::Column::{Hexadecimal, Left, Padded, Text};
+use crate::columns::{put, put_columns};
 use rv_elf::{ElfView, PF_R, PF_W, PF_X, PT_DYNAMIC, PT_INTERP, PT_LOAD, PT_TLS, ProgramHeader};
-use rv_map::put_padded;
 use std::alloc::AllocError;
 
 const HEADING: &[u8] = b"
@@ -27,39 +27,42 @@ pub(crate) fn put_segments(text: &mut Vec<u8>, view: &ElfView<'_>) -> Result<(),
 fn put_segment(text: &mut Vec<u8>, header: &ProgramHeader) -> Result<(), AllocError> {
     put(text, b"  ")?;
     put_type(text, header.p_type)?;
-    put_number(text, header.p_offset, 6)?;
-    put_number(text, header.p_vaddr, 16)?;
-    put_number(text, header.p_paddr, 16)?;
-    put_number(text, header.p_filesz, 6)?;
-    put_number(text, header.p_memsz, 6)?;
-    put_rights(text, header.p_flags)?;
-    if header.p_align == 0 {
-        return put(text, b"0\n");
-    }
-    put_prefixed(text, header.p_align)?;
-    put(text, b"\n")
-}
-
-/// Adds a number with `0x` and a blank.
-fn put_number(text: &mut Vec<u8>, number: u64, width: usize) -> Result<(), AllocError> {
-    put(text, b"0x")?;
-    put_padded(text, number, width.max(1))?;
-    put(text, b" ")
-}
-
-/// Adds the rights: read, written, executed.
-fn put_rights(text: &mut Vec<u8>, flags: u32) -> Result<(), AllocError> {
-    put(text, if flags & PF_R != 0 { b"R" } else { b" " })?;
-    put(text, if flags & PF_W != 0 { b"W" } else { b" " })?;
-    put(text, if flags & PF_X != 0 { b"E" } else { b" " })?;
-    put(text, b" ")
+    let has = |flag: u32| header.p_flags & flag != 0;
+    put_columns(
+        text,
+        &[
+            Text(b"0x"),
+            Padded(header.p_offset, 6),
+            Text(b" 0x"),
+            Padded(header.p_vaddr, 16),
+            Text(b" 0x"),
+            Padded(header.p_paddr, 16),
+            Text(b" 0x"),
+            Padded(header.p_filesz, 6),
+            Text(b" 0x"),
+            Padded(header.p_memsz, 6),
+            Text(if has(PF_R) { b" R" } else { b"  " }),
+            Text(if has(PF_W) { b"W" } else { b" " }),
+            Text(if has(PF_X) { b"E " } else { b"  " }),
+            Text(if header.p_align != 0 { b"0x" } else { b"" }),
+            Hexadecimal(header.p_align, 0),
+            Text(b"\n"),
+        ],
+    )
 }
 
 /// Adds the type of a segment.
 fn put_type(text: &mut Vec<u8>, kind: u32) -> Result<(), AllocError> {
     match type_name(kind) {
-        Some(name) => put_left(text, name, 15),
-        None => put_other_type(text, kind),
+        Some(name) => put_columns(text, &[Left(name, 15)]),
+        None => put_columns(
+            text,
+            &[
+                Text(b"<unknown>: "),
+                Hexadecimal(u64::from(kind), 0),
+                Text(b" "),
+            ],
+        ),
     }
 }
 
@@ -81,11 +84,4 @@ fn type_name(kind: u32) -> Option<&'static [u8]> {
         0x7000_0003 => b"RISCV_ATTRIBUT",
         _ => return None,
     })
-}
-
-/// Adds a type that has no name.
-fn put_other_type(text: &mut Vec<u8>, kind: u32) -> Result<(), AllocError> {
-    put(text, b"<unknown>: ")?;
-    put_padded(text, u64::from(kind), 1)?;
-    put(text, b" ")
 }

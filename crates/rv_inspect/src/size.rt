@@ -1,6 +1,7 @@
 //! The sizes of files, in the columns of GNU's `size`, Berkeley format.
 
-use crate::columns::{put, put_decimal, put_hexadecimal_right};
+use crate::columns::Column::{Decimal, Hexadecimal, Text};
+use crate::columns::put_columns;
 use crate::parts::section_at;
 use rv_elf::{
     ElfView, FileFault, PF_W, PT_LOAD, ProgramHeader, SHF_ALLOC, SHF_EXECINSTR, SHF_WRITE,
@@ -9,7 +10,7 @@ use rv_elf::{
 use std::alloc::{AllocError, Global};
 
 /// The bytes that a file has in memory, by what they are.
-#[derive(Clone, Copy, Debug, PartialEq, Eq, Drop)]
+#[derive(Clone, Copy, Debug, Drop)]
 struct Size {
     /// Instructions and constants.
     text: u64,
@@ -153,12 +154,21 @@ impl SizeTable {
 /// Adds a line.
 fn put_line(text: &mut Vec<u8>, size: &Size, name: &[u8]) -> Result<(), AllocError> {
     let all = size.text.saturating_add(size.data).saturating_add(size.bss);
-    for bytes in [size.text, size.data, size.bss, all] {
-        put_decimal(text, bytes, 7)?;
-        put(text, b"\t")?;
-    }
-    put_hexadecimal_right(text, all, 7)?;
-    put(text, b"\t")?;
-    put(text, name)?;
-    put(text, b"\n")
+    put_columns(
+        text,
+        &[
+            Decimal(size.text, 7),
+            Text(b"\t"),
+            Decimal(size.data, 7),
+            Text(b"\t"),
+            Decimal(size.bss, 7),
+            Text(b"\t"),
+            Decimal(all, 7),
+            Text(b"\t"),
+            Hexadecimal(all, 7),
+            Text(b"\t"),
+            Text(name),
+            Text(b"\n"),
+        ],
+    )
 }

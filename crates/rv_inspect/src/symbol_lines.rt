@@ -1,13 +1,13 @@
 //! The lines of a file's symbols.
 
-use crate::columns::{put, put_decimal, put_left, put_name, put_prefixed};
+use crate::columns::Column::{Decimal, Hexadecimal, Left, Name, Padded, Text};
+use crate::columns::{Column, put_columns};
 use crate::parts::{bytes_of, count_symbols, section_at, section_named, symbol_at};
 use crate::section_lines::section_name;
 use rv_elf::{
     ElfView, FileFault, SHN_ABS, SHN_UNDEF, SHT_SYMTAB, STB_GLOBAL, STB_LOCAL, STB_WEAK,
     SectionHeader, Symbol, string_in,
 };
-use rv_map::put_padded;
 use std::alloc::AllocError;
 
 /// The lower half of `st_info`: the symbol stands for a section (gABI, STT_SECTION).
@@ -42,60 +42,75 @@ fn put_table(
     put_heading(text, section_name(view, header), count)?;
     for index in 0..count {
         let symbol = symbol_at(bytes, index).ok_or(FileFault::Truncated)?;
-        put_decimal(text, index as u64, 6)?;
-        put_symbol(text, &symbol)?;
-        put_name(text, symbol_name(view, strings, &symbol)?, 0)?;
-        put(text, b"\n")?;
+        let name = symbol_name(view, strings, &symbol)?;
+        put_symbol(text, index, &symbol, name)?;
     }
     Ok(())
 }
 
 /// Adds the lines above the symbols.
 fn put_heading(text: &mut Vec<u8>, name: &[u8], count: usize) -> Result<(), AllocError> {
-    put(text, b"\nSymbol table '")?;
-    put_name(text, name, 0)?;
-    put(text, b"' contains ")?;
-    put_decimal(text, count as u64, 0)?;
-    put(
+    put_columns(
         text,
-        if count == 1 {
-            b" entry:\n"
-        } else {
-            b" entries:\n"
-        },
-    )?;
-    put(text, HEADING)
+        &[
+            Text(b"\nSymbol table '"),
+            Name(name, 0),
+            Text(b"' contains "),
+            Decimal(count as u64, 0),
+            Text(if count == 1 {
+                b" entry:\n"
+            } else {
+                b" entries:\n"
+            }),
+            Text(HEADING),
+        ],
+    )
 }
 
-/// Adds the line of a symbol but for its name.
-fn put_symbol(text: &mut Vec<u8>, symbol: &Symbol) -> Result<(), AllocError> {
-    put(text, b": ")?;
-    put_padded(text, symbol.st_value, 16)?;
-    put(text, b" ")?;
-    if symbol.st_size <= DECIMAL {
-        put_decimal(text, symbol.st_size, 5)?;
-    } else {
-        put_prefixed(text, symbol.st_size)?;
-    }
-    put(text, b" ")?;
-    put_left(text, type_name(symbol.st_info % 16), 7)?;
-    put(text, b" ")?;
-    put_left(text, binding_name(symbol.st_info / 16), 6)?;
-    put(text, b" ")?;
-    put_left(text, visibility_name(symbol.st_other % 4), 7)?;
-    put(text, b" ")?;
-    put_home(text, symbol.st_shndx)
+/// Adds the line of a symbol.
+fn put_symbol(
+    text: &mut Vec<u8>,
+    index: usize,
+    symbol: &Symbol,
+    name: &[u8],
+) -> Result<(), AllocError> {
+    let size = symbol.st_size;
+    let is_large = size > DECIMAL;
+    put_columns(
+        text,
+        &[
+            Decimal(index as u64, 6),
+            Text(b": "),
+            Padded(symbol.st_value, 16),
+            Text(if is_large { b" 0x" } else { b" " }),
+            if is_large {
+                Hexadecimal(size, 0)
+            } else {
+                Decimal(size, 5)
+            },
+            Text(b" "),
+            Left(type_name(symbol.st_info % 16), 7),
+            Text(b" "),
+            Left(binding_name(symbol.st_info / 16), 6),
+            Text(b" "),
+            Left(visibility_name(symbol.st_other % 4), 7),
+            Text(b" "),
+            home(symbol.st_shndx),
+            Text(b" "),
+            Name(name, 0),
+            Text(b"\n"),
+        ],
+    )
 }
 
-/// Adds where a symbol stands.
-fn put_home(text: &mut Vec<u8>, home: u16) -> Result<(), AllocError> {
-    match home {
-        SHN_UNDEF => put(text, b" UND")?,
-        SHN_ABS => put(text, b" ABS")?,
-        SHN_COMMON => put(text, b" COM")?,
-        _ => put_decimal(text, u64::from(home), 4)?,
+/// Where a symbol stands.
+fn home<'a>(section: u16) -> Column<'a> {
+    match section {
+        SHN_UNDEF => Text(b" UND"),
+        SHN_ABS => Text(b" ABS"),
+        SHN_COMMON => Text(b" COM"),
+        _ => Decimal(u64::from(section), 4),
     }
-    put(text, b" ")
 }
 
 /// The name of a symbol; that of its section where it stands for one and has none.
