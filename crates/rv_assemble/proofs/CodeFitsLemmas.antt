@@ -31,7 +31,7 @@ use Rattle.rv_object.specs.Valid.{is_align}
 use Rattle.rv_assemble_laws.specs.CodeFields.{symbol_field, low_field, low_field_at, label_field, field_of, relax_fields, part_fields}
 use Rattle.rv_assemble_laws.specs.Coded.{constants, IsCodedPart, AreCodedParts}
 use Rattle.rv_assemble_laws.specs.Templates.{Template, Datum, Open, absolute_kind, add_kind, subtract_kind, value_bytes, value_fields, template_fields, IsWide, IsWidth, HasField, IsTemplate, align_field, padding_templates, contribution_templates}
-use Rattle.rv_assemble_laws.specs.Sites.{Site, Part, part_of, part_bytes, parts_of, parts, form as values, coded_templates, templates, HasSize}
+use Rattle.rv_assemble_laws.specs.LaidStatements.{LaidStatement, Part, part_of, part_bytes, parts_of, parts, form as values, coded_templates, templates, HasSize}
 use Rattle.rv_assemble.proofs.SettledLemmas.{IsIn}
 use Rattle.rv_assemble.proofs.RoomLemmas.{nops_long, IsRoom, HasRoom, directive_room}
 use Rattle.rv_assemble.proofs.FieldListsLemmas.{all_split, all_join}
@@ -265,7 +265,7 @@ contribution_fits executable ordinal bytes v (Alignment f number) r h = padding_
 
 -- ---- statements
 
-kind_fits : (t : Tables) (s : Site) (multiple : ℕ) (kind : StatementKind) → HasSize (values t s.located) s multiple kind → AreTemplates s.located.ordinal (templates t s kind)
+kind_fits : (t : Tables) (s : LaidStatement) (multiple : ℕ) (kind : StatementKind) → HasSize (values t s.located) s multiple kind → AreTemplates s.located.ordinal (templates t s kind)
     → AllByRecursion Holds (map (part_of s.located.ordinal) (templates t s kind))
 kind_fits t s multiple (Label name) size h = tt
 kind_fits t s multiple (Numbered number) size h = tt
@@ -275,18 +275,18 @@ kind_fits t s multiple (Instruction mnemonic operands) size h =
 kind_fits t s multiple (Directs d) size h =
     contribution_fits s.located.home.executable s.located.ordinal s.bytes (values t s.located) (contribution d) (λ e. directive_room (values t s.located) s multiple d e size) h
 
-site_fits : (t : Tables) (home : Section) (multiple : ℕ) (s : Site) → IsIn home s → (s.located.placed ≡ true → HasSize (values t s.located) s multiple s.located.kind)
+laid_fits : (t : Tables) (home : Section) (multiple : ℕ) (s : LaidStatement) → IsIn home s → (s.located.placed ≡ true → HasSize (values t s.located) s multiple s.located.kind)
     → AllByRecursion (λ (p : Part). IsTemplate p.template) (parts_of t s) → AllByRecursion Holds (parts_of t s)
-site_fits t home multiple s h size k = go s.located.placed refl
+laid_fits t home multiple s h size k = go s.located.placed refl
   where
     go : (b : Bool) → s.located.placed ≡ b → AllByRecursion Holds (parts_of t s)
     go true e = kind_fits t s multiple s.located.kind (size e) k
     go false e = subst (λ ts. AllByRecursion Holds (map (part_of s.located.ordinal) ts)) (sym (h.bare e t s)) tt
 
-pub all_fit : (t : Tables) (home : Section) (multiple : ℕ) (sites : List Site) → AllByRecursion (IsIn home) sites
-    → AllByRecursion (λ s. s.located.placed ≡ true → HasSize (values t s.located) s multiple s.located.kind) sites → AllByRecursion (λ (p : Part). IsTemplate p.template) (parts t sites)
-    → AllByRecursion Holds (parts t sites)
+pub all_fit : (t : Tables) (home : Section) (multiple : ℕ) (laid : List LaidStatement) → AllByRecursion (IsIn home) laid
+    → AllByRecursion (λ s. s.located.placed ≡ true → HasSize (values t s.located) s multiple s.located.kind) laid → AllByRecursion (λ (p : Part). IsTemplate p.template) (parts t laid)
+    → AllByRecursion Holds (parts t laid)
 all_fit t home multiple [] h z k = tt
 all_fit t home multiple (s ∷ ss) (h, hs) (z, zs) k =
     let both = all_split (λ (p : Part). IsTemplate p.template) (parts_of t s) (parts t ss) k in
-    all_join Holds (parts_of t s) (parts t ss) (site_fits t home multiple s h z both.0) (all_fit t home multiple ss hs zs both.1)
+    all_join Holds (parts_of t s) (parts t ss) (laid_fits t home multiple s h z both.0) (all_fit t home multiple ss hs zs both.1)

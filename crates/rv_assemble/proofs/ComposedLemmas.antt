@@ -22,7 +22,7 @@ use Rattle.rv_object.specs.Object.{Contents, Relocation, Section, Symbol, size_o
 use Rattle.rv_object.specs.Valid.{are_paddings, is_below, is_even, is_loaded_alone, fit_inside, are_indexed, are_defined, is_row_in, are_rows, is_alignment}
 use Rattle.rv_assemble_laws.specs.Refusals.{statements_fault}
 use Rattle.rv_assemble_laws.proofs.FaultlessLemmas.{no_first_fault}
-use Rattle.rv_assemble_laws.specs.Sites.{Site, form, HasSize, part_bytes, parts, sites_in, end_of}
+use Rattle.rv_assemble_laws.specs.LaidStatements.{LaidStatement, form, HasSize, part_bytes, parts, laid_in, end_of}
 use Rattle.rv_assemble_laws.specs.Symbols.{references, symbols_of}
 use Rattle.rv_assemble_laws.specs.IsObjectOf.{IsObjectOf, ArePartsNumbered, Numbering, relocations_from, contents_of, IsNumbered, IsSectionOf, AreSectionsOf, row_of, rows_at}
 use Rattle.rv_assemble_laws.specs.Fields.{Field}
@@ -143,41 +143,41 @@ read_map (y ∷ ys) (suc j) x e = read_map ys j x e
 -- ---- lists of statements
 
 -- what holds of the statements of each section holds of all
-all_from : (P : ℕ → Site → Type 0) (sites : List Site) → ((j : ℕ) → AllByRecursion (P j) (sites_in j sites)) → AllByRecursion (λ s. P s.located.section s) sites
+all_from : (P : ℕ → LaidStatement → Type 0) (laid : List LaidStatement) → ((j : ℕ) → AllByRecursion (P j) (laid_in j laid)) → AllByRecursion (λ s. P s.located.section s) laid
 all_from P [] h = tt
 all_from P (s ∷ ss) h = (own (s.located.section == s.located.section) (eq-eqb s.located.section s.located.section refl) (h s.located.section), all_from P ss (λ j. rest (s.located.section == j) j (h j)))
   where
-    own : (b : Bool) → b ≡ true → AllByRecursion (P s.located.section) (if b then s ∷ sites_in s.located.section ss else sites_in s.located.section ss) → P s.located.section s
+    own : (b : Bool) → b ≡ true → AllByRecursion (P s.located.section) (if b then s ∷ laid_in s.located.section ss else laid_in s.located.section ss) → P s.located.section s
     own true e k = k.0
     own false e k = absurd (cc)
 
-    rest : (b : Bool) (j : ℕ) → AllByRecursion (P j) (if b then s ∷ sites_in j ss else sites_in j ss) → AllByRecursion (P j) (sites_in j ss)
+    rest : (b : Bool) (j : ℕ) → AllByRecursion (P j) (if b then s ∷ laid_in j ss else laid_in j ss) → AllByRecursion (P j) (laid_in j ss)
     rest true j k = k.1
     rest false j k = k
 
-all_two : (P Q R : Site → Type 0) (sites : List Site) → ((s : Site) → P s → Q s → R s) → AllByRecursion P sites → AllByRecursion Q sites → AllByRecursion R sites
+all_two : (P Q R : LaidStatement → Type 0) (laid : List LaidStatement) → ((s : LaidStatement) → P s → Q s → R s) → AllByRecursion P laid → AllByRecursion Q laid → AllByRecursion R laid
 all_two P Q R [] f h k = tt
 all_two P Q R (s ∷ ss) f (p, ps) (q, qs) = (f s p q, all_two P Q R ss f ps qs)
 
 -- ---- rows
 
-rows_are : (k : ℕ) (t : Tables) (ss : List Statement) (sites : List Site) → map (λ s. s.located) sites ≡ located_from 1 k t ss → rows_from k (map item_of sites) ≡ flat_map rows_at sites
+rows_are : (k : ℕ) (t : Tables) (ss : List Statement) (laid : List LaidStatement) → map (λ s. s.located) laid ≡ located_from 1 k t ss → rows_from k (map item_of laid) ≡ flat_map rows_at laid
 rows_are k t [] [] e = refl
 rows_are k t (x ∷ ss) [] e = absurd (cc)
-rows_are k t [] (s ∷ sites) e = absurd (cc)
-rows_are k t (x ∷ ss) (s ∷ sites) e =
+rows_are k t [] (s ∷ laid) e = absurd (cc)
+rows_are k t (x ∷ ss) (s ∷ laid) e =
     let own : s.located ≡ located_now 1 k t x = cc in
-    let later : map (λ (s : Site). s.located) sites ≡ located_from 1 (suc k) (after t k x.kind) ss = cc in
+    let later : map (λ (s : LaidStatement). s.located) laid ≡ located_from 1 (suc k) (after t k x.kind) ss = cc in
     let number : s.located.ordinal ≡ k = ap (λ (l : Located). l.ordinal) own in
-    ap (λ n. (if has_row s.located then item_row n (item_of s) ∷ [] else []) ++ rows_from (k + 1) (map item_of sites)) (sym number)
-    ∙ ap (λ l. rows_at s ++ l) (ap (λ n. rows_from n (map item_of sites)) (add-one k) ∙ rows_are (suc k) (after t k x.kind) ss sites later)
+    ap (λ n. (if has_row s.located then item_row n (item_of s) ∷ [] else []) ++ rows_from (k + 1) (map item_of laid)) (sym number)
+    ∙ ap (λ l. rows_at s ++ l) (ap (λ n. rows_from n (map item_of laid)) (add-one k) ∙ rows_are (suc k) (after t k x.kind) ss laid later)
 
 un_map : {X Y : Type 0} (f : X → Y) (xs : List X) (j : ℕ) (y : Y) → slice_get (map f xs) j ≡ Some y → (x : X) × (slice_get xs j ≡ Some x) × (f x ≡ y)
 un_map f [] j y e = absurd (cc)
 un_map f (x ∷ xs) zero y e = (x, refl, (let same : f x ≡ y = cc in same))
 un_map f (x ∷ xs) (suc j) y e = un_map f xs j y e
 
-all_given : (A : Extent → Type 0) (Q : Site → Type 0) (sites : List Site) → ((e : Extent) → A e → AllByRecursion Q sites) → AllByRecursion (λ s. (e : Extent) → A e → Q s) sites
+all_given : (A : Extent → Type 0) (Q : LaidStatement → Type 0) (laid : List LaidStatement) → ((e : Extent) → A e → AllByRecursion Q laid) → AllByRecursion (λ s. (e : Extent) → A e → Q s) laid
 all_given A Q [] f = tt
 all_given A Q (s ∷ ss) f = (λ e a. (f e a).0, all_given A Q ss (λ e a. (f e a).1))
 
@@ -191,8 +191,8 @@ tested : (q : Section → Bool) (xs : List Section) → AllByRecursion (λ x. q 
 tested q [] h = refl
 tested q (x ∷ xs) (h, hs) = ap (λ b. b && list_all q xs) h ∙ tested q xs hs
 
-of_sections : (t : Tables) (all : List Site) (number : Numbering) (symbols : List Symbol) (k : ℕ) (es : List Extent) (xs : List Section)
-    → AllAt (λ k e x. IsSectionOf t all number symbols k (extent_section e) (sites_in k all) x) k es xs → AreSectionsOf t all number symbols k (map extent_section es) xs
+of_sections : (t : Tables) (all : List LaidStatement) (number : Numbering) (symbols : List Symbol) (k : ℕ) (es : List Extent) (xs : List Section)
+    → AllAt (λ k e x. IsSectionOf t all number symbols k (extent_section e) (laid_in k all) x) k es xs → AreSectionsOf t all number symbols k (map extent_section es) xs
 of_sections t all number symbols k [] [] h = tt
 of_sections t all number symbols k [] (x ∷ xs) h = absurd h
 of_sections t all number symbols k (e ∷ es) [] h = absurd h
@@ -201,15 +201,15 @@ of_sections t all number symbols k (e ∷ es) (x ∷ xs) (h, hs) = (h, of_sectio
 module _ (ss : List Statement) (d : Draft) (extents : List Extent) (lists : List (Vec DeclaredRelocation)) (number : Numbering) (h : IsDraft ss d) (good : statements_fault ss ≡ None) (kept : OpenKept ss)
     (opened : map extent_section extents ≡ (opened_of (tables ss)).sections) (alignments : map (λ (e : Extent). e.alignment) extents ≡ alignments_of (tables ss)) (counted : length lists ≡ length extents)
     (listed : (j : ℕ) → list_in lists j ≡ relocations_in j (map field_of d.fields.items) (map (λ f. option_map (number f.ordinal) f.symbol) (map field_of d.fields.items)))
-    (numbers : AllByRecursion (IsNumbered (tables ss) h.sites number (symbols_of (tables ss) h.sites)) (references (tables ss) h.sites)) where
+    (numbers : AllByRecursion (IsNumbered (tables ss) h.laid number (symbols_of (tables ss) h.laid)) (references (tables ss) h.laid)) where
   abbrev t : Tables
   t = tables ss
 
   abbrev symbols : List Symbol
-  symbols = symbols_of t h.sites
+  symbols = symbols_of t h.laid
 
-  all_settled : AllByRecursion (IsSettled (opened_of t).sections) h.sites
-  all_settled = settled ss h.sites (no_first_fault ss good) h.located
+  all_settled : AllByRecursion (IsSettled (opened_of t).sections) h.laid
+  all_settled = settled ss h.laid (no_first_fault ss good) h.located
 
   pub are_each : AreEach extents d.ends.items d.sections.items lists
   are_each =
@@ -221,14 +221,14 @@ module _ (ss : List Statement) (d : Draft) (extents : List Extent) (lists : List
     abbrev home : SourceSection
     home = extent_section e
 
-    abbrev sites : List Site
-    sites = sites_in j h.sites
+    abbrev laid : List LaidStatement
+    laid = laid_in j h.laid
 
     abbrev full : List ℕ
-    full = flat_map part_bytes (parts t sites)
+    full = flat_map part_bytes (parts t laid)
 
     abbrev stop : ℕ
-    stop = end_of 0 sites
+    stop = end_of 0 laid
 
     abbrev made : Section
     made = section_at extents d.ends.items d.sections.items lists j e
@@ -236,33 +236,33 @@ module _ (ss : List Statement) (d : Draft) (extents : List Extent) (lists : List
     there : slice_get (opened_of t).sections j ≡ Some home
     there = ap (λ l. slice_get l j) (sym opened) ∙ got_map extent_section extents j e at
 
-    drafted : IsDrafted t j home sites d
+    drafted : IsDrafted t j home laid d
     drafted = h.each j home there
 
-    inside : AllByRecursion (IsIn home) sites
-    inside = all_in (opened_of t).sections j home there h.sites all_settled
+    inside : AllByRecursion (IsIn home) laid
+    inside = all_in (opened_of t).sections j home there h.laid all_settled
 
     alignment : slice_index_or (alignments_of t) j 1 ≡ e.alignment
     alignment = ap (λ l. slice_index_or l j 1) (sym alignments) ∙ read_map extents j e at
 
-    relocations : list_in lists j ≡ (if home.loaded then relocations_from number 0 (parts t sites) else [])
+    relocations : list_in lists j ≡ (if home.loaded then relocations_from number 0 (parts t laid) else [])
     relocations =
         listed j ∙ fields_numbered number j (map field_of d.fields.items) ∙ ap (λ l. map (numbered number) (in_section j l)) h.open_fields
-        ∙ section_relocations t number (opened_of t).sections j home there 0 h.sites all_settled drafted.tile
+        ∙ section_relocations t number (opened_of t).sections j home there 0 h.laid all_settled drafted.tile
 
     contents : made.contents ≡ contents_of home.section_type stop full
     contents = contents_same home.section_type (slice_index d.ends.items j) stop (bytes_in d.sections.items j) full drafted.stop drafted.bytes
 
     ends : stop ≡ length full
-    ends = filled t 0 sites drafted.tile ∙ (let f : 0 + length full ≡ length full = omega arith in f)
+    ends = filled t 0 laid drafted.tile ∙ (let f : 0 + length full ≡ length full = omega arith in f)
 
     size : size_of made.contents ≡ stop
     size = ap size_of contents ∙ contents_size home.section_type stop full ends
 
-    are_numbered : home.loaded ≡ true → ArePartsNumbered t h.sites number symbols (parts t sites)
-    are_numbered loaded = parts_numbered t h.sites number symbols (opened_of t).sections j home there loaded h.sites all_settled numbers
+    are_numbered : home.loaded ≡ true → ArePartsNumbered t h.laid number symbols (parts t laid)
+    are_numbered loaded = parts_numbered t h.laid number symbols (opened_of t).sections j home there loaded h.laid all_settled numbers
 
-    is_section : IsSectionOf t h.sites number symbols j home sites made
+    is_section : IsSectionOf t h.laid number symbols j home laid made
     is_section = record {
       name = refl;
       loaded = refl;
@@ -275,26 +275,26 @@ module _ (ss : List Statement) (d : Draft) (extents : List Extent) (lists : List
       code = drafted.code;
       relocations = relocations;
       numbered = are_numbered;
-      sizes = subst (λ n. AllByRecursion (λ s. s.located.placed ≡ true → HasSize (form t s.located) s n s.located.kind) sites) alignment drafted.sizes;
+      sizes = subst (λ n. AllByRecursion (λ s. s.located.placed ≡ true → HasSize (form t s.located) s n s.located.kind) laid) alignment drafted.sizes;
       fields = drafted.templates;
       short = λ code. drafted.short;
     }
 
-    held : AllByRecursion Holds (parts t sites)
-    held = all_fit t home (slice_index_or (alignments_of t) j 1) sites inside drafted.sizes drafted.templates
+    held : AllByRecursion Holds (parts t laid)
+    held = all_fit t home (slice_index_or (alignments_of t) j 1) laid inside drafted.sizes drafted.templates
 
-    none : is_nobits_type home.section_type ≡ true → (if home.loaded then relocations_from number 0 (parts t sites) else []) ≡ []
+    none : is_nobits_type home.section_type ≡ true → (if home.loaded then relocations_from number 0 (parts t laid) else []) ≡ []
     none e = go home.loaded refl
       where
-        go : (b : Bool) → home.loaded ≡ b → ◌≡◌ {A = List Relocation} (if b then relocations_from number 0 (parts t sites) else []) []
-        go true f = none_in_nobits t home number sites e inside drafted.tile (λ code. drafted.code (ap (λ b. b && home.executable) f ∙ code) e)
+        go : (b : Bool) → home.loaded ≡ b → ◌≡◌ {A = List Relocation} (if b then relocations_from number 0 (parts t laid) else []) []
+        go true f = none_in_nobits t home number laid e inside drafted.tile (λ code. drafted.code (ap (λ b. b && home.executable) f ∙ code) e)
         go false f = refl
 
-    fits : list_all (λ r. nat_le (r.place + width_of r.kind) (length full)) (if home.loaded then relocations_from number 0 (parts t sites) else []) ≡ true
+    fits : list_all (λ r. nat_le (r.place + width_of r.kind) (length full)) (if home.loaded then relocations_from number 0 (parts t laid) else []) ≡ true
     fits = go home.loaded
       where
-        go : (b : Bool) → list_all (λ r. nat_le (r.place + width_of r.kind) (length full)) (if b then relocations_from number 0 (parts t sites) else []) ≡ true
-        go true = parts_within number 0 (length full) (parts t sites) held (let f : 0 + length full ≤ length full = omega arith in f)
+        go : (b : Bool) → list_all (λ r. nat_le (r.place + width_of r.kind) (length full)) (if b then relocations_from number 0 (parts t laid) else []) ≡ true
+        go true = parts_within number 0 (length full) (parts t laid) held (let f : 0 + length full ≤ length full = omega arith in f)
         go false = refl
 
     is_makeable : IsMakeable made
@@ -302,21 +302,21 @@ module _ (ss : List Statement) (d : Draft) (extents : List Extent) (lists : List
       named = name_is_string home.name (sections_named ss j home kept.1 there);
       kept = kept_by made.contents home.name (names_kept ss j home kept.0 there);
       aligned = subst (λ n. is_alignment n ≡ true) alignment (aligned ss j);
-      even = even_by home.executable made.contents stop size (λ code. end_even t home (slice_index_or (alignments_of t) j 1) sites code inside drafted.sizes drafted.tile);
-      alone = ap (is_loaded_alone home.loaded) relocations ∙ alone_by home.loaded (relocations_from number 0 (parts t sites));
-      inside = ap (fit_inside made.contents) relocations ∙ ap (λ c. fit_inside c (if home.loaded then relocations_from number 0 (parts t sites) else [])) contents
-          ∙ inside_by home.section_type stop full (if home.loaded then relocations_from number 0 (parts t sites) else []) none fits;
+      even = even_by home.executable made.contents stop size (λ code. end_even t home (slice_index_or (alignments_of t) j 1) laid code inside drafted.sizes drafted.tile);
+      alone = ap (is_loaded_alone home.loaded) relocations ∙ alone_by home.loaded (relocations_from number 0 (parts t laid));
+      inside = ap (fit_inside made.contents) relocations ∙ ap (λ c. fit_inside c (if home.loaded then relocations_from number 0 (parts t laid) else [])) contents
+          ∙ inside_by home.section_type stop full (if home.loaded then relocations_from number 0 (parts t laid) else []) none fits;
       paddings = ap (are_paddings home.executable made.contents) relocations
-          ∙ paddings_lie number home.executable made.contents home.loaded (parts t sites) held
-          (λ code. parts_even t home (slice_index_or (alignments_of t) j 1) sites code inside drafted.sizes)
+          ∙ paddings_lie number home.executable made.contents home.loaded (parts t laid) held
+          (λ code. parts_even t home (slice_index_or (alignments_of t) j 1) laid code inside drafted.sizes)
           (let e = size in let f = ends in omega (arith, e, f));
     }
 
     is_indexed : list_all (λ (r : Relocation). is_below (length symbols) r.symbol) made.relocations ≡ true
     is_indexed = ap (list_all (λ (r : Relocation). is_below (length symbols) r.symbol)) relocations ∙ go home.loaded refl
       where
-        go : (b : Bool) → home.loaded ≡ b → list_all (λ (r : Relocation). is_below (length symbols) r.symbol) (if b then relocations_from number 0 (parts t sites) else []) ≡ true
-        go true e = parts_indexed t h.sites number symbols 0 (parts t sites) (are_numbered e)
+        go : (b : Bool) → home.loaded ≡ b → list_all (λ (r : Relocation). is_below (length symbols) r.symbol) (if b then relocations_from number 0 (parts t laid) else []) ≡ true
+        go true e = parts_indexed t h.laid number symbols 0 (parts t laid) (are_numbered e)
         go false e = refl
 
   -- all of them
@@ -339,21 +339,21 @@ module _ (ss : List Statement) (d : Draft) (extents : List Extent) (lists : List
   count = ap length (sym opened) ∙ length-map extents extent_section ∙ sym (sections_count extents d.ends.items d.sections.items lists are_each)
 
   pub defined : are_defined (sections_by extents d.ends.items d.sections.items lists) symbols ≡ true
-  defined = symbols_stand t (opened_of t).sections (length (sections_by extents d.ends.items d.sections.items lists)) count h.sites all_settled
+  defined = symbols_stand t (opened_of t).sections (length (sections_by extents d.ends.items d.sections.items lists)) count h.laid all_settled
 
-  abbrev Ends : ℕ → Site → Type 0
-  Ends j s = (e : Extent) → slice_get extents j ≡ Some e → s.offset + s.bytes ≤ end_of 0 (sites_in j h.sites)
+  abbrev Ends : ℕ → LaidStatement → Type 0
+  Ends j s = (e : Extent) → slice_get extents j ≡ Some e → s.offset + s.bytes ≤ end_of 0 (laid_in j h.laid)
 
-  ends_inside : AllByRecursion (λ s. Ends s.located.section s) h.sites
+  ends_inside : AllByRecursion (λ s. Ends s.located.section s) h.laid
   ends_inside =
-      all_from Ends h.sites
-      (λ j. all_given (λ e. slice_get extents j ≡ Some e) (λ s. s.offset + s.bytes ≤ end_of 0 (sites_in j h.sites)) (sites_in j h.sites)
-      (λ e at. ends_within t 0 (sites_in j h.sites) (drafted j e at).tile (end_of 0 (sites_in j h.sites)) refl))
+      all_from Ends h.laid
+      (λ j. all_given (λ e. slice_get extents j ≡ Some e) (λ s. s.offset + s.bytes ≤ end_of 0 (laid_in j h.laid)) (laid_in j h.laid)
+      (λ e at. ends_within t 0 (laid_in j h.laid) (drafted j e at).tile (end_of 0 (laid_in j h.laid)) refl))
 
   abbrev Lies : Row → Bool
   Lies r = is_row_in r (slice_get (sections_by extents d.ends.items d.sections.items lists) r.section)
 
-  row_lies : (s : Site) → IsSettled (opened_of t).sections s → Ends s.located.section s → list_all Lies (rows_at s) ≡ true
+  row_lies : (s : LaidStatement) → IsSettled (opened_of t).sections s → Ends s.located.section s → list_all Lies (rows_at s) ≡ true
   row_lies s k l = go (has_row s.located) refl
     where
       shown : has_row s.located ≡ true → Lies (row_of s) ≡ true
@@ -363,35 +363,35 @@ module _ (ss : List Statement) (d : Draft) (extents : List Extent) (lists : List
           let found = found_at extents d.ends.items d.sections.items lists are_each j x at in
           let loaded : (extent_section x).loaded ≡ true = ap (λ (q : SourceSection). q.loaded) is ∙ (and_parts s.located.placed s.located.home.loaded e).1 in
           let fit : nat_le (s.offset + s.bytes) (size_of (section_at extents d.ends.items d.sections.items lists j x).contents) ≡ true =
-          ap (λ n. nat_le (s.offset + s.bytes) n) (size j x at) ∙ le-leb (s.offset + s.bytes) (end_of 0 (sites_in j h.sites)) (l x at) in
+          ap (λ n. nat_le (s.offset + s.bytes) n) (size j x at) ∙ le-leb (s.offset + s.bytes) (end_of 0 (laid_in j h.laid)) (l x at) in
           ap (is_row_in (row_of s)) found ∙ ap (λ b. b && nat_le (s.offset + s.bytes) (size_of (section_at extents d.ends.items d.sections.items lists j x).contents)) loaded ∙ fit
 
       go : (b : Bool) → has_row s.located ≡ b → list_all Lies (if b then row_of s ∷ [] else []) ≡ true
       go true e = ap (λ b. b && true) (shown e)
       go false e = refl
 
-  rows_lie : (sites : List Site) → AllByRecursion (IsSettled (opened_of t).sections) sites → AllByRecursion (λ s. Ends s.located.section s) sites → list_all Lies (flat_map rows_at sites) ≡ true
+  rows_lie : (laid : List LaidStatement) → AllByRecursion (IsSettled (opened_of t).sections) laid → AllByRecursion (λ s. Ends s.located.section s) laid → list_all Lies (flat_map rows_at laid) ≡ true
   rows_lie [] k l = refl
-  rows_lie (s ∷ sites) (k, ks) (l, ls) =
-      list_all-append Lies (rows_at s) (flat_map rows_at sites) ∙ ap (λ b. b && list_all Lies (flat_map rows_at sites)) (row_lies s k l) ∙ rows_lie sites ks ls
+  rows_lie (s ∷ laid) (k, ks) (l, ls) =
+      list_all-append Lies (rows_at s) (flat_map rows_at laid) ∙ ap (λ b. b && list_all Lies (flat_map rows_at laid)) (row_lies s k l) ∙ rows_lie laid ks ls
 
-  rows : rows_from 1 d.items.items ≡ flat_map rows_at h.sites
-  rows = ap (rows_from 1) (sym h.stand) ∙ rows_are 1 (at_start ss) ss h.sites h.located
+  rows : rows_from 1 d.items.items ≡ flat_map rows_at h.laid
+  rows = ap (rows_from 1) (sym h.stand) ∙ rows_are 1 (at_start ss) ss h.laid h.located
 
   pub lie : are_rows (sections_by extents d.ends.items d.sections.items lists) (rows_from 1 d.items.items) ≡ true
-  lie = ap (are_rows (sections_by extents d.ends.items d.sections.items lists)) rows ∙ rows_lie h.sites all_settled ends_inside
+  lie = ap (are_rows (sections_by extents d.ends.items d.sections.items lists)) rows ∙ rows_lie h.laid all_settled ends_inside
 
   pub is_object : IsObjectOf ss (record { sections = sections_by extents d.ends.items d.sections.items lists; symbols = symbols; rows = rows_from 1 d.items.items; rvc = d.rvc })
   is_object = record {
     good = good;
-    sites = h.sites;
+    laid = h.laid;
     located = h.located;
     places = h.places;
     least = h.least;
     number = number;
-    sections = subst (λ l. AreSectionsOf t h.sites number symbols 0 l (sections_by extents d.ends.items d.sections.items lists)) opened
-        (of_sections t h.sites number symbols 0 extents (sections_by extents d.ends.items d.sections.items lists)
-        (every (λ k e x. IsSectionOf t h.sites number symbols k (extent_section e) (sites_in k h.sites) x) is_section));
+    sections = subst (λ l. AreSectionsOf t h.laid number symbols 0 l (sections_by extents d.ends.items d.sections.items lists)) opened
+        (of_sections t h.laid number symbols 0 extents (sections_by extents d.ends.items d.sections.items lists)
+        (every (λ k e x. IsSectionOf t h.laid number symbols k (extent_section e) (laid_in k h.laid) x) is_section));
     symbols = refl;
     rows = rows;
     rvc = h.compressed;

@@ -17,7 +17,7 @@ use Rattle.rv_unit_laws.specs.Tables.{Tables}
 use Rattle.rv_assemble_laws.specs.CodeFields.{part_fields}
 use Rattle.rv_assemble_laws.specs.Coded.{constants, IsCodedPart, AreCodedParts}
 use Rattle.rv_assemble_laws.specs.Templates.{Open, padding_templates, contribution_templates}
-use Rattle.rv_assemble_laws.specs.Sites.{Site, Part, form, part_of, part_bytes, parts_of, parts, coded_templates, templates, Tile, end_of, HasSize}
+use Rattle.rv_assemble_laws.specs.LaidStatements.{LaidStatement, Part, form, part_of, part_bytes, parts_of, parts, coded_templates, templates, Tile, end_of, HasSize}
 use Rattle.rv_assemble_laws.proofs.FilledLemmas.{filled}
 use Rattle.rv_source_laws.proofs.HeldLemmas.{ContributionHeld, IsHeld}
 use Rattle.rv_assemble.proofs.SettledLemmas.{IsIn}
@@ -62,7 +62,7 @@ contribution_even home executable ordinal bytes v (Bytes contents) code here hel
 contribution_even home executable ordinal bytes v (Zero_bytes count) code here held room = absurd (cc)
 contribution_even home executable ordinal bytes v (Alignment f number) code here held room = padding_even executable ordinal bytes here room
 
-kind_even : (t : Tables) (home : Section) (s : Site) (multiple : ℕ) (kind : StatementKind) → home.executable ≡ true → s.located.home.executable ≡ true → IsHeld home kind → HasSize (form t s.located) s multiple kind
+kind_even : (t : Tables) (home : Section) (s : LaidStatement) (multiple : ℕ) (kind : StatementKind) → home.executable ≡ true → s.located.home.executable ≡ true → IsHeld home kind → HasSize (form t s.located) s multiple kind
     → AllByRecursion IsEvenPart (map (part_of s.located.ordinal) (templates t s kind))
 kind_even t home s multiple (Label name) code here held size = tt
 kind_even t home s multiple (Numbered number) code here held size = tt
@@ -72,21 +72,21 @@ kind_even t home s multiple (Instruction mnemonic operands) code here held size 
 kind_even t home s multiple (Directs d) code here held size =
     contribution_even home s.located.home.executable s.located.ordinal s.bytes (form t s.located) (contribution d) code here held (directive_room (form t s.located) s multiple d here size)
 
-abbrev pub IsSized : Tables → ℕ → Site → Type 0
+abbrev pub IsSized : Tables → ℕ → LaidStatement → Type 0
 IsSized t multiple s = s.located.placed ≡ true → HasSize (form t s.located) s multiple s.located.kind
 
-site_even : (t : Tables) (home : Section) (s : Site) (multiple : ℕ) → home.executable ≡ true → IsIn home s → IsSized t multiple s → AllByRecursion IsEvenPart (parts_of t s)
-site_even t home s multiple code h sized = go s.located.placed refl
+laid_even : (t : Tables) (home : Section) (s : LaidStatement) (multiple : ℕ) → home.executable ≡ true → IsIn home s → IsSized t multiple s → AllByRecursion IsEvenPart (parts_of t s)
+laid_even t home s multiple code h sized = go s.located.placed refl
   where
     go : (b : Bool) → s.located.placed ≡ b → AllByRecursion IsEvenPart (parts_of t s)
     go true e = kind_even t home s multiple s.located.kind code (ap (λ (x : Section). x.executable) h.same ∙ code) h.held (sized e)
     go false e = subst (λ ts. AllByRecursion IsEvenPart (map (part_of s.located.ordinal) ts)) (sym (h.bare e t s)) tt
 
-pub parts_even : (t : Tables) (home : Section) (multiple : ℕ) (sites : List Site) → home.executable ≡ true → AllByRecursion (IsIn home) sites → AllByRecursion (IsSized t multiple) sites
-    → AllByRecursion IsEvenPart (parts t sites)
+pub parts_even : (t : Tables) (home : Section) (multiple : ℕ) (laid : List LaidStatement) → home.executable ≡ true → AllByRecursion (IsIn home) laid → AllByRecursion (IsSized t multiple) laid
+    → AllByRecursion IsEvenPart (parts t laid)
 parts_even t home multiple [] code h sized = tt
 parts_even t home multiple (s ∷ ss) code (h, hs) (z, zs) =
-    all_join IsEvenPart (parts_of t s) (parts t ss) (site_even t home s multiple code h z) (parts_even t home multiple ss code hs zs)
+    all_join IsEvenPart (parts_of t s) (parts t ss) (laid_even t home s multiple code h z) (parts_even t home multiple ss code hs zs)
 
 all_even : (ps : List Part) → AllByRecursion IsEvenPart ps → length (flat_map part_bytes ps) % 2 ≡ 0
 all_even [] h = refl
@@ -95,20 +95,20 @@ all_even (p ∷ ps) (h, hs) =
     let l = length-append (part_bytes p) (flat_map part_bytes ps) in
     omega (arith, h, rest, l)
 
-pub end_even : (t : Tables) (home : Section) (multiple : ℕ) (sites : List Site) → home.executable ≡ true → AllByRecursion (IsIn home) sites → AllByRecursion (IsSized t multiple) sites → Tile t 0 sites
-    → end_of 0 sites % 2 ≡ 0
-end_even t home multiple sites code h sized tile =
-    let whole = filled t 0 sites tile in
-    let even = all_even (parts t sites) (parts_even t home multiple sites code h sized) in
+pub end_even : (t : Tables) (home : Section) (multiple : ℕ) (laid : List LaidStatement) → home.executable ≡ true → AllByRecursion (IsIn home) laid → AllByRecursion (IsSized t multiple) laid → Tile t 0 laid
+    → end_of 0 laid % 2 ≡ 0
+end_even t home multiple laid code h sized tile =
+    let whole = filled t 0 laid tile in
+    let even = all_even (parts t laid) (parts_even t home multiple laid code h sized) in
     omega (arith, whole, even)
 
 -- each statement of a section ends within it
-pub ends_within : (t : Tables) (offset : ℕ) (sites : List Site) → Tile t offset sites → (stop : ℕ) → end_of offset sites ≡ stop → AllByRecursion (λ s. s.offset + s.bytes ≤ stop) sites
+pub ends_within : (t : Tables) (offset : ℕ) (laid : List LaidStatement) → Tile t offset laid → (stop : ℕ) → end_of offset laid ≡ stop → AllByRecursion (λ s. s.offset + s.bytes ≤ stop) laid
 ends_within t offset [] tile stop e = tt
 ends_within t offset (s ∷ ss) (at, bytes, tile) stop e =
     let rest = no_less (offset + s.bytes) ss in
     (omega (arith, rest, at, e), ends_within t (offset + s.bytes) ss tile stop e)
   where
-    no_less : (n : ℕ) (sites : List Site) → n ≤ end_of n sites
+    no_less : (n : ℕ) (laid : List LaidStatement) → n ≤ end_of n laid
     no_less n [] = omega arith
     no_less n (s ∷ ss) = let l = no_less (n + s.bytes) ss in omega (arith, l)

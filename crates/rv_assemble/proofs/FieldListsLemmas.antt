@@ -12,7 +12,7 @@ use Rattle.rv_unit_laws.specs.Sections.{Section}
 use Rattle.rv_unit_laws.specs.Tables.{Tables}
 use Rattle.rv_object.specs.Object.{Relocation, Symbol}
 use Rattle.rv_assemble_laws.specs.Templates.{Open, template_fields}
-use Rattle.rv_assemble_laws.specs.Sites.{Site, Part, parts_of, parts, part_bytes, sites_in, Tile}
+use Rattle.rv_assemble_laws.specs.LaidStatements.{LaidStatement, Part, parts_of, parts, part_bytes, laid_in, Tile}
 use Rattle.rv_assemble_laws.specs.Symbols.{SymbolUse, use_of, references_in, references_of, references}
 use Rattle.rv_assemble_laws.specs.IsObjectOf.{Numbering, relocation_at, relocations_from, IsNumbered, ArePartsNumbered}
 use Rattle.rv_assemble_laws.specs.Fields.{Field, field_at, fields_from, fields_at, fields}
@@ -102,9 +102,9 @@ module _ (t : Tables) (number : Numbering) (sections : List Section) (j : ℕ) (
       ∙ ap (λ l. if home.loaded then l else []) (sym (behind number offset ps qs))
 
   -- those of a statement
-  of_site : (s : Site) → IsSettled sections s → (b : Bool) → (s.located.section == j) ≡ b
+  of_laid_statement : (s : LaidStatement) → IsSettled sections s → (b : Bool) → (s.located.section == j) ≡ b
       → map (numbered number) (in_section j (fields_at t s)) ≡ (if b then loaded s.offset (parts_of t s) else [])
-  of_site s h true e =
+  of_laid_statement s h true e =
       let same : s.located.section ≡ j = eqb-true s.located.section j e in
       let both : Some s.located.home ≡ Some home = sym h.home ∙ ap (λ n. slice_get sections n) same ∙ at in
       let is : s.located.home ≡ home = cc in
@@ -113,14 +113,14 @@ module _ (t : Tables) (number : Numbering) (sections : List Section) (j : ℕ) (
       go : (b : Bool) → map (numbered number) (in_section j (if b then fields_from s.located.section s.offset (parts_of t s) else [])) ≡ (if b then relocations_from number s.offset (parts_of t s) else [])
       go true = ap (map (numbered number)) (parts_in j s.located.section s.offset true e (parts_of t s)) ∙ of_parts number s.located.section s.offset (parts_of t s)
       go false = refl
-  of_site s h false e = go s.located.home.loaded
+  of_laid_statement s h false e = go s.located.home.loaded
     where
       go : (b : Bool) → map (numbered number) (in_section j (if b then fields_from s.located.section s.offset (parts_of t s) else [])) ≡ []
       go true = ap (map (numbered number)) (parts_in j s.located.section s.offset false e (parts_of t s))
       go false = refl
 
-  pub section_relocations : (offset : ℕ) (sites : List Site) → AllByRecursion (IsSettled sections) sites → Tile t offset (sites_in j sites)
-      → map (numbered number) (in_section j (fields t sites)) ≡ loaded offset (parts t (sites_in j sites))
+  pub section_relocations : (offset : ℕ) (laid : List LaidStatement) → AllByRecursion (IsSettled sections) laid → Tile t offset (laid_in j laid)
+      → map (numbered number) (in_section j (fields t laid)) ≡ loaded offset (parts t (laid_in j laid))
   section_relocations offset [] h tile = nothing home.loaded
     where
       nothing : (b : Bool) → ◌≡◌ {A = List Relocation} [] (if b then [] else [])
@@ -131,15 +131,15 @@ module _ (t : Tables) (number : Numbering) (sections : List Section) (j : ℕ) (
       start : map (numbered number) (in_section j (fields_at t s ++ fields t ss)) ≡ map (numbered number) (in_section j (fields_at t s)) ++ map (numbered number) (in_section j (fields t ss))
       start = ap (map (numbered number)) (filter-append (λ f. f.section == j) (fields_at t s) (fields t ss)) ∙ map-append (numbered number) (in_section j (fields_at t s)) (in_section j (fields t ss))
 
-      go : ((o : ℕ) → Tile t o (sites_in j ss) → map (numbered number) (in_section j (fields t ss)) ≡ loaded o (parts t (sites_in j ss)))
-          → (b : Bool) → (s.located.section == j) ≡ b → Tile t offset (if b then s ∷ sites_in j ss else sites_in j ss)
-          → map (numbered number) (in_section j (fields_at t s)) ++ map (numbered number) (in_section j (fields t ss)) ≡ loaded offset (parts t (if b then s ∷ sites_in j ss else sites_in j ss))
+      go : ((o : ℕ) → Tile t o (laid_in j ss) → map (numbered number) (in_section j (fields t ss)) ≡ loaded o (parts t (laid_in j ss)))
+          → (b : Bool) → (s.located.section == j) ≡ b → Tile t offset (if b then s ∷ laid_in j ss else laid_in j ss)
+          → map (numbered number) (in_section j (fields_at t s)) ++ map (numbered number) (in_section j (fields t ss)) ≡ loaded offset (parts t (if b then s ∷ laid_in j ss else laid_in j ss))
       go ih true e (place, size, rest) =
-          let own = of_site s h true e ∙ ap (λ n. loaded n (parts_of t s)) place in
-          let next = ih (offset + s.bytes) rest ∙ ap (λ n. loaded (offset + n) (parts t (sites_in j ss))) size in
+          let own = of_laid_statement s h true e ∙ ap (λ n. loaded n (parts_of t s)) place in
+          let next = ih (offset + s.bytes) rest ∙ ap (λ n. loaded (offset + n) (parts t (laid_in j ss))) size in
           ap (λ l. l ++ map (numbered number) (in_section j (fields t ss))) own ∙ ap (λ l. loaded offset (parts_of t s) ++ l) next
-          ∙ loaded_behind offset (parts_of t s) (parts t (sites_in j ss))
-      go ih false e rest = ap (λ l. l ++ map (numbered number) (in_section j (fields t ss))) (of_site s h false e) ∙ ih offset rest
+          ∙ loaded_behind offset (parts_of t s) (parts t (laid_in j ss))
+      go ih false e rest = ap (λ l. l ++ map (numbered number) (in_section j (fields t ss))) (of_laid_statement s h false e) ∙ ih offset rest
 
 -- ---- what they name
 
@@ -157,23 +157,23 @@ uses_of_parts section offset (p ∷ ps) =
     ∙ ap (λ l. l ++ flat_map use_of_field (fields_from section (offset + length (part_bytes p)) ps)) (uses_of_part section offset (template_fields p.ordinal p.template))
     ∙ ap (λ l. references_in p ++ l) (uses_of_parts section (offset + length (part_bytes p)) ps)
 
-uses_of_site : (t : Tables) (s : Site) → flat_map use_of_field (fields_at t s) ≡ references_of t s
-uses_of_site t s = go s.located.home.loaded
+uses_of_laid : (t : Tables) (s : LaidStatement) → flat_map use_of_field (fields_at t s) ≡ references_of t s
+uses_of_laid t s = go s.located.home.loaded
   where
     go : (b : Bool) → flat_map use_of_field (if b then fields_from s.located.section s.offset (parts_of t s) else []) ≡ (if b then flat_map references_in (parts_of t s) else [])
     go true = uses_of_parts s.located.section s.offset (parts_of t s)
     go false = refl
 
-pub uses_of_fields : (t : Tables) (sites : List Site) → flat_map use_of_field (fields t sites) ≡ references t sites
+pub uses_of_fields : (t : Tables) (laid : List LaidStatement) → flat_map use_of_field (fields t laid) ≡ references t laid
 uses_of_fields t [] = refl
 uses_of_fields t (s ∷ ss) =
     flat_map-append use_of_field (fields_at t s) (fields t ss)
-    ∙ ap (λ l. l ++ flat_map use_of_field (fields t ss)) (uses_of_site t s) ∙ ap (λ l. references_of t s ++ l) (uses_of_fields t ss)
+    ∙ ap (λ l. l ++ flat_map use_of_field (fields t ss)) (uses_of_laid t s) ∙ ap (λ l. references_of t s ++ l) (uses_of_fields t ss)
 
 -- what is numbered of all that relocations name is numbered of the parts of each loaded section
-module _ (t : Tables) (all : List Site) (number : Numbering) (symbols : List Symbol) (sections : List Section) (j : ℕ) (home : Section) (at : slice_get sections j ≡ Some home) (loaded : home.loaded ≡ true) where
-  pub parts_numbered : (sites : List Site) → AllByRecursion (IsSettled sections) sites → AllByRecursion (IsNumbered t all number symbols) (references t sites)
-      → ArePartsNumbered t all number symbols (parts t (sites_in j sites))
+module _ (t : Tables) (all : List LaidStatement) (number : Numbering) (symbols : List Symbol) (sections : List Section) (j : ℕ) (home : Section) (at : slice_get sections j ≡ Some home) (loaded : home.loaded ≡ true) where
+  pub parts_numbered : (laid : List LaidStatement) → AllByRecursion (IsSettled sections) laid → AllByRecursion (IsNumbered t all number symbols) (references t laid)
+      → ArePartsNumbered t all number symbols (parts t (laid_in j laid))
   parts_numbered [] h is = tt
   parts_numbered (s ∷ ss) (h, hs) is =
       let both = all_split (IsNumbered t all number symbols) (references_of t s) (references t ss) is in
@@ -182,11 +182,11 @@ module _ (t : Tables) (all : List Site) (number : Numbering) (symbols : List Sym
       own : s.located.home.loaded ≡ true → AllByRecursion (IsNumbered t all number symbols) (references_of t s) → ArePartsNumbered t all number symbols (parts_of t s)
       own e k = all_each (IsNumbered t all number symbols) references_in (parts_of t s) (subst (λ b. AllByRecursion (IsNumbered t all number symbols) (if b then flat_map references_in (parts_of t s) else [])) e k)
 
-      go : (b : Bool) → (s.located.section == j) ≡ b → AllByRecursion (IsNumbered t all number symbols) (references_of t s) → ArePartsNumbered t all number symbols (parts t (sites_in j ss))
-          → ArePartsNumbered t all number symbols (parts t (if b then s ∷ sites_in j ss else sites_in j ss))
+      go : (b : Bool) → (s.located.section == j) ≡ b → AllByRecursion (IsNumbered t all number symbols) (references_of t s) → ArePartsNumbered t all number symbols (parts t (laid_in j ss))
+          → ArePartsNumbered t all number symbols (parts t (if b then s ∷ laid_in j ss else laid_in j ss))
       go true e k rest =
           let same : s.located.section ≡ j = eqb-true s.located.section j e in
           let equal : Some s.located.home ≡ Some home = sym h.home ∙ ap (λ n. slice_get sections n) same ∙ at in
           let is : s.located.home ≡ home = cc in
-          all_join (λ p. AllByRecursion (IsNumbered t all number symbols) (references_in p)) (parts_of t s) (parts t (sites_in j ss)) (own (ap (λ (x : Section). x.loaded) is ∙ loaded) k) rest
+          all_join (λ p. AllByRecursion (IsNumbered t all number symbols) (references_in p)) (parts_of t s) (parts t (laid_in j ss)) (own (ap (λ (x : Section). x.loaded) is ∙ loaded) k) rest
       go false e k rest = rest

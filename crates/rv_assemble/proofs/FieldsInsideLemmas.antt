@@ -15,7 +15,7 @@ use Rattle.rv_unit_laws.specs.Tables.{Tables}
 use Rattle.rv_object.specs.Object.{Contents, Relocation, size_of}
 use Rattle.rv_object.specs.Valid.{is_align, is_padding, is_padding_of, padding_of, held, are_apart, are_all_apart, are_paddings}
 use Rattle.rv_assemble_laws.specs.Templates.{Open, template_fields, padding_templates, contribution_templates}
-use Rattle.rv_assemble_laws.specs.Sites.{Site, Part, form, templates, part_of, part_bytes, parts_of, parts, Tile}
+use Rattle.rv_assemble_laws.specs.LaidStatements.{LaidStatement, Part, form, templates, part_of, part_bytes, parts_of, parts, Tile}
 use Rattle.rv_assemble_laws.specs.IsObjectOf.{Numbering, relocation_at, relocations_from}
 use Rattle.rv_assemble_laws.proofs.FilledLemmas.{bytes_append}
 use Rattle.rv_source_laws.proofs.HeldLemmas.{ContributionHeld, IsHeld, none_left}
@@ -42,7 +42,7 @@ contribution_bare home executable v ordinal bytes (Bytes contents) e h none = ab
 contribution_bare home executable v ordinal bytes (Zero_bytes count) e h none = (refl, tt)
 contribution_bare home executable v ordinal bytes (Alignment f number) e h none = padding_bare executable ordinal bytes none
 
-statement_bare : (home : Section) (t : Tables) (s : Site) (kind : StatementKind) → is_nobits home ≡ true → IsHeld home kind → (s.located.home.executable ≡ true → s.bytes ≡ 0)
+statement_bare : (home : Section) (t : Tables) (s : LaidStatement) (kind : StatementKind) → is_nobits home ≡ true → IsHeld home kind → (s.located.home.executable ≡ true → s.bytes ≡ 0)
     → AllByRecursion HasNoField (map (part_of s.located.ordinal) (templates t s kind))
 statement_bare home t s (Label name) e h none = tt
 statement_bare home t s (Numbered number) e h none = tt
@@ -50,8 +50,8 @@ statement_bare home t s (Instruction mnemonic operands) e h none = absurd (let f
 statement_bare home t s (Directs d) e h none = contribution_bare home s.located.home.executable (form t s.located) s.located.ordinal s.bytes (contribution d) e h none
 
 -- in a section of code without bytes no statement has any
-parts_bare : (t : Tables) (home : Section) (offset : ℕ) (sites : List Site) → is_nobits home ≡ true → AllByRecursion (IsIn home) sites → Tile t offset sites
-    → (home.executable ≡ true → flat_map part_bytes (parts t sites) ≡ []) → AllByRecursion HasNoField (parts t sites)
+parts_bare : (t : Tables) (home : Section) (offset : ℕ) (laid : List LaidStatement) → is_nobits home ≡ true → AllByRecursion (IsIn home) laid → Tile t offset laid
+    → (home.executable ≡ true → flat_map part_bytes (parts t laid) ≡ []) → AllByRecursion HasNoField (parts t laid)
 parts_bare t home offset [] e h tile none = tt
 parts_bare t home offset (s ∷ ss) e (h, hs) (at, bytes, tile) none =
     let both : home.executable ≡ true → (flat_map part_bytes (parts_of t s) ≡ []) × (flat_map part_bytes (parts t ss) ≡ []) =
@@ -65,9 +65,9 @@ no_relocations number offset [] h = refl
 no_relocations number offset (p ∷ ps) (h, hs) =
     ap (λ l. map (relocation_at number offset) l ++ relocations_from number (offset + length (part_bytes p)) ps) h ∙ no_relocations number (offset + length (part_bytes p)) ps hs
 
-pub none_in_nobits : (t : Tables) (home : Section) (number : Numbering) (sites : List Site) → is_nobits home ≡ true → AllByRecursion (IsIn home) sites → Tile t 0 sites
-    → (home.executable ≡ true → flat_map part_bytes (parts t sites) ≡ []) → relocations_from number 0 (parts t sites) ≡ []
-none_in_nobits t home number sites e h tile none = no_relocations number 0 (parts t sites) (parts_bare t home 0 sites e h tile none)
+pub none_in_nobits : (t : Tables) (home : Section) (number : Numbering) (laid : List LaidStatement) → is_nobits home ≡ true → AllByRecursion (IsIn home) laid → Tile t 0 laid
+    → (home.executable ≡ true → flat_map part_bytes (parts t laid) ≡ []) → relocations_from number 0 (parts t laid) ≡ []
+none_in_nobits t home number laid e h tile none = no_relocations number 0 (parts t laid) (parts_bare t home 0 laid e h tile none)
 
 -- ---- fields within bytes
 

@@ -17,8 +17,8 @@ use Rattle.rv_object.specs.declared.symbol.Definition.TheVariants.{Undefined, Ab
 use Rattle.rv_object.specs.Object.{Relocation, Symbol}
 use Rattle.rv_object.specs.Valid.{is_below, is_defined_in}
 use Rattle.rv_assemble_laws.specs.Templates.{Open, template_fields}
-use Rattle.rv_assemble_laws.specs.Sites.{Site, Part, part_bytes}
-use Rattle.rv_assemble_laws.specs.Symbols.{use_of, site_at, after_site, after_found, assigned_definition, site_definition, local_symbol, shared_symbol, references, is_meant, are_together, unnamed_symbols, is_absolute, named_symbols, local_symbols, exports_of, exports, missing_name, distinct_from, undefined_symbols, symbols_of, StandsFor}
+use Rattle.rv_assemble_laws.specs.LaidStatements.{LaidStatement, Part, part_bytes}
+use Rattle.rv_assemble_laws.specs.Symbols.{use_of, laid_at, after_statement, after_found, assigned_definition, statement_definition, local_symbol, shared_symbol, references, is_meant, are_together, unnamed_symbols, is_absolute, named_symbols, local_symbols, exports_of, exports, missing_name, distinct_from, undefined_symbols, symbols_of, StandsFor}
 use Rattle.rv_assemble_laws.specs.IsObjectOf.{Numbering, relocation_at, relocations_from, IsNumbered, ArePartsNumbered}
 use Rattle.rv_assemble.proofs.SettledLemmas.{IsSettled}
 use Rattle.rv_assemble.proofs.FieldListsLemmas.{all_split}
@@ -30,7 +30,7 @@ inside_of [] i x e = absurd (cc)
 inside_of (y ∷ ys) zero x e = omega arith
 inside_of (y ∷ ys) (suc i) x e = let l = inside_of ys i x e in omega (arith, l)
 
-module _ (t : Tables) (all : List Site) (number : Numbering) (symbols : List Symbol) where
+module _ (t : Tables) (all : List LaidStatement) (number : Numbering) (symbols : List Symbol) where
   abbrev IsIndexed : Relocation → Bool
   IsIndexed r = is_below (length symbols) r.symbol
 
@@ -71,24 +71,24 @@ module _ (t : Tables) (sections : List SourceSection) (count : ℕ) (counted : l
   abbrev AllStand : List Symbol → Type 0
   AllStand xs = list_all Stands xs ≡ true
 
-  at_site : (s : Site) → IsSettled sections s → (plus : ℕ) → IsIn (after_site s plus)
-  at_site s h plus = lt-ltb s.located.section count (subst (λ n. s.located.section < n) counted (inside_of sections s.located.section s.located.home h.home))
+  at_statement : (s : LaidStatement) → IsSettled sections s → (plus : ℕ) → IsIn (after_statement s plus)
+  at_statement s h plus = lt-ltb s.located.section count (subst (λ n. s.located.section < n) counted (inside_of sections s.located.section s.located.home h.home))
 
-  own_site : (s : Site) → IsSettled sections s → IsIn (InSection s.located.section s.offset)
-  own_site s h = lt-ltb s.located.section count (subst (λ n. s.located.section < n) counted (inside_of sections s.located.section s.located.home h.home))
+  own_laid : (s : LaidStatement) → IsSettled sections s → IsIn (InSection s.located.section s.offset)
+  own_laid s h = lt-ltb s.located.section count (subst (λ n. s.located.section < n) counted (inside_of sections s.located.section s.located.home h.home))
 
-  found_site : (ordinal plus : ℕ) (sites : List Site) → AllByRecursion (IsSettled sections) sites → IsIn (after_found (site_at sites ordinal) plus)
-  found_site ordinal plus [] h = refl
-  found_site ordinal plus (s ∷ ss) (h, hs) = go (s.located.ordinal == ordinal) (found_site ordinal plus ss hs)
+  found_laid : (ordinal plus : ℕ) (laid : List LaidStatement) → AllByRecursion (IsSettled sections) laid → IsIn (after_found (laid_at laid ordinal) plus)
+  found_laid ordinal plus [] h = refl
+  found_laid ordinal plus (s ∷ ss) (h, hs) = go (s.located.ordinal == ordinal) (found_laid ordinal plus ss hs)
     where
-      go : (b : Bool) → IsIn (after_found (site_at ss ordinal) plus) → IsIn (after_found (if b then Some s else site_at ss ordinal) plus)
-      go true k = at_site s h plus
+      go : (b : Bool) → IsIn (after_found (laid_at ss ordinal) plus) → IsIn (after_found (if b then Some s else laid_at ss ordinal) plus)
+      go true k = at_statement s h plus
       go false k = k
 
-  module _ (all : List Site) (settled : AllByRecursion (IsSettled sections) all) where
-    by_meaning : (a : Assignment) (m : Meaning) → IsIn (elim m [ Known n ↦ Absolute n | InData section offset ↦ after_found (site_at all a.ordinal) a.plus | OpenAddress ↦ Skipped 0 | Refused code ↦ Skipped 0 ])
+  module _ (all : List LaidStatement) (settled : AllByRecursion (IsSettled sections) all) where
+    by_meaning : (a : Assignment) (m : Meaning) → IsIn (elim m [ Known n ↦ Absolute n | InData section offset ↦ after_found (laid_at all a.ordinal) a.plus | OpenAddress ↦ Skipped 0 | Refused code ↦ Skipped 0 ])
     by_meaning a (Known n) = refl
-    by_meaning a (InData section offset) = found_site a.ordinal a.plus all settled
+    by_meaning a (InData section offset) = found_laid a.ordinal a.plus all settled
     by_meaning a OpenAddress = refl
     by_meaning a (Refused code) = refl
 
@@ -96,12 +96,12 @@ module _ (t : Tables) (sections : List SourceSection) (count : ℕ) (counted : l
     assigned None = refl
     assigned (Some a) = by_meaning a a.meaning
 
-    defined : (s : Site) → IsSettled sections s → (kind : StatementKind) → IsIn (site_definition t all s kind)
+    defined : (s : LaidStatement) → IsSettled sections s → (kind : StatementKind) → IsIn (statement_definition t all s kind)
     defined s h (Directs (Sets name e)) = assigned (assigned_ever t.assignments name)
-    defined s h (Directs d) = own_site s h
-    defined s h (Label name) = own_site s h
-    defined s h (Numbered number) = own_site s h
-    defined s h (Instruction mnemonic operands) = own_site s h
+    defined s h (Directs d) = own_laid s h
+    defined s h (Label name) = own_laid s h
+    defined s h (Numbered number) = own_laid s h
+    defined s h (Instruction mnemonic operands) = own_laid s h
 
     all_named : (make : List ℕ → Symbol) → ((name : List ℕ) → Stands (make name) ≡ true) → (names : List (List ℕ)) → AllStand (map make names)
     all_named make h [] = refl
@@ -118,27 +118,27 @@ module _ (t : Tables) (sections : List SourceSection) (count : ℕ) (counted : l
     all_append : (xs ys : List Symbol) → AllStand xs → AllStand ys → AllStand (xs ++ ys)
     all_append xs ys h k = list_all-append Stands xs ys ∙ ap (λ b. b && list_all Stands ys) h ∙ k
 
-    unnamed : (before : List Site) (s : Site) → IsSettled sections s → AllStand (unnamed_symbols t (references t all) before s)
+    unnamed : (before : List LaidStatement) (s : LaidStatement) → IsSettled sections s → AllStand (unnamed_symbols t (references t all) before s)
     unnamed before s h = go (is_meant t (references t all) s && not (list_any (λ q. are_together s q && is_meant t (references t all) q) before))
       where
         go : (b : Bool) → AllStand (if b then local_symbol [] (InSection s.located.section s.offset) ∷ [] else [])
-        go true = ap (λ b. b && true) (own_site s h)
+        go true = ap (λ b. b && true) (own_laid s h)
         go false = refl
 
-    locals : (before sites : List Site) → AllByRecursion (IsSettled sections) sites → AllStand (local_symbols t all before sites)
+    locals : (before laid : List LaidStatement) → AllByRecursion (IsSettled sections) laid → AllStand (local_symbols t all before laid)
     locals before [] h = refl
     locals before (s ∷ ss) (h, hs) =
         all_append (unnamed_symbols t (references t all) before s) (named_symbols t all s ++ local_symbols t all (before ++ s ∷ []) ss) (unnamed before s h)
         (all_append (named_symbols t all s) (local_symbols t all (before ++ s ∷ []) ss)
-        (all_left (λ x. not (is_absolute x)) (map (λ name. local_symbol name (site_definition t all s s.located.kind)) (filter (λ name. not (is_shared (t.bindings name))) (defined_name t s.located.ordinal s.located.kind)))
-        (all_named (λ name. local_symbol name (site_definition t all s s.located.kind)) (λ name. defined s h s.located.kind) (filter (λ name. not (is_shared (t.bindings name))) (defined_name t s.located.ordinal s.located.kind))))
+        (all_left (λ x. not (is_absolute x)) (map (λ name. local_symbol name (statement_definition t all s s.located.kind)) (filter (λ name. not (is_shared (t.bindings name))) (defined_name t s.located.ordinal s.located.kind)))
+        (all_named (λ name. local_symbol name (statement_definition t all s s.located.kind)) (λ name. defined s h s.located.kind) (filter (λ name. not (is_shared (t.bindings name))) (defined_name t s.located.ordinal s.located.kind))))
         (locals (before ++ s ∷ []) ss hs))
 
-    exported : (sites : List Site) → AllByRecursion (IsSettled sections) sites → AllStand (flat_map (exports_of t all) sites)
+    exported : (laid : List LaidStatement) → AllByRecursion (IsSettled sections) laid → AllStand (flat_map (exports_of t all) laid)
     exported [] h = refl
     exported (s ∷ ss) (h, hs) =
         all_append (exports_of t all s) (flat_map (exports_of t all) ss)
-        (all_named (λ name. shared_symbol t name (site_definition t all s s.located.kind)) (λ name. defined s h s.located.kind) (names_where is_shared t s.located)) (exported ss hs)
+        (all_named (λ name. shared_symbol t name (statement_definition t all s s.located.kind)) (λ name. defined s h s.located.kind) (names_where is_shared t s.located)) (exported ss hs)
 
     pub symbols_stand : AllStand (symbols_of t all)
     symbols_stand =

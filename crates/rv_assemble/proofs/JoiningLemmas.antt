@@ -30,7 +30,7 @@ use Rattle.rv_assemble.specs.KeptNames.{OpenKept}
 use Rattle.rv_assemble.specs.Making.{rows_from, index_of, next_of, indices_of, relocations_in, IsMakeable, sections_by, AreEach}
 use Rattle.rv_assemble.specs.Lists.{list_in}
 use Rattle.rv_assemble.specs.Tabled.{use_of, uses_in, HasTable}
-use Rattle.rv_assemble.proofs.UsesLemmas.{uses_named, are_sites, fields_inside}
+use Rattle.rv_assemble.proofs.UsesLemmas.{uses_named, are_laid, fields_inside}
 use Rattle.rv_assemble.proofs.ComposedLemmas as composed
 
 -- each field that has a symbol takes the next number
@@ -56,8 +56,8 @@ module _ (u : SourceUnit) (d : Draft) (x : SymbolTable) (filled : IsFilled u) (g
   abbrev extents : List Extent
   extents = u.tables.extents.items
 
-  known : HasSymbols t h.sites (uses_in d) x
-  known = has h.sites (are_sites (said u) d h)
+  known : HasSymbols t h.laid (uses_in d) x
+  known = has h.laid (are_laid (said u) d h)
 
   opened : map extent_section extents ≡ (opened_of t).sections
   opened = sections_are extents ∙ ap (λ (b : Tables). (opened_of b).sections) filled.tables
@@ -71,8 +71,8 @@ module _ (u : SourceUnit) (d : Draft) (x : SymbolTable) (filled : IsFilled u) (g
   pub inside : AllByRecursion (λ (f : OpenField). f.section < length extents) d.fields.items
   inside = subst (λ n. AllByRecursion (λ (f : OpenField). f.section < n) d.fields.items) (ap length (sym opened) ∙ length-map extents extent_section) (fields_inside (said u) d h (no_first_fault (said u) good))
 
-  numbered : AllByRecursion (IsNumbered t h.sites known.number (symbols_of t h.sites)) (references t h.sites)
-  numbered = subst (λ rs. AllByRecursion (IsNumbered t h.sites known.number (symbols_of t h.sites)) rs) (uses_named (said u) d h) known.numbered
+  numbered : AllByRecursion (IsNumbered t h.laid known.number (symbols_of t h.laid)) (references t h.laid)
+  numbered = subst (λ rs. AllByRecursion (IsNumbered t h.laid known.number (symbols_of t h.laid)) rs) (uses_named (said u) d h) known.numbered
 
   module _ (lists : List (Vec DeclaredRelocation)) (counted : length lists ≡ length extents) (listed : (j : ℕ) → list_in lists j ≡ relocations_in j (map field_of d.fields.items) (indices_of (map field_of d.fields.items) x.numbers.items)) where
     same_lists : (j : ℕ) → list_in lists j ≡ relocations_in j (map field_of d.fields.items) (map (λ f. option_map (known.number f.ordinal) f.symbol) (map field_of d.fields.items))
@@ -87,12 +87,12 @@ module _ (u : SourceUnit) (d : Draft) (x : SymbolTable) (filled : IsFilled u) (g
     module _ (sections : List Section) (rows : List Row) (made : sections ≡ sections_by extents d.ends.items d.sections.items lists) (listed_rows : rows ≡ rows_from 1 d.items.items) where
       pub indexed : are_indexed (map symbol_of x.symbols.items) sections ≡ true
       indexed =
-          ap (λ s. are_indexed s sections) known.symbols ∙ ap (are_indexed (symbols_of t h.sites)) made
+          ap (λ s. are_indexed s sections) known.symbols ∙ ap (are_indexed (symbols_of t h.laid)) made
           ∙ composed.indexed (said u) d extents lists known.number h good kept opened alignments counted same_lists numbered
 
       pub defined : are_defined sections (map symbol_of x.symbols.items) ≡ true
       defined =
-          ap (are_defined sections) known.symbols ∙ ap (λ s. are_defined s (symbols_of t h.sites)) made
+          ap (are_defined sections) known.symbols ∙ ap (λ s. are_defined s (symbols_of t h.laid)) made
           ∙ composed.defined (said u) d extents lists known.number h good kept opened alignments counted same_lists numbered
 
       pub lie : are_rows sections rows ≡ true
@@ -104,5 +104,5 @@ module _ (u : SourceUnit) (d : Draft) (x : SymbolTable) (filled : IsFilled u) (g
       is_object =
           subst (λ s. IsObjectOf (said u) (record { sections = s; symbols = map symbol_of x.symbols.items; rows = rows; rvc = d.rvc })) (sym made)
           (subst (λ s. IsObjectOf (said u) (record { sections = sections_by extents d.ends.items d.sections.items lists; symbols = s; rows = rows; rvc = d.rvc })) (sym known.symbols)
-          (subst (λ r. IsObjectOf (said u) (record { sections = sections_by extents d.ends.items d.sections.items lists; symbols = symbols_of t h.sites; rows = r; rvc = d.rvc })) (sym listed_rows)
+          (subst (λ r. IsObjectOf (said u) (record { sections = sections_by extents d.ends.items d.sections.items lists; symbols = symbols_of t h.laid; rows = r; rvc = d.rvc })) (sym listed_rows)
           (composed.is_object (said u) d extents lists known.number h good kept opened alignments counted same_lists numbered)))

@@ -11,7 +11,7 @@ use Rattle.rv_unit_laws.specs.Tables.{alignment_of, contribution_alignment, or_n
 use Rattle.rv_unit_laws.proofs.GrownLemmas.{AlignsToPower, directive_aligned}
 use Rattle.rv_object.specs.Padding.{four_each, no_operations}
 use Rattle.rv_source_laws.specs.Sizes.{code_padding}
-use Rattle.rv_assemble_laws.specs.Sites.{Site, IsPaddedIn, DirectiveSize}
+use Rattle.rv_assemble_laws.specs.LaidStatements.{LaidStatement, IsPaddedIn, DirectiveSize}
 use Rattle.rv_assemble.proofs.AlignmentsLemmas.{form_low}
 
 -- ---- instructions without effect
@@ -68,7 +68,7 @@ room_of v d = room_by (alignment_of v d) (directive_aligned v d) (contribution_l
 
 -- ---- of statements
 
-padded_room : (b : Bool) (v : Expression → Value) (s : Site) (d : Directive) → b ≡ true → IsPaddedIn b s (alignment_of v d) → IsRoom s.bytes
+padded_room : (b : Bool) (v : Expression → Value) (s : LaidStatement) (d : Directive) → b ≡ true → IsPaddedIn b s (alignment_of v d) → IsRoom s.bytes
 padded_room true v s d e h = subst IsRoom (sym h.0) (room_of v d)
 padded_room false v s d e h = absurd (cc)
 
@@ -79,7 +79,7 @@ HasRoom (Bytes contents) bytes = ⊤
 HasRoom (Zero_bytes count) bytes = ⊤
 HasRoom (Alignment f number) bytes = IsRoom bytes
 
-pub directive_room : (v : Expression → Value) (s : Site) (multiple : ℕ) (d : Directive) → s.located.home.executable ≡ true → DirectiveSize v s multiple d → HasRoom (contribution d) s.bytes
+pub directive_room : (v : Expression → Value) (s : LaidStatement) (multiple : ℕ) (d : Directive) → s.located.home.executable ≡ true → DirectiveSize v s multiple d → HasRoom (contribution d) s.bytes
 directive_room v s multiple (Aligns_to_power x) e (a, b, c) = padded_room s.located.home.executable v s (Aligns_to_power x) e c
 directive_room v s multiple (Aligns_to_bytes x) e (a, b, c) = padded_room s.located.home.executable v s (Aligns_to_bytes x) e c
 directive_room v s multiple (Values width xs) e h = tt

@@ -22,7 +22,7 @@ use Rattle.rv_source_laws.specs.Lines.{other_operand, operand_of, is_low_part}
 use Rattle.rv_assemble_laws.specs.CodeFields.{symbol_field, low_field, low_field_at, label_field, field_of, relax_fields, part_fields}
 use Rattle.rv_assemble_laws.specs.Coded.{constants}
 use Rattle.rv_assemble_laws.specs.Templates.{Datum, Open, padding_templates, contribution_templates}
-use Rattle.rv_assemble_laws.specs.Sites.{Site, form, part_of, parts_of, coded_templates, templates}
+use Rattle.rv_assemble_laws.specs.LaidStatements.{LaidStatement, form, part_of, parts_of, coded_templates, templates}
 use Rattle.rv_assemble_laws.specs.Symbols.{SymbolUse, use_of, references_in, references_of, references}
 use Rattle.rv_assemble_laws.specs.ShownNames.{primary_names, tree_names, own_names, said_names, are_shown, HasNames, is_shown_use, AreShown}
 use Rattle.rv_symbols.specs.SymbolUse.{is_meant_use, AreMeant}
@@ -181,7 +181,7 @@ module _ (t : Tables) where
       all_append (uses (part_fields t (form t l) l p)) (flat_map references_in (map (part_of ordinal) (coded_templates (part_fields t (form t l) l) ps coded)))
       (of_part l p h) (of_code l ordinal ps coded h)
 
-  of_statement : (s : Site) (kind : StatementKind) → kind ≡ s.located.kind → are_shown (said_names kind) ≡ true
+  of_statement : (s : LaidStatement) (kind : StatementKind) → kind ≡ s.located.kind → are_shown (said_names kind) ≡ true
       → list_all is_known (flat_map references_in (map (part_of s.located.ordinal) (templates t s kind))) ≡ true
   of_statement s (Label name) e h = refl
   of_statement s (Numbered number) e h = refl
@@ -190,16 +190,16 @@ module _ (t : Tables) where
       (subst (λ k. IsKnown s.located (operand_of k)) e (of_operands s.located operands h))
   of_statement s (Directs d) e h = of_contribution s.located s.bytes (contribution d) (both_shown (own_names (Directs d)) (flat_map tree_names (in_contribution (contribution d))) h).1
 
-  of_site : (s : Site) → are_shown (said_names s.located.kind) ≡ true → list_all is_known (references_of t s) ≡ true
-  of_site s h = go s.located.home.loaded
+  of_laid_statement : (s : LaidStatement) → are_shown (said_names s.located.kind) ≡ true → list_all is_known (references_of t s) ≡ true
+  of_laid_statement s h = go s.located.home.loaded
     where
       go : (b : Bool) → list_all is_known (if b then flat_map references_in (parts_of t s) else []) ≡ true
       go true = of_statement s s.located.kind refl h
       go false = refl
 
-  of_sites : (sites : List Site) → AllByRecursion (λ s. are_shown (said_names s.located.kind) ≡ true) sites → list_all is_known (references t sites) ≡ true
-  of_sites [] h = refl
-  of_sites (s ∷ ss) (h, hs) = all_append (references_of t s) (references t ss) (of_site s h) (of_sites ss hs)
+  of_laid : (laid : List LaidStatement) → AllByRecursion (λ s. are_shown (said_names s.located.kind) ≡ true) laid → list_all is_known (references t laid) ≡ true
+  of_laid [] h = refl
+  of_laid (s ∷ ss) (h, hs) = all_append (references_of t s) (references t ss) (of_laid_statement s h) (of_laid ss hs)
 
 -- ---- all of them
 
@@ -209,18 +209,18 @@ names_from k t (s ∷ ss) h =
     let both = and_parts (are_shown (said_names s.kind)) (list_all (λ (s : Statement). are_shown (said_names s.kind)) ss) h in
     (both.0, names_from (suc k) (after t k s.kind) ss both.1)
 
-of_located : (sites : List Site) → AllByRecursion (λ (l : Located). are_shown (said_names l.kind) ≡ true) (map (λ s. s.located) sites) → AllByRecursion (λ s. are_shown (said_names s.located.kind) ≡ true) sites
+of_located : (laid : List LaidStatement) → AllByRecursion (λ (l : Located). are_shown (said_names l.kind) ≡ true) (map (λ s. s.located) laid) → AllByRecursion (λ s. are_shown (said_names s.located.kind) ≡ true) laid
 of_located [] h = tt
 of_located (s ∷ ss) (h, hs) = (h, of_located ss hs)
 
-module _ (ss : List Statement) (sites : List Site) (names : HasNames ss) (is : map (λ s. s.located) sites ≡ located_from 1 1 (at_start ss) ss) where
-  known : list_all (λ r. is_shown_use r && is_meant_use (tables ss) r) (references (tables ss) sites) ≡ true
+module _ (ss : List Statement) (laid : List LaidStatement) (names : HasNames ss) (is : map (λ s. s.located) laid ≡ located_from 1 1 (at_start ss) ss) where
+  known : list_all (λ r. is_shown_use r && is_meant_use (tables ss) r) (references (tables ss) laid) ≡ true
   known =
-      of_sites (tables ss) sites
-      (of_located sites (subst (λ l. AllByRecursion (λ (l : Located). are_shown (said_names l.kind) ≡ true) l) (sym is) (names_from 1 (at_start ss) ss names)))
+      of_laid (tables ss) laid
+      (of_located laid (subst (λ l. AllByRecursion (λ (l : Located). are_shown (said_names l.kind) ≡ true) l) (sym is) (names_from 1 (at_start ss) ss names)))
 
-  pub are_shown_uses : AreShown (references (tables ss) sites)
-  are_shown_uses = all_weaker (λ r. is_shown_use r && is_meant_use (tables ss) r) is_shown_use (references (tables ss) sites) (λ r h. (and_parts (is_shown_use r) (is_meant_use (tables ss) r) h).0) known
+  pub are_shown_uses : AreShown (references (tables ss) laid)
+  are_shown_uses = all_weaker (λ r. is_shown_use r && is_meant_use (tables ss) r) is_shown_use (references (tables ss) laid) (λ r h. (and_parts (is_shown_use r) (is_meant_use (tables ss) r) h).0) known
 
-  pub are_meant_uses : AreMeant (tables ss) (references (tables ss) sites)
-  are_meant_uses = all_weaker (λ r. is_shown_use r && is_meant_use (tables ss) r) (is_meant_use (tables ss)) (references (tables ss) sites) (λ r h. (and_parts (is_shown_use r) (is_meant_use (tables ss) r) h).1) known
+  pub are_meant_uses : AreMeant (tables ss) (references (tables ss) laid)
+  are_meant_uses = all_weaker (λ r. is_shown_use r && is_meant_use (tables ss) r) (is_meant_use (tables ss)) (references (tables ss) laid) (λ r h. (and_parts (is_shown_use r) (is_meant_use (tables ss) r) h).1) known

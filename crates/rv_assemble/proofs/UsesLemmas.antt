@@ -11,25 +11,25 @@ use Rattle.rv_unit_laws.specs.Sections.{Section}
 use Rattle.rv_unit_laws.specs.Tables.{Tables, at_start, after, tables, opened_of}
 use Rattle.rv_source_laws.specs.Located.{located_from}
 use Rattle.rv_assemble_laws.specs.Templates.{Open, template_fields}
-use Rattle.rv_assemble_laws.specs.Sites.{Site, Part, part_bytes, parts_of}
+use Rattle.rv_assemble_laws.specs.LaidStatements.{LaidStatement, Part, part_bytes, parts_of}
 use Rattle.rv_assemble_laws.specs.Symbols.{references}
 use Rattle.rv_assemble_laws.specs.Fields.{Field, field_at, fields_from, fields_at, fields}
 use Rattle.rv_assemble_laws.specs.ShownNames.{used_names, HasNames, AreShown}
 use Rattle.rv_assemble_laws.specs.Small.{all_said, AreSmall}
-use Rattle.rv_assemble_laws.proofs.UseWeightsLemmas.{references_light, sites_said, used_light}
+use Rattle.rv_assemble_laws.proofs.UseWeightsLemmas.{references_light, laid_said, used_light}
 use Rattle.rv_draft.specs.declared.item.Item.{Item}
 use Rattle.rv_draft.specs.declared.field.OpenField.{OpenField}
 use Rattle.rv_draft.specs.declared.draft.Draft.{Draft}
 use Rattle.rv_draft.specs.Draft.{item_of, field_of, IsDraft}
 use Rattle.rv_symbols.specs.declared.symbol_use.SymbolUse.{SymbolUse as CodeUse}
 use Rattle.rv_symbols.specs.SymbolUse.{AreMeant, uses_of}
-use Rattle.rv_symbols.specs.HasSymbols.{AreSites}
+use Rattle.rv_symbols.specs.HasSymbols.{AreLaid}
 use Rattle.rv_assemble.specs.Tabled.{use_of, uses_in, offsets_of}
 use Rattle.rv_assemble.proofs.SettledLemmas.{IsSettled, settled}
 use Rattle.rv_assemble.proofs.FieldListsLemmas.{use_of_field, uses_of_fields, all_join}
 use Rattle.rv_assemble.proofs.UsesKnownLemmas.{are_shown_uses, are_meant_uses}
 
-offsets_are : (sites : List Site) → map (λ s. s.offset) sites ≡ offsets_of (map item_of sites)
+offsets_are : (laid : List LaidStatement) → map (λ s. s.offset) laid ≡ offsets_of (map item_of laid)
 offsets_are [] = refl
 offsets_are (s ∷ ss) = ap (λ l. s.offset ∷ l) (offsets_are ss)
 
@@ -53,18 +53,18 @@ parts_inside n section offset h (p ∷ ps) =
     all_join (λ (f : Field). f.section < n) (map (field_at section offset) (template_fields p.ordinal p.template)) (fields_from section (offset + length (part_bytes p)) ps) (opens_inside n section offset h (template_fields p.ordinal p.template))
     (parts_inside n section (offset + length (part_bytes p)) h ps)
 
-site_inside : (n : ℕ) (t : Tables) (s : Site) → s.located.section < n → AllByRecursion (λ (f : Field). f.section < n) (fields_at t s)
-site_inside n t s h = go s.located.home.loaded
+statement_inside : (n : ℕ) (t : Tables) (s : LaidStatement) → s.located.section < n → AllByRecursion (λ (f : Field). f.section < n) (fields_at t s)
+statement_inside n t s h = go s.located.home.loaded
   where
     go : (b : Bool) → AllByRecursion (λ (f : Field). f.section < n) (if b then fields_from s.located.section s.offset (parts_of t s) else [])
     go true = parts_inside n s.located.section s.offset h (parts_of t s)
     go false = tt
 
-sites_inside : (t : Tables) (sections : List Section) (sites : List Site) → AllByRecursion (IsSettled sections) sites → AllByRecursion (λ (f : Field). f.section < length sections) (fields t sites)
-sites_inside t sections [] h = tt
-sites_inside t sections (s ∷ ss) (h, hs) =
+laid_inside : (t : Tables) (sections : List Section) (laid : List LaidStatement) → AllByRecursion (IsSettled sections) laid → AllByRecursion (λ (f : Field). f.section < length sections) (fields t laid)
+laid_inside t sections [] h = tt
+laid_inside t sections (s ∷ ss) (h, hs) =
     all_join (λ (f : Field). f.section < length sections) (fields_at t s) (fields t ss)
-    (site_inside (length sections) t s (slice_get_within sections s.located.section s.located.home h.home)) (sites_inside t sections ss hs)
+    (statement_inside (length sections) t s (slice_get_within sections s.located.section s.located.home h.home)) (laid_inside t sections ss hs)
 
 unmapped : (n : ℕ) (fs : List OpenField) → AllByRecursion (λ (f : Field). f.section < n) (map field_of fs) → AllByRecursion (λ (f : OpenField). f.section < n) fs
 unmapped n [] h = tt
@@ -72,21 +72,21 @@ unmapped n (f ∷ fs) (h, hs) = (h, unmapped n fs hs)
 
 module _ (ss : List Statement) (d : Draft) (h : IsDraft ss d) where
   -- the symbols of the fields are those that relocations name
-  pub uses_named : uses_in d ≡ references (tables ss) h.sites
-  uses_named = uses_are d.fields.items ∙ ap (flat_map use_of_field) h.open_fields ∙ uses_of_fields (tables ss) h.sites
+  pub uses_named : uses_in d ≡ references (tables ss) h.laid
+  uses_named = uses_are d.fields.items ∙ ap (flat_map use_of_field) h.open_fields ∙ uses_of_fields (tables ss) h.laid
 
-  pub are_sites : AreSites ss (offsets_of d.items.items) (uses_in d) h.sites
-  are_sites = record { located = h.located; at = offsets_are h.sites ∙ ap offsets_of h.stand; named = sym uses_named }
+  pub are_laid : AreLaid ss (offsets_of d.items.items) (uses_in d) h.laid
+  are_laid = record { located = h.located; at = offsets_are h.laid ∙ ap offsets_of h.stand; named = sym uses_named }
 
   pub items_count : length d.items.items ≡ length ss
   items_count =
-      ap length (sym h.stand) ∙ length-map h.sites item_of ∙ sym (length-map h.sites (λ (s : Site). s.located)) ∙ ap length h.located ∙ count_from 1 (at_start ss) ss
+      ap length (sym h.stand) ∙ length-map h.laid item_of ∙ sym (length-map h.laid (λ (s : LaidStatement). s.located)) ∙ ap length h.located ∙ count_from 1 (at_start ss) ss
 
   pub offsets_count : length (offsets_of d.items.items) ≡ length ss
   offsets_count = length-map d.items.items _ ∙ items_count
 
   pub uses_shown : HasNames ss → AreShown (uses_in d)
-  uses_shown names = subst AreShown (sym uses_named) (are_shown_uses ss h.sites names h.located)
+  uses_shown names = subst AreShown (sym uses_named) (are_shown_uses ss h.laid names h.located)
 
   -- relocations can hold the index of each symbol
   pub few_symbols : AreSmall ss → 3 * length (offsets_of d.items.items) + length (used_names (uses_in d)) < 2 ^ 32
@@ -94,20 +94,20 @@ module _ (ss : List Statement) (d : Draft) (h : IsDraft ss d) where
       let count = offsets_count in
       let few : length ss ≤ 4194304 = small.few in
       let names : all_said ss ≤ 33554432 = small.names in
-      let used = used_light (references (tables ss) h.sites) in
-      let light = references_light (tables ss) h.sites in
-      let said = (sites_said 1 (at_start ss) ss h.sites h.located).0 in
+      let used = used_light (references (tables ss) h.laid) in
+      let light = references_light (tables ss) h.laid in
+      let said = (laid_said 1 (at_start ss) ss h.laid h.located).0 in
       let is = ap (λ l. length (used_names l)) uses_named in
       omega (arith, count, few, names, used, light, said, is)
 
   pub uses_meant : HasNames ss → AreMeant (tables ss) (uses_in d)
-  uses_meant names = subst (AreMeant (tables ss)) (sym uses_named) (are_meant_uses ss h.sites names h.located)
+  uses_meant names = subst (AreMeant (tables ss)) (sym uses_named) (are_meant_uses ss h.laid names h.located)
 
   pub fields_inside : first_fault ss ≡ None → AllByRecursion (λ (f : OpenField). f.section < length (opened_of (tables ss)).sections) d.fields.items
   fields_inside good =
       unmapped (length (opened_of (tables ss)).sections) d.fields.items
       (subst (λ fs. AllByRecursion (λ (f : Field). f.section < length (opened_of (tables ss)).sections) fs) (sym h.open_fields)
-      (sites_inside (tables ss) (opened_of (tables ss)).sections h.sites (settled ss h.sites good h.located)))
+      (laid_inside (tables ss) (opened_of (tables ss)).sections h.laid (settled ss h.laid good h.located)))
 
 -- ---- one more
 

@@ -4,13 +4,13 @@ use Rattle.std.specs.Prelude.{ℕ, List, flat_map, map, option_map}
 use Rattle.rv_text.specs.Nodes.{symbol_of}
 use Rattle.rv_statement.specs.Statement.{Statement}
 use Rattle.rv_unit_laws.specs.Tables.{tables}
-use Rattle.rv_assemble_laws.specs.Sites.{Site}
+use Rattle.rv_assemble_laws.specs.LaidStatements.{LaidStatement}
 use Rattle.rv_assemble_laws.specs.Symbols.{SymbolUse, use_of as field_use}
 use Rattle.rv_draft.specs.declared.item.Item.{Item}
 use Rattle.rv_draft.specs.declared.field.OpenField.{OpenField}
 use Rattle.rv_draft.specs.declared.draft.Draft.{Draft}
 use Rattle.rv_symbols.specs.declared.table.SymbolTable.{SymbolTable}
-use Rattle.rv_symbols.specs.HasSymbols.{AreSites, HasSymbols}
+use Rattle.rv_symbols.specs.HasSymbols.{AreLaid, HasSymbols}
 
 -- the symbol that a field names, if there is one
 abbrev pub use_of : OpenField → List SymbolUse
@@ -25,5 +25,5 @@ offsets_of items = map (λ (i : Item). i.offset) items
 -- the symbols of the object of a draft, with a number for each field
 abbrev pub HasTable : List Statement → Draft → SymbolTable → Type 0
 HasTable ss d x =
-    (sites : List Site) → AreSites ss (offsets_of d.items.items) (uses_in d) sites →
-    HasSymbols (tables ss) sites (uses_in d) x
+    (laid : List LaidStatement) → AreLaid ss (offsets_of d.items.items) (uses_in d) laid →
+    HasSymbols (tables ss) laid (uses_in d) x

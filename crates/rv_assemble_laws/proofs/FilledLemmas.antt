@@ -3,7 +3,7 @@
 use Rattle.std.proofs.Common.{◌≡◌, ℕ, ◌+◌, List, [], ◌∷◌, ◌++◌, length, refl, sym, ap, ◌∙◌, arith, length-append}
 use Rattle.std.specs.Prelude.{flat_map}
 use Rattle.rv_unit_laws.specs.Tables.{Tables}
-use Rattle.rv_assemble_laws.specs.Sites.{Site, Part, Tile, end_of, part_bytes, parts, parts_of}
+use Rattle.rv_assemble_laws.specs.LaidStatements.{LaidStatement, Part, Tile, end_of, part_bytes, parts, parts_of}
 
 pub bytes_append : (xs ys : List Part) → flat_map part_bytes (xs ++ ys) ≡ flat_map part_bytes xs ++ flat_map part_bytes ys
 bytes_append [] ys = refl
@@ -13,7 +13,7 @@ bytes_append (x ∷ xs) ys = ap (λ l. part_bytes x ++ l) (bytes_append xs ys) �
     append_assoc [] bs cs = refl
     append_assoc (a ∷ xs) bs cs = ap (λ l. a ∷ l) (append_assoc xs bs cs)
 
-pub filled : (t : Tables) (offset : ℕ) (sites : List Site) → Tile t offset sites → end_of offset sites ≡ offset + length (flat_map part_bytes (parts t sites))
+pub filled : (t : Tables) (offset : ℕ) (laid : List LaidStatement) → Tile t offset laid → end_of offset laid ≡ offset + length (flat_map part_bytes (parts t laid))
 filled t offset [] h = omega arith
 filled t offset (s ∷ ss) (at, bytes, h) =
     let own = flat_map part_bytes (parts_of t s) in

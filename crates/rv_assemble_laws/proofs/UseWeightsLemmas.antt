@@ -34,7 +34,7 @@ use Rattle.rv_source_laws.specs.Program.{place_of, in_operand, in_contribution, 
 use Rattle.rv_assemble_laws.specs.CodeFields.{symbol_field, low_field, low_field_at, label_field, field_of, relax_fields, part_fields}
 use Rattle.rv_assemble_laws.specs.Coded.{constants}
 use Rattle.rv_assemble_laws.specs.ShownNames.{primary_names, tree_names, own_names, said_names, used_names}
-use Rattle.rv_assemble_laws.specs.Sites.{Site, form, part_of, coded_templates, templates, parts_of}
+use Rattle.rv_assemble_laws.specs.LaidStatements.{LaidStatement, form, part_of, coded_templates, templates, parts_of}
 use Rattle.rv_assemble_laws.specs.Symbols.{SymbolUse, use_of, references_in, references_of, references}
 use Rattle.rv_assemble_laws.specs.Templates.{Open, Template, value_fields, padding_templates, contents_templates, contribution_templates}
 use Rattle.rv_assemble_laws.specs.Small.{weight, all_said}
@@ -334,7 +334,7 @@ twice (suc zero) h x m a b c = omega (arith, a, c)
 twice (suc (suc zero)) h x m a b c = omega (arith, a, c)
 twice (suc (suc (suc n))) h x m a b c = absurd (omega (arith, b))
 
-kind_light : (t : Tables) (s : Site) (kind : StatementKind) → s.located.kind ≡ kind → use_heft (flat_map references_in (map (part_of s.located.ordinal) (templates t s kind))) ≤ 2 * weight (said_names kind)
+kind_light : (t : Tables) (s : LaidStatement) (kind : StatementKind) → s.located.kind ≡ kind → use_heft (flat_map references_in (map (part_of s.located.ordinal) (templates t s kind))) ≤ 2 * weight (said_names kind)
 kind_light t s (Label name) is = omega arith
 kind_light t s (Numbered number) is = omega arith
 kind_light t s (Instruction mnemonic operands) is =
@@ -353,23 +353,23 @@ kind_light t s (Directs d) is =
 
 -- ---- all of them
 
-abbrev pub site_said : List Site → ℕ
-site_said [] = 0
-site_said (s ∷ ss) = weight (said_names s.located.kind) + site_said ss
+abbrev pub statement_said : List LaidStatement → ℕ
+statement_said [] = 0
+statement_said (s ∷ ss) = weight (said_names s.located.kind) + statement_said ss
 
-site_light : (t : Tables) (s : Site) → use_heft (references_of t s) ≤ 2 * weight (said_names s.located.kind)
-site_light t s = go s.located.home.loaded
+laid_light : (t : Tables) (s : LaidStatement) → use_heft (references_of t s) ≤ 2 * weight (said_names s.located.kind)
+laid_light t s = go s.located.home.loaded
   where
     go : (b : Bool) → use_heft (if b then flat_map references_in (parts_of t s) else []) ≤ 2 * weight (said_names s.located.kind)
     go true = kind_light t s s.located.kind refl
     go false = omega arith
 
-pub references_light : (t : Tables) (sites : List Site) → use_heft (references t sites) ≤ 2 * site_said sites
+pub references_light : (t : Tables) (laid : List LaidStatement) → use_heft (references t laid) ≤ 2 * statement_said laid
 references_light t [] = omega arith
-references_light t (s ∷ sites) =
-    let a = use_append (references_of t s) (references t sites) in
-    let b = site_light t s in
-    let c = references_light t sites in
+references_light t (s ∷ laid) =
+    let a = use_append (references_of t s) (references t laid) in
+    let b = laid_light t s in
+    let c = references_light t laid in
     omega (arith, a, b, c)
 
 -- ---- the statements of a source
@@ -377,13 +377,13 @@ references_light t (s ∷ sites) =
 cons_parts : {A : Type 0} (x y : A) (xs ys : List A) → x ∷ xs ≡ y ∷ ys → (x ≡ y) × (xs ≡ ys)
 cons_parts x y xs ys e = (cc, cc)
 
-pub sites_said : (k : ℕ) (u : Tables) (ss : List Statement) (sites : List Site) → map (λ s. s.located) sites ≡ located_from 1 k u ss → (site_said sites ≡ all_said ss) × (length sites ≡ length ss)
-sites_said k u [] [] e = (refl, refl)
-sites_said k u [] (s ∷ sites) e = absurd (cc)
-sites_said k u (x ∷ ss) [] e = absurd (cc)
-sites_said k u (x ∷ ss) (s ∷ sites) e =
+pub laid_said : (k : ℕ) (u : Tables) (ss : List Statement) (laid : List LaidStatement) → map (λ s. s.located) laid ≡ located_from 1 k u ss → (statement_said laid ≡ all_said ss) × (length laid ≡ length ss)
+laid_said k u [] [] e = (refl, refl)
+laid_said k u [] (s ∷ laid) e = absurd (cc)
+laid_said k u (x ∷ ss) [] e = absurd (cc)
+laid_said k u (x ∷ ss) (s ∷ laid) e =
     let both = cons_parts _ _ _ _ e in
-    let rest = sites_said (suc k) (after u k x.kind) ss sites both.1 in
+    let rest = laid_said (suc k) (after u k x.kind) ss laid both.1 in
     let kind : weight (said_names s.located.kind) ≡ weight (said_names x.kind) = ap (λ (l : Located). weight (said_names l.kind)) both.0 in
     let said = rest.0 in
     (omega (arith, kind, said), ap suc rest.1)

@@ -5,7 +5,7 @@ use Rattle.rv_isa.specs.declared.kind.Kind.{Kind}
 use Rattle.rv_text_laws.specs.Expression.{Primary}
 use Rattle.rv_unit_laws.specs.Tables.{Tables}
 use Rattle.rv_assemble_laws.specs.Templates.{Open, template_fields}
-use Rattle.rv_assemble_laws.specs.Sites.{Site, Part, part_bytes, parts_of}
+use Rattle.rv_assemble_laws.specs.LaidStatements.{LaidStatement, Part, part_bytes, parts_of}
 
 -- an open field: the index of its section and its offset there, what it takes, the symbol, if there
 -- is one, as the statement of an ordinal names it, and the addend
@@ -37,12 +37,12 @@ fields_from section offset (p ∷ ps) =
     ++ fields_from section (offset + length (part_bytes p)) ps
 
 -- those of a statement; a section that isn't loaded has none
-abbrev pub fields_at : Tables → Site → List Field
+abbrev pub fields_at : Tables → LaidStatement → List Field
 fields_at t s =
     if s.located.home.loaded
     then fields_from s.located.section s.offset (parts_of t s)
     else []
 
 -- those of a source, in its order
-abbrev pub fields : Tables → List Site → List Field
-fields t sites = flat_map (fields_at t) sites
+abbrev pub fields : Tables → List LaidStatement → List Field
+fields t laid = flat_map (fields_at t) laid

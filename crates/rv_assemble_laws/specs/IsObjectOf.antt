@@ -15,13 +15,13 @@ use Rattle.rv_object.specs.declared.row.Row.{Row}
 use Rattle.rv_object.specs.Object.{Contents, Progbits, Note, Nobits, Relocation, Section, Symbol, Object}
 use Rattle.rv_assemble_laws.specs.Refusals.{statements_fault}
 use Rattle.rv_assemble_laws.specs.Templates.{Open, template_fields, IsTemplate}
-use Rattle.rv_assemble_laws.specs.Sites.{Site, Part, form, part_bytes, parts, sites_in, Tile, end_of, HasSize}
+use Rattle.rv_assemble_laws.specs.LaidStatements.{LaidStatement, Part, form, part_bytes, parts, laid_in, Tile, end_of, HasSize}
 use Rattle.rv_source_laws.specs.Sizes.{AreLeast}
-use Rattle.rv_assemble_laws.specs.Symbols.{SymbolUse, references_in, site_at, symbols_of, StandsFor}
+use Rattle.rv_assemble_laws.specs.Symbols.{SymbolUse, references_in, laid_at, symbols_of, StandsFor}
 
 -- ---- rows
 
-abbrev pub row_of : Site → Row
+abbrev pub row_of : LaidStatement → Row
 row_of s = record {
   line = s.located.line;
   ordinal = s.located.ordinal;
@@ -32,7 +32,7 @@ row_of s = record {
 }
 
 -- each statement that has a place in memory has a row
-abbrev pub rows_at : Site → List Row
+abbrev pub rows_at : LaidStatement → List Row
 rows_at s = if has_row s.located then row_of s ∷ [] else []
 
 -- ---- relocations
@@ -66,18 +66,18 @@ contents_of types.Note size bytes = Note bytes
 contents_of types.Nobits size bytes = Nobits size
 
 -- the symbol of a reference
-abbrev pub IsNumbered : Tables → List Site → Numbering → List Symbol → SymbolUse → Type 0
+abbrev pub IsNumbered : Tables → List LaidStatement → Numbering → List Symbol → SymbolUse → Type 0
 IsNumbered t all number symbols r =
     StandsFor t all r.ordinal r.symbol (slice_get symbols (number r.ordinal r.symbol))
 
-abbrev pub ArePartsNumbered : Tables → List Site → Numbering → List Symbol → List Part → Type 0
+abbrev pub ArePartsNumbered : Tables → List LaidStatement → Numbering → List Symbol → List Part → Type 0
 ArePartsNumbered t all number symbols ps =
     AllByRecursion (λ p. AllByRecursion (IsNumbered t all number symbols) (references_in p)) ps
 
 -- the section of an index, with its statements, where these are all statements and symbols of the
 -- source
-pub record IsSectionOf (t : Tables) (all : List Site) (number : Numbering) (symbols : List Symbol)
-    (index : ℕ) (section : SourceSection) (sites : List Site) (x : Section) : Type 0 where
+pub record IsSectionOf (t : Tables) (all : List LaidStatement) (number : Numbering) (symbols : List Symbol)
+    (index : ℕ) (section : SourceSection) (laid : List LaidStatement) (x : Section) : Type 0 where
   pub name : x.name ≡ section.name
   pub loaded : x.loaded ≡ section.loaded
   pub executable : x.executable ≡ section.executable
@@ -86,57 +86,57 @@ pub record IsSectionOf (t : Tables) (all : List Site) (number : Numbering) (symb
   pub alignment : x.alignment ≡ alignment_at t index
   pub some : 1 ≤ x.alignment
   -- its statements follow one another
-  pub tile : Tile t 0 sites
+  pub tile : Tile t 0 laid
   pub contents : x.contents
-      ≡ contents_of section.section_type (end_of 0 sites)
-      (flat_map part_bytes (parts t sites))
+      ≡ contents_of section.section_type (end_of 0 laid)
+      (flat_map part_bytes (parts t laid))
   -- no code stands in a section without bytes in the file
   pub code : goes_to_text section ≡ true → is_nobits section ≡ true →
-      flat_map part_bytes (parts t sites) ≡ []
+      flat_map part_bytes (parts t laid) ≡ []
   pub relocations : x.relocations
-      ≡ (if section.loaded then relocations_from number 0 (parts t sites) else [])
-  pub numbered : section.loaded ≡ true → ArePartsNumbered t all number symbols (parts t sites)
+      ≡ (if section.loaded then relocations_from number 0 (parts t laid) else [])
+  pub numbered : section.loaded ≡ true → ArePartsNumbered t all number symbols (parts t laid)
   -- the sizes of its statements
   pub sizes : AllByRecursion
-      (λ s. s.located.placed ≡ true → HasSize (form t s.located) s x.alignment s.located.kind) sites
-  pub fields : AllByRecursion (λ p. IsTemplate p.template) (parts t sites)
+      (λ s. s.located.placed ≡ true → HasSize (form t s.located) s x.alignment s.located.kind) laid
+  pub fields : AllByRecursion (λ p. IsTemplate p.template) (parts t laid)
   -- a section of code is not too long
-  pub short : section.executable ≡ true → end_of 0 sites ≤ longest_section
+  pub short : section.executable ≡ true → end_of 0 laid ≤ longest_section
 
-abbrev pub AreSectionsOf : Tables → List Site → Numbering → List Symbol → ℕ → List SourceSection →
+abbrev pub AreSectionsOf : Tables → List LaidStatement → Numbering → List Symbol → ℕ → List SourceSection →
     List Section → Type 0
 AreSectionsOf t all number symbols index [] [] = ⊤
 AreSectionsOf t all number symbols index [] (x ∷ xs) = ⊥
 AreSectionsOf t all number symbols index (section ∷ sections) [] = ⊥
 AreSectionsOf t all number symbols index (section ∷ sections) (x ∷ xs) =
-    IsSectionOf t all number symbols index section (sites_in index all) x
+    IsSectionOf t all number symbols index section (laid_in index all) x
     × AreSectionsOf t all number symbols (suc index) sections xs
 
 -- ---- the whole
 
 -- a place that `.set` gives stands in no code
-abbrev pub IsInData : Option Site → Type 0
+abbrev pub IsInData : Option LaidStatement → Type 0
 IsInData None = ⊤
 IsInData (Some s) = (s.located.home.executable ≡ false) × (s.located.placed ≡ true)
 
-abbrev pub StandsInData : List Site → Assignment → Type 0
-StandsInData sites a = is_location a ≡ true → IsInData (site_at sites a.ordinal)
+abbrev pub StandsInData : List LaidStatement → Assignment → Type 0
+StandsInData laid a = is_location a ≡ true → IsInData (laid_at laid a.ordinal)
 
 pub record IsObjectOf (ss : List Statement) (o : Object) : Type 0 where
   -- no label, directive or code is faulty
   pub good : statements_fault ss ≡ None
   -- the statements in their sections
-  pub sites : List Site
-  pub located : map (λ s. s.located) sites ≡ located_from 1 1 (at_start ss) ss
-  pub places : AllByRecursion (StandsInData sites) (tables ss).assignments
+  pub laid : List LaidStatement
+  pub located : map (λ s. s.located) laid ≡ located_from 1 1 (at_start ss) ss
+  pub places : AllByRecursion (StandsInData laid) (tables ss).assignments
   -- each branch has the least size that reaches
-  pub least : AreLeast (tables ss) (located_from 1 1 (at_start ss) ss) (map (λ s. s.bytes) sites)
+  pub least : AreLeast (tables ss) (located_from 1 1 (at_start ss) ss) (map (λ s. s.bytes) laid)
   -- the sections in the order in which the source opens them
   pub number : Numbering
-  pub sections : AreSectionsOf (tables ss) sites number o.symbols 0
+  pub sections : AreSectionsOf (tables ss) laid number o.symbols 0
       (opened_of (tables ss)).sections o.sections
-  pub symbols : o.symbols ≡ symbols_of (tables ss) sites
+  pub symbols : o.symbols ≡ symbols_of (tables ss) laid
   -- a row for each statement with a place in memory
-  pub rows : o.rows ≡ flat_map rows_at sites
+  pub rows : o.rows ≡ flat_map rows_at laid
   -- one of its statements is compressed code
-  pub rvc : o.rvc ≡ list_any (λ s. is_compressed_code s.located) sites
+  pub rvc : o.rvc ≡ list_any (λ s. is_compressed_code s.located) laid

@@ -1,7 +1,7 @@
 pub mod Coded
 pub mod Templates
 pub mod CodeFields
-pub mod Sites
+pub mod LaidStatements
 pub mod Symbols
 pub mod ShownNames
 pub mod IsObjectOf

@@ -19,36 +19,36 @@ use Rattle.rv_object.specs.declared.symbol.Definition.{Definition as Defined}
 use Rattle.rv_object.specs.declared.symbol.Definition.TheVariants.{Undefined, Absolute, InSection, Skipped}
 use Rattle.rv_object.specs.Object.{Symbol}
 use Rattle.rv_assemble_laws.specs.Templates.{template_fields}
-use Rattle.rv_assemble_laws.specs.Sites.{Site, Part, parts_of}
+use Rattle.rv_assemble_laws.specs.LaidStatements.{LaidStatement, Part, parts_of}
 
 -- ---- definitions
 
-abbrev pub site_at : List Site → ℕ → Option Site
-site_at sites ordinal = find (λ s. s.located.ordinal == ordinal) sites
+abbrev pub laid_at : List LaidStatement → ℕ → Option LaidStatement
+laid_at laid ordinal = find (λ s. s.located.ordinal == ordinal) laid
 
 -- so many bytes after the start of a statement
-abbrev pub after_site : Site → ℕ → Defined
-after_site s plus = InSection s.located.section (add s.offset plus)
+abbrev pub after_statement : LaidStatement → ℕ → Defined
+after_statement s plus = InSection s.located.section (add s.offset plus)
 
-abbrev pub after_found : Option Site → ℕ → Defined
+abbrev pub after_found : Option LaidStatement → ℕ → Defined
 after_found None plus = Skipped 0
-after_found (Some s) plus = after_site s plus
+after_found (Some s) plus = after_statement s plus
 
 -- a number, or a place that `.set` gives
-abbrev pub assigned_definition : List Site → Option Assignment → Defined
-assigned_definition sites None = Skipped 0
-assigned_definition sites (Some a) = elim a.meaning [
+abbrev pub assigned_definition : List LaidStatement → Option Assignment → Defined
+assigned_definition laid None = Skipped 0
+assigned_definition laid (Some a) = elim a.meaning [
   | Known n ↦ Absolute n
-  | InData section offset ↦ after_found (site_at sites a.ordinal) a.plus
+  | InData section offset ↦ after_found (laid_at laid a.ordinal) a.plus
   | OpenAddress ↦ Skipped 0
   | Refused code ↦ Skipped 0
 ]
 
 -- what a statement defines: a label its own place, `.set` what the name has last
-abbrev pub site_definition : Tables → List Site → Site → StatementKind → Defined
-site_definition t sites s (Directs (Sets name e)) =
-    assigned_definition sites (assigned_ever t.assignments name)
-site_definition t sites s _ = InSection s.located.section s.offset
+abbrev pub statement_definition : Tables → List LaidStatement → LaidStatement → StatementKind → Defined
+statement_definition t laid s (Directs (Sets name e)) =
+    assigned_definition laid (assigned_ever t.assignments name)
+statement_definition t laid s _ = InSection s.located.section s.offset
 
 abbrev pub local_symbol : List ℕ → Defined → Symbol
 local_symbol name d = record { name = name; binding = Local; definition = d }
@@ -80,11 +80,11 @@ abbrev pub references_in : Part → List SymbolUse
 references_in p =
     flat_map (λ f. use_of f.ordinal f.symbol) (template_fields p.ordinal p.template)
 
-abbrev pub references_of : Tables → Site → List SymbolUse
+abbrev pub references_of : Tables → LaidStatement → List SymbolUse
 references_of t s = if s.located.home.loaded then flat_map references_in (parts_of t s) else []
 
-abbrev pub references : Tables → List Site → List SymbolUse
-references t sites = flat_map (references_of t) sites
+abbrev pub references : Tables → List LaidStatement → List SymbolUse
+references t laid = flat_map (references_of t) laid
 
 -- ---- local symbols
 
@@ -98,16 +98,16 @@ is_at ordinal None = false
 is_at ordinal (Some d) = d.ordinal == ordinal
 
 -- whether a reference without a name means a statement
-abbrev pub is_meant : Tables → List SymbolUse → Site → Bool
+abbrev pub is_meant : Tables → List SymbolUse → LaidStatement → Bool
 is_meant t rs s =
     list_any
     (λ r. is_unnamed r.symbol && is_at s.located.ordinal (definition t r.ordinal r.symbol)) rs
 
-abbrev pub are_together : Site → Site → Bool
+abbrev pub are_together : LaidStatement → LaidStatement → Bool
 are_together s q = (s.located.section == q.located.section) && (s.offset == q.offset)
 
 -- a symbol without a name stands where a reference means a statement, one for each place
-abbrev pub unnamed_symbols : Tables → List SymbolUse → List Site → Site → List Symbol
+abbrev pub unnamed_symbols : Tables → List SymbolUse → List LaidStatement → LaidStatement → List Symbol
 unnamed_symbols t rs before s =
     if is_meant t rs s && not (list_any (λ q. are_together s q && is_meant t rs q) before)
     then local_symbol [] (InSection s.located.section s.offset) ∷ []
@@ -123,28 +123,28 @@ is_absolute s = elim s.definition [
 ]
 
 -- the names that a statement defines for its own file
-abbrev pub named_symbols : Tables → List Site → Site → List Symbol
-named_symbols t sites s =
+abbrev pub named_symbols : Tables → List LaidStatement → LaidStatement → List Symbol
+named_symbols t laid s =
     filter (λ x. not (is_absolute x))
-    (map (λ name. local_symbol name (site_definition t sites s s.located.kind))
+    (map (λ name. local_symbol name (statement_definition t laid s s.located.kind))
     (names_where (λ b. not (is_shared b)) t s.located))
 
-abbrev pub local_symbols : Tables → List Site → List Site → List Site → List Symbol
-local_symbols t sites before [] = []
-local_symbols t sites before (s ∷ rest) =
-    unnamed_symbols t (references t sites) before s ++ (named_symbols t sites s
-    ++ local_symbols t sites (before ++ s ∷ []) rest)
+abbrev pub local_symbols : Tables → List LaidStatement → List LaidStatement → List LaidStatement → List Symbol
+local_symbols t laid before [] = []
+local_symbols t laid before (s ∷ rest) =
+    unnamed_symbols t (references t laid) before s ++ (named_symbols t laid s
+    ++ local_symbols t laid (before ++ s ∷ []) rest)
 
 -- ---- global and weak symbols
 
 -- the names that a statement defines for other files
-abbrev pub exports_of : Tables → List Site → Site → List Symbol
-exports_of t sites s =
-    map (λ name. shared_symbol t name (site_definition t sites s s.located.kind))
+abbrev pub exports_of : Tables → List LaidStatement → LaidStatement → List Symbol
+exports_of t laid s =
+    map (λ name. shared_symbol t name (statement_definition t laid s s.located.kind))
     (names_where is_shared t s.located)
 
-abbrev pub exports : Tables → List Site → List Symbol
-exports t sites = flat_map (exports_of t sites) sites
+abbrev pub exports : Tables → List LaidStatement → List Symbol
+exports t laid = flat_map (exports_of t laid) laid
 
 -- ---- undefined symbols
 
@@ -163,16 +163,16 @@ distinct_from before (name ∷ names) =
     then distinct_from before names else name ∷ distinct_from (name ∷ before) names
 
 -- by first reference
-abbrev pub undefined_symbols : Tables → List Site → List Symbol
-undefined_symbols t sites =
+abbrev pub undefined_symbols : Tables → List LaidStatement → List Symbol
+undefined_symbols t laid =
     map (λ name. shared_symbol t name Undefined)
-    (distinct_from [] (flat_map (λ r. missing_name t r.ordinal r.symbol) (references t sites)))
+    (distinct_from [] (flat_map (λ r. missing_name t r.ordinal r.symbol) (references t laid)))
 
 -- ---- all of them
 
-abbrev pub symbols_of : Tables → List Site → List Symbol
-symbols_of t sites =
-    local_symbols t sites [] sites ++ (exports t sites ++ undefined_symbols t sites)
+abbrev pub symbols_of : Tables → List LaidStatement → List Symbol
+symbols_of t laid =
+    local_symbols t laid [] laid ++ (exports t laid ++ undefined_symbols t laid)
 
 -- ---- what a symbol stands for
 
@@ -184,24 +184,24 @@ IsNamed Here x = x.name ≡ []
 IsNamed (Reference digits forward) x = x.name ≡ []
 
 -- a symbol of the file's own stands where the name's statement stands, which has a place
-abbrev pub IsOwn : List Site → Definition → Symbol → Type 0
-IsOwn sites d x =
-    (s : Site) × (site_at sites d.ordinal ≡ Some s) × (s.located.placed ≡ true)
-    × (x.definition ≡ after_site s d.plus)
+abbrev pub IsOwn : List LaidStatement → Definition → Symbol → Type 0
+IsOwn laid d x =
+    (s : LaidStatement) × (laid_at laid d.ordinal ≡ Some s) × (s.located.placed ≡ true)
+    × (x.definition ≡ after_statement s d.plus)
 
 -- what has no definition in the file is a name that the file leaves undefined
 abbrev pub IsOuter : Primary → Symbol → Type 0
 IsOuter (Named name) x = x.definition ≡ Undefined
 IsOuter _ x = ⊥
 
-abbrev pub IsDefinedBy : List Site → Primary → Option Definition → Symbol → Type 0
-IsDefinedBy sites q (Some d) x = IsOwn sites d x
-IsDefinedBy sites q None x = IsOuter q x
+abbrev pub IsDefinedBy : List LaidStatement → Primary → Option Definition → Symbol → Type 0
+IsDefinedBy laid q (Some d) x = IsOwn laid d x
+IsDefinedBy laid q None x = IsOuter q x
 
 -- the symbol that a statement of this ordinal means by a name, `.` or a numeric reference: it is weak
 -- where another file's definition may be meant
-abbrev pub StandsFor : Tables → List Site → ℕ → Primary → Option Symbol → Type 0
-StandsFor t sites ordinal q None = ⊥
-StandsFor t sites ordinal q (Some x) =
+abbrev pub StandsFor : Tables → List LaidStatement → ℕ → Primary → Option Symbol → Type 0
+StandsFor t laid ordinal q None = ⊥
+StandsFor t laid ordinal q (Some x) =
     IsNamed q x × (is_weak x.binding ≡ gives_way t q)
-    × IsDefinedBy sites q (definition t ordinal q) x
+    × IsDefinedBy laid q (definition t ordinal q) x

@@ -7,14 +7,14 @@ ghost use Rattle.rv_statement.specs.Statement.{Statement};
 ghost use Rattle.rv_parse_laws.specs.Reading.{Reads};
 ghost use Rattle.rv_unit_laws.specs.Sections.{Section};
 ghost use Rattle.rv_unit_laws.specs.Tables.{Tables, opened_of, tables};
-ghost use Rattle.rv_assemble_laws.specs.Sites.{Site, Tile, end_of, part_bytes, parts};
+ghost use Rattle.rv_assemble_laws.specs.LaidStatements.{LaidStatement, Tile, end_of, part_bytes, parts};
 ghost use Rattle.rv_assemble_laws.specs.ShownNames.{HasNames};
 ghost use Rattle.rv_assemble_laws.specs.Small.{AreSmall};
 
 /// The statements of a section end where its bytes end.
 pub fn statements_fill_sections()
-    ensures { (t : Tables) (sites : List Site) → Tile t 0 sites →
-        end_of 0 sites ≡ length (flat_map part_bytes (parts t sites)) }
+    ensures { (t : Tables) (laid : List LaidStatement) → Tile t 0 laid →
+        end_of 0 laid ≡ length (flat_map part_bytes (parts t laid)) }
 {}
 
 /// A map can show each name that a source says: labels, names that are set or listed, symbols in expressions, sections.

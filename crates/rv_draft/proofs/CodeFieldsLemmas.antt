@@ -19,7 +19,7 @@ use Rattle.rv_source_laws.specs.Lines.{operand_of}
 use Rattle.rv_assemble_laws.specs.CodeFields.{field_of, relax_fields, part_fields}
 use Rattle.rv_assemble_laws.specs.Coded.{AreCodedParts, constants}
 use Rattle.rv_assemble_laws.specs.Templates.{Open, align_field}
-use Rattle.rv_assemble_laws.specs.Sites.{Site, part_of, coded_templates}
+use Rattle.rv_assemble_laws.specs.LaidStatements.{LaidStatement, part_of, coded_templates}
 use Rattle.rv_assemble_laws.specs.Fields.{Field, field_at, fields_from}
 use Rattle.rv_instruction.specs.declared.encoded.Coded.{Coded}
 use Rattle.rv_instruction.specs.Code.{IsCodeOf, coded_by, encoded_bytes, shape_in, shape_of}
@@ -31,7 +31,7 @@ use Rattle.rv_layout.specs.Code.{bytes_coded, value_at, IsCoded}
 use Rattle.rv_layout.proofs.LengthsLemmas.{part_long, some_parts}
 use Rattle.rv_draft.specs.Coded.{IsCodedAt, HasBytes}
 use Rattle.rv_draft.specs.DataParts.{is_alignment, padding_said, code_said}
-use Rattle.rv_draft.specs.Seated.{site_of}
+use Rattle.rv_draft.specs.Seated.{laid_of}
 use Rattle.rv_draft.specs.Spots.{value_in, shape_opens, coded_fields, fields_coded, HasBytesOf, IsAtSpot}
 
 -- ---- two codes of the same parts
@@ -84,7 +84,7 @@ no_fields fields more section place (c ∷ cs) e = absurd (cc)
 located_fields : (t : Tables) (l : Located) (x : Item) (found coded : List Coded) (section : ℕ) (says : StatementKind)
     → is_alignment says ≡ false → HasBytesOf coded x says → IsCoded (λ e. value_at t l e) l.options.rvc says coded → IsCoded (λ e. value_at t l e) l.options.rvc says found → HasBytes found x.bytes says
     → coded_fields (λ k. field_of t (λ e. value_at t l e) l.ordinal (operand_of l.kind) k) (relax_fields l.options.relax l.ordinal) section x.offset found
-    ≡ fields_from section x.offset (code_said t (site_of l x coded) says)
+    ≡ fields_from section x.offset (code_said t (laid_of l x coded) says)
 located_fields t l x found coded section (Label name) plain size a b long = no_fields _ _ section x.offset found b.1
 located_fields t l x found coded section (Numbered number) plain size a b long = no_fields _ _ section x.offset found b.1
 located_fields t l x found coded section (Instruction mnemonic operands) plain size a b long =
@@ -98,7 +98,7 @@ pub spot_fields : (spot : Spot) (index : ℕ) (says : StatementKind) (choices : 
     → IsAtSpot spot index says choices l → is_alignment l.kind ≡ false → HasBytesOf coded x l.kind → IsCodedAt (tables (said spot.scope.now.unit.now)) l coded
     → IsCoded (λ e. value_in spot index e) choices.compressed says found → HasBytes found x.bytes l.kind
     → fields_coded spot index says choices.relax x.offset found
-    ≡ fields_from spot.place.section x.offset (code_said (tables (said spot.scope.now.unit.now)) (site_of l x coded) l.kind)
+    ≡ fields_from spot.place.section x.offset (code_said (tables (said spot.scope.now.unit.now)) (laid_of l x coded) l.kind)
 spot_fields spot index says choices l x found coded at plain size coded_as is long =
     let t = tables (said spot.scope.now.unit.now) in
     let section = spot.place.section in
@@ -131,7 +131,7 @@ closed_fields own section place ordinal none (OpenPart k i ∷ ps) (x ∷ coded)
 closed_fields own section place ordinal none (Joined k i j ∷ ps) (x ∷ coded) closed = absurd (cc)
 
 pub free_fields : (t : Tables) (l : Located) (x : Item) (coded : List Coded) (section : ℕ) (says : StatementKind) → is_alignment says ≡ false → LeavesNone says
-    → fields_from section x.offset (code_said t (site_of l x coded) says) ≡ []
+    → fields_from section x.offset (code_said t (laid_of l x coded) says) ≡ []
 free_fields t l x coded section (Label name) plain free = refl
 free_fields t l x coded section (Numbered number) plain free = refl
 free_fields t l x coded section (Instruction mnemonic operands) plain free =
@@ -175,7 +175,7 @@ padding_one section place ordinal zero some = absurd (some refl)
 padding_one section place ordinal (suc n) some = refl
 
 -- the parts of an alignment in code are its padding
-pub aligned_said : (t : Tables) (s : Site) (says : StatementKind) → is_alignment says ≡ true → code_said t s says ≡ padding_said s.located.ordinal s.bytes
+pub aligned_said : (t : Tables) (s : LaidStatement) (says : StatementKind) → is_alignment says ≡ true → code_said t s says ≡ padding_said s.located.ordinal s.bytes
 aligned_said t s (Label name) e = absurd (cc)
 aligned_said t s (Numbered number) e = absurd (cc)
 aligned_said t s (Instruction mnemonic operands) e = absurd (cc)

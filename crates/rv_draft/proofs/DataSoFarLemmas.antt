@@ -10,7 +10,7 @@ use Rattle.rv_unit_laws.specs.Sections.{Section, is_nobits}
 use Rattle.rv_unit_laws.specs.Tables.{Tables, SectionOffset as Standing, at_start, after, after_all, tables, stood, value, alignments_of, longest_section}
 use Rattle.rv_unit.specs.Unit.{passed}
 use Rattle.rv_source_laws.specs.Located.{Located, located_now, located_from, is_placed}
-use Rattle.rv_assemble_laws.specs.Sites.{Site, Part, part_bytes, sites_in}
+use Rattle.rv_assemble_laws.specs.LaidStatements.{LaidStatement, Part, part_bytes, laid_in}
 use Rattle.rv_assemble_laws.specs.Fields.{Field}
 use Rattle.rv_instruction.specs.declared.encoded.Coded.{Coded}
 use Rattle.rv_assemble_laws.proofs.FilledLemmas.{bytes_append}
@@ -20,10 +20,10 @@ use Rattle.rv_draft.specs.declared.item.Item.{Item}
 use Rattle.rv_draft.specs.Code.{GrowsBy, bytes_in, code_size, sizes_of}
 use Rattle.rv_layout.specs.Code.{statement_padding, padding_at, bytes_coded, value_at}
 use Rattle.rv_draft.specs.Coded.{IsCodedAt, AreCoded}
-use Rattle.rv_draft.specs.DataParts.{is_filled, data_said, fields_said, data_parts, code_said, open_fields, data_bytes, sites, HasRoomFor, HaveCode, IsLaid, IsDataTo, IsData}
+use Rattle.rv_draft.specs.DataParts.{is_filled, data_said, fields_said, data_parts, code_said, open_fields, data_bytes, laid_statements, HasRoomFor, HaveCode, IsLaid, IsDataTo, IsData}
 use Rattle.rv_draft.specs.Draft.{field_of}
 use Rattle.rv_draft.specs.Items.{IsItem, AreItems, grown}
-use Rattle.rv_draft.specs.Seated.{site_of, first_code, other_codes, sites_of}
+use Rattle.rv_draft.specs.Seated.{laid_of, first_code, other_codes, laid_from}
 use Rattle.rv_draft.specs.Sized.{IsSized, AreSized, first_size, other_sizes}
 use Rattle.rv_draft.specs.Spots.{HasBytesOf}
 use Rattle.rv_draft.proofs.EvensLemmas.{none_more}
@@ -168,19 +168,19 @@ bytes_here ss is codes i s x have here item =
     (subst (λ c. st.placed ≡ true → IsSized (λ e. value_at (tables ss) st e) st.home.executable x (slice_index_or (alignments_of (tables ss)) x.section 1) c s.kind)
     (size_left (tables ss) all codes i st (drop (i + 1) all) have.coded (stated_next ss i s (drop (i + 1) ss) here)) size.sized)
 
--- ---- sites
+-- ---- laid statements
 
-drop_sites : (i : ℕ) (ls : List Located) (is : List Item) (codes : List (List Coded)) → drop i (sites_of ls is codes) ≡ sites_of (drop i ls) (drop i is) (drop i codes)
-drop_sites zero [] is codes = refl
-drop_sites (suc i) [] is codes = refl
-drop_sites zero (l ∷ ls) [] codes = refl
-drop_sites (suc i) (l ∷ ls) [] codes = none (drop i ls) (drop (suc i) codes)
+drop_laid : (i : ℕ) (ls : List Located) (is : List Item) (codes : List (List Coded)) → drop i (laid_from ls is codes) ≡ laid_from (drop i ls) (drop i is) (drop i codes)
+drop_laid zero [] is codes = refl
+drop_laid (suc i) [] is codes = refl
+drop_laid zero (l ∷ ls) [] codes = refl
+drop_laid (suc i) (l ∷ ls) [] codes = none (drop i ls) (drop (suc i) codes)
   where
-    none : (ms : List Located) (more : List (List Coded)) → [] ≡ sites_of ms [] more
+    none : (ms : List Located) (more : List (List Coded)) → [] ≡ laid_from ms [] more
     none [] more = refl
     none (m ∷ ms) more = refl
-drop_sites zero (l ∷ ls) (x ∷ is) codes = ap (sites_of (l ∷ ls) (x ∷ is)) (sym (drop_none codes))
-drop_sites (suc i) (l ∷ ls) (x ∷ is) codes = drop_sites i ls is (other_codes codes) ∙ ap (sites_of (drop i ls) (drop i is)) (codes_left i codes)
+drop_laid zero (l ∷ ls) (x ∷ is) codes = ap (laid_from (l ∷ ls) (x ∷ is)) (sym (drop_none codes))
+drop_laid (suc i) (l ∷ ls) (x ∷ is) codes = drop_laid i ls is (other_codes codes) ∙ ap (laid_from (drop i ls) (drop i is)) (codes_left i codes)
 
 others_left : (i : ℕ) (codes : List (List Coded)) → other_codes (drop i codes) ≡ drop (suc i) codes
 others_left zero [] = refl
@@ -188,15 +188,15 @@ others_left (suc i) [] = refl
 others_left zero (coded ∷ codes) = sym (drop_none codes)
 others_left (suc i) (coded ∷ codes) = others_left i codes
 
-pub sites_next : (ss : List Statement) (is : List Item) (codes : List (List Coded)) (i : ℕ) (s : Statement) (x : Item) → drop i ss ≡ s ∷ drop (i + 1) ss → drop i is ≡ x ∷ drop (i + 1) is
-    → drop i (sites ss is codes) ≡ site_of (located_at ss i s) x (code_of i codes) ∷ drop (i + 1) (sites ss is codes)
-sites_next ss is codes i s x here item =
+pub laid_next : (ss : List Statement) (is : List Item) (codes : List (List Coded)) (i : ℕ) (s : Statement) (x : Item) → drop i ss ≡ s ∷ drop (i + 1) ss → drop i is ≡ x ∷ drop (i + 1) is
+    → drop i (laid_statements ss is codes) ≡ laid_of (located_at ss i s) x (code_of i codes) ∷ drop (i + 1) (laid_statements ss is codes)
+laid_next ss is codes i s x here item =
     let all = located_from 1 1 (at_start ss) ss in
     let st = located_at ss i s in
-    drop_sites i all is codes ∙ ap (λ l. sites_of l (drop i is) (drop i codes)) (stated_next ss i s (drop (i + 1) ss) here)
-    ∙ ap (λ l. sites_of (st ∷ drop (i + 1) all) l (drop i codes)) item
-    ∙ ap (λ l. site_of st x (code_of i codes) ∷ sites_of (drop (i + 1) all) (drop (i + 1) is) l) (others_left i codes ∙ ap (λ n. drop n codes) (let e : suc i ≡ i + 1 = omega arith in e))
-    ∙ ap (λ l. site_of st x (code_of i codes) ∷ l) (sym (drop_sites (i + 1) all is codes))
+    drop_laid i all is codes ∙ ap (λ l. laid_from l (drop i is) (drop i codes)) (stated_next ss i s (drop (i + 1) ss) here)
+    ∙ ap (λ l. laid_from (st ∷ drop (i + 1) all) l (drop i codes)) item
+    ∙ ap (λ l. laid_of st x (code_of i codes) ∷ laid_from (drop (i + 1) all) (drop (i + 1) is) l) (others_left i codes ∙ ap (λ n. drop n codes) (let e : suc i ≡ i + 1 = omega arith in e))
+    ∙ ap (λ l. laid_of st x (code_of i codes) ∷ l) (sym (drop_laid (i + 1) all is codes))
 
 -- ---- one statement
 
@@ -215,12 +215,12 @@ puts_at t u k o p q h g says x old new had found tables ordinal place home put =
 
 -- what code leaves open, by where it stands
 pub code_at : (t u : Tables) (p q : Standing) (h g : Section) (l : Located) (x : Item) (coded : List Coded) (had found : List Field) → t ≡ u → p ≡ q → h ≡ g
-    → found ≡ had ++ fields_said h.loaded p.section x.offset (code_said t (site_of l x coded) l.kind)
-    → found ≡ had ++ fields_said g.loaded q.section x.offset (code_said u (site_of l x coded) l.kind)
+    → found ≡ had ++ fields_said h.loaded p.section x.offset (code_said t (laid_of l x coded) l.kind)
+    → found ≡ had ++ fields_said g.loaded q.section x.offset (code_said u (laid_of l x coded) l.kind)
 code_at t u p q h g l x coded had found tables place home own =
-    own ∙ ap (λ (u : Tables). had ++ fields_said h.loaded p.section x.offset (code_said u (site_of l x coded) l.kind)) tables
-    ∙ ap (λ (q : Standing). had ++ fields_said h.loaded q.section x.offset (code_said u (site_of l x coded) l.kind)) place
-    ∙ ap (λ (g : Section). had ++ fields_said g.loaded q.section x.offset (code_said u (site_of l x coded) l.kind)) home
+    own ∙ ap (λ (u : Tables). had ++ fields_said h.loaded p.section x.offset (code_said u (laid_of l x coded) l.kind)) tables
+    ∙ ap (λ (q : Standing). had ++ fields_said h.loaded q.section x.offset (code_said u (laid_of l x coded) l.kind)) place
+    ∙ ap (λ (g : Section). had ++ fields_said g.loaded q.section x.offset (code_said u (laid_of l x coded) l.kind)) home
 
 pub got_as : {A B : Type 0} (f : A → B) (xs : List A) (i : ℕ) (d : A) (y : B) → slice_get (map f xs) i ≡ Some y → f (get_or xs i d) ≡ y
 got_as f [] zero d y e = absurd (cc)
@@ -245,17 +245,17 @@ module _ (ss : List Statement) (is : List Item) (codes : List (List Coded)) (sta
   st = located_at ss i s
 
   -- without its code, and with it
-  abbrev site : Site
-  site = site_of st x (code_of i [])
+  abbrev laid_statement : LaidStatement
+  laid_statement = laid_of st x (code_of i [])
 
-  abbrev full : Site
-  full = site_of st x (code_of i codes)
+  abbrev full : LaidStatement
+  full = laid_of st x (code_of i codes)
 
-  abbrev rest : List Site
-  rest = drop (i + 1) (sites ss is [])
+  abbrev rest : List LaidStatement
+  rest = drop (i + 1) (laid_statements ss is [])
 
-  abbrev full_rest : List Site
-  full_rest = drop (i + 1) (sites ss is codes)
+  abbrev full_rest : List LaidStatement
+  full_rest = drop (i + 1) (laid_statements ss is codes)
 
   abbrev said : List Part
   said = data_said (i + 1) (λ e. value t true (i + 1) (stood (passed ss i) (i + 1) s.kind) e) s.kind x.bytes
@@ -287,16 +287,16 @@ module _ (ss : List Statement) (is : List Item) (codes : List (List Coded)) (sta
       ap (λ l. map field_of l) (left e) ∙ sym (append-nil (map field_of had)) ∙ ap (λ l. map field_of had ++ l) (sym (no_fields st.home.loaded))
 
   joined : (j : ℕ) (c : Bool) → (j == st.section) ≡ c → (st.section == j) ≡ c
-      → (if j == st.section then bytes_in old j ++ flat_map part_bytes (data_parts t site) else bytes_in old j) ++ data_bytes t j rest
-      ≡ bytes_in old j ++ data_bytes t j (site ∷ rest)
+      → (if j == st.section then bytes_in old j ++ flat_map part_bytes (data_parts t laid_statement) else bytes_in old j) ++ data_bytes t j rest
+      ≡ bytes_in old j ++ data_bytes t j (laid_statement ∷ rest)
   joined j true e f =
-      ap (λ b. (if b then bytes_in old j ++ flat_map part_bytes (data_parts t site) else bytes_in old j) ++ data_bytes t j rest) e
-      ∙ append_assoc (bytes_in old j) (flat_map part_bytes (data_parts t site)) (data_bytes t j rest)
-      ∙ ap (λ l. bytes_in old j ++ l) (sym (bytes_append (data_parts t site) (flat_map (data_parts t) (sites_in j rest))))
-      ∙ ap (λ b. bytes_in old j ++ flat_map part_bytes (flat_map (data_parts t) (if b then site ∷ sites_in j rest else sites_in j rest))) (sym f)
+      ap (λ b. (if b then bytes_in old j ++ flat_map part_bytes (data_parts t laid_statement) else bytes_in old j) ++ data_bytes t j rest) e
+      ∙ append_assoc (bytes_in old j) (flat_map part_bytes (data_parts t laid_statement)) (data_bytes t j rest)
+      ∙ ap (λ l. bytes_in old j ++ l) (sym (bytes_append (data_parts t laid_statement) (flat_map (data_parts t) (laid_in j rest))))
+      ∙ ap (λ b. bytes_in old j ++ flat_map part_bytes (flat_map (data_parts t) (if b then laid_statement ∷ laid_in j rest else laid_in j rest))) (sym f)
   joined j false e f =
-      ap (λ b. (if b then bytes_in old j ++ flat_map part_bytes (data_parts t site) else bytes_in old j) ++ data_bytes t j rest) e
-      ∙ ap (λ b. bytes_in old j ++ flat_map part_bytes (flat_map (data_parts t) (if b then site ∷ sites_in j rest else sites_in j rest))) (sym f)
+      ap (λ b. (if b then bytes_in old j ++ flat_map part_bytes (data_parts t laid_statement) else bytes_in old j) ++ data_bytes t j rest) e
+      ∙ ap (λ b. bytes_in old j ++ flat_map part_bytes (flat_map (data_parts t) (if b then laid_statement ∷ laid_in j rest else laid_in j rest))) (sym f)
 
   -- the parts whose fields may stay open, by whether the section is one of code
   abbrev Opens : Bool → List Part
@@ -313,11 +313,11 @@ module _ (ss : List Statement) (is : List Item) (codes : List (List Coded)) (sta
         bytes = λ j.
             ap (λ l. l ++ data_bytes t j rest) (bytes_by (is_filled st.home) refl put left j)
             ∙ joined j (j == st.section) refl (swapped j st.section (j == st.section) refl)
-            ∙ ap (λ l. bytes_in old j ++ data_bytes t j l) (sym (sites_next ss is [] i s x here item)) ∙ h.bytes j;
+            ∙ ap (λ l. bytes_in old j ++ data_bytes t j l) (sym (laid_next ss is [] i s x here item)) ∙ h.bytes j;
         fields =
             ap (λ l. l ++ flat_map (open_fields t) full_rest) own'
             ∙ append_assoc (map field_of had) (open_fields t full) (flat_map (open_fields t) full_rest)
-            ∙ ap (λ l. map field_of had ++ flat_map (open_fields t) l) (sym (sites_next ss is codes i s x here item)) ∙ h.fields;
+            ∙ ap (λ l. map field_of had ++ flat_map (open_fields t) l) (sym (laid_next ss is codes i s x here item)) ∙ h.fields;
       }
 
   -- in a section of data, or without bytes in the file
@@ -338,17 +338,17 @@ module _ (ss : List Statement) (is : List Item) (codes : List (List Coded)) (sta
 
 pub data_begin : (ss : List Statement) (is : List Item) (codes : List (List Coded)) (start : List (Vec ℕ)) (found : List OpenField) → found ≡ [] → IsDataTo ss is codes start 0 start found
 data_begin ss is codes start found none = record {
-  bytes = λ j. ap (λ l. bytes_in start j ++ data_bytes (tables ss) j l) (drop_none (sites ss is []));
+  bytes = λ j. ap (λ l. bytes_in start j ++ data_bytes (tables ss) j l) (drop_none (laid_statements ss is []));
   fields =
-      ap (λ l. map field_of l ++ flat_map (open_fields (tables ss)) (drop 0 (sites ss is codes))) none
-      ∙ ap (flat_map (open_fields (tables ss))) (drop_none (sites ss is codes));
+      ap (λ l. map field_of l ++ flat_map (open_fields (tables ss)) (drop 0 (laid_statements ss is codes))) none
+      ∙ ap (flat_map (open_fields (tables ss))) (drop_none (laid_statements ss is codes));
 }
 
 pub data_all : (ss : List Statement) (is : List Item) (codes : List (List Coded)) (start : List (Vec ℕ)) (i : ℕ) (sections : List (Vec ℕ)) (found : List OpenField) → drop i (located_from 1 1 (at_start ss) ss) ≡ []
     → IsDataTo ss is codes start i sections found → IsData ss is codes start sections found
 data_all ss is codes start i sections found past h =
-    let none : (more : List (List Coded)) → drop i (sites ss is more) ≡ [] =
-    λ more. drop_sites i (located_from 1 1 (at_start ss) ss) is more ∙ ap (λ l. sites_of l (drop i is) (drop i more)) past in
+    let none : (more : List (List Coded)) → drop i (laid_statements ss is more) ≡ [] =
+    λ more. drop_laid i (located_from 1 1 (at_start ss) ss) is more ∙ ap (λ l. laid_from l (drop i is) (drop i more)) past in
     record {
       bytes = λ j.
           sym (append-nil (bytes_in sections j))

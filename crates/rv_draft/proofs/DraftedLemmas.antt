@@ -13,7 +13,7 @@ use Rattle.rv_source_laws.specs.Compressed.{is_compressed, is_compressed_code}
 use Rattle.rv_source_laws.specs.Sizes.{AreLeast}
 use Rattle.rv_source_laws.proofs.HeldLemmas.{all_held}
 use Rattle.rv_source_laws.proofs.HomesLemmas.{IsHomeIn, homes_from, all_map}
-use Rattle.rv_assemble_laws.specs.Sites.{Site, part_bytes, parts, parts_of, sites_in, Tile, end_of}
+use Rattle.rv_assemble_laws.specs.LaidStatements.{LaidStatement, part_bytes, parts, parts_of, laid_in, Tile, end_of}
 use Rattle.rv_draft.specs.declared.draft.Draft.{Draft}
 use Rattle.rv_draft.specs.Added.{IsWhole}
 use Rattle.rv_draft.specs.Code.{bytes_in, bytes_of_codes, sizes_of, section_code}
@@ -21,14 +21,14 @@ use Rattle.rv_draft.specs.Coded.{AreCoded}
 use Rattle.rv_draft.specs.DataParts.{data_bytes, HaveCode, IsData}
 use Rattle.rv_draft.specs.Items.{AreItems}
 use Rattle.rv_instruction.specs.declared.encoded.Coded.{Coded as CodedPart}
-use Rattle.rv_draft.specs.Seated.{sites_of}
+use Rattle.rv_draft.specs.Seated.{laid_from}
 use Rattle.rv_draft.specs.Sized.{AreSized}
 use Rattle.rv_draft.specs.declared.item.CodeSize.{CodeSize}
 use Rattle.rv_draft.specs.Draft.{IsDraft, IsDrafted}
 use Rattle.rv_draft.proofs.FittedLemmas.{Fit, IsWideKind, fits_from, have_all_fields, all_spare}
 use Rattle.rv_draft.proofs.LeastAllLemmas.{least_all}
 use Rattle.rv_draft.proofs.LocationsLemmas.{places_stand}
-use Rattle.rv_draft.proofs.SectionedLemmas.{IsOf, all_located, all_items, all_sites, data_as, agree, tiles, all_of, code_in, section_bytes, code_bytes, all_sizes, section_templates, all_fields, asks_some}
+use Rattle.rv_draft.proofs.SectionedLemmas.{IsOf, all_located, all_items, all_laid, data_as, agree, tiles, all_of, code_in, section_bytes, code_bytes, all_sizes, section_templates, all_fields, asks_some}
 use Rattle.rv_draft.proofs.WholeLemmas.{one_file}
 
 -- what the passes over a source have found
@@ -46,7 +46,7 @@ pub record Passed (ss : List Statement) (lengths : List ℕ) (code : List (Vec �
   pub few : length ss < 2 ^ 32
   pub compressed : d.rvc ≡ is_compressed (ss ∷ [])
 
-any_located : (sites : List Site) → list_any is_compressed_code (map (λ (s : Site). s.located) sites) ≡ list_any (λ (s : Site). is_compressed_code s.located) sites
+any_located : (laid : List LaidStatement) → list_any is_compressed_code (map (λ (s : LaidStatement). s.located) laid) ≡ list_any (λ (s : LaidStatement). is_compressed_code s.located) laid
 any_located [] = refl
 any_located (s ∷ ss) = ap (λ b. is_compressed_code s.located || b) (any_located ss)
 
@@ -57,13 +57,13 @@ module _ (ss : List Statement) (lengths : List ℕ) (code : List (Vec ℕ)) (siz
   abbrev codes : List (List CodedPart)
   codes = h.whole.codes
 
-  abbrev all : List Site
-  all = sites_of (located_from 1 1 (at_start ss) ss) d.items.items codes
+  abbrev all : List LaidStatement
+  all = laid_from (located_from 1 1 (at_start ss) ss) d.items.items codes
 
   coded : AreCoded t (located_from 1 1 (at_start ss) ss) codes
   coded = subst (λ ls. AreCoded t ls codes) (one_file ss) h.whole.coded
 
-  located_all : map (λ (s : Site). s.located) all ≡ located_from 1 1 (at_start ss) ss
+  located_all : map (λ (s : LaidStatement). s.located) all ≡ located_from 1 1 (at_start ss) ss
   located_all = all_located 1 (at_start ss) (λ j. 0) (λ j. slice_index d.ends.items j) ss d.items.items codes h.items
 
   sized : AreSized t 1 (at_start ss) ss d.items.items (sizes_of t (located_from 1 1 (at_start ss) ss) codes)
@@ -80,51 +80,51 @@ module _ (ss : List Statement) (lengths : List ℕ) (code : List (Vec ℕ)) (siz
   homes_all : AllByRecursion (IsHomeIn (λ file. (opened_of t).sections)) (located_from 1 1 (at_start ss) ss)
   homes_all = homes_from (λ file. (opened_of t).sections) 1 1 (at_start ss) ss refl (text_section, refl)
 
-  homes : AllByRecursion (λ (s : Site). IsHomeIn (λ file. (opened_of t).sections) s.located) all
+  homes : AllByRecursion (λ (s : LaidStatement). IsHomeIn (λ file. (opened_of t).sections) s.located) all
   homes =
-      all_sites (IsHomeIn (λ file. (opened_of t).sections)) all
+      all_laid (IsHomeIn (λ file. (opened_of t).sections)) all
       (subst (λ ls. AllByRecursion (IsHomeIn (λ file. (opened_of t).sections)) ls) (sym located_all) homes_all)
 
-  -- the lengths are the least, and in code the sites have them
-  least : AreLeast t (located_from 1 1 (at_start ss) ss) (map (λ (s : Site). s.bytes) all)
+  -- the lengths are the least, and in code the laid statements have them
+  least : AreLeast t (located_from 1 1 (at_start ss) ss) (map (λ (s : LaidStatement). s.bytes) all)
   least =
-      least_all t (opened_of t).sections (located_from 1 1 (at_start ss) ss) (bytes_of_codes t (located_from 1 1 (at_start ss) ss) codes) (map (λ (s : Site). s.bytes) all) homes_all (all_held ss h.good)
+      least_all t (opened_of t).sections (located_from 1 1 (at_start ss) ss) (bytes_of_codes t (located_from 1 1 (at_start ss) ss) codes) (map (λ (s : LaidStatement). s.bytes) all) homes_all (all_held ss h.good)
       (agree t 1 (at_start ss) (λ j. 0) (λ j. slice_index d.ends.items j) ss d.items.items codes h.items coded fits)
       (subst (AreLeast t (located_from 1 1 (at_start ss) ss)) (sym (ap (λ ls. bytes_of_codes t ls codes) (sym (one_file ss)) ∙ h.whole.told)) h.least)
 
   module _ (j : ℕ) (home : Section) (at : slice_get (opened_of t).sections j ≡ Some home) where
-    own : AllByRecursion (IsOf t j home) (sites_in j all)
+    own : AllByRecursion (IsOf t j home) (laid_in j all)
     own = all_of t (λ file. (opened_of t).sections) j home all (λ n. refl) at fits homes
 
-    follow : Tile t 0 (sites_in j all) × (end_of 0 (sites_in j all) ≡ slice_index d.ends.items j)
+    follow : Tile t 0 (laid_in j all) × (end_of 0 (laid_in j all) ≡ slice_index d.ends.items j)
     follow =
         tiles t j 1 (at_start ss) (λ j. 0) (λ j. slice_index d.ends.items j) ss d.items.items codes h.items
-        (all_map (Fit t) (λ (s : Site). s.bytes ≡ length (flat_map part_bytes (parts_of t s))) all (λ s f. f.bytes) fits)
+        (all_map (Fit t) (λ (s : LaidStatement). s.bytes ≡ length (flat_map part_bytes (parts_of t s))) all (λ s f. f.bytes) fits)
 
-    bytes : bytes_in d.sections.items j ≡ (if is_nobits home then [] else flat_map part_bytes (parts t (sites_in j all)))
+    bytes : bytes_in d.sections.items j ≡ (if is_nobits home then [] else flat_map part_bytes (parts t (laid_in j all)))
     bytes =
         figures.bytes j
         ∙ ap (λ l. bytes_in code j ++ l) (sym (data_as t j (located_from 1 1 (at_start ss) ss) d.items.items codes))
         ∙ ap (λ l. l ++ data_bytes t j all)
         (h.whole.bytes j ∙ ap (λ l. section_code t j l codes) (one_file ss)
         ∙ code_in t j 1 (at_start ss) (λ j. 0) (λ j. slice_index d.ends.items j) ss d.items.items codes h.items coded)
-        ∙ section_bytes t j home (sites_in j all) own
+        ∙ section_bytes t j home (laid_in j all) own
 
-    drafted : IsDrafted t j home (sites_in j all) d
+    drafted : IsDrafted t j home (laid_in j all) d
     drafted = record {
       tile = follow.0;
       stop = sym follow.1;
       short = subst (λ n. n ≤ longest_section) (sym follow.1) (h.low j);
       bytes = bytes;
-      code = code_bytes t j home (sites_in j all) own;
-      sizes = all_sizes t j home (sites_in j all) own;
-      templates = section_templates t j home (sites_in j all) own;
+      code = code_bytes t j home (laid_in j all) own;
+      sizes = all_sizes t j home (laid_in j all) own;
+      templates = section_templates t j home (laid_in j all) own;
       some = asks_some ss j;
     }
 
   pub is_draft : IsDraft ss d
   is_draft = record {
-    sites = all;
+    laid = all;
     located = located_all;
     few = h.few;
     stand = all_items 1 (at_start ss) (λ j. 0) (λ j. slice_index d.ends.items j) ss d.items.items codes h.items;

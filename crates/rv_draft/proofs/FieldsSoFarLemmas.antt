@@ -8,7 +8,7 @@ use Rattle.rv_isa_laws.specs.Bytes.{little_endian}
 use Rattle.rv_text_laws.specs.Values.{Value, Constant, Symbolic, Difference, Faulty}
 use Rattle.rv_statement.specs.Statement.{Expression}
 use Rattle.rv_assemble_laws.specs.Templates.{Datum, value_bytes, value_fields}
-use Rattle.rv_assemble_laws.specs.Sites.{Part, part_of, part_bytes}
+use Rattle.rv_assemble_laws.specs.LaidStatements.{Part, part_of, part_bytes}
 use Rattle.rv_assemble_laws.specs.Fields.{Field, field_at, fields_from}
 use Rattle.rv_draft.specs.DataParts.{fields_said}
 

@@ -1,4 +1,4 @@
--- A statement with its item is a site: it has the bytes of its templates, and its size.
+-- A statement with its item is a laid statement: it has the bytes of its templates, and its size.
 
 use Rattle.std.proofs.Common.{◌≡◌, ℕ, zero, suc, ◌+◌, ◌-◌, ◌*◌, ◌%◌, inl, inr, Bool, true, false, List, [], ◌∷◌, ◌++◌, length, map, Option, Some, None, refl, sym, ap, ◌∙◌, subst, append-nil, length-append, arith}
 use Rattle.std.proofs.lemmas.List.{length-replicate}
@@ -26,7 +26,7 @@ use Rattle.rv_assemble_laws.specs.Coded.{joined, constants, AreCodedParts, IsCod
 use Rattle.rv_source_laws.specs.Sizes.{code_padding}
 use Rattle.rv_source_laws.proofs.HeldLemmas.{Held, IsHeld, DirectiveHeld, none_left, no_test}
 use Rattle.rv_assemble_laws.specs.Templates.{Datum, Open, value_bytes, HasField, IsWide, IsWidth, IsTemplate, padding_templates, contribution_templates}
-use Rattle.rv_assemble_laws.specs.Sites.{Site, Part, form, part_of, coded_templates, templates, part_bytes, parts_of, IsMultiple, IsPaddedIn, HasSize}
+use Rattle.rv_assemble_laws.specs.LaidStatements.{LaidStatement, Part, form, part_of, coded_templates, templates, part_bytes, parts_of, IsMultiple, IsPaddedIn, HasSize}
 use Rattle.rv_assemble_laws.specs.Fields.{Field, fields_from, fields_at}
 use Rattle.rv_instruction.specs.declared.encoded.Coded.{Coded as CodedPart}
 use Rattle.rv_instruction.specs.Code.{coded_by, instructions_of, IsCodeOf}
@@ -36,7 +36,7 @@ use Rattle.rv_draft.specs.Code.{code_bytes as bytes_of_code, code_size, sizes_of
 use Rattle.rv_draft.specs.Coded.{AreCoded}
 use Rattle.rv_draft.specs.DataParts.{is_filled, data_said, fields_said, data_parts, code_said, open_fields}
 use Rattle.rv_draft.specs.Items.{AreItems, grown}
-use Rattle.rv_draft.specs.Seated.{site_of, sites_of}
+use Rattle.rv_draft.specs.Seated.{laid_of, laid_from}
 use Rattle.rv_draft.specs.Sized.{IsItemPadded, IsSized, AreSized}
 use Rattle.rv_draft.proofs.FieldsSoFarLemmas.{value_long}
 use Rattle.rv_draft.proofs.EvensLemmas.{none_more, padding_of_even}
@@ -85,8 +85,8 @@ coded_are o fields (p ∷ ps) (bytes ∷ coded) = (tt, coded_are o fields ps cod
 -- ---- by what a statement says
 
 module _ (all : Tables) (s : Located) (x : Item) (begins : ℕ) (found : List CodedPart) where
-  abbrev site : Site
-  site = site_of s x found
+  abbrev laid_statement : LaidStatement
+  laid_statement = laid_of s x found
 
   abbrev worth : Expression → Value
   worth = λ e. value_at all s e
@@ -95,7 +95,7 @@ module _ (all : Tables) (s : Located) (x : Item) (begins : ℕ) (found : List Co
   bytes = joined (coded_by found)
 
   abbrev Parts : StatementKind → List Part
-  Parts says = map (part_of s.ordinal) (templates all site says)
+  Parts says = map (part_of s.ordinal) (templates all laid_statement says)
 
   -- its padding, and all that it has as code
   abbrev pads : StatementKind → ℕ
@@ -257,7 +257,7 @@ module _ (all : Tables) (s : Located) (x : Item) (begins : ℕ) (found : List Co
   Fields ps = fields_from s.section x.offset ps
 
   -- no values of data stand in code
-  code_fields : (says : StatementKind) → s.home.executable ≡ true → IsHeld s.home says → Fields (code_said all site says) ≡ Fields (Parts says)
+  code_fields : (says : StatementKind) → s.home.executable ≡ true → IsHeld s.home says → Fields (code_said all laid_statement says) ≡ Fields (Parts says)
   code_fields (Label name) e held = refl
   code_fields (Numbered number) e held = refl
   code_fields (Instruction mnemonic operands) e held = refl
@@ -278,7 +278,7 @@ module _ (all : Tables) (s : Located) (x : Item) (begins : ℕ) (found : List Co
   no_fields (Directs _) other e held = refl
 
   abbrev Chosen : Bool → Bool → StatementKind → List Part
-  Chosen executable filled says = if executable then code_said all site says else if filled then data_said s.ordinal worth says x.bytes else []
+  Chosen executable filled says = if executable then code_said all laid_statement says else if filled then data_said s.ordinal worth says x.bytes else []
 
   chosen_fields : (executable filled : Bool) (says : StatementKind) → s.home.executable ≡ executable → is_filled s.home ≡ filled → IsHeld s.home says → Fields (Chosen executable filled says) ≡ Fields (Parts says)
   chosen_fields true filled says e f held = code_fields says e held
@@ -296,7 +296,7 @@ module _ (all : Tables) (s : Located) (x : Item) (begins : ℕ) (found : List Co
   no_count says spare none h = h ∙ ap (λ n. operations_in n + instructions_of found) spare ∙ ap (λ c. operations_in 0 + instructions_of c) none
 
   padded_in : (b : Bool) (d : Directive) → s.home.executable ≡ b → found ≡ [] → x.instructions ≡ (code_size (pads (Directs d)) found).instructions
-      → IsItemPadded b (code_size (pads (Directs d)) found) x begins (alignment_of worth d) → IsMultiple (alignment_of worth d) begins × IsPaddedIn b site (alignment_of worth d)
+      → IsItemPadded b (code_size (pads (Directs d)) found) x begins (alignment_of worth d) → IsMultiple (alignment_of worth d) begins × IsPaddedIn b laid_statement (alignment_of worth d)
   padded_in true d e none count h =
       let own = padded_bytes true d (alignment_of worth d) refl none h in
       let all = ap (λ c. operations_in (pads (Directs d)) + instructions_of c) none in
@@ -305,7 +305,7 @@ module _ (all : Tables) (s : Located) (x : Item) (begins : ℕ) (found : List Co
   padded_in false d e none count h =
       (h.1, (h.0, no_count (Directs d) (ap (λ b. if b then code_padding (alignment_of worth d) else 0) e) none count))
 
-  directive_size : (d : Directive) → s.placed ≡ true → PlacedDirective s.placed d → IsSized worth s.home.executable x begins (code_size (pads (Directs d)) found) (Directs d) → found ≡ [] → HasSize worth site begins (Directs d)
+  directive_size : (d : Directive) → s.placed ≡ true → PlacedDirective s.placed d → IsSized worth s.home.executable x begins (code_size (pads (Directs d)) found) (Directs d) → found ≡ [] → HasSize worth laid_statement begins (Directs d)
   directive_size (Sets name e) there is h none = (h.1, no_count (Directs (Sets name e)) (no_pad s.home.executable) none h.0)
   directive_size (Values w vs) there is h none = (no_count (Directs (Values w vs)) (no_pad s.home.executable) none h.0, h.1)
   directive_size (Strings ended strings) there is h none = (no_count (Directs (Strings ended strings)) (no_pad s.home.executable) none h.0, h.1)
@@ -316,7 +316,7 @@ module _ (all : Tables) (s : Located) (x : Item) (begins : ℕ) (found : List Co
       let padded = padded_in s.home.executable (Aligns_to_bytes e) refl none h.0 h.1.1 in (h.1.0, padded.0, padded.1)
   directive_size _ there is h none = absurd (both_ways s.placed is there)
 
-  said_size : (says : StatementKind) → s.placed ≡ true → PlacedAs s.placed says → IsSized worth s.home.executable x begins (code_size (pads says) found) says → Own says → HasSize worth site begins says
+  said_size : (says : StatementKind) → s.placed ≡ true → PlacedAs s.placed says → IsSized worth s.home.executable x begins (code_size (pads says) found) says → Own says → HasSize worth laid_statement begins says
   said_size (Label name) there is h (asked, none) = (h.0, no_count (Label name) refl none h.1)
   said_size (Numbered number) there is h (asked, none) = (h.0, no_count (Numbered number) refl none h.1)
   said_size (Instruction mnemonic operands) there is h (asked, own) =
@@ -454,13 +454,13 @@ spare_all all k t (s ∷ ss) whole h = (said_spare all t k (whole k (here t)) s.
 pub all_spare : (ss : List Statement) → first_fault ss ≡ None → AllByRecursion (IsSpare (tables ss)) (located_from 1 1 (at_start ss) ss)
 all_spare ss good = spare_all (tables ss) 1 (at_start ss) ss (constant_whole ss) (sound ss good)
 
--- ---- sites
+-- ---- laid statements
 
 -- what a statement has as code
-abbrev pub code_at : Tables → Site → List ℕ
+abbrev pub code_at : Tables → LaidStatement → List ℕ
 code_at t s = no_operations (padding_at t s.located) ++ joined s.coded
 
-pub record Fit (t : Tables) (s : Site) : Type 0 where
+pub record Fit (t : Tables) (s : LaidStatement) : Type 0 where
   pub size : s.located.placed ≡ true → HasSize (form t s.located) s (slice_index_or (alignments_of t) s.located.section 1) s.located.kind
   pub bytes : s.bytes ≡ length (flat_map part_bytes (parts_of t s))
   pub code : s.located.home.executable ≡ true → flat_map part_bytes (parts_of t s) ≡ code_at t s
@@ -473,7 +473,7 @@ pub record Fit (t : Tables) (s : Site) : Type 0 where
 
 pub fit_one : (all : Tables) (s : Located) (x : Item) (found : List CodedPart) → PlacedAs s.placed s.kind → (s.placed ≡ false → x.bytes ≡ 0) → x.section ≡ s.section
     → (s.placed ≡ true → IsSized (λ e. value_at all s e) s.home.executable x (slice_index_or (alignments_of all) x.section 1) (code_size (padding_at all s) found) s.kind)
-    → IsCoded (λ e. value_at all s e) s.options.rvc s.kind found → Held s → HaveFields all s → IsSpare all s → Fit all (site_of s x found)
+    → IsCoded (λ e. value_at all s e) s.options.rvc s.kind found → Held s → HaveFields all s → IsSpare all s → Fit all (laid_of s x found)
 fit_one all s x found is absent at size own held fields spare =
     let v : Expression → Value = λ e. value_at all s e in
     let begins = slice_index_or (alignments_of all) s.section 1 in
@@ -493,7 +493,7 @@ fit_one all s x found is absent at size own held fields spare =
 
 pub fits_from : (all : Tables) (k : ℕ) (t : Tables) (before last : ℕ → ℕ) (ss : List Statement) (is : List Item) (codes : List (List CodedPart)) → AreItems k t before ss is last
     → AreSized all k t ss is (sizes_of all (located_from 1 k t ss) codes) → AreCoded all (located_from 1 k t ss) codes → AllByRecursion Held (located_from 1 k t ss) → AllByRecursion (HaveFields all) (located_from 1 k t ss)
-    → AllByRecursion (IsSpare all) (located_from 1 k t ss) → AllByRecursion (Fit all) (sites_of (located_from 1 k t ss) is codes)
+    → AllByRecursion (IsSpare all) (located_from 1 k t ss) → AllByRecursion (Fit all) (laid_from (located_from 1 k t ss) is codes)
 fits_from all k t before last [] [] codes items sized coded held fields spare = tt
 fits_from all k t before last [] (x ∷ is) codes items sized coded held fields spare = absurd items
 fits_from all k t before last (s ∷ ss) [] codes items sized coded held fields spare = absurd items

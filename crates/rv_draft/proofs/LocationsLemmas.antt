@@ -15,8 +15,8 @@ use Rattle.rv_unit_laws.proofs.EnteringLemmas.{entering}
 use Rattle.rv_unit_laws.proofs.MeantLemmas.{HasMeaning, value_meant}
 use Rattle.rv_unit_laws.proofs.OpenedLemmas.{after_opened}
 use Rattle.rv_source_laws.specs.Located.{Located, located_now, located_from}
-use Rattle.rv_assemble_laws.specs.Sites.{Site}
-use Rattle.rv_assemble_laws.specs.Symbols.{site_at}
+use Rattle.rv_assemble_laws.specs.LaidStatements.{LaidStatement}
+use Rattle.rv_assemble_laws.specs.Symbols.{laid_at}
 use Rattle.rv_assemble_laws.specs.IsObjectOf.{IsInData, StandsInData}
 
 -- ---- a statement is found by its ordinal
@@ -150,25 +150,25 @@ module _ (ls : List Located) where
   lie_all k t [] found h = h
   lie_all k t (s ∷ ss) found h = lie_all (suc k) (after t k s.kind) ss found.1 (lie_after t k s.line s.kind found.0 h)
 
--- ---- of sites
+-- ---- of laid statements
 
-found_site : (sites : List Site) (ordinal : ℕ) (l : Located) → Found (map (λ (s : Site). s.located) sites) ordinal ≡ Some l → InData l → IsInData (site_at sites ordinal)
-found_site [] ordinal l e h = absurd (cc)
-found_site (s ∷ ss) ordinal l e h = go (s.located.ordinal == ordinal) e (λ f. found_site ss ordinal l f h)
+found_laid : (laid : List LaidStatement) (ordinal : ℕ) (l : Located) → Found (map (λ (s : LaidStatement). s.located) laid) ordinal ≡ Some l → InData l → IsInData (laid_at laid ordinal)
+found_laid [] ordinal l e h = absurd (cc)
+found_laid (s ∷ ss) ordinal l e h = go (s.located.ordinal == ordinal) e (λ f. found_laid ss ordinal l f h)
   where
-    go : (b : Bool) → (if b then Some s.located else Found (map (λ (s : Site). s.located) ss) ordinal) ≡ Some l → (Found (map (λ (s : Site). s.located) ss) ordinal ≡ Some l → IsInData (site_at ss ordinal))
-        → IsInData (if b then Some s else site_at ss ordinal)
+    go : (b : Bool) → (if b then Some s.located else Found (map (λ (s : LaidStatement). s.located) ss) ordinal) ≡ Some l → (Found (map (λ (s : LaidStatement). s.located) ss) ordinal ≡ Some l → IsInData (laid_at ss ordinal))
+        → IsInData (if b then Some s else laid_at ss ordinal)
     go true f rest = let same : l ≡ s.located = cc in subst InData same h
     go false f rest = rest f
 
-all_stand : (sites : List Site) (ls : List Located) (xs : List Assignment) → map (λ (s : Site). s.located) sites ≡ ls → AllByRecursion (Lies ls) xs → AllByRecursion (StandsInData sites) xs
-all_stand sites ls [] same h = tt
-all_stand sites ls (a ∷ xs) same h = (
-  (λ e. let (l, found, in_data) = h.0 e in found_site sites a.ordinal l (ap (λ x. Found x a.ordinal) same ∙ found) in_data),
-  all_stand sites ls xs same h.1,
+all_stand : (laid : List LaidStatement) (ls : List Located) (xs : List Assignment) → map (λ (s : LaidStatement). s.located) laid ≡ ls → AllByRecursion (Lies ls) xs → AllByRecursion (StandsInData laid) xs
+all_stand laid ls [] same h = tt
+all_stand laid ls (a ∷ xs) same h = (
+  (λ e. let (l, found, in_data) = h.0 e in found_laid laid a.ordinal l (ap (λ x. Found x a.ordinal) same ∙ found) in_data),
+  all_stand laid ls xs same h.1,
 )
 
-pub places_stand : (ss : List Statement) (sites : List Site) → map (λ (s : Site). s.located) sites ≡ located_from 1 1 (at_start ss) ss → AllByRecursion (StandsInData sites) (tables ss).assignments
-places_stand ss sites same =
+pub places_stand : (ss : List Statement) (laid : List LaidStatement) → map (λ (s : LaidStatement). s.located) laid ≡ located_from 1 1 (at_start ss) ss → AllByRecursion (StandsInData laid) (tables ss).assignments
+places_stand ss laid same =
     let ls = located_from 1 1 (at_start ss) ss in
-    all_stand sites ls (tables ss).assignments same (lie_all ls 1 (at_start ss) ss (found_from 1 1 (at_start ss) ss) tt)
+    all_stand laid ls (tables ss).assignments same (lie_all ls 1 (at_start ss) ss (found_from 1 1 (at_start ss) ss) tt)

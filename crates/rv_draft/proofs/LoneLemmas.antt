@@ -37,7 +37,7 @@ use Rattle.rv_draft.specs.declared.item.Item.{Item}
 use Rattle.rv_draft.specs.Coded.{IsCodedAt, HasBytes}
 use Rattle.rv_draft.specs.DataParts.{is_alignment, code_said}
 use Rattle.rv_draft.specs.Lone.{branch_kind, operation_kind, lone_kind, lone_shape, IsLone}
-use Rattle.rv_draft.specs.Seated.{site_of}
+use Rattle.rv_draft.specs.Seated.{laid_of}
 use Rattle.rv_draft.specs.Spots.{value_in, shape_opens, coded_fields, own_opens, opens_in, HasBytesOf, IsAtSpot}
 use Rattle.rv_draft.proofs.CodeFieldsLemmas.{spot_fields}
 
@@ -127,7 +127,7 @@ lone_coded fields more section place s (c ∷ d ∷ cs) e = absurd (cc)
 pub lone_said : (spot : Spot) (index : ℕ) (says : StatementKind) (choices : Choices) (l : Located) (x : Item) (coded : List Coded) (k : Kind)
     → IsAtSpot spot index says choices l → is_alignment l.kind ≡ false → HasBytesOf coded x l.kind → IsCodedAt (tables (said spot.scope.now.unit.now)) l coded → IsLone says x.bytes k
     → map (field_at spot.place.section x.offset) (opens_in spot index says choices.relax (lone_shape k))
-    ≡ fields_from spot.place.section x.offset (code_said (tables (said spot.scope.now.unit.now)) (site_of l x coded) l.kind)
+    ≡ fields_from spot.place.section x.offset (code_said (tables (said spot.scope.now.unit.now)) (laid_of l x coded) l.kind)
 lone_said spot index says choices l x coded k at plain size coded_as lone =
     let t = tables (said spot.scope.now.unit.now) in
     let here : Expression → Value = λ e. value_in spot index e in

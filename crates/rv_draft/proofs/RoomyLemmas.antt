@@ -16,7 +16,7 @@ use Rattle.rv_unit_laws.proofs.GrownLemmas.{BeginsAt, puts, end_behind}
 use Rattle.rv_assemble_laws.specs.Coded.{is_constant}
 use Rattle.rv_source_laws.specs.Located.{is_placed, is_placed_directive}
 use Rattle.rv_source_laws.proofs.HeldLemmas.{none_left, no_test}
-use Rattle.rv_assemble_laws.specs.Sites.{IsMultiple}
+use Rattle.rv_assemble_laws.specs.LaidStatements.{IsMultiple}
 use Rattle.rv_draft.specs.declared.item.CodeSize.{CodeSize}
 use Rattle.rv_draft.specs.Sized.{IsItemPadded, IsSizedDirective}
 use Rattle.rv_draft.specs.Measured.{stretch, IsSize, CanPad, CanSize, CanSizeDirective}

@@ -10,7 +10,7 @@ use Rattle.rv_unit_laws.specs.Tables.{Tables, at_start, tables, longest_section}
 use Rattle.rv_source_laws.specs.Located.{Located, located_from}
 use Rattle.rv_assemble_laws.specs.Refusals.{code_faults_at}
 use Rattle.rv_assemble_laws.specs.Templates.{Template, padding_templates, contribution_templates}
-use Rattle.rv_assemble_laws.specs.Sites.{Site, Part, form, part_of, part_bytes, sites_in, templates}
+use Rattle.rv_assemble_laws.specs.LaidStatements.{LaidStatement, Part, form, part_of, part_bytes, laid_in, templates}
 use Rattle.rv_assemble_laws.specs.Fields.{Field, fields_from}
 use Rattle.rv_draft.specs.declared.field.OpenField.{OpenField}
 use Rattle.rv_draft.specs.declared.item.CodeSize.{CodeSize}
@@ -21,7 +21,7 @@ use Rattle.rv_instruction.specs.Code.{MayHave}
 use Rattle.rv_draft.specs.Coded.{AreCoded, IsCodedAt, HasBytes}
 use Rattle.rv_draft.specs.Draft.{field_of}
 use Rattle.rv_draft.specs.Items.{AreItems}
-use Rattle.rv_draft.specs.Seated.{sites_of}
+use Rattle.rv_draft.specs.Seated.{laid_from}
 use Rattle.rv_draft.specs.Sized.{AreSized}
 
 -- a section of data that has its bytes in the file
@@ -53,7 +53,7 @@ HasRoomFor says offset =
 
 -- ---- the statements of a source
 
-abbrev pub data_parts : Tables → Site → List Part
+abbrev pub data_parts : Tables → LaidStatement → List Part
 data_parts t s =
     if is_filled s.located.home
     then data_said s.located.ordinal (λ e. form t s.located e) s.located.kind s.bytes
@@ -70,27 +70,27 @@ abbrev pub padding_said : ℕ → ℕ → List Part
 padding_said ordinal bytes = map (part_of ordinal) (padding_templates true ordinal bytes)
 
 -- the parts of an instruction, and of an alignment in code
-abbrev pub code_said : Tables → Site → StatementKind → List Part
+abbrev pub code_said : Tables → LaidStatement → StatementKind → List Part
 code_said t s (Instruction mnemonic operands) =
     map (part_of s.located.ordinal) (templates t s (Instruction mnemonic operands))
 code_said t s kind = if is_alignment kind then padding_said s.located.ordinal s.bytes else []
 
 -- the parts whose fields may stay open: those of code, and of data
-abbrev pub open_parts : Tables → Site → List Part
+abbrev pub open_parts : Tables → LaidStatement → List Part
 open_parts t s =
     if s.located.home.executable then code_said t s s.located.kind else data_parts t s
 
-abbrev pub open_fields : Tables → Site → List Field
+abbrev pub open_fields : Tables → LaidStatement → List Field
 open_fields t s =
     fields_said s.located.home.loaded s.located.section s.offset (open_parts t s)
 
 -- the bytes of data that statements have in a section
-abbrev pub data_bytes : Tables → ℕ → List Site → List ℕ
-data_bytes t section sites = flat_map part_bytes (flat_map (data_parts t) (sites_in section sites))
+abbrev pub data_bytes : Tables → ℕ → List LaidStatement → List ℕ
+data_bytes t section laid_statements = flat_map part_bytes (flat_map (data_parts t) (laid_in section laid_statements))
 
--- the sites of a source with these items and this code
-abbrev pub sites : List Statement → List Item → List (List Coded) → List Site
-sites ss is codes = sites_of (located_from 1 1 (at_start ss) ss) is codes
+-- the laid statements of a source with these items and this code
+abbrev pub laid_statements : List Statement → List Item → List (List Coded) → List LaidStatement
+laid_statements ss is codes = laid_from (located_from 1 1 (at_start ss) ss) is codes
 
 -- the items stand in their sections, and have their sizes
 pub record IsLaid (ss : List Statement) (is : List Item) : Type 0 where
@@ -124,15 +124,15 @@ AreMade t ss is = ⊤
 -- contribute, make up the whole
 pub record IsDataTo (ss : List Statement) (is : List Item) (codes : List (List Coded))
     (start : List (Vec ℕ)) (i : ℕ) (sections : List (Vec ℕ)) (found : List OpenField) : Type 0 where
-  pub bytes : (j : ℕ) → bytes_in sections j ++ data_bytes (tables ss) j (drop i (sites ss is []))
-      ≡ bytes_in start j ++ data_bytes (tables ss) j (sites ss is [])
+  pub bytes : (j : ℕ) → bytes_in sections j ++ data_bytes (tables ss) j (drop i (laid_statements ss is []))
+      ≡ bytes_in start j ++ data_bytes (tables ss) j (laid_statements ss is [])
   pub fields : map field_of found
-      ++ flat_map (open_fields (tables ss)) (drop i (sites ss is codes))
-      ≡ flat_map (open_fields (tables ss)) (sites ss is codes)
+      ++ flat_map (open_fields (tables ss)) (drop i (laid_statements ss is codes))
+      ≡ flat_map (open_fields (tables ss)) (laid_statements ss is codes)
 
 -- all of it
 pub record IsData (ss : List Statement) (is : List Item) (codes : List (List Coded))
     (start sections : List (Vec ℕ)) (found : List OpenField) : Type 0 where
   pub bytes : (j : ℕ) → bytes_in sections j
-      ≡ bytes_in start j ++ data_bytes (tables ss) j (sites ss is [])
-  pub fields : map field_of found ≡ flat_map (open_fields (tables ss)) (sites ss is codes)
+      ≡ bytes_in start j ++ data_bytes (tables ss) j (laid_statements ss is [])
+  pub fields : map field_of found ≡ flat_map (open_fields (tables ss)) (laid_statements ss is codes)

@@ -14,7 +14,7 @@ use Rattle.rv_source_laws.specs.Located.{located_from, has_row}
 use Rattle.rv_source_laws.specs.Compressed.{is_compressed_code}
 use Rattle.rv_assemble_laws.specs.Templates.{IsTemplate}
 use Rattle.rv_source_laws.specs.Sizes.{AreLeast}
-use Rattle.rv_assemble_laws.specs.Sites.{Site, form, part_bytes, parts, sites_in, Tile, end_of, HasSize}
+use Rattle.rv_assemble_laws.specs.LaidStatements.{LaidStatement, form, part_bytes, parts, laid_in, Tile, end_of, HasSize}
 use Rattle.rv_assemble_laws.specs.IsObjectOf.{StandsInData}
 use Rattle.rv_assemble_laws.specs.Fields.{Field, fields}
 pub use Rattle.rv_draft.specs.Code.{bytes_in}
@@ -24,7 +24,7 @@ use Rattle.rv_draft.specs.declared.draft.Draft.{Draft}
 use Rattle.rv_draft.specs.Added.{IsCodeFault}
 
 -- where a statement stands
-abbrev pub item_of : Site → Item
+abbrev pub item_of : LaidStatement → Item
 item_of s = record {
   section = s.located.section;
   offset = s.offset;
@@ -45,44 +45,44 @@ field_of f = record {
 }
 
 -- the section of an index, with its statements
-pub record IsDrafted (t : Tables) (index : ℕ) (home : Section) (sites : List Site)
+pub record IsDrafted (t : Tables) (index : ℕ) (home : Section) (laid : List LaidStatement)
     (d : Draft) : Type 0 where
   -- its statements follow one another
-  pub tile : Tile t 0 sites
-  pub stop : slice_index d.ends.items index ≡ end_of 0 sites
-  pub short : end_of 0 sites ≤ longest_section
+  pub tile : Tile t 0 laid
+  pub stop : slice_index d.ends.items index ≡ end_of 0 laid
+  pub short : end_of 0 laid ≤ longest_section
   -- one without bytes in the file has none
   pub bytes : bytes_in d.sections.items index
-      ≡ (if is_nobits home then [] else flat_map part_bytes (parts t sites))
+      ≡ (if is_nobits home then [] else flat_map part_bytes (parts t laid))
   pub code : goes_to_text home ≡ true → is_nobits home ≡ true →
-      flat_map part_bytes (parts t sites) ≡ []
+      flat_map part_bytes (parts t laid) ≡ []
   -- the sizes of its statements
   pub sizes : AllByRecursion
       (λ s. s.located.placed ≡ true →
-      HasSize (form t s.located) s (alignment_at t index) s.located.kind) sites
-  pub templates : AllByRecursion (λ p. IsTemplate p.template) (parts t sites)
+      HasSize (form t s.located) s (alignment_at t index) s.located.kind) laid
+  pub templates : AllByRecursion (λ p. IsTemplate p.template) (parts t laid)
   pub some : 1 ≤ alignment_at t index
 
-abbrev pub AreDrafted : Tables → List Site → Draft → Type 0
+abbrev pub AreDrafted : Tables → List LaidStatement → Draft → Type 0
 AreDrafted t all d = (index : ℕ) (home : Section)
     → slice_get (opened_of t).sections index ≡ Some home
-    → IsDrafted t index home (sites_in index all) d
+    → IsDrafted t index home (laid_in index all) d
 
 -- the draft of a source
 pub record IsDraft (ss : List Statement) (d : Draft) : Type 0 where
-  pub sites : List Site
-  pub located : map (λ s. s.located) sites ≡ located_from 1 1 (at_start ss) ss
+  pub laid : List LaidStatement
+  pub located : map (λ s. s.located) laid ≡ located_from 1 1 (at_start ss) ss
   -- its ordinals are numbers of 32 bits
   pub few : length ss < 2 ^ 32
-  pub stand : map item_of sites ≡ d.items.items
+  pub stand : map item_of laid ≡ d.items.items
   pub counted : length d.sections.items ≡ length (opened_of (tables ss)).sections
   pub ended : length d.ends.items ≡ length (opened_of (tables ss)).sections
-  pub each : AreDrafted (tables ss) sites d
-  pub open_fields : map field_of d.fields.items ≡ fields (tables ss) sites
-  pub places : AllByRecursion (StandsInData sites) (tables ss).assignments
+  pub each : AreDrafted (tables ss) laid d
+  pub open_fields : map field_of d.fields.items ≡ fields (tables ss) laid
+  pub places : AllByRecursion (StandsInData laid) (tables ss).assignments
   -- each branch has the least size that reaches
-  pub least : AreLeast (tables ss) (located_from 1 1 (at_start ss) ss) (map (λ s. s.bytes) sites)
-  pub compressed : d.rvc ≡ list_any (λ s. is_compressed_code s.located) sites
+  pub least : AreLeast (tables ss) (located_from 1 1 (at_start ss) ss) (map (λ s. s.bytes) laid)
+  pub compressed : d.rvc ≡ list_any (λ s. is_compressed_code s.located) laid
 
 -- the first fault of a source as code, or of the sizes of its code; memory may run out
 abbrev pub IsRefused : List Statement → SourceFault → Type 0

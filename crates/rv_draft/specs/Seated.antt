@@ -2,13 +2,13 @@
 
 use Rattle.std.specs.Prelude.{List, [], ◌∷◌}
 use Rattle.rv_source_laws.specs.Located.{Located}
-use Rattle.rv_assemble_laws.specs.Sites.{Site}
+use Rattle.rv_assemble_laws.specs.LaidStatements.{LaidStatement}
 use Rattle.rv_instruction.specs.declared.encoded.Coded.{Coded}
 use Rattle.rv_instruction.specs.Code.{coded_by}
 use Rattle.rv_draft.specs.declared.item.Item.{Item}
 
-abbrev pub site_of : Located → Item → List Coded → Site
-site_of s i coded =
+abbrev pub laid_of : Located → Item → List Coded → LaidStatement
+laid_of s i coded =
     record {
       located = s;
       offset = i.offset;
@@ -27,8 +27,8 @@ other_codes [] = []
 other_codes (coded ∷ codes) = codes
 
 -- each statement where its item stands
-abbrev pub sites_of : List Located → List Item → List (List Coded) → List Site
-sites_of [] is codes = []
-sites_of (s ∷ ss) [] codes = []
-sites_of (s ∷ ss) (i ∷ is) codes =
-    site_of s i (first_code codes) ∷ sites_of ss is (other_codes codes)
+abbrev pub laid_from : List Located → List Item → List (List Coded) → List LaidStatement
+laid_from [] is codes = []
+laid_from (s ∷ ss) [] codes = []
+laid_from (s ∷ ss) (i ∷ is) codes =
+    laid_of s i (first_code codes) ∷ laid_from ss is (other_codes codes)

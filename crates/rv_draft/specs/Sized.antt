@@ -8,7 +8,7 @@ use Rattle.rv_source_laws.specs.Located.{located_now}
 use Rattle.rv_assemble_laws.specs.Coded.{is_constant}
 use Rattle.rv_draft.specs.declared.item.CodeSize.{CodeSize}
 use Rattle.rv_draft.specs.declared.item.Item.{Item}
-use Rattle.rv_assemble_laws.specs.Sites.{IsMultiple}
+use Rattle.rv_assemble_laws.specs.LaidStatements.{IsMultiple}
 use Rattle.rv_layout.specs.Code.{value_at}
 pub use Rattle.rv_draft.specs.Code.{bytes_of_sizes}
 

@@ -12,7 +12,7 @@ use Rattle.rv_source_laws.specs.Located.{Located}
 use Rattle.rv_source_laws.specs.Program.{place_of}
 use Rattle.rv_assemble_laws.specs.CodeFields.{relax_fields}
 use Rattle.rv_assemble_laws.specs.Templates.{Open, Datum, value_fields}
-use Rattle.rv_assemble_laws.specs.Sites.{Part, part_of, part_bytes}
+use Rattle.rv_assemble_laws.specs.LaidStatements.{Part, part_of, part_bytes}
 use Rattle.rv_assemble_laws.specs.Fields.{Field, field_at}
 use Rattle.rv_instruction.specs.Code.{Shape, encoded_bytes, shape_in, MayHave}
 use Rattle.rv_instruction.specs.Opened.{fields_of}
@@ -25,7 +25,7 @@ use Rattle.rv_draft.specs.declared.item.Item.{Item}
 use Rattle.rv_draft.specs.Code.{GrowsBy}
 use Rattle.rv_layout.specs.Code.{IsCoded}
 use Rattle.rv_draft.specs.Coded.{HasBytes}
-use Rattle.rv_draft.specs.Seated.{site_of}
+use Rattle.rv_draft.specs.Seated.{laid_of}
 use Rattle.rv_draft.specs.DataParts.{data_said, fields_said, code_said}
 use Rattle.rv_draft.specs.Draft.{field_of}
 
@@ -101,7 +101,7 @@ pub record IsMadeAt (spot : Spot) (says : StatementKind) (rvc : Bool) (bytes : �
 abbrev pub code_fields : Spot → Located → Item → List Coded → List Field
 code_fields spot l x coded =
     fields_in spot x.offset
-    (code_said (tables (said spot.scope.now.unit.now)) (site_of l x coded) l.kind)
+    (code_said (tables (said spot.scope.now.unit.now)) (laid_of l x coded) l.kind)
 
 -- ---- the open fields of parts, by their shapes
 

@@ -18,7 +18,7 @@ ghost use Rattle.rv_unit.specs.Unit.{said, IsFilled, IsScope};
 ghost use Rattle.rv_source_laws.specs.Located.{located_from};
 ghost use Rattle.rv_assemble_laws.specs.Templates as laws;
 ghost use Rattle.rv_assemble_laws.specs.Templates.{opened, value_bytes};
-ghost use Rattle.rv_assemble_laws.specs.Sites.{part_bytes};
+ghost use Rattle.rv_assemble_laws.specs.LaidStatements.{part_bytes};
 ghost use Rattle.rv_assemble_laws.specs.Fields.{field_at};
 ghost use Rattle.rv_instruction.specs.declared.encoded.Coded.{Coded};
 ghost use Rattle.rv_draft.specs.DataParts.{is_filled, AreMade, HasRoomFor, HaveCode, IsLaid, IsDataTo, IsData};

@@ -22,7 +22,7 @@ ghost use Rattle.rv_draft.specs.Coded.{IsCodedAt, HasBytes};
 ghost use Rattle.rv_draft.specs.DataParts as parts;
 ghost use Rattle.rv_draft.specs.Draft.{field_of};
 ghost use Rattle.rv_draft.specs.Lone.{lone_shape};
-ghost use Rattle.rv_draft.specs.Seated.{site_of};
+ghost use Rattle.rv_draft.specs.Seated.{laid_of};
 ghost use Rattle.rv_draft.specs.Spots.{value_in, kind_opens, pair_opens, own_opens, opens_in, fields_coded, code_fields, AddsAt, AtOwn, AtSpot, HasBytesOf, IsAtSpot, IsMadeAt};
 
 use crate::code::asked;
@@ -333,7 +333,7 @@ fn put_instruction<'a>(
         → IsCodedAt (tables (said ((spot.now).scope.now).unit.now)) l coded
         → map field_of fields.new.items
         ≡ map field_of fields.old.items ++ fields_from (spot.now).place.section item.offset
-        (parts.code_said (tables (said ((spot.now).scope.now).unit.now)) (site_of l item coded)
+        (parts.code_said (tables (said ((spot.now).scope.now).unit.now)) (laid_of l item coded)
         l.kind))) }
 {
     if is_closed(&statement.kind) {

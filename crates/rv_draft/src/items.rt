@@ -14,7 +14,7 @@ ghost use Rattle.rv_unit.specs.Unit.{said, IsFilled};
 ghost use Rattle.rv_source_laws.specs.Located.{located};
 ghost use Rattle.rv_assemble_laws.specs.Refusals.{size_fault_from};
 ghost use Rattle.rv_draft.specs.Items.{AreItems};
-ghost use Rattle.rv_assemble_laws.specs.Sites.{IsMultiple};
+ghost use Rattle.rv_assemble_laws.specs.LaidStatements.{IsMultiple};
 ghost use Rattle.rv_instruction.specs.Scoped.{values_at, is_placed_at, AtNext, StandsHere, ForOutcome};
 ghost use Rattle.rv_draft.specs.Sized.{AreSized, bytes_of_sizes};
 ghost use Rattle.rv_draft.specs.Measured.{CanCount, PadsIn, CanPadIn, AlignsIn, CanAlignIn, IsSizeIn, CanSizeIn, HasRoomIn, IsSizedIn};

@@ -30,8 +30,8 @@ use Rattle.rv_object.specs.Bindings.{is_weak}
 use Rattle.rv_object.specs.Object.{Relocation, Symbol, Object}
 use Rattle.rv_assemble_laws.specs.CodeFields.{symbol_field, low_field, field_of, part_fields}
 use Rattle.rv_assemble_laws.specs.Coded.{constants}
-use Rattle.rv_assemble_laws.specs.Sites.{Site, Part, form, part_of, coded_templates, templates, parts_of, part_bytes, parts, Tile, end_of}
-use Rattle.rv_assemble_laws.specs.Symbols.{site_at, after_site, references_in, StandsFor}
+use Rattle.rv_assemble_laws.specs.LaidStatements.{LaidStatement, Part, form, part_of, coded_templates, templates, parts_of, part_bytes, parts, Tile, end_of}
+use Rattle.rv_assemble_laws.specs.Symbols.{laid_at, after_statement, references_in, StandsFor}
 use Rattle.rv_assemble_laws.specs.Templates.{Template, Coded, Open, open_at, template_fields}
 use Rattle.rv_assemble_laws.specs.IsObjectOf.{Numbering, relocation_at, relocations_from, IsNumbered, ArePartsNumbered}
 use Rattle.rv_raw_laws.proofs.ValuesLemmas.{distance_value, addend_is}
@@ -103,13 +103,13 @@ relocations_join number o (x ∷ xs) ys =
 never_low : (k : Kind) → leads k ≡ true → is_low_part k ≡ false
 never_low k h = grind arith
 
-pub end_above : (offset : ℕ) (zs : List Site) → offset ≤ end_of offset zs
+pub end_above : (offset : ℕ) (zs : List LaidStatement) → offset ≤ end_of offset zs
 end_above offset [] = omega arith
 end_above offset (z ∷ zs) = let e = end_above (offset + z.bytes) zs in omega (arith, e)
 
 -- ---- the fields of a statement
 
-module _ (labels : List Labelled) (b : Bindings) (all : List Site) (number : Numbering) (symbols : List Symbol) where
+module _ (labels : List Labelled) (b : Bindings) (all : List LaidStatement) (number : Numbering) (symbols : List Symbol) where
   abbrev t : Tables
   t = table labels quiet b
 
@@ -119,18 +119,18 @@ module _ (labels : List Labelled) (b : Bindings) (all : List Site) (number : Num
   abbrev AreLeading : List Relocation → Type 0
   AreLeading rs = AllByRecursion (IsLeading symbols) rs
 
-  templates_are : (z : Site) (kind : StatementKind) → IsInstruction kind
+  templates_are : (z : LaidStatement) (kind : StatementKind) → IsInstruction kind
       → templates t z kind ≡ coded_templates (part_fields t (form t z.located) z.located) (unwrap_or (code_of_kind (constants (form t z.located)) z.located.options.rvc z.bytes kind) []) z.coded
   templates_are z kind i =
       subst (λ k. templates t z k ≡ coded_templates (part_fields t (form t z.located) z.located) (unwrap_or (code_of_kind (constants (form t z.located)) z.located.options.rvc z.bytes k) []) z.coded) (sym i.is) refl
 
   -- the symbol of a relocation stands where the statement stands
-  own_symbol : (z : Site) (k : Kind) (x : ℤ) → site_at all z.located.ordinal ≡ Some z → z.located.section ≡ 0 → z.offset ≤ longest_section → leads k ≡ true → Takes k x → IsSmall x → (o : Option Symbol)
+  own_symbol : (z : LaidStatement) (k : Kind) (x : ℤ) → laid_at all z.located.ordinal ≡ Some z → z.located.section ≡ 0 → z.offset ≤ longest_section → leads k ≡ true → Takes k x → IsSmall x → (o : Option Symbol)
       → slice_get symbols (number z.located.ordinal Here) ≡ o → StandsFor t all z.located.ordinal Here o
       → IsLeading symbols (record { place = z.offset; kind = k; symbol = Some (number z.located.ordinal Here); addend = x })
   own_symbol z k x at section low there takes small None e h = absurd h
   own_symbol z k x at section low there takes small (Some y) e (named, weak, (s, found, placed, is)) =
-      let same : ◌≡◌ {A = Option Site} (Some s) (Some z) = sym found ∙ at in
+      let same : ◌≡◌ {A = Option LaidStatement} (Some s) (Some z) = sym found ∙ at in
       let it : s ≡ z = cc in
       let stays : (z.offset + 0) % 2 ^ 64 ≡ z.offset = omega (arith, low) in
       record {
@@ -142,11 +142,11 @@ module _ (labels : List Labelled) (b : Bindings) (all : List Site) (number : Num
         to = y;
         there = e;
         sure = weak;
-        definition = is ∙ ap (λ (q : Site). after_site q 0) it ∙ ap (λ n. definitions.InSection n (add z.offset 0)) section ∙ ap (definitions.InSection 0) stays;
+        definition = is ∙ ap (λ (q : LaidStatement). after_statement q 0) it ∙ ap (λ n. definitions.InSection n (add z.offset 0)) section ∙ ap (definitions.InSection 0) stays;
         low = low;
       }
 
-  module _ (z : Site) (plain : IsPlain z.located) (at : site_at all z.located.ordinal ≡ Some z) (low : z.offset ≤ longest_section) where
+  module _ (z : LaidStatement) (plain : IsPlain z.located) (at : laid_at all z.located.ordinal ≡ Some z) (low : z.offset ≤ longest_section) where
     abbrev m : Primary → Meaning
     m q = meaning (table labels quiet b) true z.located.ordinal (place_of z.located) q
 
@@ -205,8 +205,8 @@ module _ (labels : List Labelled) (b : Bindings) (all : List Site) (number : Num
 
   -- ---- all statements
 
-  pub leading : (q : ℕ) (zs : List Site) → Tile t q zs → end_of q zs ≤ longest_section → AllByRecursion (λ (z : Site). IsPlain z.located) zs → AllByRecursion (λ (z : Site). site_at all z.located.ordinal ≡ Some z) zs
-      → AllByRecursion (λ (z : Site). z.bytes ≡ kind_size z.located.kind) zs → AreNumbered (parts t zs) → AreLeading (relocations_from number q (parts t zs))
+  pub leading : (q : ℕ) (zs : List LaidStatement) → Tile t q zs → end_of q zs ≤ longest_section → AllByRecursion (λ (z : LaidStatement). IsPlain z.located) zs → AllByRecursion (λ (z : LaidStatement). laid_at all z.located.ordinal ≡ Some z) zs
+      → AllByRecursion (λ (z : LaidStatement). z.bytes ≡ kind_size z.located.kind) zs → AreNumbered (parts t zs) → AreLeading (relocations_from number q (parts t zs))
   leading q [] tile low p a s h = tt
   leading q (z ∷ zs) (off, bytes, tile) low (plain, ps) (at, ats) (size, sizes) h =
       let (front, back) = all_split (λ p. AllByRecursion (IsNumbered t all number symbols) (references_in p)) (parts_of t z) (parts t zs) h in
@@ -221,4 +221,4 @@ module _ (labels : List Labelled) (b : Bindings) (all : List Site) (number : Num
 pub all_lead : (labels : List Labelled) (b : Bindings) (ks : List StatementKind) (o : Object) (h : IsRaw labels b ks o) → AllByRecursion (IsLeading o.symbols) h.section.relocations
 all_lead labels b ks o h =
     subst (AllByRecursion (IsLeading o.symbols)) (sym (h.is.relocations))
-    (leading labels b h.sites h.number o.symbols 0 h.sites h.is.tile (h.is.short refl) h.plain h.at h.sized (h.is.numbered refl))
+    (leading labels b h.laid h.number o.symbols 0 h.laid h.is.tile (h.is.short refl) h.plain h.at h.sized (h.is.numbered refl))

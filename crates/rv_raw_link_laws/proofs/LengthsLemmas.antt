@@ -26,7 +26,7 @@ use Rattle.rv_disasm.specs.Instruction.{is_tso}
 use Rattle.rv_disasm.specs.Raw.{bytes_of}
 use Rattle.rv_raw_laws.specs.Statements.{access_set, word_statement, code_statement}
 use Rattle.rv_assemble_laws.specs.Coded.{constants, IsCodedPart, AreCodedParts, joined, IsCode}
-use Rattle.rv_assemble_laws.specs.Sites.{Site, HasSize}
+use Rattle.rv_assemble_laws.specs.LaidStatements.{LaidStatement, HasSize}
 use Rattle.rv_raw_link_laws.proofs.StatementsLemmas.{IsInstruction}
 
 -- ---- the bytes of a statement
@@ -122,8 +122,8 @@ pub record IsCodeOf (c : Constants) (kind : StatementKind) (rvc : Bool) (bytes :
 pub of_code : (v : Expression → Value) (rvc : Bool) (m : Mnemonic) (os : List Operand) (bytes : ℕ) (coded : List (List ℕ)) (n : ℕ) → IsCode v rvc m os bytes coded n → IsCodeOf (constants v) (Instruction m os) rvc bytes coded
 of_code v rvc m os bytes coded n h = record { ps = h.ps; parts = h.parts; coded_as = h.coded_as; size = h.size }
 
-pub of_site : (v : Expression → Value) (s : Site) (multiple : ℕ) (kind : StatementKind) → IsInstruction kind → HasSize v s multiple kind → IsCodeOf (constants v) kind s.located.options.rvc s.bytes s.coded
-of_site v s multiple kind i h =
+pub of_laid_statement : (v : Expression → Value) (s : LaidStatement) (multiple : ℕ) (kind : StatementKind) → IsInstruction kind → HasSize v s multiple kind → IsCodeOf (constants v) kind s.located.options.rvc s.bytes s.coded
+of_laid_statement v s multiple kind i h =
     subst (λ k. IsCodeOf (constants v) k s.located.options.rvc s.bytes s.coded) (sym i.is)
     (of_code v s.located.options.rvc i.mnemonic i.operands s.bytes s.coded s.instructions (subst (HasSize v s multiple) i.is h))
 

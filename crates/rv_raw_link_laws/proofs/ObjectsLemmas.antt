@@ -19,30 +19,30 @@ use Rattle.rv_disasm.specs.Raw.{bytes_of}
 use Rattle.rv_raw_laws.specs.Statements.{code_statement, raw_statements, numbered}
 use Rattle.rv_object.specs.Object.{Section, Symbol, Object}
 use Rattle.rv_assemble_laws.specs.Coded.{constants}
-use Rattle.rv_assemble_laws.specs.Sites.{Site, form, part_of, templates, parts_of, part_bytes, sites_in, Tile, end_of, HasSize}
-use Rattle.rv_assemble_laws.specs.Symbols.{site_at, symbols_of}
+use Rattle.rv_assemble_laws.specs.LaidStatements.{LaidStatement, form, part_of, templates, parts_of, part_bytes, laid_in, Tile, end_of, HasSize}
+use Rattle.rv_assemble_laws.specs.Symbols.{laid_at, symbols_of}
 use Rattle.rv_assemble_laws.specs.IsObjectOf.{Numbering, IsSectionOf, AreSectionsOf, IsObjectOf}
 use Rattle.rv_raw_link_laws.specs.Listed.{listed, IsShortListing}
 use Rattle.rv_raw_link_laws.proofs.ItemsLemmas.{IsFound, all_found, AreNumberedFrom, numbered_from, fine, exact}
 use Rattle.rv_raw_laws.specs.Meaning.{LeadsFromItself}
 use Rattle.rv_raw_laws.proofs.SizesLemmas.{sizes_are}
-use Rattle.rv_raw_link_laws.proofs.LengthsLemmas.{kind_size, weight, weight_join, both_weight, IsCodeOf, of_site}
+use Rattle.rv_raw_link_laws.proofs.LengthsLemmas.{kind_size, weight, weight_join, both_weight, IsCodeOf, of_laid_statement}
 use Rattle.rv_raw_link_laws.proofs.StatementsLemmas.{code_instruction, start_name, quiet, table, entry_label, table_is, IsHead, IsOfCode, IsPlain, ArePlain, all_plain}
 
 -- an object of statements that stand so
 pub record IsRaw (labels : List Labelled) (b : Bindings) (ks : List StatementKind) (o : Object) : Type 0 where
-  pub sites : List Site
-  pub kinds : map (λ (z : Site). z.located.kind) sites ≡ ks
-  pub plain : AllByRecursion (λ (z : Site). IsPlain z.located) sites
-  pub found : AllByRecursion (λ (z : Site). IsFound (map (λ (z : Site). z.located) sites) z.located) sites
-  pub at : AllByRecursion (λ (z : Site). site_at sites z.located.ordinal ≡ Some z) sites
-  pub sized : AllByRecursion (λ (z : Site). z.bytes ≡ kind_size z.located.kind) sites
+  pub laid : List LaidStatement
+  pub kinds : map (λ (z : LaidStatement). z.located.kind) laid ≡ ks
+  pub plain : AllByRecursion (λ (z : LaidStatement). IsPlain z.located) laid
+  pub found : AllByRecursion (λ (z : LaidStatement). IsFound (map (λ (z : LaidStatement). z.located) laid) z.located) laid
+  pub at : AllByRecursion (λ (z : LaidStatement). laid_at laid z.located.ordinal ≡ Some z) laid
+  pub sized : AllByRecursion (λ (z : LaidStatement). z.bytes ≡ kind_size z.located.kind) laid
   pub number : Numbering
   pub section : Section
   pub alone : o.sections ≡ section ∷ []
-  pub in_it : sites_in 0 sites ≡ sites
-  pub is : IsSectionOf (table labels quiet b) sites number o.symbols 0 text_section sites section
-  pub symbols : o.symbols ≡ symbols_of (table labels quiet b) sites
+  pub in_it : laid_in 0 laid ≡ laid
+  pub is : IsSectionOf (table labels quiet b) laid number o.symbols 0 text_section laid section
+  pub symbols : o.symbols ≡ symbols_of (table labels quiet b) laid
 
 -- ---- lists
 
@@ -55,27 +55,27 @@ paired P Q [] h k = tt
 paired P Q (x ∷ xs) (p, ps) (q, qs) = ((p, q), paired P Q xs ps qs)
 
 -- each statement is the one of its ordinal
-later : (k : ℕ) (zs : List Site) → AreNumberedFrom k (map (λ (z : Site). z.located) zs) → AllByRecursion (λ (z : Site). k < z.located.ordinal) zs
+later : (k : ℕ) (zs : List LaidStatement) → AreNumberedFrom k (map (λ (z : LaidStatement). z.located) zs) → AllByRecursion (λ (z : LaidStatement). k < z.located.ordinal) zs
 later k [] n = tt
-later k (z ∷ zs) (at, n) = (omega (arith, at), all_map (λ (q : Site). suc k < q.located.ordinal) (λ (q : Site). k < q.located.ordinal) zs (λ q lt. omega (arith, lt)) (later (suc k) zs n))
+later k (z ∷ zs) (at, n) = (omega (arith, at), all_map (λ (q : LaidStatement). suc k < q.located.ordinal) (λ (q : LaidStatement). k < q.located.ordinal) zs (λ q lt. omega (arith, lt)) (later (suc k) zs n))
 
-all_at : (k : ℕ) (zs : List Site) → AreNumberedFrom k (map (λ (z : Site). z.located) zs) → AllByRecursion (λ (z : Site). site_at zs z.located.ordinal ≡ Some z) zs
+all_at : (k : ℕ) (zs : List LaidStatement) → AreNumberedFrom k (map (λ (z : LaidStatement). z.located) zs) → AllByRecursion (λ (z : LaidStatement). laid_at zs z.located.ordinal ≡ Some z) zs
 all_at k [] n = tt
 all_at k (y ∷ ys) (at, n) = (
-  ap (λ b. if b then Some y else site_at ys y.located.ordinal) (eq-eqb y.located.ordinal y.located.ordinal refl),
-  all_map Both (λ (z : Site). site_at (y ∷ ys) z.located.ordinal ≡ Some z) ys further
-      (paired (λ (z : Site). site_at ys z.located.ordinal ≡ Some z) (λ (z : Site). suc k < z.located.ordinal) ys (all_at (suc k) ys n) (later (suc k) ys n)),
+  ap (λ b. if b then Some y else laid_at ys y.located.ordinal) (eq-eqb y.located.ordinal y.located.ordinal refl),
+  all_map Both (λ (z : LaidStatement). laid_at (y ∷ ys) z.located.ordinal ≡ Some z) ys further
+      (paired (λ (z : LaidStatement). laid_at ys z.located.ordinal ≡ Some z) (λ (z : LaidStatement). suc k < z.located.ordinal) ys (all_at (suc k) ys n) (later (suc k) ys n)),
 )
   where
-    Both : Site → Type 0
-    Both z = (site_at ys z.located.ordinal ≡ Some z) × (suc k < z.located.ordinal)
+    Both : LaidStatement → Type 0
+    Both z = (laid_at ys z.located.ordinal ≡ Some z) × (suc k < z.located.ordinal)
 
-    further : (z : Site) → Both z → site_at (y ∷ ys) z.located.ordinal ≡ Some z
-    further z (e, lt) = ap (λ b. if b then Some y else site_at ys z.located.ordinal) (ne_eqb y.located.ordinal z.located.ordinal (λ same. omega (arith, same, lt, at))) ∙ e
+    further : (z : LaidStatement) → Both z → laid_at (y ∷ ys) z.located.ordinal ≡ Some z
+    further z (e, lt) = ap (λ b. if b then Some y else laid_at ys z.located.ordinal) (ne_eqb y.located.ordinal z.located.ordinal (λ same. omega (arith, same, lt, at))) ∙ e
 
-pub all_within : (zs : List Site) → AllByRecursion (λ (z : Site). IsPlain z.located) zs → sites_in 0 zs ≡ zs
+pub all_within : (zs : List LaidStatement) → AllByRecursion (λ (z : LaidStatement). IsPlain z.located) zs → laid_in 0 zs ≡ zs
 all_within [] h = refl
-all_within (z ∷ zs) (one, h) = ap (λ b. if b then z ∷ sites_in 0 zs else sites_in 0 zs) (eq-eqb z.located.section 0 one.section) ∙ ap (λ l. z ∷ l) (all_within zs h)
+all_within (z ∷ zs) (one, h) = ap (λ b. if b then z ∷ laid_in 0 zs else laid_in 0 zs) (eq-eqb z.located.section 0 one.section) ∙ ap (λ l. z ∷ l) (all_within zs h)
 
 module _ (labels : List Labelled) (b : Bindings) where
   abbrev t : Tables
@@ -83,15 +83,15 @@ module _ (labels : List Labelled) (b : Bindings) where
 
   -- ---- one section
 
-  pub one_section : (sites : List Site) (number : Numbering) (symbols : List Symbol) (xs : List Section) → AreSectionsOf (table labels quiet b) sites number symbols 0 (text_section ∷ []) xs
-      → (x : Section) × ((xs ≡ x ∷ []) × IsSectionOf (table labels quiet b) sites number symbols 0 text_section (sites_in 0 sites) x)
-  one_section sites number symbols [] h = absurd h
-  one_section sites number symbols (x ∷ []) (h, more) = (x, (refl, h))
-  one_section sites number symbols (x ∷ y ∷ xs) (h, more) = absurd more
+  pub one_section : (laid : List LaidStatement) (number : Numbering) (symbols : List Symbol) (xs : List Section) → AreSectionsOf (table labels quiet b) laid number symbols 0 (text_section ∷ []) xs
+      → (x : Section) × ((xs ≡ x ∷ []) × IsSectionOf (table labels quiet b) laid number symbols 0 text_section (laid_in 0 laid) x)
+  one_section laid number symbols [] h = absurd h
+  one_section laid number symbols (x ∷ []) (h, more) = (x, (refl, h))
+  one_section laid number symbols (x ∷ y ∷ xs) (h, more) = absurd more
 
   -- ---- sizes
 
-  tiled : (o : ℕ) (zs : List Site) → Tile (table labels quiet b) o zs → AllByRecursion (λ (z : Site). z.bytes ≡ length (flat_map part_bytes (parts_of (table labels quiet b) z))) zs
+  tiled : (o : ℕ) (zs : List LaidStatement) → Tile (table labels quiet b) o zs → AllByRecursion (λ (z : LaidStatement). z.bytes ≡ length (flat_map part_bytes (parts_of (table labels quiet b) z))) zs
   tiled o [] h = tt
   tiled o (z ∷ zs) (at, bytes, h) = (bytes, tiled (o + z.bytes) zs h)
 
@@ -102,30 +102,30 @@ module _ (labels : List Labelled) (b : Bindings) where
   all_fine all k (s ∷ ls) (bytes ∷ sizes) (one, h) (found, f) (at, n) (suc i) =
       subst (λ j. LeadsFromItself j (item_at (items_of (table labels quiet b) all ls sizes) i)) (let e : suc k + i ≡ k + suc i = omega arith in e) (all_fine all (suc k) ls sizes h f n i)
 
-  abbrev IsSmallest : List Located → Site → Type 0
+  abbrev IsSmallest : List Located → LaidStatement → Type 0
   IsSmallest all z = z.bytes ≡ smallest (item_by_kind (table labels quiet b) all z.located z.bytes z.located.kind).forms
 
-  each_smallest : (all : List Located) (zs : List Site)
-      → ((i : ℕ) → slice_index (map (λ (z : Site). z.bytes) zs) i ≡ smallest (item_at (items_of (table labels quiet b) all (map (λ (z : Site). z.located) zs) (map (λ (z : Site). z.bytes) zs)) i).forms)
+  each_smallest : (all : List Located) (zs : List LaidStatement)
+      → ((i : ℕ) → slice_index (map (λ (z : LaidStatement). z.bytes) zs) i ≡ smallest (item_at (items_of (table labels quiet b) all (map (λ (z : LaidStatement). z.located) zs) (map (λ (z : LaidStatement). z.bytes) zs)) i).forms)
       → AllByRecursion (IsSmallest all) zs
   each_smallest all [] h = tt
   each_smallest all (z ∷ zs) h = (h 0, each_smallest all zs (λ i. h (suc i)))
 
   -- those of one statement
-  head_bytes : (z : Site) (kind : StatementKind) → IsHead kind → z.located.kind ≡ kind → z.bytes ≡ length (flat_map part_bytes (parts_of (table labels quiet b) z)) → z.bytes ≡ kind_size kind
+  head_bytes : (z : LaidStatement) (kind : StatementKind) → IsHead kind → z.located.kind ≡ kind → z.bytes ≡ length (flat_map part_bytes (parts_of (table labels quiet b) z)) → z.bytes ≡ kind_size kind
   head_bytes z kind (inl e) same bytes = bytes ∙ ap (λ k. length (flat_map part_bytes (map (part_of z.located.ordinal) (templates (table labels quiet b) z k)))) (same ∙ e) ∙ ap kind_size (sym e)
   head_bytes z kind (inr (inl (choice, e))) same bytes = bytes ∙ ap (λ k. length (flat_map part_bytes (map (part_of z.located.ordinal) (templates (table labels quiet b) z k)))) (same ∙ e) ∙ ap kind_size (sym e)
   head_bytes z kind (inr (inr (binding, (names, e)))) same bytes = bytes ∙ ap (λ k. length (flat_map part_bytes (map (part_of z.located.ordinal) (templates (table labels quiet b) z k)))) (same ∙ e) ∙ ap kind_size (sym e)
 
   -- the code of one
-  pub code_of : (z : Site) (multiple : ℕ) (c : IsOfCode z.located) → (z.located.placed ≡ true → HasSize (form (table labels quiet b) z.located) z multiple z.located.kind)
+  pub code_of : (z : LaidStatement) (multiple : ℕ) (c : IsOfCode z.located) → (z.located.placed ≡ true → HasSize (form (table labels quiet b) z.located) z multiple z.located.kind)
       → IsCodeOf (constants (value_of (λ q. meaning (table labels quiet b) true z.located.ordinal (place_of z.located) q))) (code_statement c.code) false z.bytes z.coded
   code_of z multiple c size =
       let v = value_of (λ q. meaning (table labels quiet b) true z.located.ordinal (place_of z.located) q) in
       subst (λ r. IsCodeOf (constants v) (code_statement c.code) r z.bytes z.coded) c.rvc
-      (of_site v z multiple (code_statement c.code) (code_instruction c.code) (subst (HasSize v z multiple) c.kind (size c.placed)))
+      (of_laid_statement v z multiple (code_statement c.code) (code_instruction c.code) (subst (HasSize v z multiple) c.kind (size c.placed)))
 
-  own_bytes : (all : List Located) (multiple : ℕ) (z : Site) → IsPlain z.located → IsFound all z.located → IsSmallest all z → z.bytes ≡ length (flat_map part_bytes (parts_of (table labels quiet b) z))
+  own_bytes : (all : List Located) (multiple : ℕ) (z : LaidStatement) → IsPlain z.located → IsFound all z.located → IsSmallest all z → z.bytes ≡ length (flat_map part_bytes (parts_of (table labels quiet b) z))
       → (z.located.placed ≡ true → HasSize (form (table labels quiet b) z.located) z multiple z.located.kind) → z.bytes ≡ kind_size z.located.kind
   own_bytes all multiple z plain found least bytes size = by plain.says
     where
@@ -135,9 +135,9 @@ module _ (labels : List Labelled) (b : Bindings) where
           ∙ ap kind_size (sym c.kind)
       by (inr head) = head_bytes z z.located.kind head refl bytes
 
-  all_bytes : (all : List Located) (multiple : ℕ) (zs : List Site) → AllByRecursion (λ (z : Site). IsPlain z.located) zs → AllByRecursion (λ (z : Site). IsFound all z.located) zs → AllByRecursion (IsSmallest all) zs
-      → AllByRecursion (λ (z : Site). z.bytes ≡ length (flat_map part_bytes (parts_of (table labels quiet b) z))) zs
-      → AllByRecursion (λ (z : Site). z.located.placed ≡ true → HasSize (form (table labels quiet b) z.located) z multiple z.located.kind) zs → AllByRecursion (λ (z : Site). z.bytes ≡ kind_size z.located.kind) zs
+  all_bytes : (all : List Located) (multiple : ℕ) (zs : List LaidStatement) → AllByRecursion (λ (z : LaidStatement). IsPlain z.located) zs → AllByRecursion (λ (z : LaidStatement). IsFound all z.located) zs → AllByRecursion (IsSmallest all) zs
+      → AllByRecursion (λ (z : LaidStatement). z.bytes ≡ length (flat_map part_bytes (parts_of (table labels quiet b) z))) zs
+      → AllByRecursion (λ (z : LaidStatement). z.located.placed ≡ true → HasSize (form (table labels quiet b) z.located) z multiple z.located.kind) zs → AllByRecursion (λ (z : LaidStatement). z.bytes ≡ kind_size z.located.kind) zs
   all_bytes all multiple [] p f l b s = tt
   all_bytes all multiple (z ∷ zs) (p, ps) (f, fs) (l, ls) (b, bs) (s, ss) = (own_bytes all multiple z p f l b s, all_bytes all multiple zs ps fs ls bs ss)
 
@@ -160,44 +160,44 @@ module _ (before after : List Code) (h : IsShortListing before after) (o : Objec
   unfolding entry
   same = (table_is before after).1
 
-  plain : AllByRecursion (λ (z : Site). IsPlain z.located) is.sites
-  plain = unmapped (λ (z : Site). z.located) IsPlain is.sites (subst ArePlain (sym is.located) (all_plain before after h.sourced))
+  plain : AllByRecursion (λ (z : LaidStatement). IsPlain z.located) is.laid
+  plain = unmapped (λ (z : LaidStatement). z.located) IsPlain is.laid (subst ArePlain (sym is.located) (all_plain before after h.sourced))
 
-  found : AllByRecursion (λ (z : Site). IsFound (map (λ (z : Site). z.located) is.sites) z.located) is.sites
+  found : AllByRecursion (λ (z : LaidStatement). IsFound (map (λ (z : LaidStatement). z.located) is.laid) z.located) is.laid
   found =
-      let ls = map (λ (z : Site). z.located) is.sites in
-      unmapped (λ (z : Site). z.located) (IsFound ls) is.sites (all_found ls (subst ArePlain (sym is.located) (all_plain before after h.sourced)))
+      let ls = map (λ (z : LaidStatement). z.located) is.laid in
+      unmapped (λ (z : LaidStatement). z.located) (IsFound ls) is.laid (all_found ls (subst ArePlain (sym is.located) (all_plain before after h.sourced)))
 
-  section : (x : Section) × ((o.sections ≡ x ∷ []) × IsSectionOf listed_table is.sites is.number o.symbols 0 text_section (sites_in 0 is.sites) x)
+  section : (x : Section) × ((o.sections ≡ x ∷ []) × IsSectionOf listed_table is.laid is.number o.symbols 0 text_section (laid_in 0 is.laid) x)
   section =
-      one_section (entry_label entry ∷ []) bindings is.sites is.number o.symbols o.sections
-      (subst (λ u. AreSectionsOf u is.sites is.number o.symbols 0 (opened_of u).sections o.sections) same is.sections)
+      one_section (entry_label entry ∷ []) bindings is.laid is.number o.symbols o.sections
+      (subst (λ u. AreSectionsOf u is.laid is.number o.symbols 0 (opened_of u).sections o.sections) same is.sections)
 
-  inside : sites_in 0 is.sites ≡ is.sites
-  inside = all_within is.sites plain
+  inside : laid_in 0 is.laid ≡ is.laid
+  inside = all_within is.laid plain
 
-  its : IsSectionOf listed_table is.sites is.number o.symbols 0 text_section is.sites section.0
-  its = subst (λ zs. IsSectionOf listed_table is.sites is.number o.symbols 0 text_section zs section.0) inside section.1.1
+  its : IsSectionOf listed_table is.laid is.number o.symbols 0 text_section is.laid section.0
+  its = subst (λ zs. IsSectionOf listed_table is.laid is.number o.symbols 0 text_section zs section.0) inside section.1.1
 
-  numbers : AreNumberedFrom 0 (map (λ (z : Site). z.located) is.sites)
+  numbers : AreNumberedFrom 0 (map (λ (z : LaidStatement). z.located) is.laid)
   numbers = subst (AreNumberedFrom 0) (sym is.located) (numbered_from 0 (at_start (listed before after)) (listed before after))
 
-  smallest_each : AllByRecursion (IsSmallest (entry_label entry ∷ []) bindings (map (λ (z : Site). z.located) is.sites)) is.sites
+  smallest_each : AllByRecursion (IsSmallest (entry_label entry ∷ []) bindings (map (λ (z : LaidStatement). z.located) is.laid)) is.laid
   smallest_each =
-      let ls = map (λ (z : Site). z.located) is.sites in
-      let sizes = map (λ (z : Site). z.bytes) is.sites in
+      let ls = map (λ (z : LaidStatement). z.located) is.laid in
+      let sizes = map (λ (z : LaidStatement). z.bytes) is.laid in
       let least : AreLeast listed_table ls sizes = subst (λ u. AreLeast u ls sizes) same (subst (λ l. AreLeast (tables (listed before after)) l sizes) (sym is.located) is.least) in
       let plain_all : ArePlain ls = subst ArePlain (sym is.located) (all_plain before after h.sourced) in
-      each_smallest (entry_label entry ∷ []) bindings ls is.sites
+      each_smallest (entry_label entry ∷ []) bindings ls is.laid
       (sizes_are (items_of listed_table ls ls sizes) sizes
       (λ i. subst (λ j. LeadsFromItself j (item_at (items_of listed_table ls ls sizes) i)) (let e : 0 + i ≡ i = omega arith in e)
       (all_fine (entry_label entry ∷ []) bindings ls 0 ls sizes plain_all (all_found ls plain_all) numbers i)) least)
 
   -- its statements, in order
-  kinds : map (λ (z : Site). z.located.kind) is.sites ≡ raw_statements before after
-  kinds = mapped is.sites ∙ ap (map (λ (l : Located). l.kind)) is.located ∙ said_kinds 1 1 (at_start (listed before after)) (raw_statements before after)
+  kinds : map (λ (z : LaidStatement). z.located.kind) is.laid ≡ raw_statements before after
+  kinds = mapped is.laid ∙ ap (map (λ (l : Located). l.kind)) is.located ∙ said_kinds 1 1 (at_start (listed before after)) (raw_statements before after)
     where
-      mapped : (zs : List Site) → map (λ (z : Site). z.located.kind) zs ≡ map (λ (l : Located). l.kind) (map (λ (z : Site). z.located) zs)
+      mapped : (zs : List LaidStatement) → map (λ (z : LaidStatement). z.located.kind) zs ≡ map (λ (l : Located). l.kind) (map (λ (z : LaidStatement). z.located) zs)
       mapped [] = refl
       mapped (z ∷ zs) = ap (λ l. z.located.kind ∷ l) (mapped zs)
 
@@ -207,23 +207,23 @@ module _ (before after : List Code) (h : IsShortListing before after) (o : Objec
 
   pub raw : IsRaw (entry_label entry ∷ []) bindings (raw_statements before after) o
   raw = record {
-    sites = is.sites;
+    laid = is.laid;
     kinds = kinds;
     plain = plain;
     found = found;
-    at = all_at 0 is.sites numbers;
-    sized = all_bytes (entry_label entry ∷ []) bindings (map (λ (z : Site). z.located) is.sites) section.0.alignment is.sites plain found smallest_each (tiled (entry_label entry ∷ []) bindings 0 is.sites its.tile) its.sizes;
+    at = all_at 0 is.laid numbers;
+    sized = all_bytes (entry_label entry ∷ []) bindings (map (λ (z : LaidStatement). z.located) is.laid) section.0.alignment is.laid plain found smallest_each (tiled (entry_label entry ∷ []) bindings 0 is.laid its.tile) its.sizes;
     number = is.number;
     section = section.0;
     alone = section.1.0;
     in_it = inside;
     is = its;
-    symbols = is.symbols ∙ ap (λ (u : Tables). symbols_of u is.sites) same;
+    symbols = is.symbols ∙ ap (λ (u : Tables). symbols_of u is.laid) same;
   }
 
 -- ---- the bytes of all of it
 
-pub end_is : (zs : List Site) (offset : ℕ) → AllByRecursion (λ (z : Site). z.bytes ≡ kind_size z.located.kind) zs → end_of offset zs ≡ offset + weight (map (λ (z : Site). z.located.kind) zs)
+pub end_is : (zs : List LaidStatement) (offset : ℕ) → AllByRecursion (λ (z : LaidStatement). z.bytes ≡ kind_size z.located.kind) zs → end_of offset zs ≡ offset + weight (map (λ (z : LaidStatement). z.located.kind) zs)
 end_is [] offset h = omega arith
 end_is (z ∷ zs) offset (one, h) = let e = end_is zs (offset + z.bytes) h in omega (arith, one, e)
 

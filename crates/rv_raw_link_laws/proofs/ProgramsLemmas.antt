@@ -8,7 +8,7 @@ use Rattle.rv_disasm.specs.declared.code.Code.{Code}
 use Rattle.rv_disasm.specs.Raw.{bytes_of}
 use Rattle.rv_raw_laws.specs.Statements.{raw_statements}
 use Rattle.rv_object.specs.Object.{Object, size_of}
-use Rattle.rv_assemble_laws.specs.Sites.{part_bytes, parts, end_of}
+use Rattle.rv_assemble_laws.specs.LaidStatements.{part_bytes, parts, end_of}
 use Rattle.rv_assemble_laws.specs.IsObjectOf.{IsObjectOf}
 use Rattle.rv_assemble_laws.proofs.FilledLemmas.{filled}
 use Rattle.rv_link.specs.declared.fault.LinkFault.{LinkFault}
@@ -39,15 +39,15 @@ module _ (before after : List Code) (h : IsShortListing before after) (o : Objec
   abbrev it : IsRaw (entry_label (entry before after h o is) ∷ []) (bindings_of (listed before after)) (raw_statements before after) o
   it = raw before after h o is
 
-  size_is : size_of it.section.contents ≡ end_of 0 it.sites
+  size_is : size_of it.section.contents ≡ end_of 0 it.laid
   size_is =
       let t = table labels quiet bindings in
-      let e = filled t 0 it.sites it.is.tile in
-      let c : size_of it.section.contents ≡ length (flat_map part_bytes (parts t it.sites)) = ap size_of it.is.contents in
+      let e = filled t 0 it.laid it.is.tile in
+      let c : size_of it.section.contents ≡ length (flat_map part_bytes (parts t it.laid)) = ap size_of it.is.contents in
       omega (arith, e, c)
 
-  all_bytes : end_of 0 it.sites ≡ length (flat_map bytes_of (before ++ after))
-  all_bytes = end_is it.sites 0 it.sized ∙ (let e = ap weight it.kinds in let f = raw_weight before after in omega (arith, e, f))
+  all_bytes : end_of 0 it.laid ≡ length (flat_map bytes_of (before ++ after))
+  all_bytes = end_is it.laid 0 it.sized ∙ (let e = ap weight it.kinds in let f = raw_weight before after in omega (arith, e, f))
 
   simple : IsSimple o start
   simple = record {
@@ -60,7 +60,7 @@ module _ (before after : List Code) (h : IsShortListing before after) (o : Objec
     entered = entered labels bindings (entry_is_global before after) o before after it;
     begins = begins;
     fits = omega (arith, size_is, all_bytes, fits);
-    small = (let short : end_of 0 it.sites ≤ longest_section = it.is.short refl in omega (arith, size_is, short));
+    small = (let short : end_of 0 it.laid ≤ longest_section = it.is.short refl in omega (arith, size_is, short));
   }
 
 -- ---- its link

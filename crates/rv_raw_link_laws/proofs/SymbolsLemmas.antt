@@ -20,8 +20,8 @@ use Rattle.rv_object.specs.declared.symbol.Definition.TheVariants.{Undefined, In
 use Rattle.rv_object.specs.Bindings.{is_global, is_weak}
 use Rattle.rv_object.specs.Object.{Symbol, Object}
 use Rattle.rv_object_laws.specs.Names.{Export, is_defined, exports_in, exports_where, chosen, global_names}
-use Rattle.rv_assemble_laws.specs.Sites.{Site, Tile, end_of}
-use Rattle.rv_assemble_laws.specs.Symbols.{SymbolUse, outer_binding, site_definition, local_symbol, shared_symbol, is_absolute, references, is_meant, are_together, unnamed_symbols, named_symbols, local_symbols, exports_of, exports, undefined_symbols, missing_name, distinct_from}
+use Rattle.rv_assemble_laws.specs.LaidStatements.{LaidStatement, Tile, end_of}
+use Rattle.rv_assemble_laws.specs.Symbols.{SymbolUse, outer_binding, statement_definition, local_symbol, shared_symbol, is_absolute, references, is_meant, are_together, unnamed_symbols, named_symbols, local_symbols, exports_of, exports, undefined_symbols, missing_name, distinct_from}
 use Rattle.rv_raw_link_laws.proofs.FieldsLemmas.{end_above}
 use Rattle.rv_raw_link_laws.proofs.LengthsLemmas.{kind_size}
 use Rattle.rv_raw_link_laws.proofs.ObjectsLemmas.{IsRaw}
@@ -36,12 +36,12 @@ even_size (Label name) = refl
 even_size (Numbered number) = refl
 even_size (Directs d) = refl
 
-pub record IsStanding (z : Site) : Type 0 where
+pub record IsStanding (z : LaidStatement) : Type 0 where
   pub section : z.located.section ≡ 0
   pub even : z.offset % 2 ≡ 0
   pub low : z.offset ≤ longest_section
 
-standing : (t : Tables) (q : ℕ) (zs : List Site) → q % 2 ≡ 0 → Tile t q zs → end_of q zs ≤ longest_section → AllByRecursion (λ (z : Site). IsPlain z.located) zs → AllByRecursion (λ (z : Site). z.bytes ≡ kind_size z.located.kind) zs
+standing : (t : Tables) (q : ℕ) (zs : List LaidStatement) → q % 2 ≡ 0 → Tile t q zs → end_of q zs ≤ longest_section → AllByRecursion (λ (z : LaidStatement). IsPlain z.located) zs → AllByRecursion (λ (z : LaidStatement). z.bytes ≡ kind_size z.located.kind) zs
     → AllByRecursion IsStanding zs
 standing t q [] even tile low p s = tt
 standing t q (z ∷ zs) even (off, bytes, tile) low (plain, ps) (size, sizes) =
@@ -56,8 +56,8 @@ standing t q (z ∷ zs) even (off, bytes, tile) low (plain, ps) (size, sizes) =
 abbrev IsLocal : Symbol → Type 0
 IsLocal x = x.binding ≡ Local
 
-module _ (t : Tables) (sites : List Site) where
-  unnamed_local : (rs : List SymbolUse) (before : List Site) (s : Site) → AllByRecursion IsLocal (unnamed_symbols t rs before s)
+module _ (t : Tables) (laid : List LaidStatement) where
+  unnamed_local : (rs : List SymbolUse) (before : List LaidStatement) (s : LaidStatement) → AllByRecursion IsLocal (unnamed_symbols t rs before s)
   unnamed_local rs before s = by (is_meant t rs s && not (list_any (λ q. are_together s q && is_meant t rs q) before))
     where
       by : (b : Bool) → AllByRecursion IsLocal (if b then local_symbol [] (InSection s.located.section s.offset) ∷ [] else [])
@@ -68,16 +68,16 @@ module _ (t : Tables) (sites : List Site) where
   mapped_local d [] = tt
   mapped_local d (name ∷ names) = (refl, mapped_local d names)
 
-  named_local : (s : Site) → AllByRecursion IsLocal (named_symbols t sites s)
+  named_local : (s : LaidStatement) → AllByRecursion IsLocal (named_symbols t laid s)
   named_local s =
-      all_filter IsLocal (λ x. not (is_absolute x)) (map (λ name. local_symbol name (site_definition t sites s s.located.kind)) (names_where (λ b. not (source_bindings.is_shared b)) t s.located))
-      (mapped_local (site_definition t sites s s.located.kind) (names_where (λ b. not (source_bindings.is_shared b)) t s.located))
+      all_filter IsLocal (λ x. not (is_absolute x)) (map (λ name. local_symbol name (statement_definition t laid s s.located.kind)) (names_where (λ b. not (source_bindings.is_shared b)) t s.located))
+      (mapped_local (statement_definition t laid s s.located.kind) (names_where (λ b. not (source_bindings.is_shared b)) t s.located))
 
-  locals : (before rest : List Site) → AllByRecursion IsLocal (local_symbols t sites before rest)
+  locals : (before rest : List LaidStatement) → AllByRecursion IsLocal (local_symbols t laid before rest)
   locals before [] = tt
   locals before (s ∷ rest) =
-      all_join IsLocal (unnamed_symbols t (references t sites) before s) (named_symbols t sites s ++ local_symbols t sites (before ++ s ∷ []) rest) (unnamed_local (references t sites) before s)
-      (all_join IsLocal (named_symbols t sites s) (local_symbols t sites (before ++ s ∷ []) rest) (named_local s) (locals (before ++ s ∷ []) rest))
+      all_join IsLocal (unnamed_symbols t (references t laid) before s) (named_symbols t laid s ++ local_symbols t laid (before ++ s ∷ []) rest) (unnamed_local (references t laid) before s)
+      (all_join IsLocal (named_symbols t laid s) (local_symbols t laid (before ++ s ∷ []) rest) (named_local s) (locals (before ++ s ∷ []) rest))
 
 -- ---- what they export
 
@@ -104,38 +104,38 @@ module _ (file : ℕ) (o : Object) where
 
 -- ---- the names of statements
 
-module _ (labels : List Labelled) (b : Bindings) (global : b start_name ≡ source.Global) (sites : List Site) where
+module _ (labels : List Labelled) (b : Bindings) (global : b start_name ≡ source.Global) (laid : List LaidStatement) where
   abbrev t : Tables
   t = table labels quiet b
 
-  abbrev said : List Site → List Symbol
-  said zs = flat_map (exports_of (table labels quiet b) sites) zs
+  abbrev said : List LaidStatement → List Symbol
+  said zs = flat_map (exports_of (table labels quiet b) laid) zs
 
-  abbrev kinds_of : List Site → List StatementKind
-  kinds_of zs = map (λ (z : Site). z.located.kind) zs
+  abbrev kinds_of : List LaidStatement → List StatementKind
+  kinds_of zs = map (λ (z : LaidStatement). z.located.kind) zs
 
   -- what defines no name
-  nothing : (z : Site) (kind : StatementKind) → z.located.kind ≡ kind → defined_name t z.located.ordinal kind ≡ [] → exports_of t sites z ≡ []
+  nothing : (z : LaidStatement) (kind : StatementKind) → z.located.kind ≡ kind → defined_name t z.located.ordinal kind ≡ [] → exports_of t laid z ≡ []
   nothing z kind e none =
-      ap (λ l. map (λ name. shared_symbol t name (site_definition t sites z z.located.kind)) (filter (λ name. source_bindings.is_shared (t.bindings name)) l)) (ap (defined_name t z.located.ordinal) e ∙ none)
+      ap (λ l. map (λ name. shared_symbol t name (statement_definition t laid z z.located.kind)) (filter (λ name. source_bindings.is_shared (t.bindings name)) l)) (ap (defined_name t z.located.ordinal) e ∙ none)
 
   code_nothing : (ordinal : ℕ) (c : Code) → defined_name t ordinal (code_statement c) ≡ []
   code_nothing ordinal c = ap (defined_name t ordinal) (code_instruction c).is
 
-  pub record IsPast (zs : List Site) (rest : List StatementKind) : Type 0 where
-    pub left : List Site
+  pub record IsPast (zs : List LaidStatement) (rest : List StatementKind) : Type 0 where
+    pub left : List LaidStatement
     pub kinds : kinds_of left ≡ rest
     pub same : said zs ≡ said left
     pub stand : AllByRecursion IsStanding left
 
-  past_one : (k : StatementKind) (rest : List StatementKind) (zs : List Site) → ((n : ℕ) → defined_name t n k ≡ []) → kinds_of zs ≡ k ∷ rest → AllByRecursion IsStanding zs → IsPast zs rest
+  past_one : (k : StatementKind) (rest : List StatementKind) (zs : List LaidStatement) → ((n : ℕ) → defined_name t n k ≡ []) → kinds_of zs ≡ k ∷ rest → AllByRecursion IsStanding zs → IsPast zs rest
   past_one k rest [] none e h = absurd (cc)
   past_one k rest (z ∷ zs) none e (one, h) =
       let first : z.located.kind ≡ k = cc in
       let more : kinds_of zs ≡ rest = cc in
       record { left = zs; kinds = more; same = ap (λ l. l ++ said zs) (nothing z k first (none z.located.ordinal)); stand = h }
 
-  past_codes : (cs : List Code) (rest : List StatementKind) (zs : List Site) → kinds_of zs ≡ map code_statement cs ++ rest → AllByRecursion IsStanding zs → IsPast zs rest
+  past_codes : (cs : List Code) (rest : List StatementKind) (zs : List LaidStatement) → kinds_of zs ≡ map code_statement cs ++ rest → AllByRecursion IsStanding zs → IsPast zs rest
   past_codes [] rest zs e h = record { left = zs; kinds = e; same = refl; stand = h }
   past_codes (c ∷ cs) rest zs e h =
       let p = past_one (code_statement c) (map code_statement cs ++ rest) zs (λ n. code_nothing n c) e h in
@@ -145,24 +145,24 @@ module _ (labels : List Labelled) (b : Bindings) (global : b start_name ≡ sour
   abbrev entry_symbol : ℕ → Symbol
   entry_symbol offset = record { name = start_name; binding = Global; definition = InSection 0 offset }
 
-  of_label : (z : Site) → z.located.kind ≡ Label start_name → z.located.section ≡ 0 → exports_of t sites z ≡ entry_symbol z.offset ∷ []
+  of_label : (z : LaidStatement) → z.located.kind ≡ Label start_name → z.located.section ≡ 0 → exports_of t laid z ≡ entry_symbol z.offset ∷ []
   of_label z e section =
-      ap (λ k. map (λ name. shared_symbol t name (site_definition t sites z k)) (filter (λ name. source_bindings.is_shared (t.bindings name)) (defined_name t z.located.ordinal k))) e
+      ap (λ k. map (λ name. shared_symbol t name (statement_definition t laid z k)) (filter (λ name. source_bindings.is_shared (t.bindings name)) (defined_name t z.located.ordinal k))) e
       ∙ ap (λ g. map (λ name. shared_symbol t name (InSection z.located.section z.offset)) (if source_bindings.is_shared g then start_name ∷ [] else [])) global
       ∙ ap (λ g. record { name = start_name; binding = outer_binding g; definition = InSection z.located.section z.offset } ∷ []) global
       ∙ ap (λ n. record { name = start_name; binding = Global; definition = InSection n z.offset } ∷ []) section
 
-  pub record IsNamedOnce (zs : List Site) : Type 0 where
+  pub record IsNamedOnce (zs : List LaidStatement) : Type 0 where
     pub offset : ℕ
     pub even : offset % 2 ≡ 0
     pub low : offset ≤ longest_section
     pub once : said zs ≡ entry_symbol offset ∷ []
 
-  none_left : (zs : List Site) → kinds_of zs ≡ [] → said zs ≡ []
+  none_left : (zs : List LaidStatement) → kinds_of zs ≡ [] → said zs ≡ []
   none_left [] e = refl
   none_left (z ∷ zs) e = absurd (cc)
 
-  at_label : (zs : List Site) (after : List Code) → kinds_of zs ≡ Label start_name ∷ (map code_statement after ++ []) → AllByRecursion IsStanding zs → IsNamedOnce zs
+  at_label : (zs : List LaidStatement) (after : List Code) → kinds_of zs ≡ Label start_name ∷ (map code_statement after ++ []) → AllByRecursion IsStanding zs → IsNamedOnce zs
   at_label [] after e h = absurd (cc)
   at_label (z ∷ zs) after e (one, h) =
       let first : z.located.kind ≡ Label start_name = cc in
@@ -176,7 +176,7 @@ module _ (labels : List Labelled) (b : Bindings) (global : b start_name ≡ sour
       }
 
   -- the lines before the code say no name
-  past_head : (ks : List StatementKind) (zs : List Site) → kinds_of zs ≡ Directs (Chooses Norvc) ∷ Directs (Chooses Norelax) ∷ Directs (Binds source.Global (start_name ∷ [])) ∷ ks → AllByRecursion IsStanding zs → IsPast zs ks
+  past_head : (ks : List StatementKind) (zs : List LaidStatement) → kinds_of zs ≡ Directs (Chooses Norvc) ∷ Directs (Chooses Norelax) ∷ Directs (Binds source.Global (start_name ∷ [])) ∷ ks → AllByRecursion IsStanding zs → IsPast zs ks
   past_head ks zs e h =
       let p = past_one (Directs (Chooses Norvc)) (Directs (Chooses Norelax) ∷ Directs (Binds source.Global (start_name ∷ [])) ∷ ks) zs (λ n. refl) e h in
       let q = past_one (Directs (Chooses Norelax)) (Directs (Binds source.Global (start_name ∷ [])) ∷ ks) p.left (λ n. refl) p.kinds p.stand in
@@ -187,10 +187,10 @@ module _ (labels : List Labelled) (b : Bindings) (global : b start_name ≡ sour
       trans a b c e f = e ∙ f
 
   -- another list with the same names
-  once_more : (zs ys : List Site) → said zs ≡ said ys → IsNamedOnce ys → IsNamedOnce zs
+  once_more : (zs ys : List LaidStatement) → said zs ≡ said ys → IsNamedOnce ys → IsNamedOnce zs
   once_more zs ys e l = record { offset = l.offset; even = l.even; low = l.low; once = e ∙ l.once }
 
-  pub named_once : (before after : List Code) (zs : List Site) → kinds_of zs ≡ raw_statements before after → AllByRecursion IsStanding zs → IsNamedOnce zs
+  pub named_once : (before after : List Code) (zs : List LaidStatement) → kinds_of zs ≡ raw_statements before after → AllByRecursion IsStanding zs → IsNamedOnce zs
   named_once before after zs e h =
       let p = past_head (map code_statement before ++ Label start_name ∷ map code_statement after) zs e h in
       let s = past_codes before (Label start_name ∷ map code_statement after) p.left p.kinds p.stand in
@@ -221,13 +221,13 @@ name_is = refl
 pub entered : (labels : List Labelled) (b : Bindings) → b start_name ≡ source.Global → (o : Object) (before after : List Code) → IsRaw labels b (raw_statements before after) o → IsEntered o
 entered labels b global o before after h =
     let t = table labels quiet b in
-    let stand = standing t 0 h.sites refl h.is.tile (h.is.short refl) h.plain h.sized in
-    let once = named_once labels b global h.sites before after h.sites h.kinds stand in
-    let s = entry_symbol labels b global h.sites once.offset in
-    let front = local_symbols t h.sites [] h.sites in
-    let back = undefined_symbols t h.sites in
-    let (j, past) = past_locals 1 o 0 front (exports t h.sites ++ back) (locals t h.sites [] h.sites) in
-    let names = distinct_from [] (flat_map (λ (r : SymbolUse). missing_name t r.ordinal r.symbol) (references t h.sites)) in
+    let stand = standing t 0 h.laid refl h.is.tile (h.is.short refl) h.plain h.sized in
+    let once = named_once labels b global h.laid before after h.laid h.kinds stand in
+    let s = entry_symbol labels b global h.laid once.offset in
+    let front = local_symbols t h.laid [] h.laid in
+    let back = undefined_symbols t h.laid in
+    let (j, past) = past_locals 1 o 0 front (exports t h.laid ++ back) (locals t h.laid [] h.laid) in
+    let names = distinct_from [] (flat_map (λ (r : SymbolUse). missing_name t r.ordinal r.symbol) (references t h.laid)) in
     let all : exports_in is_global 1 o 0 o.symbols ≡ entry_at o j once.offset ∷ [] =
     ap (exports_in is_global 1 o 0) h.symbols ∙ past ∙ ap (λ l. exports_in is_global 1 o j (l ++ back)) once.once ∙ ap (λ l. entry_at o j once.offset ∷ l) (of_undefined 1 o (suc j) t names) in
     let whole : exports_where is_global (o ∷ []) ≡ entry_at o j once.offset ∷ [] = ap (λ l. l ++ []) all in

@@ -39,7 +39,7 @@ use Rattle.rv_placement.specs.Placement.{starts_of, IsPlacement}
 use Rattle.rv_resolve.specs.Shown.{outer_in}
 use Rattle.rv_link.specs.Refusals.{IsTextStart}
 use Rattle.rv_link.specs.Filled.{IsTaken}
-use Rattle.rv_assemble_laws.specs.Sites.{Site, form, parts, sites_in, end_of, HasSize}
+use Rattle.rv_assemble_laws.specs.LaidStatements.{LaidStatement, form, parts, laid_in, end_of, HasSize}
 use Rattle.rv_assemble_laws.specs.IsObjectOf.{Numbering, row_of, relocations_from, IsSectionOf, IsObjectOf}
 use Rattle.rv_source_laws.proofs.HomesLemmas.{all_filter}
 use Rattle.rv_sources_link_laws.specs.Joins.{AreObjectsOf}
@@ -48,7 +48,7 @@ use Rattle.rv_sources_link_laws.proofs.sections.FiledLemmas.{offsets_low}
 use Rattle.rv_sources_link_laws.proofs.statements.OrderedLemmas.{its_section, its_source, in_order}
 use Rattle.rv_sources_link_laws.proofs.moves.PiecesOfLemmas.{size_is}
 use Rattle.rv_sources_link_laws.proofs.fields.RangesLemmas.{even_bytes}
-use Rattle.rv_sources_link_laws.proofs.statements.SettledLemmas.{IsInstructed, IsSettled, settled as settled_all, IsSiteIn, sites_are_in}
+use Rattle.rv_sources_link_laws.proofs.statements.SettledLemmas.{IsInstructed, IsSettled, settled as settled_all, IsLaidIn, laid_are_in}
 use Rattle.rv_sources_link_laws.proofs.calls.UncutLemmas.{IsUncut, uncut, sections_same}
 use Rattle.rv_shorten.specs.Cutting.{In}
 use Rattle.rv_unique_link_laws.proofs.FoundLemmas.{EachOf, all_of}
@@ -74,26 +74,26 @@ no_call k e = grind arith
 
 -- ---- lists
 
-all_in : (P : Site → Type 0) (xs : List Site) (x : Site) → AllByRecursion P xs → In x xs → P x
+all_in : (P : LaidStatement → Type 0) (xs : List LaidStatement) (x : LaidStatement) → AllByRecursion P xs → In x xs → P x
 all_in P [] x h i = elim i [ ]
 all_in P (y ∷ ys) x (one, h) (inl same) = subst P same one
 all_in P (y ∷ ys) x (one, h) (inr i) = all_in P ys x h i
 
-in_section : (j : ℕ) (x : Site) (xs : List Site) → In x xs → x.located.section ≡ j → In x (sites_in j xs)
+in_section : (j : ℕ) (x : LaidStatement) (xs : List LaidStatement) → In x xs → x.located.section ≡ j → In x (laid_in j xs)
 in_section j x [] i e = elim i [ ]
-in_section j x (y ∷ ys) (inl same) e = by (y.located.section == j) (eq-eqb y.located.section j (ap (λ (s : Site). s.located.section) same ∙ e))
+in_section j x (y ∷ ys) (inl same) e = by (y.located.section == j) (eq-eqb y.located.section j (ap (λ (s : LaidStatement). s.located.section) same ∙ e))
   where
-    by : (b : Bool) → b ≡ true → In x (if b then y ∷ sites_in j ys else sites_in j ys)
+    by : (b : Bool) → b ≡ true → In x (if b then y ∷ laid_in j ys else laid_in j ys)
     by true f = inl same
     by false f = absurd (cc)
 in_section j x (y ∷ ys) (inr i) e = by (y.located.section == j) (in_section j x ys i e)
   where
-    by : (b : Bool) → In x (sites_in j ys) → In x (if b then y ∷ sites_in j ys else sites_in j ys)
+    by : (b : Bool) → In x (laid_in j ys) → In x (if b then y ∷ laid_in j ys else laid_in j ys)
     by true h = inr h
     by false h = h
 
-evens_in : (t : Tables) (number : Numbering) (j : ℕ) (s : SourceSection) (code : s.executable ≡ true) (multiple q : ℕ) (zs : List Site) → q % 2 ≡ 0 → AllByRecursion (IsSiteIn j s) zs → assembled.Tile t q zs
-    → AllByRecursion (λ z. z.located.placed ≡ true → HasSize (form t z.located) z multiple z.located.kind) zs → AllByRecursion (λ (z : Site). z.offset % 2 ≡ 0) zs
+evens_in : (t : Tables) (number : Numbering) (j : ℕ) (s : SourceSection) (code : s.executable ≡ true) (multiple q : ℕ) (zs : List LaidStatement) → q % 2 ≡ 0 → AllByRecursion (IsLaidIn j s) zs → assembled.Tile t q zs
+    → AllByRecursion (λ z. z.located.placed ≡ true → HasSize (form t z.located) z multiple z.located.kind) zs → AllByRecursion (λ (z : LaidStatement). z.offset % 2 ≡ 0) zs
 evens_in t number j s code multiple q [] even inside tile sizes = tt
 evens_in t number j s code multiple q (z ∷ zs) even (i, inside) (off, bytes, tile) (size, sizes) =
     let own = even_bytes t number j s code multiple z i bytes size in
@@ -134,12 +134,12 @@ module _ (ss : List Statement) (o : Object) (is : IsObjectOf ss o) (index : ℕ)
   abbrev t : Tables
   t = tables ss
 
-  found : (s : SourceSection) × (slice_get (opened_of (tables ss)).sections index ≡ Some s) × IsSectionOf t is.sites is.number o.symbols index s (sites_in index is.sites) x
+  found : (s : SourceSection) × (slice_get (opened_of (tables ss)).sections index ≡ Some s) × IsSectionOf t is.laid is.number o.symbols index s (laid_in index is.laid) x
   found =
-      its_source (IsSectionOf t is.sites is.number o.symbols) is.sites index (opened_of (tables ss)).sections o.sections x
-      (in_order t is.sites is.number o.symbols 0 (opened_of (tables ss)).sections o.sections is.sections) there
+      its_source (IsSectionOf t is.laid is.number o.symbols) is.laid index (opened_of (tables ss)).sections o.sections x
+      (in_order t is.laid is.number o.symbols 0 (opened_of (tables ss)).sections o.sections is.sections) there
 
-  in_source : (s : SourceSection) → slice_get (opened_of (tables ss)).sections index ≡ Some s → IsSectionOf t is.sites is.number o.symbols index s (sites_in index is.sites) x
+  in_source : (s : SourceSection) → slice_get (opened_of (tables ss)).sections index ≡ Some s → IsSectionOf t is.laid is.number o.symbols index s (laid_in index is.laid) x
       → (n : ℕ) (r : Relocation) → slice_get x.relocations n ≡ Some r → is_short_branch r.kind ≡ true → (file : ℕ)
       → IsNearIn (record { file = file; object = o; index = index; section = x }) r ⊎ ((sources : List (List Statement)) → slice_get sources (file - 1) ≡ Some ss → is_of_parcel sources (record { file = file; object = o; index = index; section = x }) r ≡ true)
   in_source s at h n r at_r short file = elim (all_at Sorts x.relocations n r all_branches at_r short) [
@@ -147,8 +147,8 @@ module _ (ss : List Statement) (o : Object) (is : IsObjectOf ss o) (index : ℕ)
     | inr parcel ↦ inr (λ sources there. parcelled sources there parcel)
   ]
     where
-      zs : List Site
-      zs = sites_in index is.sites
+      zs : List LaidStatement
+      zs = laid_in index is.laid
 
       loaded : s.loaded ≡ true
       loaded = sym h.loaded ∙ (and_parts x.loaded x.executable text).0
@@ -156,60 +156,60 @@ module _ (ss : List Statement) (o : Object) (is : IsObjectOf ss o) (index : ℕ)
       code : s.executable ≡ true
       code = sym h.executable ∙ (and_parts x.loaded x.executable text).1
 
-      settled : AllByRecursion (IsSettled (opened_of (tables ss)).sections) is.sites
-      settled = settled_all ss is.sites is.good is.located
+      settled : AllByRecursion (IsSettled (opened_of (tables ss)).sections) is.laid
+      settled = settled_all ss is.laid is.good is.located
 
-      inside : AllByRecursion (IsSiteIn index s) (sites_in index is.sites)
-      inside = sites_are_in (opened_of (tables ss)).sections index s is.sites at settled
+      inside : AllByRecursion (IsLaidIn index s) (laid_in index is.laid)
+      inside = laid_are_in (opened_of (tables ss)).sections index s is.laid at settled
 
-      whole : (y : Section) × (slice_get o.sections index ≡ Some y) × assembled.IsSectionOf (tables ss) is.sites is.number o.symbols index s (sites_in index is.sites) y
+      whole : (y : Section) × (slice_get o.sections index ≡ Some y) × assembled.IsSectionOf (tables ss) is.laid is.number o.symbols index s (laid_in index is.laid) y
       whole =
-          its_section (assembled.IsSectionOf (tables ss) is.sites is.number o.symbols) is.sites index (opened_of (tables ss)).sections o.sections s
-          (sections_same (tables ss) is.sites (uncut ss o is) is.number o.symbols 0 (opened_of (tables ss)).sections o.sections is.sections) at
+          its_section (assembled.IsSectionOf (tables ss) is.laid is.number o.symbols) is.laid index (opened_of (tables ss)).sections o.sections s
+          (sections_same (tables ss) is.laid (uncut ss o is) is.number o.symbols 0 (opened_of (tables ss)).sections o.sections is.sections) at
 
       same_section : whole.0 ≡ x
       same_section = let both : ◌≡◌ {A = Option Section} (Some whole.0) (Some x) = sym whole.1 ∙ there in let e : whole.0 ≡ x = cc in e
 
-      size : size_of x.contents ≡ end_of 0 (sites_in index is.sites)
-      size = ap (λ (y : Section). size_of y.contents) (sym same_section) ∙ size_is (tables ss) is.sites is.number o index s (sites_in index is.sites) whole.0 whole.2
+      size : size_of x.contents ≡ end_of 0 (laid_in index is.laid)
+      size = ap (λ (y : Section). size_of y.contents) (sym same_section) ∙ size_is (tables ss) is.laid is.number o index s (laid_in index is.laid) whole.0 whole.2
 
-      evens : AllByRecursion (λ (z : Site). z.offset % 2 ≡ 0) (sites_in index is.sites)
-      evens = evens_in (tables ss) is.number index s code whole.0.alignment 0 (sites_in index is.sites) refl inside whole.2.tile whole.2.sizes
+      evens : AllByRecursion (λ (z : LaidStatement). z.offset % 2 ≡ 0) (laid_in index is.laid)
+      evens = evens_in (tables ss) is.number index s code whole.0.alignment 0 (laid_in index is.laid) refl inside whole.2.tile whole.2.sizes
 
-      low : AllByRecursion (λ (z : Site). z.offset ≤ end_of 0 (sites_in index is.sites)) (sites_in index is.sites)
-      low = (offsets_low (tables ss) 0 (sites_in index is.sites) whole.2.tile).1
+      low : AllByRecursion (λ (z : LaidStatement). z.offset ≤ end_of 0 (laid_in index is.laid)) (laid_in index is.laid)
+      low = (offsets_low (tables ss) 0 (laid_in index is.laid) whole.2.tile).1
 
-      fine_from : (ys : List Site) → AllByRecursion IsUncut ys → AllByRecursion (IsSiteIn index s) ys → AllByRecursion (λ z. z.located.placed ≡ true → HasSize (form (tables ss) z.located) z x.alignment z.located.kind) ys
-          → AllByRecursion (IsFine (tables ss) is.sites is.number o.symbols (sites_in index is.sites)) ys
+      fine_from : (ys : List LaidStatement) → AllByRecursion IsUncut ys → AllByRecursion (IsLaidIn index s) ys → AllByRecursion (λ z. z.located.placed ≡ true → HasSize (form (tables ss) z.located) z x.alignment z.located.kind) ys
+          → AllByRecursion (IsFine (tables ss) is.laid is.number o.symbols (laid_in index is.laid)) ys
       fine_from [] u i k = tt
       fine_from (y ∷ ys) (u, us) (i, is') (k, ks) = (
         record { uncut = u; sized = λ m os e. subst (HasSize (form (tables ss) y.located) y x.alignment) e (k (i.instructed m os e)) },
         fine_from ys us is' ks,
       )
 
-      fine : AllByRecursion (IsFine (tables ss) is.sites is.number o.symbols (sites_in index is.sites)) (sites_in index is.sites)
-      fine = fine_from (sites_in index is.sites) (all_filter IsUncut (λ z. z.located.section == index) is.sites (uncut ss o is)) inside h.sizes
+      fine : AllByRecursion (IsFine (tables ss) is.laid is.number o.symbols (laid_in index is.laid)) (laid_in index is.laid)
+      fine = fine_from (laid_in index is.laid) (all_filter IsUncut (λ z. z.located.section == index) is.laid (uncut ss o is)) inside h.sizes
 
-      rels : x.relocations ≡ relocations_from is.number 0 (parts (tables ss) (sites_in index is.sites))
-      rels = h.relocations ∙ ap (λ b. if b then relocations_from is.number 0 (parts (tables ss) (sites_in index is.sites)) else []) loaded
+      rels : x.relocations ≡ relocations_from is.number 0 (parts (tables ss) (laid_in index is.laid))
+      rels = h.relocations ∙ ap (λ b. if b then relocations_from is.number 0 (parts (tables ss) (laid_in index is.laid)) else []) loaded
 
       Sorts : Relocation → Type 0
-      Sorts r = is_short_branch r.kind ≡ true → Sort (tables ss) is.sites is.number o.symbols (sites_in index is.sites) r
+      Sorts r = is_short_branch r.kind ≡ true → Sort (tables ss) is.laid is.number o.symbols (laid_in index is.laid) r
 
       all_branches : AllByRecursion Sorts x.relocations
       all_branches = subst (AllByRecursion Sorts) (sym rels)
-          (branches (tables ss) is.sites is.number o.symbols (sites_in index is.sites) 0 (sites_in index is.sites) (λ z i. i) h.tile fine (h.numbered loaded))
+          (branches (tables ss) is.laid is.number o.symbols (laid_in index is.laid) 0 (laid_in index is.laid) (λ z i. i) h.tile fine (h.numbered loaded))
 
-      bound : (z : Site) → In z is.sites → z.located.section ≡ index → z.offset ≤ longest_section
+      bound : (z : LaidStatement) → In z is.laid → z.located.section ≡ index → z.offset ≤ longest_section
       bound z i e =
-          let a = all_in (λ (z : Site). z.offset ≤ end_of 0 (sites_in index is.sites)) (sites_in index is.sites) z low (in_section index z is.sites i e) in
+          let a = all_in (λ (z : LaidStatement). z.offset ≤ end_of 0 (laid_in index is.laid)) (laid_in index is.laid) z low (in_section index z is.laid i e) in
           let b = h.short code in omega (arith, a, b)
 
-      it : IsBranchOf (tables ss) is.sites is.number o.symbols (sites_in index is.sites) r → IsNear ss o is index r
+      it : IsBranchOf (tables ss) is.laid is.number o.symbols (laid_in index is.laid) r → IsNear ss o is index r
       it branch = near ss o is index s at code settled h.tile bound r (kinds_of r.kind short) branch
 
-      in_to : (it : IsNear ss o is index r) → In it.to (sites_in index is.sites)
-      in_to it = in_section index it.to is.sites it.in_to.0 it.in_to.1
+      in_to : (it : IsNear ss o is index r) → In it.to (laid_in index is.laid)
+      in_to it = in_section index it.to is.laid it.in_to.0 it.in_to.1
 
       near_by : IsNear ss o is index r → IsNearIn (record { file = file; object = o; index = index; section = x }) r
       near_by it = record {
@@ -222,26 +222,26 @@ module _ (ss : List Statement) (o : Object) (is : IsObjectOf ss o) (index : ℕ)
         from = it.from.offset;
         at = it.at;
         place_is = it.place_is;
-        even_to = all_in (λ (z : Site). z.offset % 2 ≡ 0) zs it.to evens (in_to it);
-        even_from = all_in (λ (z : Site). z.offset % 2 ≡ 0) zs it.from evens it.in_from;
-        low_to = subst (λ m. it.to.offset ≤ m) (sym size) (all_in (λ (z : Site). z.offset ≤ end_of 0 zs) zs it.to low (in_to it));
-        low_from = subst (λ m. it.from.offset ≤ m) (sym size) (all_in (λ (z : Site). z.offset ≤ end_of 0 zs) zs it.from low it.in_from);
+        even_to = all_in (λ (z : LaidStatement). z.offset % 2 ≡ 0) zs it.to evens (in_to it);
+        even_from = all_in (λ (z : LaidStatement). z.offset % 2 ≡ 0) zs it.from evens it.in_from;
+        low_to = subst (λ m. it.to.offset ≤ m) (sym size) (all_in (λ (z : LaidStatement). z.offset ≤ end_of 0 zs) zs it.to low (in_to it));
+        low_from = subst (λ m. it.from.offset ≤ m) (sym size) (all_in (λ (z : LaidStatement). z.offset ≤ end_of 0 zs) zs it.from low it.in_from);
         reaches = it.reaches;
       }
 
-      parcelled : (sources : List (List Statement)) → slice_get sources (file - 1) ≡ Some ss → IsParcelOf (tables ss) is.sites is.number o.symbols (sites_in index is.sites) r
+      parcelled : (sources : List (List Statement)) → slice_get sources (file - 1) ≡ Some ss → IsParcelOf (tables ss) is.laid is.number o.symbols (laid_in index is.laid) r
           → is_of_parcel sources (record { file = file; object = o; index = index; section = x }) r ≡ true
       parcelled sources there parcel =
           let z = parcel.z in
-          let inside = all_in (IsSiteIn index s) (sites_in index is.sites) z inside parcel.inside in
-          let everywhere = in_all index z is.sites parcel.inside in
+          let inside = all_in (IsLaidIn index s) (laid_in index is.laid) z inside parcel.inside in
+          let everywhere = in_all index z is.laid parcel.inside in
           let placed = named_placed z.located inside.instructed parcel.named in
           let home_loaded = ap (λ (q : SourceSection). q.loaded) inside.home ∙ loaded in
           ap (list_any (λ q. is_in_row index r.place q && is_named sources file q.ordinal)) is.rows
-          ∙ row_found (λ q. is_in_row index r.place q && is_named sources file q.ordinal) z is.sites everywhere (and_from z.located.placed z.located.home.loaded placed home_loaded)
+          ∙ row_found (λ q. is_in_row index r.place q && is_named sources file q.ordinal) z is.laid everywhere (and_from z.located.placed z.located.home.loaded placed home_loaded)
           (and_from (is_in_row index r.place (row_of z)) (is_named sources file z.located.ordinal)
           (ap (λ n. is_in_row index n (row_of z)) parcel.place_is ∙ in_row z index inside.stands parcel.some)
-          (named_at sources file ss z.located there (subst (In z.located) is.located (in_located z is.sites everywhere)) parcel.named))
+          (named_at sources file ss z.located there (subst (In z.located) is.located (in_located z is.laid everywhere)) parcel.named))
 
   pub branch_in : (sources : List (List Statement)) (file : ℕ) → slice_get sources (file - 1) ≡ Some ss → HasNear sources (record { file = file; object = o; index = index; section = x })
   branch_in sources file there n r at_r chosen =

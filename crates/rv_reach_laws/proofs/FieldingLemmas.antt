@@ -24,7 +24,7 @@ use Rattle.rv_assemble_laws.specs.CodeFields.{symbol_field, low_field, low_field
 use Rattle.rv_compress.specs.declared.form.Compressed.{Compressed}
 use Rattle.rv_assemble_laws.specs.Coded.{constants, AreCodedParts, joined, IsCode}
 use Rattle.rv_assemble_laws.specs.Templates.{Template, Fixed, Datum, Coded, Open, open_at, value_fields, template_fields, absolute_kind, add_kind, subtract_kind, padding_templates, contribution_templates}
-use Rattle.rv_assemble_laws.specs.Sites.{Site, Part, form, part_of, part_bytes, coded_templates, templates, parts_of, parts, Tile}
+use Rattle.rv_assemble_laws.specs.LaidStatements.{LaidStatement, Part, form, part_of, part_bytes, coded_templates, templates, parts_of, parts, Tile}
 use Rattle.rv_assemble_laws.specs.Symbols.{use_of, references_in}
 use Rattle.rv_assemble_laws.specs.IsObjectOf.{Numbering, relocation_at, relocations_from, IsNumbered, ArePartsNumbered}
 use Rattle.rv_sources_link_laws.proofs.moves.WalkLemmas.{relocations_join}
@@ -143,9 +143,9 @@ code_calm t v s (p ∷ ps) (bytes ∷ coded) (h, hs) = (part_calm t v s p h, cod
 no_low : (k : Kind) → is_short_branch k ≡ true → is_low_part k ≡ false
 no_low k h = grind arith
 
-module _ (t : Tables) (all : List Site) (number : Numbering) (symbols : List Symbol) (zs : List Site) where
+module _ (t : Tables) (all : List LaidStatement) (number : Numbering) (symbols : List Symbol) (zs : List LaidStatement) where
   pub record IsBranchOf (r : Relocation) : Type 0 where
-    pub z : Site
+    pub z : LaidStatement
     pub inside : In z zs
     pub m : Mnemonic
     pub os : List Operand
@@ -160,7 +160,7 @@ module _ (t : Tables) (all : List Site) (number : Numbering) (symbols : List Sym
 
   -- the field of a parcel that its statement names
   pub record IsParcelOf (r : Relocation) : Type 0 where
-    pub z : Site
+    pub z : LaidStatement
     pub inside : In z zs
     pub named : names_parcel z.located.kind ≡ true
     pub place_is : r.place ≡ z.offset
@@ -189,7 +189,7 @@ module _ (t : Tables) (all : List Site) (number : Numbering) (symbols : List Sym
   abbrev AreNumbered : List Part → Type 0
   AreNumbered ps = ArePartsNumbered t all number symbols ps
 
-  module _ (z : Site) (inside : In z zs) (m : Mnemonic) (os : List Operand) (is_kind : z.located.kind ≡ Instruction m os) where
+  module _ (z : LaidStatement) (inside : In z zs) (m : Mnemonic) (os : List Operand) (is_kind : z.located.kind ≡ Instruction m os) where
     abbrev v : Expression → Value
     v = form t z.located
 
@@ -270,7 +270,7 @@ module _ (t : Tables) (all : List Site) (number : Numbering) (symbols : List Sym
   -- ---- a statement
 
   -- what is owed to it
-  pub record IsFine (z : Site) : Type 0 where
+  pub record IsFine (z : LaidStatement) : Type 0 where
     pub uncut : IsUncut z
     pub sized : (m : Mnemonic) (os : List Operand) → z.located.kind ≡ Instruction m os → IsCode (form t z.located) z.located.options.rvc m os z.bytes z.coded z.instructions
 
@@ -281,14 +281,14 @@ module _ (t : Tables) (all : List Site) (number : Numbering) (symbols : List Sym
   part_some named c k i (bytes ∷ []) ((open_one, inl (four, is)), h) = let e : length (bytes ++ []) ≡ 4 = ap (λ l. length (l ++ [])) is in omega (arith, e)
   part_some named c k i (bytes ∷ []) ((open_one, inr (two, (q, short, is))), h) = let e : length (bytes ++ []) ≡ 2 = ap (λ l. length (l ++ [])) is in omega (arith, e)
 
-  parcel_some : (z : Site) (m : Mnemonic) (os : List Operand) (c : IsCode (form t z.located) z.located.options.rvc m os z.bytes z.coded z.instructions) → IsParcelled m c.ps → 0 < z.bytes
+  parcel_some : (z : LaidStatement) (m : Mnemonic) (os : List Operand) (c : IsCode (form t z.located) z.located.options.rvc m os z.bytes z.coded z.instructions) → IsParcelled m c.ps → 0 < z.bytes
   parcel_some z m os c h =
       let named = named_form (constants (form t z.located)) m os in
       let compressed = z.located.options.rvc && are_closed c.ps in
       let some : 0 < length (joined z.coded) = part_some named compressed h.kind h.instruction z.coded (subst (λ ps. AreCodedParts named compressed ps z.coded) h.is c.coded_as) in
       let size = c.size in omega (arith, some, size)
 
-  own : (z : Site) → In z zs → IsFine z → (kind : StatementKind) → z.located.kind ≡ kind → AreNumbered (map (part_of z.located.ordinal) (templates t z kind))
+  own : (z : LaidStatement) → In z zs → IsFine z → (kind : StatementKind) → z.located.kind ≡ kind → AreNumbered (map (part_of z.located.ordinal) (templates t z kind))
       → Goal (relocations_from number z.offset (map (part_of z.located.ordinal) (templates t z kind)))
   own z inside fine (Label name) e h = tt
   own z inside fine (Numbered digits) e h = tt
@@ -301,7 +301,7 @@ module _ (t : Tables) (all : List Site) (number : Numbering) (symbols : List Sym
       → Goal (relocations_from number z.offset (map (part_of z.located.ordinal) (coded_templates (part_fields t (form t z.located) z.located) (unwrap_or o []) z.coded)))) (sym c.parts)
       (by_sort z inside m os e c.ps (sorted (constants (form t z.located)) z.located.options.rvc z.bytes m os c.ps (λ call. fine.uncut (ap calls e ∙ call)) c.parts) (parcel_some z m os c) z.coded) h
 
-  pub branches : (q : ℕ) (ys : List Site) → ((z : Site) → In z ys → In z zs) → Tile t q ys → AllByRecursion IsFine ys → AreNumbered (parts t ys) → Goal (relocations_from number q (parts t ys))
+  pub branches : (q : ℕ) (ys : List LaidStatement) → ((z : LaidStatement) → In z ys → In z zs) → Tile t q ys → AllByRecursion IsFine ys → AreNumbered (parts t ys) → Goal (relocations_from number q (parts t ys))
   branches q [] inside tile fine h = tt
   branches q (z ∷ ys) inside (off, bytes, tile) (one, fine) h =
       let both = split (λ p. AllByRecursion (IsNumbered t all number symbols) (references_in p)) (parts_of t z) (parts t ys) h in

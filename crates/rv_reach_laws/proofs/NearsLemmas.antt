@@ -23,8 +23,8 @@ use Rattle.rv_source_laws.specs.Sizes.{Near, near_forms, near_at, near_value, ne
 use Rattle.rv_object.specs.declared.symbol.Definition.TheVariants as definitions
 use Rattle.rv_object.specs.Object.{Relocation, Symbol, Object}
 use Rattle.rv_object.specs.Bindings.{is_weak}
-use Rattle.rv_assemble_laws.specs.Sites.{Site, form, sites_in, Tile}
-use Rattle.rv_assemble_laws.specs.Symbols.{site_at, after_site, IsOwn, IsDefinedBy, StandsFor}
+use Rattle.rv_assemble_laws.specs.LaidStatements.{LaidStatement, form, laid_in, Tile}
+use Rattle.rv_assemble_laws.specs.Symbols.{laid_at, after_statement, IsOwn, IsDefinedBy, StandsFor}
 use Rattle.rv_assemble_laws.specs.IsObjectOf.{IsObjectOf}
 use Rattle.rv_sources_link_laws.proofs.moves.MovedLemmas.{AddsInData, adds}
 use Rattle.rv_sources_link_laws.proofs.statements.SettledLemmas.{IsSettled}
@@ -41,47 +41,47 @@ half_of _ = 0
 
 -- ---- lists
 
-index_in : (x : Site) (xs : List Site) → In x xs → (k : ℕ) × (slice_get xs k ≡ Some x)
+index_in : (x : LaidStatement) (xs : List LaidStatement) → In x xs → (k : ℕ) × (slice_get xs k ≡ Some x)
 index_in x [] i = elim i [ ]
 index_in x (y ∷ ys) (inl same) = (0, ap Some same)
 index_in x (y ∷ ys) (inr i) = let rest = index_in x ys i in (suc rest.0, rest.1)
 
-in_whole : (j : ℕ) (x : Site) (xs : List Site) → In x (sites_in j xs) → In x xs × (x.located.section ≡ j)
+in_whole : (j : ℕ) (x : LaidStatement) (xs : List LaidStatement) → In x (laid_in j xs) → In x xs × (x.located.section ≡ j)
 in_whole j x [] i = elim i [ ]
 in_whole j x (y ∷ ys) i = by (y.located.section == j) refl i (λ k. in_whole j x ys k)
   where
-    by : (b : Bool) → (y.located.section == j) ≡ b → In x (if b then y ∷ sites_in j ys else sites_in j ys) → (In x (sites_in j ys) → In x ys × (x.located.section ≡ j)) → In x (y ∷ ys) × (x.located.section ≡ j)
-    by true e (inl same) more = (inl same, ap (λ (s : Site). s.located.section) (sym same) ∙ eqb-true y.located.section j e)
+    by : (b : Bool) → (y.located.section == j) ≡ b → In x (if b then y ∷ laid_in j ys else laid_in j ys) → (In x (laid_in j ys) → In x ys × (x.located.section ≡ j)) → In x (y ∷ ys) × (x.located.section ≡ j)
+    by true e (inl same) more = (inl same, ap (λ (s : LaidStatement). s.located.section) (sym same) ∙ eqb-true y.located.section j e)
     by true e (inr i) more = let k = more i in (inr k.0, k.1)
     by false e i more = let k = more i in (inr k.0, k.1)
 
-ordinals : (k : ℕ) (t : Tables) (ss : List Statement) (sites : List Site) → map (λ s. s.located) sites ≡ located_from 1 k t ss → (i : ℕ) (z : Site) → slice_get sites i ≡ Some z → z.located.ordinal ≡ k + i
+ordinals : (k : ℕ) (t : Tables) (ss : List Statement) (laid : List LaidStatement) → map (λ s. s.located) laid ≡ located_from 1 k t ss → (i : ℕ) (z : LaidStatement) → slice_get laid i ≡ Some z → z.located.ordinal ≡ k + i
 ordinals k t ss [] e i z there = absurd (cc)
-ordinals k t [] (s ∷ sites) e i z there = absurd (cc)
-ordinals k t (x ∷ ss) (s ∷ sites) e zero z there =
+ordinals k t [] (s ∷ laid) e i z there = absurd (cc)
+ordinals k t (x ∷ ss) (s ∷ laid) e zero z there =
     let now : s.located ≡ located_now 1 k t x = cc in
     let same : s ≡ z = cc in
-    ap (λ (y : Site). y.located.ordinal) (sym same) ∙ ap (λ l. l.ordinal) now ∙ (let f : k ≡ k + 0 = omega arith in f)
-ordinals k t (x ∷ ss) (s ∷ sites) e (suc i) z there =
-    ordinals (suc k) (after t k x.kind) ss sites (let rest : map (λ s. s.located) sites ≡ located_from 1 (suc k) (after t k x.kind) ss = cc in rest) i z there
+    ap (λ (y : LaidStatement). y.located.ordinal) (sym same) ∙ ap (λ l. l.ordinal) now ∙ (let f : k ≡ k + 0 = omega arith in f)
+ordinals k t (x ∷ ss) (s ∷ laid) e (suc i) z there =
+    ordinals (suc k) (after t k x.kind) ss laid (let rest : map (λ s. s.located) laid ≡ located_from 1 (suc k) (after t k x.kind) ss = cc in rest) i z there
     ∙ (let f : suc k + i ≡ k + suc i = omega arith in f)
 
 -- the statement of an ordinal
-found_site : (n : ℕ) (sites : List Site) (l : Located) → find (λ (s : Located). s.ordinal == n) (map (λ (s : Site). s.located) sites) ≡ Some l
-    → (z : Site) × (site_at sites n ≡ Some z) × (z.located ≡ l) × ((k : ℕ) × (slice_get sites k ≡ Some z)) × (z.located.ordinal ≡ n)
-found_site n [] l e = absurd (cc)
-found_site n (s ∷ sites) l e = by (s.located.ordinal == n) refl e (λ f. found_site n sites l f)
+found_laid : (n : ℕ) (laid : List LaidStatement) (l : Located) → find (λ (s : Located). s.ordinal == n) (map (λ (s : LaidStatement). s.located) laid) ≡ Some l
+    → (z : LaidStatement) × (laid_at laid n ≡ Some z) × (z.located ≡ l) × ((k : ℕ) × (slice_get laid k ≡ Some z)) × (z.located.ordinal ≡ n)
+found_laid n [] l e = absurd (cc)
+found_laid n (s ∷ laid) l e = by (s.located.ordinal == n) refl e (λ f. found_laid n laid l f)
   where
-    by : (b : Bool) → (s.located.ordinal == n) ≡ b → (if b then Some s.located else find (λ (s : Located). s.ordinal == n) (map (λ (s : Site). s.located) sites)) ≡ Some l
-        → (find (λ (s : Located). s.ordinal == n) (map (λ (s : Site). s.located) sites) ≡ Some l
-        → (z : Site) × (site_at sites n ≡ Some z) × (z.located ≡ l) × ((k : ℕ) × (slice_get sites k ≡ Some z)) × (z.located.ordinal ≡ n))
-        → (z : Site) × ((if s.located.ordinal == n then Some s else site_at sites n) ≡ Some z) × (z.located ≡ l) × ((k : ℕ) × (slice_get (s ∷ sites) k ≡ Some z)) × (z.located.ordinal ≡ n)
+    by : (b : Bool) → (s.located.ordinal == n) ≡ b → (if b then Some s.located else find (λ (s : Located). s.ordinal == n) (map (λ (s : LaidStatement). s.located) laid)) ≡ Some l
+        → (find (λ (s : Located). s.ordinal == n) (map (λ (s : LaidStatement). s.located) laid) ≡ Some l
+        → (z : LaidStatement) × (laid_at laid n ≡ Some z) × (z.located ≡ l) × ((k : ℕ) × (slice_get laid k ≡ Some z)) × (z.located.ordinal ≡ n))
+        → (z : LaidStatement) × ((if s.located.ordinal == n then Some s else laid_at laid n) ≡ Some z) × (z.located ≡ l) × ((k : ℕ) × (slice_get (s ∷ laid) k ≡ Some z)) × (z.located.ordinal ≡ n)
     by true same e more =
         let located : s.located ≡ l = cc in
-        (s, ap (λ b. if b then Some s else site_at sites n) same, located, (0, refl), eqb-true s.located.ordinal n same)
+        (s, ap (λ b. if b then Some s else laid_at laid n) same, located, (0, refl), eqb-true s.located.ordinal n same)
     by false other e more =
         let (z, at, located, (k, there), ordinal) = more e in
-        (z, ap (λ b. if b then Some s else site_at sites n) other ∙ at, located, (suc k, there), ordinal)
+        (z, ap (λ b. if b then Some s else laid_at laid n) other ∙ at, located, (suc k, there), ordinal)
 
 -- ---- the items of statements
 
@@ -103,34 +103,34 @@ item_section t all s bytes (Instruction m os) = by (near_forms s.options.rvc m o
     by (Some CompressedJump) = near CompressedJump (near_target t all s os)
 
 module _ (t : Tables) (all : List Located) where
-  abbrev items : List Site → List Item
-  items zs = items_of t all (map (λ (z : Site). z.located) zs) (map (λ (z : Site). z.bytes) zs)
+  abbrev items : List LaidStatement → List Item
+  items zs = items_of t all (map (λ (z : LaidStatement). z.located) zs) (map (λ (z : LaidStatement). z.bytes) zs)
 
-  abbrev sizes : List Site → List ℕ
-  sizes zs = map (λ (z : Site). z.bytes) zs
+  abbrev sizes : List LaidStatement → List ℕ
+  sizes zs = map (λ (z : LaidStatement). z.bytes) zs
 
-  item_is : (zs : List Site) (i : ℕ) (z : Site) → slice_get zs i ≡ Some z → item_at (items zs) i ≡ item_by_kind t all z.located z.bytes z.located.kind
+  item_is : (zs : List LaidStatement) (i : ℕ) (z : LaidStatement) → slice_get zs i ≡ Some z → item_at (items zs) i ≡ item_by_kind t all z.located z.bytes z.located.kind
   item_is [] i z e = absurd (cc)
-  item_is (y ∷ ys) zero z e = let same : y ≡ z = cc in ap (λ (x : Site). item_by_kind t all x.located x.bytes x.located.kind) same
+  item_is (y ∷ ys) zero z e = let same : y ≡ z = cc in ap (λ (x : LaidStatement). item_by_kind t all x.located x.bytes x.located.kind) same
   item_is (y ∷ ys) (suc i) z e = item_is ys i z e
 
-  bytes_is : (zs : List Site) (i : ℕ) (z : Site) → slice_get zs i ≡ Some z → slice_index (sizes zs) i ≡ z.bytes
+  bytes_is : (zs : List LaidStatement) (i : ℕ) (z : LaidStatement) → slice_get zs i ≡ Some z → slice_index (sizes zs) i ≡ z.bytes
   bytes_is [] i z e = absurd (cc)
-  bytes_is (y ∷ ys) zero z e = let same : y ≡ z = cc in ap (λ (x : Site). x.bytes) same
+  bytes_is (y ∷ ys) zero z e = let same : y ≡ z = cc in ap (λ (x : LaidStatement). x.bytes) same
   bytes_is (y ∷ ys) (suc i) z e = bytes_is ys i z e
 
   -- the bytes before a statement in its section
-  before : (j : ℕ) (q : ℕ) (zs : List Site) → Tile t q (sites_in j zs) → (i : ℕ) (z : Site) → slice_get zs i ≡ Some z → z.located.section ≡ j
+  before : (j : ℕ) (q : ℕ) (zs : List LaidStatement) → Tile t q (laid_in j zs) → (i : ℕ) (z : LaidStatement) → slice_get zs i ≡ Some z → z.located.section ≡ j
       → z.offset ≡ q + offset (of_section j (items zs) (sizes zs)) i
   before j q [] tile i z e stands = absurd (cc)
   before j q (y ∷ ys) tile zero z e stands = by (y.located.section == j) refl tile
     where
       same : y ≡ z
-      same = let f : ◌≡◌ {A = Option Site} (Some y) (Some z) = e in let g : y ≡ z = cc in g
+      same = let f : ◌≡◌ {A = Option LaidStatement} (Some y) (Some z) = e in let g : y ≡ z = cc in g
 
-      by : (b : Bool) → (y.located.section == j) ≡ b → Tile t q (if b then y ∷ sites_in j ys else sites_in j ys) → z.offset ≡ q + 0
-      by true f (off, bytes, rest) = ap (λ (s : Site). s.offset) (sym same) ∙ off ∙ (let g : q ≡ q + 0 = omega arith in g)
-      by false f h = absurd (never (y.located.section == j) f (eq-eqb y.located.section j (ap (λ (s : Site). s.located.section) same ∙ stands)))
+      by : (b : Bool) → (y.located.section == j) ≡ b → Tile t q (if b then y ∷ laid_in j ys else laid_in j ys) → z.offset ≡ q + 0
+      by true f (off, bytes, rest) = ap (λ (s : LaidStatement). s.offset) (sym same) ∙ off ∙ (let g : q ≡ q + 0 = omega arith in g)
+      by false f h = absurd (never (y.located.section == j) f (eq-eqb y.located.section j (ap (λ (s : LaidStatement). s.located.section) same ∙ stands)))
         where
           never : (b : Bool) → b ≡ false → b ≡ true → ⊥
           never true f g = absurd (cc)
@@ -149,7 +149,7 @@ module _ (t : Tables) (all : List Located) where
           ∙ ap (λ s. (if s == j then y.bytes else 0) + offset rest i) (item_section t all y.located y.bytes y.located.kind)
           ∙ ap (λ c. (if c then y.bytes else 0) + offset rest i) f
 
-      by : (b : Bool) → (y.located.section == j) ≡ b → Tile t q (if b then y ∷ sites_in j ys else sites_in j ys) → ((r : ℕ) → Tile t r (sites_in j ys) → z.offset ≡ r + offset rest i)
+      by : (b : Bool) → (y.located.section == j) ≡ b → Tile t q (if b then y ∷ laid_in j ys else laid_in j ys) → ((r : ℕ) → Tile t r (laid_in j ys) → z.offset ≡ r + offset rest i)
           → z.offset ≡ q + offset (of_section j (items (y ∷ ys)) (sizes (y ∷ ys))) (suc i)
       by true f (off, bytes, h) more =
           let e1 = more (q + y.bytes) h in
@@ -175,10 +175,10 @@ pub record IsNear (ss : List Statement) (o : Object) (is : IsObjectOf ss o) (j :
   pub there : slice_get o.symbols symbol ≡ Some x
   -- no other file's definition is meant
   pub strong : is_weak x.binding ≡ false
-  pub from : Site
-  pub to : Site
-  pub in_from : In from (sites_in j is.sites)
-  pub in_to : (In to is.sites) × (to.located.section ≡ j)
+  pub from : LaidStatement
+  pub to : LaidStatement
+  pub in_from : In from (laid_in j is.laid)
+  pub in_to : (In to is.laid) × (to.located.section ≡ j)
   pub place_is : r.place ≡ from.offset
   pub at : x.definition ≡ definitions.InSection j to.offset
   pub reaches : Reaches (half_of r.kind) r.addend (pos to.offset -ℤ pos from.offset)
@@ -315,56 +315,56 @@ item_reaching t all s bytes os kind forms (inr (inr k)) has offers = subst (λ q
         let two = two_of bytes a in absurd (omega (arith, four, two))
 
 module _ (ss : List Statement) (o : Object) (is : IsObjectOf ss o) (j : ℕ) (section : SourceSection) (at_j : slice_get (opened_of (tables ss)).sections j ≡ Some section) (code : section.executable ≡ true)
-    (settled : AllByRecursion (IsSettled (opened_of (tables ss)).sections) is.sites) (tile : Tile (tables ss) 0 (sites_in j is.sites))
-    (low : (z : Site) → In z is.sites → z.located.section ≡ j → z.offset ≤ longest_section) where
+    (settled : AllByRecursion (IsSettled (opened_of (tables ss)).sections) is.laid) (tile : Tile (tables ss) 0 (laid_in j is.laid))
+    (low : (z : LaidStatement) → In z is.laid → z.located.section ≡ j → z.offset ≤ longest_section) where
   abbrev t : Tables
   t = tables ss
 
   abbrev all : List Located
-  all = map (λ (z : Site). z.located) is.sites
+  all = map (λ (z : LaidStatement). z.located) is.laid
 
-  good : IsGood (items (tables ss) (map (λ (z : Site). z.located) is.sites) is.sites) (map (λ (z : Site). z.bytes) is.sites)
-  good = subst (λ ls. IsGood (items_of (tables ss) ls ls (map (λ (z : Site). z.bytes) is.sites)) (map (λ (z : Site). z.bytes) is.sites)) (sym is.located) is.least.good
+  good : IsGood (items (tables ss) (map (λ (z : LaidStatement). z.located) is.laid) is.laid) (map (λ (z : LaidStatement). z.bytes) is.laid)
+  good = subst (λ ls. IsGood (items_of (tables ss) ls ls (map (λ (z : LaidStatement). z.bytes) is.laid)) (map (λ (z : LaidStatement). z.bytes) is.laid)) (sym is.located) is.least.good
 
-  all_at : (P : Site → Type 0) (xs : List Site) (k : ℕ) (x : Site) → AllByRecursion P xs → slice_get xs k ≡ Some x → P x
+  all_at : (P : LaidStatement → Type 0) (xs : List LaidStatement) (k : ℕ) (x : LaidStatement) → AllByRecursion P xs → slice_get xs k ≡ Some x → P x
   all_at P [] k x h e = absurd (cc)
   all_at P (y ∷ ys) zero x (one, h) e = let same : y ≡ x = cc in subst P same one
   all_at P (y ∷ ys) (suc k) x (one, h) e = all_at P ys k x h e
 
-  got_in : (xs : List Site) (k : ℕ) (x : Site) → slice_get xs k ≡ Some x → In x xs
+  got_in : (xs : List LaidStatement) (k : ℕ) (x : LaidStatement) → slice_get xs k ≡ Some x → In x xs
   got_in [] k x e = absurd (cc)
   got_in (y ∷ ys) zero x e = inl (let same : y ≡ x = cc in same)
   got_in (y ∷ ys) (suc k) x e = inr (got_in ys k x e)
 
-  pub near : (r : Relocation) → (r.kind ≡ kinds.Branch) ⊎ ((r.kind ≡ kinds.RvcBranch) ⊎ (r.kind ≡ kinds.RvcJump)) → IsBranchOf t is.sites is.number o.symbols (sites_in j is.sites) r → IsNear ss o is j r
+  pub near : (r : Relocation) → (r.kind ≡ kinds.Branch) ⊎ ((r.kind ≡ kinds.RvcBranch) ⊎ (r.kind ≡ kinds.RvcJump)) → IsBranchOf t is.laid is.number o.symbols (laid_in j is.laid) r → IsNear ss o is j r
   near r short b = by_symbol (slice_get o.symbols (is.number z.located.ordinal b.name)) refl b.numbered
     where
-      z : Site
+      z : LaidStatement
       z = b.z
 
-      whole : In b.z is.sites × (b.z.located.section ≡ j)
-      whole = in_whole j b.z is.sites b.inside
+      whole : In b.z is.laid × (b.z.located.section ≡ j)
+      whole = in_whole j b.z is.laid b.inside
 
-      place : (k : ℕ) × (slice_get is.sites k ≡ Some b.z)
-      place = index_in b.z is.sites whole.0
+      place : (k : ℕ) × (slice_get is.laid k ≡ Some b.z)
+      place = index_in b.z is.laid whole.0
 
-      item_here : item_at (items (tables ss) all is.sites) place.0 ≡ item_by t all b.z.located b.z.bytes b.os (Some b.branching.forms)
+      item_here : item_at (items (tables ss) all is.laid) place.0 ≡ item_by t all b.z.located b.z.bytes b.os (Some b.branching.forms)
       item_here =
-          item_is t all is.sites place.0 b.z place.1
+          item_is t all is.laid place.0 b.z place.1
           ∙ ap (item_by_kind t all b.z.located b.z.bytes) b.is_kind
           ∙ ap (item_by t all b.z.located b.z.bytes b.os) b.branching.chosen
 
       item : Item
       item = item_by t all b.z.located b.z.bytes b.os (Some b.branching.forms)
 
-      size_here : slice_index (map (λ (z : Site). z.bytes) is.sites) place.0 ≡ b.z.bytes
-      size_here = bytes_is t all is.sites place.0 b.z place.1
+      size_here : slice_index (map (λ (z : LaidStatement). z.bytes) is.laid) place.0 ≡ b.z.bytes
+      size_here = bytes_is t all is.laid place.0 b.z place.1
 
       reach : IsReaching b.z.located r.kind b.z.bytes (item_by t all b.z.located b.z.bytes b.os (Some b.branching.forms)) (near_target t all b.z.located b.os)
       reach =
           item_reaching t all b.z.located b.z.bytes b.os r.kind b.branching.forms short b.branching.has
           (subst (λ n. Offers (item_by t all b.z.located b.z.bytes b.os (Some b.branching.forms)).forms n) size_here
-          (subst (λ (x : Item). Offers x.forms (slice_index (map (λ (z : Site). z.bytes) is.sites) place.0)) item_here (good.family.offered place.0)))
+          (subst (λ (x : Item). Offers x.forms (slice_index (map (λ (z : LaidStatement). z.bytes) is.laid) place.0)) item_here (good.family.offered place.0)))
 
       target : IsTarget all b.z.located.section (sure_definition t b.z.located.ordinal b.name) b.plus reach.n
       target = target_of all b.z.located.section (sure_definition t b.z.located.ordinal b.name) b.plus reach.n
@@ -373,10 +373,10 @@ module _ (ss : List Statement) (o : Object) (is : IsObjectOf ss o) (j : ℕ) (se
       sure : (definition t b.z.located.ordinal b.name ≡ Some target.it) × (gives_way t b.name ≡ false)
       sure = sure_is t b.z.located.ordinal b.name target.it target.is
 
-      found : (z : Site) × (site_at is.sites target.it.ordinal ≡ Some z) × (z.located ≡ target.located) × ((k : ℕ) × (slice_get is.sites k ≡ Some z)) × (z.located.ordinal ≡ target.it.ordinal)
-      found = found_site target.it.ordinal is.sites target.located target.found
+      found : (z : LaidStatement) × (laid_at is.laid target.it.ordinal ≡ Some z) × (z.located ≡ target.located) × ((k : ℕ) × (slice_get is.laid k ≡ Some z)) × (z.located.ordinal ≡ target.it.ordinal)
+      found = found_laid target.it.ordinal is.laid target.located target.found
 
-      to : Site
+      to : LaidStatement
       to = found.0
 
       to_stands : found.0.located.section ≡ j
@@ -386,21 +386,21 @@ module _ (ss : List Statement) (o : Object) (is : IsObjectOf ss o) (j : ℕ) (se
       index_is =
           let a = target.ordinal in
           let b1 = found.4 in
-          let c = ordinals 1 (at_start ss) ss is.sites is.located found.3.0 found.0 found.3.1 in
+          let c = ordinals 1 (at_start ss) ss is.laid is.located found.3.0 found.0 found.3.1 in
           omega (arith, a, b1, c)
 
-      from_is : b.z.offset ≡ 0 + offset (of_section j (items t all is.sites) (map (λ (z : Site). z.bytes) is.sites)) place.0
-      from_is = before t all j 0 is.sites tile place.0 b.z place.1 whole.1
+      from_is : b.z.offset ≡ 0 + offset (of_section j (items t all is.laid) (map (λ (z : LaidStatement). z.bytes) is.laid)) place.0
+      from_is = before t all j 0 is.laid tile place.0 b.z place.1 whole.1
 
-      to_is : found.0.offset ≡ 0 + offset (of_section j (items t all is.sites) (map (λ (z : Site). z.bytes) is.sites)) found.3.0
-      to_is = before t all j 0 is.sites tile found.3.0 found.0 found.3.1 to_stands
+      to_is : found.0.offset ≡ 0 + offset (of_section j (items t all is.laid) (map (λ (z : LaidStatement). z.bytes) is.laid)) found.3.0
+      to_is = before t all j 0 is.laid tile found.3.0 found.0 found.3.1 to_stands
 
-      far : ReachesBy (items t all is.sites) (map (λ (z : Site). z.bytes) is.sites) place.0 b.z.bytes
-      far = subst (ReachesBy (items t all is.sites) (map (λ (z : Site). z.bytes) is.sites) place.0) size_here
+      far : ReachesBy (items t all is.laid) (map (λ (z : LaidStatement). z.bytes) is.laid) place.0 b.z.bytes
+      far = subst (ReachesBy (items t all is.laid) (map (λ (z : LaidStatement). z.bytes) is.laid) place.0) size_here
           (good.reaching place.0 (let e = ap (λ (x : Item). largest x.forms) item_here in let s = size_here in let l = reach.less in omega (arith, e, s, l)))
 
       abbrev_offset : ℕ → ℕ
-      abbrev_offset k = offset (of_section j (items t all is.sites) (map (λ (z : Site). z.bytes) is.sites)) k
+      abbrev_offset k = offset (of_section j (items t all is.laid) (map (λ (z : LaidStatement). z.bytes) is.laid)) k
 
       reaches : Reaches (half_of r.kind) reach.n.addend (pos found.0.offset -ℤ pos b.z.offset)
       reaches =
@@ -409,17 +409,17 @@ module _ (ss : List Statement) (o : Object) (is : IsObjectOf ss o) (j : ℕ) (se
           (subst (λ n. Reaches (half item.forms b.z.bytes) item.addend (pos n -ℤ pos b.z.offset)) (sym (to_is ∙ plain found.3.0))
           (subst (λ n. Reaches (half item.forms b.z.bytes) item.addend (pos (abbrev_offset found.3.0) -ℤ pos n)) (sym (from_is ∙ plain place.0))
           (subst (λ k. Reaches (half item.forms b.z.bytes) item.addend (pos (abbrev_offset k) -ℤ pos (abbrev_offset place.0))) (reach.target ∙ index_is)
-          (subst (λ q. Reaches (half item.forms b.z.bytes) item.addend (distance (of_section q (items t all is.sites) (map (λ (z : Site). z.bytes) is.sites)) place.0 item.target)) (reach.section ∙ whole.1)
-          (subst (λ (x : Item). Reaches (half x.forms b.z.bytes) x.addend (distance (of_section x.section (items t all is.sites) (map (λ (z : Site). z.bytes) is.sites)) place.0 x.target)) item_here far))))))
+          (subst (λ q. Reaches (half item.forms b.z.bytes) item.addend (distance (of_section q (items t all is.laid) (map (λ (z : LaidStatement). z.bytes) is.laid)) place.0 item.target)) (reach.section ∙ whole.1)
+          (subst (λ (x : Item). Reaches (half x.forms b.z.bytes) x.addend (distance (of_section x.section (items t all is.laid) (map (λ (z : LaidStatement). z.bytes) is.laid)) place.0 x.target)) item_here far))))))
         where
           plain : (k : ℕ) → 0 + abbrev_offset k ≡ abbrev_offset k
           plain k = omega arith
 
       low_to : found.0.offset ≤ longest_section
-      low_to = low found.0 (got_in is.sites found.3.0 found.0 found.3.1) to_stands
+      low_to = low found.0 (got_in is.laid found.3.0 found.0 found.3.1) to_stands
 
       settled_to : IsSettled (opened_of (tables ss)).sections found.0
-      settled_to = all_at (IsSettled (opened_of (tables ss)).sections) is.sites found.3.0 found.0 settled found.3.1
+      settled_to = all_at (IsSettled (opened_of (tables ss)).sections) is.laid found.3.0 found.0 settled found.3.1
 
       home_to : found.0.located.home ≡ section
       home_to =
@@ -427,21 +427,21 @@ module _ (ss : List Statement) (o : Object) (is : IsObjectOf ss o) (j : ℕ) (se
           let same : found.0.located.home ≡ section = cc in same
 
       stays : add found.0.offset target.it.plus ≡ found.0.offset
-      stays = go (adds t is.sites is.places b.z.located.ordinal b.name target.it sure.0)
+      stays = go (adds t is.laid is.places b.z.located.ordinal b.name target.it sure.0)
         where
-          go : AddsInData t is.sites is.places target.it → add found.0.offset target.it.plus ≡ found.0.offset
+          go : AddsInData t is.laid is.places target.it → add found.0.offset target.it.plus ≡ found.0.offset
           go (inl none) =
               let bound : found.0.offset ≤ 268435456 = low_to in
               ap (add found.0.offset) none ∙ (let g : add found.0.offset 0 ≡ found.0.offset = omega (arith, bound) in g)
           go (inr aside) = absurd (let e : true ≡ false = sym (ap (λ (s : SourceSection). s.executable) home_to ∙ code) ∙ aside found.0 found.1 in cc)
 
-      by_symbol : (y : Option Symbol) → slice_get o.symbols (is.number b.z.located.ordinal b.name) ≡ y → StandsFor t is.sites b.z.located.ordinal b.name y → IsNear ss o is j r
+      by_symbol : (y : Option Symbol) → slice_get o.symbols (is.number b.z.located.ordinal b.name) ≡ y → StandsFor t is.laid b.z.located.ordinal b.name y → IsNear ss o is j r
       by_symbol None e s = absurd s
-      by_symbol (Some x) e (named, weak, s) = go (subst (λ d. IsDefinedBy is.sites b.name d x) sure.0 s)
+      by_symbol (Some x) e (named, weak, s) = go (subst (λ d. IsDefinedBy is.laid b.name d x) sure.0 s)
         where
-          go : IsOwn is.sites target.it x → IsNear ss o is j r
+          go : IsOwn is.laid target.it x → IsNear ss o is j r
           go (y, at_y, placed, def) =
-              let both : ◌≡◌ {A = Option Site} (Some y) (Some found.0) = sym at_y ∙ found.1 in
+              let both : ◌≡◌ {A = Option LaidStatement} (Some y) (Some found.0) = sym at_y ∙ found.1 in
               let same : y ≡ found.0 = cc in
               record {
                 symbol = is.number b.z.located.ordinal b.name;
@@ -452,8 +452,8 @@ module _ (ss : List Statement) (o : Object) (is : IsObjectOf ss o) (j : ℕ) (se
                 from = b.z;
                 to = found.0;
                 in_from = b.inside;
-                in_to = (got_in is.sites found.3.0 found.0 found.3.1, to_stands);
+                in_to = (got_in is.laid found.3.0 found.0 found.3.1, to_stands);
                 place_is = ap (λ (q : Relocation). q.place) b.is;
-                at = def ∙ ap (λ (q : Site). after_site q target.it.plus) same ∙ ap (λ n. definitions.InSection n (add found.0.offset target.it.plus)) to_stands ∙ ap (definitions.InSection j) stays;
+                at = def ∙ ap (λ (q : LaidStatement). after_statement q target.it.plus) same ∙ ap (λ n. definitions.InSection n (add found.0.offset target.it.plus)) to_stands ∙ ap (definitions.InSection j) stays;
                 reaches = subst (λ a. Reaches (half_of r.kind) a (pos found.0.offset -ℤ pos b.z.offset)) (target.addend ∙ sym (ap (λ (q : Relocation). q.addend) b.is)) reaches;
               }

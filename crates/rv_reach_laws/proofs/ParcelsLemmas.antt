@@ -9,7 +9,7 @@ use Rattle.rv_unit_laws.specs.Tables.{Tables, after, at_start}
 use Rattle.rv_object.specs.declared.row.Row.{Row}
 use Rattle.rv_source_laws.specs.Located.{Located, located_from, has_row}
 use Rattle.rv_source_laws.specs.Compressed.{names_parcel}
-use Rattle.rv_assemble_laws.specs.Sites.{Site, sites_in}
+use Rattle.rv_assemble_laws.specs.LaidStatements.{LaidStatement, laid_in}
 use Rattle.rv_assemble_laws.specs.IsObjectOf.{row_of, rows_at}
 use Rattle.rv_shorten.specs.Cutting.{In}
 use Rattle.rv_reach_laws.specs.Reach.{is_named, is_in_row}
@@ -56,16 +56,16 @@ named_at sources file ss l there i named =
 
 -- ---- lists of statements
 
-pub in_located : (z : Site) (zs : List Site) → In z zs → In z.located (map (λ (s : Site). s.located) zs)
+pub in_located : (z : LaidStatement) (zs : List LaidStatement) → In z zs → In z.located (map (λ (s : LaidStatement). s.located) zs)
 in_located z [] i = elim i [ ]
-in_located z (y ∷ ys) (inl same) = inl (ap (λ (s : Site). s.located) same)
+in_located z (y ∷ ys) (inl same) = inl (ap (λ (s : LaidStatement). s.located) same)
 in_located z (y ∷ ys) (inr i) = inr (in_located z ys i)
 
-pub in_all : (j : ℕ) (z : Site) (zs : List Site) → In z (sites_in j zs) → In z zs
+pub in_all : (j : ℕ) (z : LaidStatement) (zs : List LaidStatement) → In z (laid_in j zs) → In z zs
 in_all j z [] i = elim i [ ]
 in_all j z (y ∷ ys) i = by (y.located.section == j) (in_all j z ys) i
   where
-    by : (b : Bool) → (In z (sites_in j ys) → In z ys) → In z (if b then y ∷ sites_in j ys else sites_in j ys) → In z (y ∷ ys)
+    by : (b : Bool) → (In z (laid_in j ys) → In z ys) → In z (if b then y ∷ laid_in j ys else laid_in j ys) → In z (y ∷ ys)
     by true further (inl same) = inl same
     by true further (inr h) = inr (further h)
     by false further h = inr (further h)
@@ -76,14 +76,14 @@ any_behind : (P : Row → Bool) (xs ys : List Row) → list_any P ys ≡ true �
 any_behind P [] ys h = h
 any_behind P (x ∷ xs) ys h = or_right (P x) (list_any P (xs ++ ys)) (any_behind P xs ys h)
 
-pub row_found : (P : Row → Bool) (z : Site) (zs : List Site) → In z zs → has_row z.located ≡ true → P (row_of z) ≡ true → list_any P (flat_map rows_at zs) ≡ true
+pub row_found : (P : Row → Bool) (z : LaidStatement) (zs : List LaidStatement) → In z zs → has_row z.located ≡ true → P (row_of z) ≡ true → list_any P (flat_map rows_at zs) ≡ true
 row_found P z [] i row h = elim i [ ]
 row_found P z (y ∷ ys) (inl same) row h =
-    subst (λ (x : Site). list_any P (rows_at x ++ flat_map rows_at ys) ≡ true) (sym same)
+    subst (λ (x : LaidStatement). list_any P (rows_at x ++ flat_map rows_at ys) ≡ true) (sym same)
     (ap (λ b. list_any P ((if b then row_of z ∷ [] else []) ++ flat_map rows_at ys)) row ∙ ap (λ b. b || list_any P (flat_map rows_at ys)) h)
 row_found P z (y ∷ ys) (inr i) row h = any_behind P (rows_at y) (flat_map rows_at ys) (row_found P z ys i row h)
 
-pub in_row : (z : Site) (section : ℕ) → z.located.section ≡ section → 0 < z.bytes → is_in_row section z.offset (row_of z) ≡ true
+pub in_row : (z : LaidStatement) (section : ℕ) → z.located.section ≡ section → 0 < z.bytes → is_in_row section z.offset (row_of z) ≡ true
 in_row z section e some =
     and_from ((z.located.section == section) && nat_le z.offset z.offset) (nat_lt z.offset (z.offset + z.bytes))
     (and_from (z.located.section == section) (nat_le z.offset z.offset) (eq-eqb z.located.section section e) (le-leb z.offset z.offset (omega arith)))

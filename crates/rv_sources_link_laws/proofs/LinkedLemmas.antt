@@ -36,8 +36,8 @@ use Rattle.rv_object_laws.specs.Values.{initial_bytes, linked_bytes, IsRelocated
 use Rattle.rv_object_laws.specs.IsLinkOf.{IsLinkOf, is_loaded, outer_of}
 use Rattle.rv_assemble_laws.proofs.FaultlessLemmas.{no_first_fault}
 use Rattle.rv_assemble_laws.specs.Templates.{Open}
-use Rattle.rv_assemble_laws.specs.Sites.{Site, part_bytes, sites_in, end_of as sites_end}
-use Rattle.rv_assemble_laws.specs.Symbols.{site_at}
+use Rattle.rv_assemble_laws.specs.LaidStatements.{LaidStatement, part_bytes, laid_in, end_of as laid_end}
+use Rattle.rv_assemble_laws.specs.Symbols.{laid_at}
 use Rattle.rv_assemble_laws.specs.IsObjectOf.{Numbering, contents_of}
 use Rattle.rv_sources_link_laws.proofs.sections.MaskedLemmas.{masked_sections, source_sections}
 use Rattle.rv_sources_link_laws.proofs.statements.OrderedLemmas.{filled}
@@ -70,8 +70,8 @@ initial_none types.Progbits count bytes e none = absurd (cc)
 initial_none types.Note count bytes e none = absurd (cc)
 initial_none types.Nobits count bytes e none = ap zeros none
 
-module _ (t : Tables) (sites : List Site) (number : Numbering) (o : Object) (index : ℕ) (s : SourceSection) (x : Section)
-    (is : IsSectionOf t sites number o.symbols index s (sites_in index sites) x) where
+module _ (t : Tables) (laid : List LaidStatement) (number : Numbering) (o : Object) (index : ℕ) (s : SourceSection) (x : Section)
+    (is : IsSectionOf t laid number o.symbols index s (laid_in index laid) x) where
   nobits : objects.is_nobits x.contents ≡ is_nobits s
   nobits = ap objects.is_nobits is.contents ∙ nobits_same s.section_type _ _
 
@@ -95,19 +95,19 @@ module _ (t : Tables) (sites : List Site) (number : Numbering) (o : Object) (ind
       ∙ ap (λ b. ((s.loaded && not s.executable) && not (is_nobits s)) && not b) is.writable
 
   -- bytes in the file
-  plain_holds : is_nobits s ≡ false → initial_bytes x.contents ≡ flat_map part_bytes (parts t (sites_in index sites))
+  plain_holds : is_nobits s ≡ false → initial_bytes x.contents ≡ flat_map part_bytes (parts t (laid_in index laid))
   plain_holds e = ap initial_bytes is.contents ∙ initial_same s.section_type _ _ e
 
-  text_holds : goes_to_text s ≡ true → initial_bytes x.contents ≡ flat_map part_bytes (parts t (sites_in index sites))
+  text_holds : goes_to_text s ≡ true → initial_bytes x.contents ≡ flat_map part_bytes (parts t (laid_in index laid))
   text_holds e = go (is_nobits s) refl
     where
-      go : (b : Bool) → is_nobits s ≡ b → initial_bytes x.contents ≡ flat_map part_bytes (parts t (sites_in index sites))
+      go : (b : Bool) → is_nobits s ≡ b → initial_bytes x.contents ≡ flat_map part_bytes (parts t (laid_in index laid))
       go false f = plain_holds f
       go true f =
-          let none : flat_map part_bytes (parts t (sites_in index sites)) ≡ [] = is.code e f in
-          let count : sites_end 0 (sites_in index sites) ≡ 0 + length (flat_map part_bytes (parts t (sites_in index sites))) = filled (parts_of t) 0 (sites_in index sites) is.tile in
-          let nothing : sites_end 0 (sites_in index sites) ≡ 0 = omega (arith, count, ap length none) in
-          ap initial_bytes is.contents ∙ initial_none s.section_type (sites_end 0 (sites_in index sites)) _ f nothing ∙ sym none
+          let none : flat_map part_bytes (parts t (laid_in index laid)) ≡ [] = is.code e f in
+          let count : laid_end 0 (laid_in index laid) ≡ 0 + length (flat_map part_bytes (parts t (laid_in index laid))) = filled (parts_of t) 0 (laid_in index laid) is.tile in
+          let nothing : laid_end 0 (laid_in index laid) ≡ 0 = omega (arith, count, ap length none) in
+          ap initial_bytes is.contents ∙ initial_none s.section_type (laid_end 0 (laid_in index laid)) _ f nothing ∙ sym none
 
 -- ---- flags
 
@@ -132,9 +132,9 @@ rodata_front s e =
 
 -- ---- identities of rows
 
-mark_own : (starts : Starts) (file : ℕ) (sites : List Site) (more : List MapRow) (others : List Located)
+mark_own : (starts : Starts) (file : ℕ) (laid : List LaidStatement) (more : List MapRow) (others : List Located)
     → map source.identity_of_row more ≡ map source.identity_of (filter has_row others)
-    → map source.identity_of_row (rows_from starts file sites ++ more) ≡ map source.identity_of (filter has_row (map (renumbered file) (map (λ s. s.located) sites) ++ others))
+    → map source.identity_of_row (rows_from starts file laid ++ more) ≡ map source.identity_of (filter has_row (map (renumbered file) (map (λ s. s.located) laid) ++ others))
 mark_own starts file [] more others e = e
 mark_own starts file (s ∷ ss) more others e = go (has_row s.located) (mark_own starts file ss more others e)
   where
@@ -153,8 +153,8 @@ marks starts drops file [] [] h masks = refl
 marks starts drops file [] (o ∷ os) h masks = absurd h
 marks starts drops file (ss ∷ sources) [] h masks = absurd h
 marks starts drops file (ss ∷ sources) (o ∷ os) (is, h) (own, masks) =
-    mark_own starts file is.sites (all_rows starts (suc file) sources os h) (map (left_of drops) (located_of (suc file) sources)) (marks starts drops (suc file) sources os h masks)
-    ∙ ap (λ l. map source.identity_of (filter has_row l)) (sym (left_file drops file ss sources is.dropped own is.sites is.located))
+    mark_own starts file is.laid (all_rows starts (suc file) sources os h) (map (left_of drops) (located_of (suc file) sources)) (marks starts drops (suc file) sources os h masks)
+    ∙ ap (λ l. map source.identity_of (filter has_row l)) (sym (left_file drops file ss sources is.dropped own is.laid is.located))
 
 good_all : (sources : List (List Statement)) (os : List Object) → AreObjectsOf sources os → AllByRecursion (λ ss. first_fault ss ≡ None) sources
 good_all [] [] h = tt
@@ -179,7 +179,7 @@ module _ (sources : List (List Statement)) (os : List Object) (text_start : ℕ)
   abbrev worths : ℕ → ℕ → ℕ → Open → ℤ
   worths = worths_of (outer_of os l) starts os numbers
 
-  abbrev says : ℕ → Site → List ℕ
+  abbrev says : ℕ → LaidStatement → List ℕ
   says file z = said p file (worths file) z
 
   abbrev bytes_of : Mapped → List ℕ
@@ -190,13 +190,13 @@ module _ (sources : List (List Statement)) (os : List Object) (text_start : ℕ)
 
   module _ (spells : Mapped → List ℕ) (stores : Bool) (P : Mapped → Type 0) (goes : Section → Bool) (goes_source : SourceSection → Bool)
       (loads : (s : SourceSection) → goes_source s ≡ true → s.loaded ≡ true)
-      (same_by : (t : Tables) (sites : List Site) (number : Numbering) (o : Object) (index : ℕ) (s : SourceSection) (x : Section)
-      → IsSectionOf t sites number o.symbols index s (sites_in index sites) x → goes x ≡ goes_source s)
-      (holds : (t : Tables) (sites : List Site) (number : Numbering) (o : Object) (index : ℕ) (s : SourceSection) (x : Section)
-      → IsSectionOf t sites number o.symbols index s (sites_in index sites) x → goes_source s ≡ true → stores ≡ true → initial_bytes x.contents ≡ flat_map part_bytes (parts t (sites_in index sites)))
-      (spell : (file : ℕ) (s : SourceSection) (z : Site) → goes_source s ≡ true → z.located.home ≡ s → IsFit p starts bytes_of worths file z
+      (same_by : (t : Tables) (laid : List LaidStatement) (number : Numbering) (o : Object) (index : ℕ) (s : SourceSection) (x : Section)
+      → IsSectionOf t laid number o.symbols index s (laid_in index laid) x → goes x ≡ goes_source s)
+      (holds : (t : Tables) (laid : List LaidStatement) (number : Numbering) (o : Object) (index : ℕ) (s : SourceSection) (x : Section)
+      → IsSectionOf t laid number o.symbols index s (laid_in index laid) x → goes_source s ≡ true → stores ≡ true → initial_bytes x.contents ≡ flat_map part_bytes (parts t (laid_in index laid)))
+      (spell : (file : ℕ) (s : SourceSection) (z : LaidStatement) → goes_source s ≡ true → z.located.home ≡ s → IsFit p starts bytes_of worths file z
       → spells (mapped_at starts file z) ≡ said p file (worths file) z)
-      (fitted : (file : ℕ) (s : SourceSection) (z : Site) → goes_source s ≡ true → z.located.home ≡ s → IsFit p starts bytes_of worths file z → P (mapped_at starts file z)) where
+      (fitted : (file : ℕ) (s : SourceSection) (z : LaidStatement) → goes_source s ≡ true → z.located.home ≡ s → IsFit p starts bytes_of worths file z → P (mapped_at starts file z)) where
     good_files : (file : ℕ) (srcs : List (List Statement)) (us : List Object) (k : AreObjectsOf srcs us) → AreMasked l.map.drops file srcs us k → AreFiles p starts file srcs us k → AreObjectsAt os numbers file srcs us k → AllByRecursion IsRow (all_rows starts file srcs us k)
         → AreCodesOf starts says bytes_of file srcs us k → AllByRecursion Q (inputs_of is_loaded file us)
         → AreGood p os starts spells stores P (inputs_of goes file us) (source.input_sections_of goes_source l.map.drops p.mapped file srcs)
@@ -207,24 +207,24 @@ module _ (sources : List (List Statement)) (os : List Object) (text_start : ℕ)
         let opened = (opened_of (tables ss)).sections in
         let sections = source_sections is.dropped ss in
         let both = split Q (inputs_from is_loaded file o 0 o.sections) (inputs_of is_loaded (suc file) us) r in
-        let are = subst (λ t. AreSectionsOf t is.sites is.number o.symbols 0 sections o.sections) (sym f.tables) is.sections in
-        let two = split IsRow (rows_from starts file is.sites) (all_rows starts (suc file) srcs us k) rows in
-        let whole : IsWhole p os starts file is.sites is.number o (worths file) = record {
+        let are = subst (λ t. AreSectionsOf t is.laid is.number o.symbols 0 sections o.sections) (sym f.tables) is.sections in
+        let two = split IsRow (rows_from starts file is.laid) (all_rows starts (suc file) srcs us k) rows in
+        let whole : IsWhole p os starts file is.laid is.number o (worths file) = record {
           object = g.object;
           mapped = f.mapped;
-          low = low_rows starts file is.sites two.0;
-          sound = subst (λ t. AllByRecursion (λ z. IsSound t z.located) is.sites) (sym f.tables) (sound ss is.sites is.dropped is.good is.located);
+          low = low_rows starts file is.laid two.0;
+          sound = subst (λ t. AllByRecursion (λ z. IsSound t z.located) is.laid) (sym f.tables) (sound ss is.laid is.dropped is.good is.located);
           labels = subst StandsAlone (sym f.tables) (labels ss);
           given = given;
           worth = worths_are p os starts numbers file o is.number g;
           stands = f.stands;
-          itself = all_map (IsFound 1 is.sites) (λ z. site_at is.sites z.located.ordinal ≡ Some z) is.sites (λ z k. k.1) (found_left 1 (at_start ss) ss is.dropped is.sites is.located);
+          itself = all_map (IsFound 1 is.laid) (λ z. laid_at is.laid z.located.ordinal ≡ Some z) is.laid (λ z k. k.1) (found_left 1 (at_start ss) ss is.dropped is.laid is.located);
           relocated = λ j x at loaded.
               subst (λ n. Q (record { file = file; object = o; index = n; section = x })) (let e : 0 + j ≡ j = omega arith in e)
               (relocated_at is_loaded Q file o 0 o.sections both.0 j x at loaded);
         } in
-        let own = good_file p os starts spells stores P bytes_of worths goes goes_source loads same_by holds spell fitted l.map.drops file is.sites is.number o opened sections
-        (ap (λ (d : ℕ → Bool). masked_sections d 0 opened) m) link.readable.globals are (settled_left ss is.sites is.dropped is.good is.located) whole c (plain_of ss o is) f.address both.0 in
+        let own = good_file p os starts spells stores P bytes_of worths goes goes_source loads same_by holds spell fitted l.map.drops file is.laid is.number o opened sections
+        (ap (λ (d : ℕ → Bool). masked_sections d 0 opened) m) link.readable.globals are (settled_left ss is.laid is.dropped is.good is.located) whole c (plain_of ss o is) f.address both.0 in
         good_join p os starts spells stores P (inputs_from goes file o 0 o.sections) (inputs_of goes (suc file) us)
         (source.input_sections_of_file goes_source l.map.drops (tables ss) p.mapped file 0 opened) (source.input_sections_of goes_source l.map.drops p.mapped (suc file) srcs)
         (subst (λ t. AreGood p os starts spells stores P (inputs_from goes file o 0 o.sections) (source.input_sections_of_file goes_source l.map.drops t p.mapped file 0 opened)) f.tables own)
@@ -244,25 +244,25 @@ module _ (sources : List (List Statement)) (os : List Object) (text_start : ℕ)
 
   text_good : AreGood p os starts bytes_of true Written (inputs objects.goes_to_text os) (source.input_sections goes_to_text sources l.map)
   text_good = good_region bytes_of true Written objects.goes_to_text goes_to_text (λ s e. first_true s.loaded s.executable e)
-      text_same (λ t sites number o index s x is e f. text_holds t sites number o index s x is e)
+      text_same (λ t laid number o index s x is e f. text_holds t laid number o index s x is e)
       (λ file s z e home fit. fit.code (ap (λ y. y.executable) home ∙ (and_parts s.loaded s.executable e).1))
       (λ file s z e home fit. (fit.sized, fit.coded (ap (λ y. y.executable) home ∙ (and_parts s.loaded s.executable e).1)))
 
   rodata_good : AreGood p os starts (spelled p) true Fit (inputs objects.goes_to_rodata os) (source.input_sections goes_to_rodata sources l.map)
   rodata_good = good_region (spelled p) true Fit objects.goes_to_rodata goes_to_rodata (λ s e. (rodata_front s e).0)
-      rodata_same (λ t sites number o index s x is e f. plain_holds t sites number o index s x is (rodata_front s e).2)
+      rodata_same (λ t laid number o index s x is e f. plain_holds t laid number o index s x is (rodata_front s e).2)
       (λ file s z e home fit. fit.figures (ap (λ y. y.executable) home ∙ (rodata_front s e).1))
       (λ file s z e home fit. fit.sized)
 
   data_good : AreGood p os starts (spelled p) true Fit (inputs objects.goes_to_data os) (source.input_sections goes_to_data sources l.map)
   data_good = good_region (spelled p) true Fit objects.goes_to_data goes_to_data (λ s e. (data_front s e).0)
-      data_same (λ t sites number o index s x is e f. plain_holds t sites number o index s x is (data_front s e).2)
+      data_same (λ t laid number o index s x is e f. plain_holds t laid number o index s x is (data_front s e).2)
       (λ file s z e home fit. fit.figures (ap (λ y. y.executable) home ∙ (data_front s e).1))
       (λ file s z e home fit. fit.sized)
 
   bss_good : AreGood p os starts (spelled p) false Fit (inputs objects.goes_to_bss os) (source.input_sections goes_to_bss sources l.map)
   bss_good = good_region (spelled p) false Fit objects.goes_to_bss goes_to_bss (λ s e. (bss_front s e).0)
-      bss_same (λ t sites number o index s x is e f. absurd (cc))
+      bss_same (λ t laid number o index s x is e f. absurd (cc))
       (λ file s z e home fit. fit.figures (ap (λ y. y.executable) home ∙ (bss_front s e).1))
       (λ file s z e home fit. fit.sized)
 

@@ -19,7 +19,7 @@ use Rattle.rv_object_laws.specs.CallSites.{base_in}
 use Rattle.rv_object_laws.specs.Inputs.{Starts, InputSection, goes_to_text, inputs}
 use Rattle.rv_object_laws.specs.IsLinkOf.{IsLinkOf}
 use Rattle.rv_object_laws.specs.Shortened.{Sizes}
-use Rattle.rv_assemble_laws.specs.Sites.{Site}
+use Rattle.rv_assemble_laws.specs.LaidStatements.{LaidStatement}
 use Rattle.rv_sources_link_laws.proofs.sections.KeptLemmas.{AreKept, AreMasked}
 use Rattle.rv_sources_link_laws.proofs.sections.AssembledLemmas.{AreAssembled}
 use Rattle.rv_sources_link_laws.proofs.sections.FilesLemmas.{AreFiles, files, statements_ours}
@@ -28,13 +28,13 @@ use Rattle.rv_sources_link_laws.proofs.names.JoinedLemmas.{given, resolves}
 use Rattle.rv_sources_link_laws.proofs.LinkedLemmas.{linked}
 use Rattle.rv_sources_link_laws.proofs.moves.MovedLemmas.{all_map}
 use Rattle.rv_sources_link_laws.proofs.moves.PiecesLemmas.{ArePieces, text_is, have_bytes}
-use Rattle.rv_sources_link_laws.proofs.moves.PiecesOfLemmas.{sites_by, pieces, apart}
+use Rattle.rv_sources_link_laws.proofs.moves.PiecesOfLemmas.{laid_by, pieces, apart}
 use Rattle.rv_sources_link_laws.proofs.moves.ShrinkingLemmas.{shrunk_objects}
 use Rattle.rv_sources_link_laws.proofs.moves.ShrunkLinkLemmas.{shrunk_link}
 use Rattle.rv_sources_link_laws.proofs.moves.ShrinksLemmas.{Begun, begun_all, objects_shrink, all_begin, all_tidy}
 use Rattle.rv_sources_link_laws.proofs.moves.ShrunkLemmas as shrunk
 use Rattle.rv_sources_link_laws.proofs.SizedLemmas.{sized_from}
-use Rattle.rv_sources_link_laws.proofs.calls.UncutLemmas.{IsUncut, all_uncut, assembled_sites, assembled_dropped, all_assembled}
+use Rattle.rv_sources_link_laws.proofs.calls.UncutLemmas.{IsUncut, all_uncut, assembled_laid, assembled_dropped, all_assembled}
 
 tables_by : (sources : List (List Statement)) (i : ℕ) → slice_index_or (map tables sources) i (at_start []) ≡ tables (slice_index_or sources i [])
 tables_by [] i = refl
@@ -72,12 +72,12 @@ module _ (sources : List (List Statement)) (os : List Object) (text_start : ℕ)
   are_files = files sources ws l.map starts are left_masks made.rows
 
   -- the statements of each file
-  abbrev pub at : ℕ → List Site
-  at file = sites_by sources os h (file - 1)
+  abbrev pub at : ℕ → List LaidStatement
+  at file = laid_by sources os h (file - 1)
 
   pub are_pieces : ArePieces p starts at sizes (inputs goes_to_text os) (source.input_sections source_text sources l.map)
   are_pieces =
-      pieces p starts at sizes l.map.drops 1 sources os h masks ws are finals are_files (λ i. ap (sites_by sources os h) (let e : 1 + i - 1 ≡ i = omega arith in e))
+      pieces p starts at sizes l.map.drops 1 sources os h masks ws are finals are_files (λ i. ap (laid_by sources os h) (let e : 1 + i - 1 ≡ i = omega arith in e))
 
   sized : Sized sources l.map
   sized =
@@ -107,14 +107,14 @@ whole_from file (ss ∷ sources) (o ∷ os) (is, h) = (
   record {
     dropped = assembled_dropped ss o is;
     mv = λ z. z;
-    sites = assembled_sites ss o is ∙ sym (map_same is.sites);
+    laid = assembled_laid ss o is ∙ sym (map_same is.laid);
     stays = λ z. refl;
-    resized = all_map IsUncut (λ z. IsResized (λ j n. 8) z z) is.sites (λ z e. ((λ text call. e call), (λ call. refl))) (all_uncut ss o is);
+    resized = all_map IsUncut (λ z. IsResized (λ j n. 8) z z) is.laid (λ z e. ((λ text call. e call), (λ call. refl))) (all_uncut ss o is);
   },
   whole_from (suc file) sources os h,
 )
   where
-    map_same : (zs : List Site) → map (λ z. z) zs ≡ zs
+    map_same : (zs : List LaidStatement) → map (λ z. z) zs ≡ zs
     map_same [] = refl
     map_same (z ∷ zs) = ap (λ l. z ∷ l) (map_same zs)
 

@@ -29,8 +29,8 @@ use Rattle.rv_object_laws.specs.Inputs.{Starts, InputSection, goes_to_text, inpu
 use Rattle.rv_object_laws.specs.IsLinkOf.{IsLinkOf}
 use Rattle.rv_object_laws.specs.Names.{symbol_place}
 use Rattle.rv_object_laws.specs.Shortened.{Sizes, sizes_by, shortened_object, shortened_from, shortened, IsRelaxed, Relaxes}
-use Rattle.rv_assemble_laws.specs.Sites.{Site, part_bytes, sites_in}
-use Rattle.rv_assemble_laws.specs.Symbols.{site_at, StandsFor}
+use Rattle.rv_assemble_laws.specs.LaidStatements.{LaidStatement, part_bytes, laid_in}
+use Rattle.rv_assemble_laws.specs.Symbols.{laid_at, StandsFor}
 use Rattle.rv_assemble_laws.specs.IsObjectOf.{relocations_from}
 use Rattle.rv_sources_link_laws.proofs.sections.KeptLemmas.{IsKept, AreKept, AreMasked}
 use Rattle.rv_sources_link_laws.proofs.sections.MaskedLemmas.{source_sections}
@@ -38,7 +38,7 @@ use Rattle.rv_sources_link_laws.proofs.sections.AssembledLemmas.{IsAssembled, Ar
 use Rattle.rv_sources_link_laws.proofs.sections.BoundedLemmas.{text_short}
 use Rattle.rv_sources_link_laws.proofs.calls.ChangesOfLemmas as changed
 use Rattle.rv_sources_link_laws.proofs.calls.CutObjectsLemmas as cut
-use Rattle.rv_sources_link_laws.proofs.calls.CutObjectsLemmas.{Fitting, cut_is, cut_sites, cut_dropped}
+use Rattle.rv_sources_link_laws.proofs.calls.CutObjectsLemmas.{Fitting, cut_is, cut_laid, cut_dropped}
 use Rattle.rv_sources_link_laws.proofs.calls.CutSectionsLemmas.{stored_is}
 use Rattle.rv_sources_link_laws.proofs.fields.TextPlacesLemmas.{stands_in, aim_at}
 use Rattle.rv_sources_link_laws.proofs.sections.FilesLemmas.{AreFiles, statements_ours}
@@ -46,17 +46,17 @@ use Rattle.rv_sources_link_laws.proofs.calls.FinalsLemmas.{IsResized, AreCut, Ar
 use Rattle.rv_sources_link_laws.proofs.calls.FormsLemmas.{fitting}
 use Rattle.rv_sources_link_laws.proofs.names.KnownLemmas.{all_found}
 use Rattle.rv_sources_link_laws.proofs.moves.PiecesLemmas.{IsPiece, ArePieces, placed_at, text_is, piece_placed, piece_length, piece_start, line_at, line_of, lines}
-use Rattle.rv_sources_link_laws.proofs.moves.PiecesOfLemmas.{sites_by}
+use Rattle.rv_sources_link_laws.proofs.moves.PiecesOfLemmas.{laid_by}
 use Rattle.rv_sources_link_laws.proofs.RelaxedLemmas as relaxed
 use Rattle.rv_sources_link_laws.proofs.sections.SectionsLemmas.{join}
-use Rattle.rv_sources_link_laws.proofs.statements.SettledLemmas.{IsSettled, sites_are_in}
+use Rattle.rv_sources_link_laws.proofs.statements.SettledLemmas.{IsSettled, laid_are_in}
 use Rattle.rv_sources_link_laws.proofs.moves.ShrinkingLemmas.{AreAt, all_at}
 use Rattle.rv_sources_link_laws.proofs.moves.ShrunkLemmas as shrunk
 use Rattle.rv_sources_link_laws.proofs.statements.StatementsLemmas.{renumbered, statement_at, all_statements}
 use Rattle.rv_sources_link_laws.proofs.sections.StoodLemmas.{IsAside, not_entered}
 use Rattle.rv_sources_link_laws.proofs.fields.TargetsLemmas as targets
 use Rattle.rv_sources_link_laws.proofs.fields.TargetsLemmas.{section_of, all_settled}
-use Rattle.rv_sources_link_laws.proofs.calls.UncutLemmas.{IsUncut, all_uncut, sections_same, assembled, assembled_sites, assembled_dropped}
+use Rattle.rv_sources_link_laws.proofs.calls.UncutLemmas.{IsUncut, all_uncut, sections_same, assembled, assembled_laid, assembled_dropped}
 use Rattle.rv_sources_link_laws.proofs.fields.WholesLemmas.{IsSound, sound}
 
 -- ---- the objects with their calls shortened
@@ -67,26 +67,26 @@ module _ (sizes : ℕ → ℕ → Sizes) where
   AreFitting file [] [] h = ⊤
   AreFitting file [] (o ∷ us) h = absurd h
   AreFitting file (ss ∷ sources) [] h = absurd h
-  AreFitting file (ss ∷ sources) (o ∷ us) (is, h) = AllByRecursion (Fitting (sizes file)) is.sites × AreFitting (suc file) sources us h
+  AreFitting file (ss ∷ sources) (o ∷ us) (is, h) = AllByRecursion (Fitting (sizes file)) is.laid × AreFitting (suc file) sources us h
 
-  module _ (ss : List Statement) (o : Object) (is : IsKept ss o) (its : ℕ → Sizes) (fit : AllByRecursion (Fitting its) is.sites) where
-    whole_uncut : AllByRecursion IsUncut (assembled ss o is).sites
-    whole_uncut = subst (λ l. AllByRecursion IsUncut l) (sym (assembled_sites ss o is)) (all_uncut ss o is)
+  module _ (ss : List Statement) (o : Object) (is : IsKept ss o) (its : ℕ → Sizes) (fit : AllByRecursion (Fitting its) is.laid) where
+    whole_uncut : AllByRecursion IsUncut (assembled ss o is).laid
+    whole_uncut = subst (λ l. AllByRecursion IsUncut l) (sym (assembled_laid ss o is)) (all_uncut ss o is)
 
-    whole_fit : AllByRecursion (Fitting its) (assembled ss o is).sites
-    whole_fit = subst (λ l. AllByRecursion (Fitting its) l) (sym (assembled_sites ss o is)) fit
+    whole_fit : AllByRecursion (Fitting its) (assembled ss o is).laid
+    whole_fit = subst (λ l. AllByRecursion (Fitting its) l) (sym (assembled_laid ss o is)) fit
 
     abbrev one : IsAssembled ss (shortened_object its o)
     one = cut_is ss o (assembled ss o is) whole_uncut its whole_fit
 
-    one_sites : one.sites ≡ map (cut.mv its o) is.sites
-    one_sites = cut_sites ss o (assembled ss o is) whole_uncut its whole_fit ∙ ap (map (cut.mv its o)) (assembled_sites ss o is)
+    one_laid : one.laid ≡ map (cut.mv its o) is.laid
+    one_laid = cut_laid ss o (assembled ss o is) whole_uncut its whole_fit ∙ ap (map (cut.mv its o)) (assembled_laid ss o is)
 
     one_dropped : one.dropped ≡ is.dropped
     one_dropped = cut_dropped ss o (assembled ss o is) whole_uncut its whole_fit ∙ assembled_dropped ss o is
 
-    one_resized : AllByRecursion (λ z. IsResized its z (cut.mv its o z)) is.sites
-    one_resized = subst (λ l. AllByRecursion (λ z. IsResized its z (cut.mv its o z)) l) (assembled_sites ss o is) (cut.all_resized ss o (assembled ss o is) whole_uncut its whole_fit)
+    one_resized : AllByRecursion (λ z. IsResized its z (cut.mv its o z)) is.laid
+    one_resized = subst (λ l. AllByRecursion (λ z. IsResized its z (cut.mv its o z)) l) (assembled_laid ss o is) (cut.all_resized ss o (assembled ss o is) whole_uncut its whole_fit)
 
   unfoldable cut_all : (file : ℕ) (sources : List (List Statement)) (us : List Object) (h : AreKept sources us) → AreFitting file sources us h → AreAssembled sources (shortened_from sizes file us)
   cut_all file [] [] h f = tt
@@ -100,7 +100,7 @@ module _ (sizes : ℕ → ℕ → Sizes) where
   are_cut file [] (o ∷ us) h f = absurd h
   are_cut file (ss ∷ sources) [] h f = absurd h
   are_cut file (ss ∷ sources) (o ∷ us) (is, h) (f, fs) = (
-    record { dropped = one_dropped ss o is (sizes file) f; mv = cut.mv (sizes file) o; sites = one_sites ss o is (sizes file) f; stays = λ z. refl; resized = one_resized ss o is (sizes file) f },
+    record { dropped = one_dropped ss o is (sizes file) f; mv = cut.mv (sizes file) o; laid = one_laid ss o is (sizes file) f; stays = λ z. refl; resized = one_resized ss o is (sizes file) f },
     are_cut (suc file) sources us h fs,
   )
 
@@ -110,7 +110,7 @@ module _ (starts : Starts) (sizes : ℕ → ℕ → Sizes) where
   abbrev is_flagged : ℕ → MaybeMapped → Bool
   is_flagged f e = (e.located.file == f) && is_compressed_code e.located
 
-  own_flags : (f : ℕ) (final : Site → Site) → ((z : Site) → (final z).located ≡ z.located) → (zs : List Site)
+  own_flags : (f : ℕ) (final : LaidStatement → LaidStatement) → ((z : LaidStatement) → (final z).located ≡ z.located) → (zs : List LaidStatement)
       → list_any (is_flagged f) (map (statement_at starts f) (map final zs)) ≡ list_any (λ z. is_compressed_code z.located) zs
   own_flags f final stays [] = refl
   own_flags f final stays (z ∷ zs) =
@@ -118,7 +118,7 @@ module _ (starts : Starts) (sizes : ℕ → ℕ → Sizes) where
       ∙ ap (λ (l : Located). is_compressed_code l || list_any (is_flagged f) (map (statement_at starts f) (map final zs))) (stays z)
       ∙ ap (λ b. is_compressed_code z.located || b) (own_flags f final stays zs)
 
-  other_flags : (k f : ℕ) → (k == f) ≡ false → (ys : List Site) → list_any (is_flagged f) (map (statement_at starts k) ys) ≡ false
+  other_flags : (k f : ℕ) → (k == f) ≡ false → (ys : List LaidStatement) → list_any (is_flagged f) (map (statement_at starts k) ys) ≡ false
   other_flags k f e [] = refl
   other_flags k f e (y ∷ ys) = ap (λ b. (b && is_compressed_code y.located) || list_any (is_flagged f) (map (statement_at starts k) ys)) e ∙ other_flags k f e ys
 
@@ -127,31 +127,31 @@ module _ (starts : Starts) (sizes : ℕ → ℕ → Sizes) where
   no_flags k f l [] (w ∷ ws) q = absurd q
   no_flags k f l (ss ∷ sources) [] q = absurd q
   no_flags k f l (ss ∷ sources) (w ∷ ws) (js, q) =
-      list_any-append (is_flagged f) (map (statement_at starts k) js.sites) (all_statements starts (suc k) sources ws q)
-      ∙ ap (λ b. b || list_any (is_flagged f) (all_statements starts (suc k) sources ws q)) (other_flags k f (ne_eqb k f (λ e. omega (arith, e, l))) js.sites)
+      list_any-append (is_flagged f) (map (statement_at starts k) js.laid) (all_statements starts (suc k) sources ws q)
+      ∙ ap (λ b. b || list_any (is_flagged f) (all_statements starts (suc k) sources ws q)) (other_flags k f (ne_eqb k f (λ e. omega (arith, e, l))) js.laid)
       ∙ no_flags (suc k) f (omega (arith, l)) sources ws q
 
   -- the flag of the file after so many others
   flags_by : (k i : ℕ) (sources : List (List Statement)) (os : List Object) (h : AreKept sources os) (ws : List Object) (q : shrunk.AreObjectsOf sources ws) → AreFinal sizes k sources os h ws q
-      → list_any (is_flagged (k + i)) (all_statements starts k sources ws q) ≡ list_any (λ z. is_compressed_code z.located) (sites_by sources os h i)
+      → list_any (is_flagged (k + i)) (all_statements starts k sources ws q) ≡ list_any (λ z. is_compressed_code z.located) (laid_by sources os h i)
   flags_by k i [] [] h [] q c = refl
   flags_by k i [] [] h (w ∷ ws) q c = absurd q
   flags_by k i [] (o ∷ os) h ws q c = absurd h
   flags_by k i (ss ∷ sources) [] h ws q c = absurd h
   flags_by k i (ss ∷ sources) (o ∷ os) (is, h) [] q c = absurd q
   flags_by k zero (ss ∷ sources) (o ∷ os) (is, h) (w ∷ ws) (js, q) (c, cs) =
-      ap (λ f. list_any (is_flagged f) (map (statement_at starts k) js.sites ++ all_statements starts (suc k) sources ws q)) (let e : k + 0 ≡ k = omega arith in e)
-      ∙ list_any-append (is_flagged k) (map (statement_at starts k) js.sites) (all_statements starts (suc k) sources ws q)
-      ∙ ap (λ b. list_any (is_flagged k) (map (statement_at starts k) js.sites) || b) (no_flags (suc k) k (omega arith) sources ws q)
-      ∙ or_false (list_any (is_flagged k) (map (statement_at starts k) js.sites))
-      ∙ ap (λ l. list_any (is_flagged k) (map (statement_at starts k) l)) c.sites ∙ own_flags k c.final c.stays is.sites
+      ap (λ f. list_any (is_flagged f) (map (statement_at starts k) js.laid ++ all_statements starts (suc k) sources ws q)) (let e : k + 0 ≡ k = omega arith in e)
+      ∙ list_any-append (is_flagged k) (map (statement_at starts k) js.laid) (all_statements starts (suc k) sources ws q)
+      ∙ ap (λ b. list_any (is_flagged k) (map (statement_at starts k) js.laid) || b) (no_flags (suc k) k (omega arith) sources ws q)
+      ∙ or_false (list_any (is_flagged k) (map (statement_at starts k) js.laid))
+      ∙ ap (λ l. list_any (is_flagged k) (map (statement_at starts k) l)) c.laid ∙ own_flags k c.final c.stays is.laid
     where
       or_false : (b : Bool) → (b || false) ≡ b
       or_false true = refl
       or_false false = refl
   flags_by k (suc i) (ss ∷ sources) (o ∷ os) (is, h) (w ∷ ws) (js, q) (c, cs) =
-      list_any-append (is_flagged (k + suc i)) (map (statement_at starts k) js.sites) (all_statements starts (suc k) sources ws q)
-      ∙ ap (λ b. b || list_any (is_flagged (k + suc i)) (all_statements starts (suc k) sources ws q)) (other_flags k (k + suc i) (ne_eqb k (k + suc i) (λ e. omega (arith, e))) js.sites)
+      list_any-append (is_flagged (k + suc i)) (map (statement_at starts k) js.laid) (all_statements starts (suc k) sources ws q)
+      ∙ ap (λ b. b || list_any (is_flagged (k + suc i)) (all_statements starts (suc k) sources ws q)) (other_flags k (k + suc i) (ne_eqb k (k + suc i) (λ e. omega (arith, e))) js.laid)
       ∙ ap (λ f. list_any (is_flagged f) (all_statements starts (suc k) sources ws q)) (let e : k + suc i ≡ suc k + i = omega arith in e)
       ∙ flags_by (suc k) i sources os h ws q cs
 
@@ -166,7 +166,7 @@ bytes_same : (size other : ℕ → ℕ) → ((o : ℕ) → size o ≡ other o) �
 bytes_same size other e [] h = tt
 bytes_same size other e (x ∷ text) (h, hs) = ((λ c. h c ∙ e x.offset), bytes_same size other e text hs)
 
-module _ (p : Program) (starts : Starts) (at : ℕ → List Site) (sizes : ℕ → ℕ → Sizes) (os : List Object) (text : List Placed) where
+module _ (p : Program) (starts : Starts) (at : ℕ → List LaidStatement) (sizes : ℕ → ℕ → Sizes) (os : List Object) (text : List Placed) where
   -- the changes of a section are those of its statements
   abbrev Makes : InputSection → Type 0
   Makes i = (b : source.InputSection) (h : IsPiece p starts at sizes i b) (first : ℕ) → map (site_of os i first) (changes os i) ≡ flat_map (sites_at p text) (line_at p starts at sizes first i b h)
@@ -198,7 +198,7 @@ module _ (sources : List (List Statement)) (os : List Object) (text_start : ℕ)
   abbrev starts : Starts
   starts = relaxed.starts sources os text_start l h masks us k sizes c link
 
-  abbrev at : ℕ → List Site
+  abbrev at : ℕ → List LaidStatement
   at = relaxed.at sources os text_start l h masks us k sizes c link
 
   abbrev ws : List Object
@@ -230,20 +230,20 @@ module _ (sources : List (List Statement)) (os : List Object) (text_start : ℕ)
   AreHere = targets.AreHere p starts at sizes os bs pieces_are
 
   heres : (f : ℕ) (ts : List (List Statement)) (vs : List Object) (q : AreKept ts vs) (xs : List Object) (r : shrunk.AreObjectsOf ts xs) → 1 ≤ f → AreAt os f vs → AreFiles p starts f ts xs r
-      → ((i : ℕ) → at (f + i) ≡ sites_by ts vs q i) → AreHere f ts vs q
+      → ((i : ℕ) → at (f + i) ≡ laid_by ts vs q i) → AreHere f ts vs q
   heres f [] [] q xs r low e files own = tt
   heres f [] (v ∷ vs) q xs r low e files own = absurd q
   heres f (ss ∷ ts) [] q xs r low e files own = absurd q
   heres f (ss ∷ ts) (v ∷ vs) (is, q) [] r low e files own = absurd r
   heres f (ss ∷ ts) (v ∷ vs) (is, q) (x ∷ xs) (js, r) low (e, es) (file, files) own = (
-    record { low = low; sites = ap at (let g : f ≡ f + 0 = omega arith in g) ∙ own 0; object = e; tables = file.tables },
+    record { low = low; laid = ap at (let g : f ≡ f + 0 = omega arith in g) ∙ own 0; object = e; tables = file.tables },
     heres (suc f) ts vs q xs r (omega (arith, low)) es files (λ i. ap at (let g : suc f + i ≡ f + suc i = omega arith in g) ∙ own (suc i)),
   )
 
   all_here : AreHere 1 sources os h
   all_here =
       heres 1 sources os h ws (relaxed.are sources os text_start l h masks us k sizes c link) (omega arith) (all_at os) (relaxed.are_files sources os text_start l h masks us k sizes c link)
-      (λ i. ap (sites_by sources os h) (let e : 1 + i - 1 ≡ i = omega arith in e))
+      (λ i. ap (laid_by sources os h) (let e : 1 + i - 1 ≡ i = omega arith in e))
 
   -- ---- a file
 
@@ -253,13 +253,13 @@ module _ (sources : List (List Statement)) (os : List Object) (text_start : ℕ)
 
     flag : o.rvc ≡ has_compressed p f
     flag =
-        is.rvc ∙ ap (list_any (λ (z : Site). is_compressed_code z.located)) (sym here.sites)
+        is.rvc ∙ ap (list_any (λ (z : LaidStatement). is_compressed_code z.located)) (sym here.laid)
         ∙ sym (flags_by starts sizes 1 (f - 1) sources os h ws (relaxed.are sources os text_start l h masks us k sizes c link) finals)
         ∙ ap (λ n. list_any (λ (e : MaybeMapped). (e.located.file == n) && is_compressed_code e.located) (all_statements starts 1 sources ws (relaxed.are sources os text_start l h masks us k sizes c link)))
         (let low = here.low in let e : 1 + (f - 1) ≡ f = omega (arith, low) in e)
         ∙ ap (list_any (λ (e : MaybeMapped). (e.located.file == f) && is_compressed_code e.located)) (sym statements)
 
-    meant : (z : Located) (name : Primary) (y : Option Symbol) → StandsFor (tables ss) is.sites z.ordinal name y
+    meant : (z : Located) (name : Primary) (y : Option Symbol) → StandsFor (tables ss) is.laid z.ordinal name y
         → stands_in os (option_and_then (symbol_place os f) y) ≡ option_and_then (aim_at text) (aim_of p (renumbered f z) name)
     meant z name y s =
         targets.meant p starts at sizes os bs pieces_are sources h ws (relaxed.are sources os text_start l h masks us k sizes c link) finals all_here statements f ss o is here z name y s
@@ -268,45 +268,45 @@ module _ (sources : List (List Statement)) (os : List Object) (text_start : ℕ)
     abbrev input : ℕ → Section → InputSection
     input index x = record { file = f; object = o; index = index; section = x }
 
-    module _ (index : ℕ) (s : SourceSection) (x : Section) (hx : IsSectionOf (tables ss) is.sites is.number o.symbols index s (sites_in index is.sites) x) (at_s : slice_get sections index ≡ Some s)
+    module _ (index : ℕ) (s : SourceSection) (x : Section) (hx : IsSectionOf (tables ss) is.laid is.number o.symbols index s (laid_in index is.laid) x) (at_s : slice_get sections index ≡ Some s)
         (text_s : source_text s ≡ true) where
-      abbrev zs : List Site
-      zs = sites_in index is.sites
+      abbrev zs : List LaidStatement
+      zs = laid_in index is.laid
 
       loaded : s.loaded ≡ true
       loaded = (and_parts s.loaded s.executable text_s).0
 
-      at_home : (n : ℕ) (z : Site) → site_at is.sites n ≡ Some z → z.located.section ≡ index → source_text z.located.home ≡ true
+      at_home : (n : ℕ) (z : LaidStatement) → laid_at is.laid n ≡ Some z → z.located.section ≡ index → source_text z.located.home ≡ true
       at_home n z e there =
-          let settled_here = all_found (IsSettled sections) (λ z. z.located.ordinal == n) is.sites (all_settled ss o is) z e in
+          let settled_here = all_found (IsSettled sections) (λ z. z.located.ordinal == n) is.laid (all_settled ss o is) z e in
           let both : Some z.located.home ≡ Some s = sym settled_here.home ∙ ap (slice_get sections) there ∙ at_s in
           let same : z.located.home ≡ s = cc in
           ap source_text same ∙ text_s
 
       none_inside : (q : ℕ) → AllByRecursion (IsAside q) zs → is_entered o index q ≡ false
-      none_inside q aside = not_entered is.sites index q at_home aside o is.stood
+      none_inside q aside = not_entered is.laid index q at_home aside o is.stood
 
       whole : x.relocations ≡ relocations_from is.number 0 (parts (tables ss) zs)
       whole = hx.relocations ∙ ap (λ b. if b then relocations_from is.number 0 (parts (tables ss) zs) else []) loaded
 
       bytes_are : stored x.contents ≡ flat_map part_bytes (parts (tables ss) zs)
-      bytes_are = stored_is (tables ss) is.sites is.number o.symbols index s x zs hx text_s
+      bytes_are = stored_is (tables ss) is.laid is.number o.symbols index s x zs hx text_s
 
       make_one : Makes p starts at sizes os text (input index x)
       make_one b piece first =
-          changed.sites_made p starts os text f (tables ss) here.tables o index x s text_s is.number is.sites zs x.alignment flag meant piece.final piece.stays none_inside whole bytes_are
-          hx.tile (sites_are_in sections index s is.sites at_s (all_settled ss o is)) (all_filter IsUncut (λ z. z.located.section == index) is.sites (all_uncut ss o is))
-          (all_filter (λ z. IsSound (tables ss) z.located) (λ z. z.located.section == index) is.sites (sound ss is.sites is.dropped is.good is.located)) hx.sizes (hx.numbered loaded) first
-          ∙ ap (flat_map (sites_at p text)) (lined_same zs ∙ ap (λ S. line_of p starts at sizes f piece.t piece.tables piece.final piece.stays first (sites_in index S)) (sym here.sites))
+          changed.sites_made p starts os text f (tables ss) here.tables o index x s text_s is.number is.laid zs x.alignment flag meant piece.final piece.stays none_inside whole bytes_are
+          hx.tile (laid_are_in sections index s is.laid at_s (all_settled ss o is)) (all_filter IsUncut (λ z. z.located.section == index) is.laid (all_uncut ss o is))
+          (all_filter (λ z. IsSound (tables ss) z.located) (λ z. z.located.section == index) is.laid (sound ss is.laid is.dropped is.good is.located)) hx.sizes (hx.numbered loaded) first
+          ∙ ap (flat_map (sites_at p text)) (lined_same zs ∙ ap (λ S. line_of p starts at sizes f piece.t piece.tables piece.final piece.stays first (laid_in index S)) (sym here.laid))
         where
-          lined_same : (ys : List Site)
-              → changed.lined p starts os text f (tables ss) here.tables o index x s text_s is.number is.sites zs x.alignment flag meant piece.final piece.stays none_inside whole bytes_are first ys
+          lined_same : (ys : List LaidStatement)
+              → changed.lined p starts os text f (tables ss) here.tables o index x s text_s is.number is.laid zs x.alignment flag meant piece.final piece.stays none_inside whole bytes_are first ys
               ≡ line_of p starts at sizes f piece.t piece.tables piece.final piece.stays first ys
           lined_same [] = refl
           lined_same (z ∷ ys) =
               ap (λ l. if has_row z.located then placed_at p starts at sizes f piece.t piece.tables piece.final piece.stays first z ∷ l else l) (lined_same ys)
 
-    makes_from : (index : ℕ) (sss : List SourceSection) (xs : List Section) → AreSectionsOf (tables ss) is.sites is.number o.symbols index sss xs
+    makes_from : (index : ℕ) (sss : List SourceSection) (xs : List Section) → AreSectionsOf (tables ss) is.laid is.number o.symbols index sss xs
         → ((j : ℕ) → slice_get sections (index + j) ≡ slice_get sss j) → AllByRecursion (Makes p starts at sizes os text) (inputs_from goes_to_text f o index xs)
     makes_from index [] [] hs at_s = tt
     makes_from index [] (x ∷ xs) hs at_s = absurd hs
@@ -324,7 +324,7 @@ module _ (sources : List (List Statement)) (os : List Object) (text_start : ℕ)
 
     file_makes : AllByRecursion (Makes p starts at sizes os text) (inputs_from goes_to_text f o 0 o.sections)
     file_makes =
-        makes_from 0 sections o.sections (sections_same (tables ss) is.sites (all_uncut ss o is) is.number o.symbols 0 sections o.sections is.sections)
+        makes_from 0 sections o.sections (sections_same (tables ss) is.laid (all_uncut ss o is) is.number o.symbols 0 sections o.sections is.sections)
         (λ j. ap (slice_get sections) (let e : 0 + j ≡ j = omega arith in e))
 
   makes : (f : ℕ) (ts : List (List Statement)) (vs : List Object) (q : AreKept ts vs) → AreHere f ts vs q → AllByRecursion (Makes p starts at sizes os text) (inputs_of goes_to_text f vs)

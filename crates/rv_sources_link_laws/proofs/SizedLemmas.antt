@@ -14,7 +14,7 @@ use Rattle.rv_source_laws.specs.Sized.{statement_size, HasSizeBy, HaveSizes, sta
 use Rattle.rv_object.specs.Object.{Object}
 use Rattle.rv_object_laws.specs.Inputs.{Starts}
 use Rattle.rv_object_laws.specs.Shortened.{Sizes}
-use Rattle.rv_assemble_laws.specs.Sites.{Site, form}
+use Rattle.rv_assemble_laws.specs.LaidStatements.{LaidStatement, form}
 use Rattle.rv_sources_link_laws.proofs.sections.KeptLemmas.{AreKept}
 use Rattle.rv_sources_link_laws.proofs.calls.FinalsLemmas.{IsFinal, AreFinal}
 use Rattle.rv_sources_link_laws.proofs.moves.ShrunkLemmas as shrunk
@@ -26,13 +26,13 @@ module _ (starts : Starts) where
   abbrev pub in_file : ℕ → List MaybeMapped → List MaybeMapped
   in_file f es = filter (λ e. e.located.file == f) es
 
-  own_kept : (file : ℕ) (sites : List Site) (more : List MaybeMapped) → in_file file (map (statement_at starts file) sites ++ more) ≡ map (statement_at starts file) sites ++ in_file file more
+  own_kept : (file : ℕ) (laid : List LaidStatement) (more : List MaybeMapped) → in_file file (map (statement_at starts file) laid ++ more) ≡ map (statement_at starts file) laid ++ in_file file more
   own_kept file [] more = refl
   own_kept file (s ∷ ss) more =
       let rest = in_file file (map (statement_at starts file) ss ++ more) in
       ap (λ b. if b then statement_at starts file s ∷ rest else rest) (eq-eqb file file refl) ∙ ap (λ (l : List MaybeMapped). statement_at starts file s ∷ l) (own_kept file ss more)
 
-  others_dropped : (file f : ℕ) → (file == f) ≡ false → (sites : List Site) (more : List MaybeMapped) → in_file f (map (statement_at starts file) sites ++ more) ≡ in_file f more
+  others_dropped : (file f : ℕ) → (file == f) ≡ false → (laid : List LaidStatement) (more : List MaybeMapped) → in_file f (map (statement_at starts file) laid ++ more) ≡ in_file f more
   others_dropped file f e [] more = refl
   others_dropped file f e (s ∷ ss) more =
       let rest = in_file f (map (statement_at starts file) ss ++ more) in
@@ -43,14 +43,14 @@ module _ (starts : Starts) where
   none_before file f less [] (w ∷ ws) k = absurd k
   none_before file f less (ss ∷ sources) [] k = absurd k
   none_before file f less (ss ∷ sources) (w ∷ ws) (is, k) =
-      others_dropped file f (ne_eqb file f (λ e. omega (arith, less, e))) is.sites (all_statements starts (suc file) sources ws k)
+      others_dropped file f (ne_eqb file f (λ e. omega (arith, less, e))) is.laid (all_statements starts (suc file) sources ws k)
       ∙ none_before (suc file) f (omega (arith, less)) sources ws k
 
   -- ---- their sizes
 
   module _ (p : Program) where
-    have : (file : ℕ) (t : Tables) (sizes : ℕ → Sizes) (final : Site → Site) → ((z : Site) → (final z).located ≡ z.located) → tables_in p file ≡ t → (zs : List Site)
-        → AllByRecursion (λ z. IsFinal t sizes z (final z)) zs → HaveSizes p (map (statement_at starts file) (map final zs)) (map (λ (z : Site). z.bytes) zs)
+    have : (file : ℕ) (t : Tables) (sizes : ℕ → Sizes) (final : LaidStatement → LaidStatement) → ((z : LaidStatement) → (final z).located ≡ z.located) → tables_in p file ≡ t → (zs : List LaidStatement)
+        → AllByRecursion (λ z. IsFinal t sizes z (final z)) zs → HaveSizes p (map (statement_at starts file) (map final zs)) (map (λ (z : LaidStatement). z.bytes) zs)
     have file t sizes final stays same [] h = tt
     have file t sizes final stays same (z ∷ zs) (h, hs) = (
       subst (λ (l : Located). HasSizeBy p (renumbered file l) (if has_row l then Some row else None) z.bytes) (sym (stays z)) (go (has_row z.located) refl),
@@ -77,16 +77,16 @@ module _ (starts : Starts) where
     sized_from sizes file (ss ∷ sources) (o ∷ os) (is, h) (w ∷ ws) (js, k) (c, cs) e g =
         let rest = all_statements starts (suc file) sources ws k in
         let same : tables_in p file ≡ tables ss = ap (tables_in p) (let q : file ≡ file + 0 = omega arith in q) ∙ g 0 in
-        let own : statements_in p file ≡ map (statement_at starts file) (map c.final is.sites) =
-        e file (omega arith) ∙ own_kept file js.sites rest
-        ∙ ap (λ l. map (statement_at starts file) js.sites ++ l) (none_before (suc file) file (omega arith) sources ws k) ∙ append-nil (map (statement_at starts file) js.sites)
-        ∙ ap (map (statement_at starts file)) c.sites in (
+        let own : statements_in p file ≡ map (statement_at starts file) (map c.final is.laid) =
+        e file (omega arith) ∙ own_kept file js.laid rest
+        ∙ ap (λ l. map (statement_at starts file) js.laid ++ l) (none_before (suc file) file (omega arith) sources ws k) ∙ append-nil (map (statement_at starts file) js.laid)
+        ∙ ap (map (statement_at starts file)) c.laid in (
           record {
-            sizes = map (λ (z : Site). z.bytes) is.sites;
-            has = subst (λ es. HaveSizes p es (map (λ (z : Site). z.bytes) is.sites)) (sym own) (have file (tables ss) (sizes file) c.final c.stays same is.sites c.finals);
+            sizes = map (λ (z : LaidStatement). z.bytes) is.laid;
+            has = subst (λ es. HaveSizes p es (map (λ (z : LaidStatement). z.bytes) is.laid)) (sym own) (have file (tables ss) (sizes file) c.final c.stays same is.laid c.finals);
             least = is.least;
           },
           sized_from sizes (suc file) sources os h ws k cs
-              (λ f low. e f (omega (arith, low)) ∙ others_dropped file f (ne_eqb file f (λ q. omega (arith, low, q))) js.sites rest)
+              (λ f low. e f (omega (arith, low)) ∙ others_dropped file f (ne_eqb file f (λ q. omega (arith, low, q))) js.laid rest)
               (λ i. ap (tables_in p) (let q : suc file + i ≡ file + suc i = omega arith in q) ∙ g (suc i)),
         )

@@ -23,7 +23,7 @@ use Rattle.rv_object.specs.declared.symbol.Binding.TheVariants.{Local, Global}
 use Rattle.rv_object.specs.declared.symbol.Definition.{Definition}
 use Rattle.rv_object.specs.declared.symbol.Definition.TheVariants.{Undefined, Absolute, InSection}
 use Rattle.rv_object.specs.Object.{Progbits, Note, Relocation, Section, Symbol, Object}
-use Rattle.rv_assemble_laws.specs.Sites.{Site}
+use Rattle.rv_assemble_laws.specs.LaidStatements.{LaidStatement}
 
 abbrev said : ℕ → StatementKind → Statement
 said line kind = record { line = line; kind = kind }
@@ -250,10 +250,10 @@ size offset bytes instructions =
 abbrev pub one_word : List ℕ → Size
 one_word bytes = record { offset = 0; bytes = 4; instructions = 1; coded = bytes ∷ [] }
 
-abbrev pub sites_of : List Located → List Size → List Site
-sites_of [] sizes = []
-sites_of (l ∷ ls) [] = []
-sites_of (l ∷ ls) (z ∷ zs) =
+abbrev pub laid_from : List Located → List Size → List LaidStatement
+laid_from [] sizes = []
+laid_from (l ∷ ls) [] = []
+laid_from (l ∷ ls) (z ∷ zs) =
     record {
       located = l;
       offset = z.offset;
@@ -261,18 +261,18 @@ sites_of (l ∷ ls) (z ∷ zs) =
       instructions = z.instructions;
       coded = z.coded;
     }
-    ∷ sites_of ls zs
+    ∷ laid_from ls zs
 
-abbrev pub first_sites : List Site
-first_sites =
-    sites_of (located_from 1 1 (at_start first_source) first_source)
+abbrev pub first_laid : List LaidStatement
+first_laid =
+    laid_from (located_from 1 1 (at_start first_source) first_source)
     (size 0 0 0 ∷ size 0 0 0 ∷ size 0 0 0 ∷ one_word (0x73 ∷ 0 ∷ 0 ∷ 0 ∷ []) ∷ size 0 0 0 ∷
     size 0 0 0 ∷ size 0 4 0 ∷ size 4 8 0 ∷ size 12 4 0
     ∷ size 16 8 0 ∷ [])
 
-abbrev pub second_sites : List Site
-second_sites =
-    sites_of (located_from 1 1 (at_start second_source) second_source)
+abbrev pub second_laid : List LaidStatement
+second_laid =
+    laid_from (located_from 1 1 (at_start second_source) second_source)
     (size 0 0 0 ∷ size 0 0 0 ∷ size 0 0 0 ∷ size 0 1 0 ∷ size 1 0 0 ∷ size 1 1 0 ∷ size 2 0 0 ∷
     size 2 4 0 ∷ size 6 0 0 ∷ size 0 0 0 ∷ size 0 1 0 ∷ size 0 0 0 ∷ size 0 0 0 ∷
     one_word (0x73 ∷ 0 ∷ 0 ∷ 0 ∷ []) ∷ size 4 6 2 ∷ [])

@@ -13,14 +13,14 @@ use Rattle.rv_unit_laws.specs.Faults.{first_fault}
 use Rattle.rv_unit_laws.proofs.FoundLemmas.{and_both}
 use Rattle.rv_map.specs.Name.{is_name}
 use Rattle.rv_source_laws.specs.Located.{located_from}
-use Rattle.rv_assemble_laws.specs.Sites.{Site}
+use Rattle.rv_assemble_laws.specs.LaidStatements.{LaidStatement}
 use Rattle.rv_assemble_laws.specs.Symbols.{SymbolUse, references, is_unnamed, symbols_of, StandsFor}
 use Rattle.rv_assemble_laws.specs.IsObjectOf.{IsNumbered}
 use Rattle.rv_assemble_laws.specs.ShownNames.{is_shown_use, AreShown, HasNames}
 use Rattle.rv_symbols.specs.SymbolUse.{is_meant_use, AreMeant}
 use Rattle.rv_symbols.specs.Numbers.{number_in}
 use Rattle.rv_symbols.proofs.StandsLemmas.{got_map}
-use Rattle.rv_symbols.proofs.DefiningLemmas.{by_index, site_of, own_name}
+use Rattle.rv_symbols.proofs.DefiningLemmas.{by_index, laid_of, own_name}
 use Rattle.rv_symbols.proofs.NamingLemmas.{all_got}
 use Rattle.rv_symbols.proofs.DefinedNamesLemmas.{names_some}
 use Rattle.rv_symbols.proofs.NumberedLemmas.{all_index, undefined_stands}
@@ -28,9 +28,9 @@ use Rattle.rv_symbols.proofs.UnnamedLemmas.{unnamed_stands}
 use Rattle.rv_symbols.proofs.StandingLemmas.{StandsAt, AreNumeric, uses_stand, found_of, reversed}
 use Rattle.rv_symbols.proofs.MeantLemmas.{numeric_labels, means}
 
-pub offset_low : (offsets : List ℕ) (sites : List Site) → map (λ s. s.offset) sites ≡ offsets → ((i : ℕ) → get_or offsets i 0 < 2 ^ 32) → (i : ℕ) (s : Site) → slice_get sites i ≡ Some s → s.offset < 2 ^ 64
-offset_low offsets sites e low i s at =
-    let here : slice_get offsets i ≡ Some s.offset = ap (λ l. slice_get l i) (sym e) ∙ got_map (λ (z : Site). z.offset) sites i ∙ ap (option_map (λ (z : Site). z.offset)) at in
+pub offset_low : (offsets : List ℕ) (laid : List LaidStatement) → map (λ s. s.offset) laid ≡ offsets → ((i : ℕ) → get_or offsets i 0 < 2 ^ 32) → (i : ℕ) (s : LaidStatement) → slice_get laid i ≡ Some s → s.offset < 2 ^ 64
+offset_low offsets laid e low i s at =
+    let here : slice_get offsets i ≡ Some s.offset = ap (λ l. slice_get l i) (sym e) ∙ got_map (λ (z : LaidStatement). z.offset) laid i ∙ ap (option_map (λ (z : LaidStatement). z.offset)) at in
     let is : get_or offsets i 0 ≡ s.offset = at_or offsets i s.offset here in
     let bound = low i in
     omega (arith, is, bound)
@@ -41,23 +41,23 @@ offset_low offsets sites e low i s at =
     at_or (x ∷ xs) zero n e = cc
     at_or (x ∷ xs) (suc i) n e = at_or xs i n e
 
-module _ (ss : List Statement) (sites : List Site) (located : map (λ s. s.located) sites ≡ located_from 1 1 (at_start ss) ss) (meant : AreMeant (tables ss) (references (tables ss) sites))
-    (free : first_fault ss ≡ None) (names : HasNames ss) (shown : AreShown (references (tables ss) sites)) (low : (i : ℕ) (s : Site) → slice_get sites i ≡ Some s → s.offset < 2 ^ 64) where
+module _ (ss : List Statement) (laid : List LaidStatement) (located : map (λ s. s.located) laid ≡ located_from 1 1 (at_start ss) ss) (meant : AreMeant (tables ss) (references (tables ss) laid))
+    (free : first_fault ss ≡ None) (names : HasNames ss) (shown : AreShown (references (tables ss) laid)) (low : (i : ℕ) (s : LaidStatement) → slice_get laid i ≡ Some s → s.offset < 2 ^ 64) where
   abbrev t : Tables
   t = tables ss
 
   abbrev rs : List SymbolUse
-  rs = references t sites
+  rs = references t laid
 
   abbrev Stands : ℕ → Primary → Type 0
-  Stands o q = StandsFor t sites o q (slice_get (symbols_of t sites) (number_in t sites o q))
+  Stands o q = StandsFor t laid o q (slice_get (symbols_of t laid) (number_in t laid o q))
 
-  numeric : AreNumeric sites t.numeric_labels
-  numeric = numeric_labels ss sites located
+  numeric : AreNumeric laid t.numeric_labels
+  numeric = numeric_labels ss laid located
 
-  unnamed : (j o n : ℕ) (q : Primary) → slice_get rs j ≡ Some (record { ordinal = o; symbol = q }) → is_unnamed q ≡ true → laws.definition t o q ≡ Some (definition_at n) → StandsAt sites n → Stands o q
+  unnamed : (j o n : ℕ) (q : Primary) → slice_get rs j ≡ Some (record { ordinal = o; symbol = q }) → is_unnamed q ≡ true → laws.definition t o q ≡ Some (definition_at n) → StandsAt laid n → Stands o q
   unnamed j o n q e u f (i, s, at, is, placed) =
-      unnamed_stands t sites (names_some t (at_start ss) 1 ss sites located names) j (record { ordinal = o; symbol = q }) (definition_at n) i s e u f at (site_of ss sites located n i s at is) (sym is) placed refl (low i s at)
+      unnamed_stands t laid (names_some t (at_start ss) 1 ss laid located names) j (record { ordinal = o; symbol = q }) (definition_at n) i s e u f at (laid_of ss laid located n i s at is) (sym is) placed refl (low i s at)
 
   later : (j o : ℕ) (digits : List ℕ) → slice_get rs j ≡ Some (record { ordinal = o; symbol = Reference digits true }) → is_some (laws.definition t o (Reference digits true)) ≡ true → Stands o (Reference digits true)
   later j o digits e m = go (numeric_label_after t.numeric_labels o (digits_value 10 digits)) refl
@@ -66,7 +66,7 @@ module _ (ss : List Statement) (sites : List Site) (located : map (λ s. s.locat
       go None f = absurd (let n : is_some (laws.definition t o (Reference digits true)) ≡ false = ap (λ x. is_some (laws.numeric_definition x)) f in cc)
       go (Some l) f =
           unnamed j o l.ordinal (Reference digits true) e refl (ap laws.numeric_definition f)
-          (found_of (λ (z : NumericLabel). StandsAt sites z.ordinal) (λ z. nat_lt o z.ordinal && (z.number == digits_value 10 digits)) (reverse t.numeric_labels) l f (reversed (λ (z : NumericLabel). StandsAt sites z.ordinal) t.numeric_labels numeric))
+          (found_of (λ (z : NumericLabel). StandsAt laid z.ordinal) (λ z. nat_lt o z.ordinal && (z.number == digits_value 10 digits)) (reverse t.numeric_labels) l f (reversed (λ (z : NumericLabel). StandsAt laid z.ordinal) t.numeric_labels numeric))
 
   earlier : (j o : ℕ) (digits : List ℕ) → slice_get rs j ≡ Some (record { ordinal = o; symbol = Reference digits false }) → is_some (laws.definition t o (Reference digits false)) ≡ true → Stands o (Reference digits false)
   earlier j o digits e m = go (numeric_label_before t.numeric_labels o (digits_value 10 digits)) refl
@@ -75,10 +75,10 @@ module _ (ss : List Statement) (sites : List Site) (located : map (λ s. s.locat
       go None f = absurd (let n : is_some (laws.definition t o (Reference digits false)) ≡ false = ap (λ x. is_some (laws.numeric_definition x)) f in cc)
       go (Some l) f =
           unnamed j o l.ordinal (Reference digits false) e refl (ap laws.numeric_definition f)
-          (found_of (λ (z : NumericLabel). StandsAt sites z.ordinal) (λ z. nat_lt z.ordinal o && (z.number == digits_value 10 digits)) t.numeric_labels l f numeric)
+          (found_of (λ (z : NumericLabel). StandsAt laid z.ordinal) (λ z. nat_lt z.ordinal o && (z.number == digits_value 10 digits)) t.numeric_labels l f numeric)
 
   outer : (j o : ℕ) (name : List ℕ) → slice_get rs j ≡ Some (record { ordinal = o; symbol = Named name }) → is_some (laws.definition t o (Named name)) ≡ false → Stands o (Named name)
-  outer j o name e m = undefined_stands t sites j o name e (none_of (laws.definition t o (Named name)) m)
+  outer j o name e m = undefined_stands t laid j o name e (none_of (laws.definition t o (Named name)) m)
     where
       none_of : (d : Option laws.Definition) → is_some d ≡ false → d ≡ None
       none_of None f = refl
@@ -96,18 +96,18 @@ module _ (ss : List Statement) (sites : List Site) (located : map (λ s. s.locat
   by_name j o name e = go (is_some (laws.definition t o (Named name))) refl
     where
       go : (b : Bool) → is_some (laws.definition t o (Named name)) ≡ b → Stands o (Named name)
-      go true f = own_name ss sites located free low name (some_name j o name e) o f
+      go true f = own_name ss laid located free low name (some_name j o name e) o f
       go false f = outer j o name e f
 
-  by_symbol : (j o : ℕ) (q : Primary) → slice_get rs j ≡ Some (record { ordinal = o; symbol = q }) → is_meant_use t (record { ordinal = o; symbol = q }) ≡ true → StandsAt sites o → Stands o q
+  by_symbol : (j o : ℕ) (q : Primary) → slice_get rs j ≡ Some (record { ordinal = o; symbol = q }) → is_meant_use t (record { ordinal = o; symbol = q }) ≡ true → StandsAt laid o → Stands o q
   by_symbol j o (Literal n) e m at = absurd (cc)
   by_symbol j o (Named name) e m at = by_name j o name e
   by_symbol j o Here e m at = unnamed j o o Here e refl refl at
   by_symbol j o (Reference digits true) e m at = later j o digits e m
   by_symbol j o (Reference digits false) e m at = earlier j o digits e m
 
-  pub numbered : AllByRecursion (IsNumbered t sites (number_in t sites) (symbols_of t sites)) rs
+  pub numbered : AllByRecursion (IsNumbered t laid (number_in t laid) (symbols_of t laid)) rs
   numbered =
-      by_index (IsNumbered t sites (number_in t sites) (symbols_of t sites)) rs
+      by_index (IsNumbered t laid (number_in t laid) (symbols_of t laid)) rs
       (λ j r e. by_symbol j r.ordinal r.symbol e (all_got (is_meant_use t) rs j r e meant)
-      (all_index (λ (z : SymbolUse). StandsAt sites z.ordinal) rs j r e (uses_stand t sites (means ss sites located) 0 1 (at_start ss) ss sites refl located)))
+      (all_index (λ (z : SymbolUse). StandsAt laid z.ordinal) rs j r e (uses_stand t laid (means ss laid located) 0 1 (at_start ss) ss laid refl located)))

@@ -10,7 +10,7 @@ use Rattle.rv_unit_laws.specs.Tables.{Tables, after}
 use Rattle.rv_map.specs.Name.{is_name}
 use Rattle.rv_source_laws.specs.Located.{Located, located_from}
 use Rattle.rv_source_laws.specs.Exports.{sets_first, defined_name}
-use Rattle.rv_assemble_laws.specs.Sites.{Site}
+use Rattle.rv_assemble_laws.specs.LaidStatements.{LaidStatement}
 use Rattle.rv_assemble_laws.specs.ShownNames.{said_names, are_shown, HasNames}
 
 abbrev pub AreSome : Tables → Located → Type 0
@@ -29,16 +29,16 @@ defined_some t o (Label n) e = (shown_some n (and_parts (is_name n) true e).0, t
 defined_some t o (Directs (Sets n x)) e = if_some (sets_first t.assignments o n) n (shown_some n (and_parts (is_name n) _ e).0)
 defined_some t o kind e = tt
 
-pub names_some : (t u : Tables) (k : ℕ) (ss : List Statement) (sites : List Site) → map (λ s. s.located) sites ≡ located_from 1 k u ss → HasNames ss
-    → AllByRecursion (λ s. AreSome t s.located) sites
+pub names_some : (t u : Tables) (k : ℕ) (ss : List Statement) (laid : List LaidStatement) → map (λ s. s.located) laid ≡ located_from 1 k u ss → HasNames ss
+    → AllByRecursion (λ s. AreSome t s.located) laid
 names_some t u k ss [] e h = tt
-names_some t u k [] (s ∷ sites) e h = absurd (cc)
-names_some t u k (x ∷ ss) (s ∷ sites) e h =
+names_some t u k [] (s ∷ laid) e h = absurd (cc)
+names_some t u k (x ∷ ss) (s ∷ laid) e h =
     let both = front _ _ _ _ e in
     let parts = and_parts (are_shown (said_names x.kind)) (list_all (λ (s : Statement). are_shown (said_names s.kind)) ss) h in
     let kind : s.located.kind ≡ x.kind = ap (λ (l : Located). l.kind) both.0 in (
       defined_some t s.located.ordinal s.located.kind (ap (λ k. are_shown (said_names k)) kind ∙ parts.0),
-      names_some t (after u k x.kind) (suc k) ss sites both.1 parts.1,
+      names_some t (after u k x.kind) (suc k) ss laid both.1 parts.1,
     )
   where
     front : {A : Type 0} (x y : A) (xs ys : List A) → x ∷ xs ≡ y ∷ ys → (x ≡ y) × (xs ≡ ys)

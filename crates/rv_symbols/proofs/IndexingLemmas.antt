@@ -13,7 +13,7 @@ use Rattle.rv_object.specs.declared.symbol.Definition.TheVariants.{Undefined, Ab
 use Rattle.rv_object.specs.declared.symbol.Symbol.{Symbol as DeclaredSymbol}
 use Rattle.rv_object.specs.Object.{Symbol}
 use Rattle.rv_object.specs.Parts.{symbol_of}
-use Rattle.rv_assemble_laws.specs.Sites.{Site}
+use Rattle.rv_assemble_laws.specs.LaidStatements.{LaidStatement}
 use Rattle.rv_symbols.specs.Source.{place_in}
 use Rattle.rv_symbols.specs.Numbers.{last_from, last_index, is_named, stands_in, is_at_place, place_number}
 use Rattle.rv_symbols.specs.Found.{same_place}
@@ -74,13 +74,13 @@ symbols_count xs i inside = sym (length-map (take i xs) symbol_of ∙ length-tak
 
 -- ---- look-ups
 
-pub place_by : (own : List Symbol) (found : Option Site) (p : ℕ × ℕ) → Some p ≡ option_map place_in found → unwrap_or (last_index (is_at_place p.0 p.1) own) 0 ≡ place_number own found
+pub place_by : (own : List Symbol) (found : Option LaidStatement) (p : ℕ × ℕ) → Some p ≡ option_map place_in found → unwrap_or (last_index (is_at_place p.0 p.1) own) 0 ≡ place_number own found
 place_by own None p e = absurd (cc)
 place_by own (Some s) p e =
     let same : p ≡ place_in s = cc in
     ap (λ (q : ℕ × ℕ). unwrap_or (last_index (is_at_place q.0 q.1) own) 0) same
 
-pub place_none : (own : List Symbol) (found : Option Site) → None ≡ option_map place_in found → 0 ≡ place_number own found
+pub place_none : (own : List Symbol) (found : Option LaidStatement) → None ≡ option_map place_in found → 0 ≡ place_number own found
 place_none own None e = refl
 place_none own (Some s) e = absurd (cc)
 

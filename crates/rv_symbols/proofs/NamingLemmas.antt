@@ -13,7 +13,7 @@ use Rattle.rv_object.specs.declared.symbol.Definition.{Definition as Defined}
 use Rattle.rv_object.specs.declared.symbol.Definition.TheVariants.{Undefined, Absolute, InSection, Skipped}
 use Rattle.rv_object.specs.Object.{Symbol}
 use Rattle.rv_object.specs.Valid.{is_string}
-use Rattle.rv_assemble_laws.specs.Sites.{Site}
+use Rattle.rv_assemble_laws.specs.LaidStatements.{LaidStatement}
 use Rattle.rv_assemble_laws.specs.Symbols.{SymbolUse, local_symbol, shared_symbol, is_absolute, references, is_meant, unnamed_symbols, named_symbols, local_symbols}
 use Rattle.rv_assemble_laws.specs.ShownNames.{tree_names, said_names, are_shown}
 use Rattle.rv_symbols.specs.Source.{place_in}
@@ -130,7 +130,7 @@ there_is [] i h = absurd (omega arith)
 there_is (x ∷ xs) zero h = (x, refl)
 there_is (x ∷ xs) (suc i) h = there_is xs i (omega arith)
 
-module _ (t : Tables) (sites : List Site) (rs : List SymbolUse) where
+module _ (t : Tables) (laid : List LaidStatement) (rs : List SymbolUse) where
   eqb_swap : (a b : ℕ) → (a == b) ≡ (b == a)
   eqb_swap a b = grind (arith)
 
@@ -147,7 +147,7 @@ module _ (t : Tables) (sites : List Site) (rs : List SymbolUse) where
   place_swap : (p q : ℕ × ℕ) → same_place p q ≡ same_place q p
   place_swap p q = ap (λ b. b && (p.1 == q.1)) (eqb_swap p.0 q.0) ∙ ap (λ b. (q.0 == p.0) && b) (eqb_swap p.1 q.1)
 
-  pub seen_more : (before : List Site) (s : Site) (meant old new : Bool) (q : ℕ × ℕ) → meant ≡ is_meant t rs s → old ≡ is_seen t rs before q
+  pub seen_more : (before : List LaidStatement) (s : LaidStatement) (meant old new : Bool) (q : ℕ × ℕ) → meant ≡ is_meant t rs s → old ≡ is_seen t rs before q
       → new ≡ (old || meant && same_place (place_in s) q) → new ≡ is_seen t rs (before ++ s ∷ []) q
   seen_more before s meant old new q m o n =
       n ∙ ap (λ b. b || meant && same_place (place_in s) q) o
@@ -156,16 +156,16 @@ module _ (t : Tables) (sites : List Site) (rs : List SymbolUse) where
       ∙ sym (list_any-append (λ y. same_place q (place_in y) && is_meant t rs y) before (s ∷ []))
 
 -- the local symbols so far, and those that are left
-pub locals_more : (t : Tables) (sites before rest : List Site) (s : Site) (rs : List SymbolUse) (meant seen : Bool) (old new all : List Symbol)
-    → meant ≡ is_meant t rs s → seen ≡ is_seen t rs before (place_in s) → rs ≡ references t sites
-    → new ≡ old ++ ((if meant && not seen then local_symbol [] (InSection s.located.section s.offset) ∷ [] else []) ++ named_symbols t sites s)
-    → old ++ local_symbols t sites before (s ∷ rest) ≡ all → new ++ local_symbols t sites (before ++ s ∷ []) rest ≡ all
-locals_more t sites before rest s rs meant seen old new all m o r n h =
-    let more = local_symbols t sites (before ++ s ∷ []) rest in
-    let named = named_symbols t sites s in
+pub locals_more : (t : Tables) (laid before rest : List LaidStatement) (s : LaidStatement) (rs : List SymbolUse) (meant seen : Bool) (old new all : List Symbol)
+    → meant ≡ is_meant t rs s → seen ≡ is_seen t rs before (place_in s) → rs ≡ references t laid
+    → new ≡ old ++ ((if meant && not seen then local_symbol [] (InSection s.located.section s.offset) ∷ [] else []) ++ named_symbols t laid s)
+    → old ++ local_symbols t laid before (s ∷ rest) ≡ all → new ++ local_symbols t laid (before ++ s ∷ []) rest ≡ all
+locals_more t laid before rest s rs meant seen old new all m o r n h =
+    let more = local_symbols t laid (before ++ s ∷ []) rest in
+    let named = named_symbols t laid s in
     let one : Bool → List Symbol = λ b. if b then local_symbol [] (InSection s.located.section s.offset) ∷ [] else [] in
     let unnamed = one (meant && not seen) in
-    let same : unnamed ≡ unnamed_symbols t (references t sites) before s =
+    let same : unnamed ≡ unnamed_symbols t (references t laid) before s =
     ap (λ b. one (b && not seen)) m ∙ ap (λ b. one (is_meant t rs s && not b)) o ∙ ap (λ l. unnamed_symbols t l before s) r in
     ap (λ l. l ++ more) n
     ∙ append_assoc old (unnamed ++ named) more
@@ -174,7 +174,7 @@ locals_more t sites before rest s rs meant seen old new all m o r n h =
     ∙ h
 
 -- the name that a statement defines, by its index
-pub named_at : (t : Tables) (names : List (List ℕ)) (index : ℕ) (s : Site) (kind : StatementKind) → s.located.ordinal ≡ index + 1 → kind ≡ s.located.kind → names ≡ defined_name t (index + 1) kind
+pub named_at : (t : Tables) (names : List (List ℕ)) (index : ℕ) (s : LaidStatement) (kind : StatementKind) → s.located.ordinal ≡ index + 1 → kind ≡ s.located.kind → names ≡ defined_name t (index + 1) kind
     → names ≡ defined_name t s.located.ordinal s.located.kind
 named_at t names index s kind o k e = e ∙ ap (defined_name t (index + 1)) k ∙ ap (λ n. defined_name t n s.located.kind) (sym o)
 

@@ -16,7 +16,7 @@ use Rattle.rv_unit_laws.specs.Tables.{Tables}
 use Rattle.rv_unit_laws.proofs.FoundLemmas.{same_bytes, bytes_swap, bytes_same}
 use Rattle.rv_object.specs.declared.symbol.Definition.TheVariants.{Undefined}
 use Rattle.rv_object.specs.Object.{Symbol}
-use Rattle.rv_assemble_laws.specs.Sites.{Site}
+use Rattle.rv_assemble_laws.specs.LaidStatements.{LaidStatement}
 use Rattle.rv_object.specs.Bindings.{is_weak}
 use Rattle.rv_assemble_laws.specs.Symbols.{SymbolUse, references, outer_binding, shared_symbol, local_symbols, exports, missing_name, distinct_from, symbols_of, IsDefinedBy, StandsFor}
 use Rattle.rv_symbols.specs.Numbers.{last_from, last_index, own_symbols, missing_names, number_by, number_in}
@@ -137,38 +137,38 @@ map_got f (y ∷ ys) zero x e =
     ap (λ z. Some (f z)) same
 map_got f (y ∷ ys) (suc k) x e = map_got f ys k x e
 
-module _ (t : Tables) (sites : List Site) where
+module _ (t : Tables) (laid : List LaidStatement) where
   abbrev rs : List SymbolUse
-  rs = references t sites
+  rs = references t laid
 
   abbrev undefined : List Symbol
   undefined = map (λ name. shared_symbol t name Undefined) (missing_names t rs)
 
-  pub whole : symbols_of t sites ≡ own_symbols t sites ++ undefined
-  whole = sym (append_assoc (local_symbols t sites [] sites) (exports t sites) undefined)
+  pub whole : symbols_of t laid ≡ own_symbols t laid ++ undefined
+  whole = sym (append_assoc (local_symbols t laid [] laid) (exports t laid) undefined)
 
   pub undefined_stands : (i o : ℕ) (name : List ℕ) → slice_get rs i ≡ Some (record { ordinal = o; symbol = Named name }) → laws.definition t o (Named name) ≡ None
-      → StandsFor t sites o (Named name) (slice_get (symbols_of t sites) (number_in t sites o (Named name)))
+      → StandsFor t laid o (Named name) (slice_get (symbols_of t laid) (number_in t laid o (Named name)))
   undefined_stands i o name at none =
       let names = missing_names t rs in
-      let own = own_symbols t sites in
+      let own = own_symbols t laid in
       let one : is_one_of (missing_name t o (Named name)) name ≡ true =
       ap (λ d. is_one_of (elim d [ None ↦ name ∷ [] | Some h ↦ [] ]) name) none ∙ or_left (bytes_eq name name) false (bytes_same name) in
       let listed : is_one_of names name ≡ true = distinct_has [] (flat_map (λ r. missing_name t r.ordinal r.symbol) rs) name (any_flat (λ r. missing_name t r.ordinal r.symbol) rs i _ name at one) refl in
       let found = position_has (bytes_eq name) names (swap_any name names listed) in
       let k = unwrap_or (position (bytes_eq name) names) 0 in
       let n : List ℕ = found.0 in
-      let got : slice_get (symbols_of t sites) (length own + k) ≡ Some (shared_symbol t n Undefined) =
+      let got : slice_get (symbols_of t laid) (length own + k) ≡ Some (shared_symbol t n Undefined) =
       ap (λ l. slice_get l (length own + k)) whole ∙ got_behind own undefined k (length own + k) refl ∙ map_got (λ name. shared_symbol t name Undefined) names k n found.1 in
-      subst (λ d. StandsFor t sites o (Named name) (slice_get (symbols_of t sites) (number_of d))) (sym none)
-      (subst (λ x. StandsFor t sites o (Named name) x) (sym got) (
+      subst (λ d. StandsFor t laid o (Named name) (slice_get (symbols_of t laid) (number_of d))) (sym none)
+      (subst (λ x. StandsFor t laid o (Named name) x) (sym got) (
         named n found.2,
         ap (λ m. is_weak (outer_binding (t.bindings m))) (named n found.2) ∙ shared_weak (t.bindings name),
-        subst (λ d. IsDefinedBy sites (Named name) d (shared_symbol t n Undefined)) (sym none) refl,
+        subst (λ d. IsDefinedBy laid (Named name) d (shared_symbol t n Undefined)) (sym none) refl,
       ))
     where
       number_of : Option laws.Definition → ℕ
-      number_of d = number_by (own_symbols t sites) (missing_names t rs) sites (Named name) d
+      number_of d = number_by (own_symbols t laid) (missing_names t rs) laid (Named name) d
 
       named : (n : List ℕ) → bytes_eq name n ≡ true → n ≡ name
       named n e = sym (same_bytes name n e)

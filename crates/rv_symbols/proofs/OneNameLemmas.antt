@@ -19,7 +19,7 @@ use Rattle.rv_unit_laws.proofs.FoundLemmas.{same_bytes}
 use Rattle.rv_unit_laws.proofs.BeforeLemmas.{IsBefore, placed_latest, before_after}
 use Rattle.rv_source_laws.specs.Located.{Located, is_placed, located_from}
 use Rattle.rv_source_laws.proofs.HeldLemmas.{no_test, no_lowest, no_fault}
-use Rattle.rv_assemble_laws.specs.Sites.{Site}
+use Rattle.rv_assemble_laws.specs.LaidStatements.{LaidStatement}
 use Rattle.rv_symbols.proofs.SingleLemmas.{OnlySet, AreNumbers}
 
 -- ---- what a directive leaves alone
@@ -36,10 +36,10 @@ directive_labels : (t : Tables) (k : ℕ) (d : Directive) → (after_directive t
 directive_labels t k d =
     (directive_same t k d).0 ∙ set_labels (with_section t (entered_by d)) (assigned_by (value t false k (here t)) k d) ∙ (section_same t (entered_by d)).0
 
-module _ (name : List ℕ) (all : List Site) where
+module _ (name : List ℕ) (all : List LaidStatement) where
   -- a statement that stands at an ordinal
   abbrev pub Stands : ℕ → StatementKind → Type 0
-  Stands o kind = (i : ℕ) × (s : Site) × (slice_get all i ≡ Some s) × (s.located.ordinal ≡ o) × (s.located.placed ≡ true) × (s.located.kind ≡ kind)
+  Stands o kind = (i : ℕ) × (s : LaidStatement) × (slice_get all i ≡ Some s) × (s.located.ordinal ≡ o) × (s.located.placed ≡ true) × (s.located.kind ≡ kind)
 
   abbrev pub IsSetAt : ℕ → Type 0
   IsSetAt o = (e : Expression) × Stands o (Directs (Sets name e))
@@ -218,14 +218,14 @@ module _ (name : List ℕ) (all : List Site) where
   front_got (z ∷ zs) zero x ys e = (cc, cc)
   front_got (z ∷ zs) (suc i) x ys e = front_got zs i x ys e
 
-  pub one_name : (i k : ℕ) (t : Tables) (ss : List Statement) (sites : List Site) → drop i all ≡ sites → map (λ s. s.located) sites ≡ located_from 1 k t ss
+  pub one_name : (i k : ℕ) (t : Tables) (ss : List Statement) (laid : List LaidStatement) → drop i all ≡ laid → map (λ s. s.located) laid ≡ located_from 1 k t ss
       → IsBefore t k → OneName t → OneName (after_all t k ss)
-  one_name i k t [] sites d e before h = h
+  one_name i k t [] laid d e before h = h
   one_name i k t (x ∷ ss) [] d e before h = absurd (cc)
-  one_name i k t (x ∷ ss) (s ∷ sites) d e before h =
-      let at = front_got all i s sites d in
+  one_name i k t (x ∷ ss) (s ∷ laid) d e before h =
+      let at = front_got all i s laid d in
       let now = (front _ _ _ _ e).0 in
-      one_name (suc i) (suc k) (after t k x.kind) ss sites at.1 (front _ _ _ _ e).1 (before_after t k x.kind before)
+      one_name (suc i) (suc k) (after t k x.kind) ss laid at.1 (front _ _ _ _ e).1 (before_after t k x.kind before)
       (name_after t k x.kind before (λ p. (i, s, at.0, ap (λ (l : Located). l.ordinal) now, ap (λ (l : Located). l.placed) now ∙ p, ap (λ (l : Located). l.kind) now)) h)
 
 -- ---- where a label's statement stands, the label is found
@@ -253,7 +253,7 @@ module _ (name : List ℕ) where
   finds_all t k (s ∷ ss) l e = finds_all (after t k s.kind) (suc k) ss l (finds_after t k s.kind l e)
 
   -- a label of the name is the one that is found
-  abbrev pub IsFound : Tables → Site → Type 0
+  abbrev pub IsFound : Tables → LaidStatement → Type 0
   IsFound all s = (n : List ℕ) → s.located.kind ≡ Label n → bytes_eq n name ≡ true → (l : Labelled) × (label_of all.labels true 0 name ≡ Some l) × (l.ordinal ≡ s.located.ordinal)
 
   found_now : (all t : Tables) (k : ℕ) (n : List ℕ) → IsBefore t k → faults all t k (Label n) ≡ [] → bytes_eq n name ≡ true → (l : Labelled) × Finds (after t k (Label n)) l × (l.ordinal ≡ k)
@@ -269,11 +269,11 @@ module _ (name : List ℕ) where
       go true e = absurd (cc)
       go false e = own_label name t.labels new (undefined name t k n before f none).0 f
 
-  pub labels_found : (all : Tables) (k : ℕ) (t : Tables) (ss : List Statement) (sites : List Site) → map (λ s. s.located) sites ≡ located_from 1 k t ss → first_fault_from all t k ss ≡ None
-      → IsBefore t k → after_all t k ss ≡ all → AllByRecursion (IsFound all) sites
+  pub labels_found : (all : Tables) (k : ℕ) (t : Tables) (ss : List Statement) (laid : List LaidStatement) → map (λ s. s.located) laid ≡ located_from 1 k t ss → first_fault_from all t k ss ≡ None
+      → IsBefore t k → after_all t k ss ≡ all → AllByRecursion (IsFound all) laid
   labels_found all k t ss [] e free before same = tt
-  labels_found all k t [] (s ∷ sites) e free before same = absurd (cc)
-  labels_found all k t (x ∷ ss) (s ∷ sites) e free before same =
+  labels_found all k t [] (s ∷ laid) e free before same = absurd (cc)
+  labels_found all k t (x ∷ ss) (s ∷ laid) e free before same =
       let now = (front _ _ _ _ e).0 in
       let parts = no_fault x.line (lowest (faults all t k x.kind)) (first_fault_from all (after t k x.kind) (suc k) ss) free in (
         λ n is f. (
@@ -285,7 +285,7 @@ module _ (name : List ℕ) where
               found.2 ∙ sym (ap (λ (l : Located). l.ordinal) now),
             )
             ),
-        labels_found all (suc k) (after t k x.kind) ss sites (front _ _ _ _ e).1 parts.1 (before_after t k x.kind before) same,
+        labels_found all (suc k) (after t k x.kind) ss laid (front _ _ _ _ e).1 parts.1 (before_after t k x.kind before) same,
       )
     where
       front : {A : Type 0} (x y : A) (xs ys : List A) → x ∷ xs ≡ y ∷ ys → (x ≡ y) × (xs ≡ ys)

@@ -17,7 +17,7 @@ use Rattle.rv_source_laws.specs.Lines.{operand_of, is_low_part}
 use Rattle.rv_assemble_laws.specs.CodeFields.{symbol_field, low_field, low_field_at, label_field, field_of, relax_fields, part_fields}
 use Rattle.rv_assemble_laws.specs.Coded.{constants}
 use Rattle.rv_assemble_laws.specs.Templates.{Template, Open, value_fields, padding_templates, contents_templates, contribution_templates}
-use Rattle.rv_assemble_laws.specs.Sites.{Site, part_of, parts_of, form, coded_templates, templates}
+use Rattle.rv_assemble_laws.specs.LaidStatements.{LaidStatement, part_of, parts_of, form, coded_templates, templates}
 use Rattle.rv_assemble_laws.specs.Symbols.{SymbolUse, use_of, references_in, references_of, references}
 use Rattle.rv_symbols.specs.Found.{is_here, Rises}
 
@@ -120,15 +120,15 @@ of_code t v s [] coded = tt
 of_code t v s (p ∷ ps) [] = tt
 of_code t v s (p ∷ ps) (bytes ∷ coded) = of_join t s.ordinal (uses (part_fields t v s p)) _ (of_part t v s p) (of_code t v s ps coded)
 
-of_kind : (t : Tables) (s : Site) (kind : StatementKind) → Parts t s.located.ordinal (templates t s kind)
+of_kind : (t : Tables) (s : LaidStatement) (kind : StatementKind) → Parts t s.located.ordinal (templates t s kind)
 of_kind t s (Label name) = tt
 of_kind t s (Numbered number) = tt
 of_kind t s (Instruction mnemonic operands) =
     of_code t (form t s.located) s.located (unwrap_or (code (constants (form t s.located)) s.located.options.rvc s.bytes mnemonic operands) []) s.coded
 of_kind t s (Directs d) = of_contribution t s.located.home.executable s.located.ordinal (form t s.located) (contribution d) s.bytes
 
-pub of_site : (t : Tables) (s : Site) → AreOf t s.located.ordinal (references_of t s)
-of_site t s = go s.located.home.loaded
+pub of_laid_statement : (t : Tables) (s : LaidStatement) → AreOf t s.located.ordinal (references_of t s)
+of_laid_statement t s = go s.located.home.loaded
   where
     go : (b : Bool) → AreOf t s.located.ordinal (if b then flat_map references_in (parts_of t s) else [])
     go true = of_kind t s s.located.kind
@@ -159,10 +159,10 @@ rises_join t low n high (x ∷ rs) qs l k (e, h) r = (
     go true f ih = ih low l
     go false f ih = ih x.ordinal (let is = own t n x e f in omega (arith, is))
 
-pub rises_from : (t : Tables) (k high : ℕ) (u : Tables) (ss : List Statement) (sites : List Site) → map (λ s. s.located) sites ≡ located_from 1 k u ss → k + length ss ≤ high + 1 → Rises k high (references t sites)
+pub rises_from : (t : Tables) (k high : ℕ) (u : Tables) (ss : List Statement) (laid : List LaidStatement) → map (λ s. s.located) laid ≡ located_from 1 k u ss → k + length ss ≤ high + 1 → Rises k high (references t laid)
 rises_from t k high u ss [] e h = tt
-rises_from t k high u [] (s ∷ sites) e h = absurd (cc)
-rises_from t k high u (x ∷ ss) (s ∷ sites) e h =
+rises_from t k high u [] (s ∷ laid) e h = absurd (cc)
+rises_from t k high u (x ∷ ss) (s ∷ laid) e h =
     let own : s.located.ordinal ≡ k = ap (λ (l : Located). l.ordinal) (cons_parts _ _ _ _ e).0 in
-    rises_join t k k high (references_of t s) (references t sites) (omega arith) (omega arith) (subst (λ n. AreOf t n (references_of t s)) own (of_site t s))
-    (lower k (suc k) high (references t sites) (omega arith) (rises_from t (suc k) high (after u k x.kind) ss sites (cons_parts _ _ _ _ e).1 (omega arith)))
+    rises_join t k k high (references_of t s) (references t laid) (omega arith) (omega arith) (subst (λ n. AreOf t n (references_of t s)) own (of_laid_statement t s))
+    (lower k (suc k) high (references t laid) (omega arith) (rises_from t (suc k) high (after u k x.kind) ss laid (cons_parts _ _ _ _ e).1 (omega arith)))

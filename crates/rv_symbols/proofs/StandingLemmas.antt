@@ -16,21 +16,21 @@ use Rattle.rv_unit_laws.specs.Contributions.{Contribution, Nothing, contribution
 use Rattle.rv_unit_laws.specs.Tables.{Tables, Definition, NumericLabel, Assignment, definition, here, value, is_defined, may_set, assigned_by, chosen, with_assignment, with_section, with_chosen, with_contribution, after_directive, after, after_all}
 use Rattle.rv_unit_laws.proofs.EnteringLemmas.{entering}
 use Rattle.rv_source_laws.specs.Located.{Located, is_placed, located_now, located_from}
-use Rattle.rv_assemble_laws.specs.Sites.{Site, part_of, parts_of, templates}
+use Rattle.rv_assemble_laws.specs.LaidStatements.{LaidStatement, part_of, parts_of, templates}
 use Rattle.rv_assemble_laws.specs.Symbols.{SymbolUse, references_in, references_of, references}
-use Rattle.rv_symbols.proofs.OrderedLemmas.{Names, AreOf, of_site}
+use Rattle.rv_symbols.proofs.OrderedLemmas.{Names, AreOf, of_laid_statement}
 
 -- ---- the statement of a use itself
 
-abbrev pub StandsAt : List Site → ℕ → Type 0
-StandsAt sites ordinal = (i : ℕ) × (s : Site) × (slice_get sites i ≡ Some s) × (s.located.ordinal ≡ ordinal) × (s.located.placed ≡ true)
+abbrev pub StandsAt : List LaidStatement → ℕ → Type 0
+StandsAt laid ordinal = (i : ℕ) × (s : LaidStatement) × (slice_get laid i ≡ Some s) × (s.located.ordinal ≡ ordinal) × (s.located.placed ≡ true)
 
 all_same : {X : Type 0} (P : Type 0) (xs : List X) → P → AllByRecursion (λ x. P) xs
 all_same P [] h = tt
 all_same P (x ∷ xs) h = (h, all_same P xs h)
 
 -- a statement whose values name symbols has a place
-placed_by : (t u : Tables) (k n : ℕ) (s : Site) (kind : StatementKind) (placed : Bool) → placed ≡ is_placed u k kind
+placed_by : (t u : Tables) (k n : ℕ) (s : LaidStatement) (kind : StatementKind) (placed : Bool) → placed ≡ is_placed u k kind
     → AllByRecursion (λ (r : SymbolUse). placed ≡ true) (flat_map references_in (map (part_of n) (templates t s kind)))
 placed_by t u k n s (Label name) placed e = tt
 placed_by t u k n s (Numbered number) placed e = tt
@@ -47,7 +47,7 @@ placed_by t u k n s (Directs (Zeros count)) placed e = tt
 placed_by t u k n s (Directs (Chooses choice)) placed e = tt
 placed_by t u k n s (Directs Ignored) placed e = tt
 
-placed_of : (t : Tables) (s : Site) (u : Tables) (k : ℕ) (x : Statement) → s.located ≡ located_now 1 k u x → AllByRecursion (λ (r : SymbolUse). s.located.placed ≡ true) (references_of t s)
+placed_of : (t : Tables) (s : LaidStatement) (u : Tables) (k : ℕ) (x : Statement) → s.located ≡ located_now 1 k u x → AllByRecursion (λ (r : SymbolUse). s.located.placed ≡ true) (references_of t s)
 placed_of t s u k x e = go s.located.home.loaded
   where
     all : AllByRecursion (λ (r : SymbolUse). s.located.placed ≡ true) (flat_map references_in (parts_of t s))
@@ -60,27 +60,27 @@ placed_of t s u k x e = go s.located.home.loaded
     go false = tt
 
 -- what a symbol of a statement with a place means has a place
-abbrev pub Means : Tables → List Site → Type 0
+abbrev pub Means : Tables → List LaidStatement → Type 0
 Means t all = (o : ℕ) → StandsAt all o → (q : Primary) (d : Definition) → definition t o q ≡ Some d → StandsAt all d.ordinal
 
-one : (t : Tables) (all : List Site) → Means t all → (n : ℕ) (r : SymbolUse) → StandsAt all n → Names t n r → StandsAt all r.ordinal
+one : (t : Tables) (all : List LaidStatement) → Means t all → (n : ℕ) (r : SymbolUse) → StandsAt all n → Names t n r → StandsAt all r.ordinal
 one t all means n r at (inl e) = subst (StandsAt all) (sym e) at
 one t all means n r at (inr (here, (q, (d, e, f)))) = subst (StandsAt all) (sym f) (means n at q d e)
 
-both : (t : Tables) (all : List Site) → Means t all → (i : ℕ) (s : Site) (rs : List SymbolUse) → slice_get all i ≡ Some s → AreOf t s.located.ordinal rs → AllByRecursion (λ (r : SymbolUse). s.located.placed ≡ true) rs
+both : (t : Tables) (all : List LaidStatement) → Means t all → (i : ℕ) (s : LaidStatement) (rs : List SymbolUse) → slice_get all i ≡ Some s → AreOf t s.located.ordinal rs → AllByRecursion (λ (r : SymbolUse). s.located.placed ≡ true) rs
     → AllByRecursion (λ (r : SymbolUse). StandsAt all r.ordinal) rs
 both t all means i s [] e h k = tt
 both t all means i s (r ∷ rs) e (h, hs) (k, ks) = (one t all means s.located.ordinal r (i, s, e, refl, k) h, both t all means i s rs e hs ks)
 
-pub uses_stand : (t : Tables) (all : List Site) → Means t all → (i k : ℕ) (u : Tables) (ss : List Statement) (sites : List Site) → drop i all ≡ sites → map (λ s. s.located) sites ≡ located_from 1 k u ss
-    → AllByRecursion (λ (r : SymbolUse). StandsAt all r.ordinal) (references t sites)
+pub uses_stand : (t : Tables) (all : List LaidStatement) → Means t all → (i k : ℕ) (u : Tables) (ss : List Statement) (laid : List LaidStatement) → drop i all ≡ laid → map (λ s. s.located) laid ≡ located_from 1 k u ss
+    → AllByRecursion (λ (r : SymbolUse). StandsAt all r.ordinal) (references t laid)
 uses_stand t all means i k u ss [] d e = tt
-uses_stand t all means i k u [] (s ∷ sites) d e = absurd (cc)
-uses_stand t all means i k u (x ∷ ss) (s ∷ sites) d e =
-    let at = front_got all i s sites d in
+uses_stand t all means i k u [] (s ∷ laid) d e = absurd (cc)
+uses_stand t all means i k u (x ∷ ss) (s ∷ laid) d e =
+    let at = front_got all i s laid d in
     let now = (cons_parts _ _ _ _ e).0 in
-    join (λ (r : SymbolUse). StandsAt all r.ordinal) (references_of t s) (references t sites) (both t all means i s (references_of t s) at.0 (of_site t s) (placed_of t s u k x now))
-    (uses_stand t all means (suc i) (suc k) (after u k x.kind) ss sites at.1 (cons_parts _ _ _ _ e).1)
+    join (λ (r : SymbolUse). StandsAt all r.ordinal) (references_of t s) (references t laid) (both t all means i s (references_of t s) at.0 (of_laid_statement t s) (placed_of t s u k x now))
+    (uses_stand t all means (suc i) (suc k) (after u k x.kind) ss laid at.1 (cons_parts _ _ _ _ e).1)
 
 -- ---- numeric labels
 
@@ -112,23 +112,23 @@ directive_same t k d =
     contribution_same (with_chosen named (chosen d)) v (contribution d)
     ∙ chosen_same named (chosen d) ∙ set_same opened (assigned_by v k d) ∙ section_same t (entered_by d)
 
-abbrev pub AreNumeric : List Site → List NumericLabel → Type 0
+abbrev pub AreNumeric : List LaidStatement → List NumericLabel → Type 0
 AreNumeric all ms = AllByRecursion (λ (m : NumericLabel). StandsAt all m.ordinal) ms
 
-numeric_after : (all : List Site) (t : Tables) (k : ℕ) (kind : StatementKind) → (is_placed t k kind ≡ true → StandsAt all k) → AreNumeric all t.numeric_labels → AreNumeric all (after t k kind).numeric_labels
+numeric_after : (all : List LaidStatement) (t : Tables) (k : ℕ) (kind : StatementKind) → (is_placed t k kind ≡ true → StandsAt all k) → AreNumeric all t.numeric_labels → AreNumeric all (after t k kind).numeric_labels
 numeric_after all t k (Label name) at h = subst (AreNumeric all) (sym (same_if (is_defined t k name) t t _ refl refl)) h
 numeric_after all t k (Numbered number) at h = (at refl, h)
 numeric_after all t k (Instruction mnemonic operands) at h = h
 numeric_after all t k (Directs d) at h = subst (AreNumeric all) (sym (directive_same t k d)) h
 
-pub numeric_stand : (all : List Site) (i k : ℕ) (u : Tables) (ss : List Statement) (sites : List Site) → drop i all ≡ sites → map (λ s. s.located) sites ≡ located_from 1 k u ss
+pub numeric_stand : (all : List LaidStatement) (i k : ℕ) (u : Tables) (ss : List Statement) (laid : List LaidStatement) → drop i all ≡ laid → map (λ s. s.located) laid ≡ located_from 1 k u ss
     → AreNumeric all u.numeric_labels → AreNumeric all (after_all u k ss).numeric_labels
-numeric_stand all i k u [] sites d e h = h
+numeric_stand all i k u [] laid d e h = h
 numeric_stand all i k u (x ∷ ss) [] d e h = absurd (cc)
-numeric_stand all i k u (x ∷ ss) (s ∷ sites) d e h =
-    let at = front_got all i s sites d in
+numeric_stand all i k u (x ∷ ss) (s ∷ laid) d e h =
+    let at = front_got all i s laid d in
     let now = (cons_parts _ _ _ _ e).0 in
-    numeric_stand all (suc i) (suc k) (after u k x.kind) ss sites at.1 (cons_parts _ _ _ _ e).1
+    numeric_stand all (suc i) (suc k) (after u k x.kind) ss laid at.1 (cons_parts _ _ _ _ e).1
     (numeric_after all u k x.kind (λ p. (i, s, at.0, ap (λ (l : Located). l.ordinal) now, ap (λ (l : Located). l.placed) now ∙ p)) h)
 
 -- one that is found

@@ -15,10 +15,10 @@ use Rattle.rv_unit_tables.specs.Sections.{offset_of}
 use Rattle.rv_unit.specs.Unit.{said}
 use Rattle.rv_unit.specs.declared.unit.Unit.{Unit as SourceUnit}
 use Rattle.rv_source_laws.specs.Located.{Located, located_from}
-use Rattle.rv_assemble_laws.specs.Sites.{Site}
+use Rattle.rv_assemble_laws.specs.LaidStatements.{LaidStatement}
 use Rattle.rv_text_laws.specs.Values.{add}
 use Rattle.rv_object.specs.declared.symbol.Definition.TheVariants.{InSection, Skipped}
-use Rattle.rv_assemble_laws.specs.Symbols.{site_at, after_found}
+use Rattle.rv_assemble_laws.specs.Symbols.{laid_at, after_found}
 use Rattle.rv_symbols.specs.declared.source.Source.{Source}
 use Rattle.rv_symbols.specs.Source.{place_in, IsSource}
 
@@ -26,34 +26,34 @@ pub cons_parts : {A : Type 0} (x y : A) (xs ys : List A) → x ∷ xs ≡ y ∷ 
 cons_parts x y xs ys e = (cc, cc)
 
 -- the statement of an ordinal is that at its index
-pub site_by : (k : ℕ) (t : Tables) (ss : List Statement) (sites : List Site) → map (λ s. s.located) sites ≡ located_from 1 k t ss → (n i : ℕ) → n ≡ k + i
-    → find (λ s. s.located.ordinal == n) sites ≡ slice_get sites i
-site_by k t ss [] e n zero m = refl
-site_by k t ss [] e n (suc i) m = refl
-site_by k t [] (s ∷ sites) e n i m = absurd (cc)
-site_by k t (x ∷ ss) (s ∷ sites) e n zero m =
+pub statement_by : (k : ℕ) (t : Tables) (ss : List Statement) (laid : List LaidStatement) → map (λ s. s.located) laid ≡ located_from 1 k t ss → (n i : ℕ) → n ≡ k + i
+    → find (λ s. s.located.ordinal == n) laid ≡ slice_get laid i
+statement_by k t ss [] e n zero m = refl
+statement_by k t ss [] e n (suc i) m = refl
+statement_by k t [] (s ∷ laid) e n i m = absurd (cc)
+statement_by k t (x ∷ ss) (s ∷ laid) e n zero m =
     let own : s.located.ordinal ≡ k = ap (λ (l : Located). l.ordinal) (cons_parts _ _ _ _ e).0 in
-    ap (λ b. if b then Some s else find (λ s. s.located.ordinal == n) sites) (eq-eqb s.located.ordinal n (omega arith))
-site_by k t (x ∷ ss) (s ∷ sites) e n (suc i) m =
+    ap (λ b. if b then Some s else find (λ s. s.located.ordinal == n) laid) (eq-eqb s.located.ordinal n (omega arith))
+statement_by k t (x ∷ ss) (s ∷ laid) e n (suc i) m =
     let own : s.located.ordinal ≡ k = ap (λ (l : Located). l.ordinal) (cons_parts _ _ _ _ e).0 in
-    ap (λ b. if b then Some s else find (λ s. s.located.ordinal == n) sites) (ne_eqb s.located.ordinal n (λ f. absurd (omega arith)))
-    ∙ site_by (suc k) (after t k x.kind) ss sites (cons_parts _ _ _ _ e).1 n i (omega arith)
+    ap (λ b. if b then Some s else find (λ s. s.located.ordinal == n) laid) (ne_eqb s.located.ordinal n (λ f. absurd (omega arith)))
+    ∙ statement_by (suc k) (after t k x.kind) ss laid (cons_parts _ _ _ _ e).1 n i (omega arith)
 
 -- none stands before the first
-pub none_before : (k : ℕ) (t : Tables) (ss : List Statement) (sites : List Site) → map (λ s. s.located) sites ≡ located_from 1 k t ss → (n : ℕ) → n < k → find (λ s. s.located.ordinal == n) sites ≡ None
+pub none_before : (k : ℕ) (t : Tables) (ss : List Statement) (laid : List LaidStatement) → map (λ s. s.located) laid ≡ located_from 1 k t ss → (n : ℕ) → n < k → find (λ s. s.located.ordinal == n) laid ≡ None
 none_before k t ss [] e n low = refl
-none_before k t [] (s ∷ sites) e n low = absurd (cc)
-none_before k t (x ∷ ss) (s ∷ sites) e n low =
+none_before k t [] (s ∷ laid) e n low = absurd (cc)
+none_before k t (x ∷ ss) (s ∷ laid) e n low =
     let own : s.located.ordinal ≡ k = ap (λ (l : Located). l.ordinal) (cons_parts _ _ _ _ e).0 in
-    ap (λ b. if b then Some s else find (λ s. s.located.ordinal == n) sites) (ne_eqb s.located.ordinal n (λ f. absurd (omega arith)))
-    ∙ none_before (suc k) (after t k x.kind) ss sites (cons_parts _ _ _ _ e).1 n (omega arith)
+    ap (λ b. if b then Some s else find (λ s. s.located.ordinal == n) laid) (ne_eqb s.located.ordinal n (λ f. absurd (omega arith)))
+    ∙ none_before (suc k) (after t k x.kind) ss laid (cons_parts _ _ _ _ e).1 n (omega arith)
 
-pub site_none : (x : Source) (sites : List Site) → IsSource x sites → site_at sites 0 ≡ None
-site_none x sites h = none_before 1 (at_start (said x.unit.now)) (said x.unit.now) sites h.located 0 (omega arith)
+pub laid_none : (x : Source) (laid : List LaidStatement) → IsSource x laid → laid_at laid 0 ≡ None
+laid_none x laid h = none_before 1 (at_start (said x.unit.now)) (said x.unit.now) laid h.located 0 (omega arith)
 
-pub site_next : (x : Source) (sites : List Site) → IsSource x sites → (n i : ℕ) → n ≡ i + 1 → site_at sites n ≡ slice_get sites i
-site_next x sites h n i e =
-    site_by 1 (at_start (said x.unit.now)) (said x.unit.now) sites h.located n i (omega arith)
+pub statement_next : (x : Source) (laid : List LaidStatement) → IsSource x laid → (n i : ℕ) → n ≡ i + 1 → laid_at laid n ≡ slice_get laid i
+statement_next x laid h n i e =
+    statement_by 1 (at_start (said x.unit.now)) (said x.unit.now) laid h.located n i (omega arith)
 
 -- the sections of statements are those of their places
 sections_are : (k : ℕ) (t : Tables) (ss : List Statement) → map (λ (l : Located). l.section) (located_from 1 k t ss) ≡ map (λ (p : Standing). p.section) (places_from t k ss)
@@ -76,22 +76,22 @@ both None o = None
 both (Some p) None = None
 both (Some p) (Some o) = Some (p.section, o)
 
-pairs : (sites : List Site) (ps : List SectionOffset) (os : List ℕ) → map (λ s. s.located.section) sites ≡ map (λ (p : SectionOffset). p.section) ps → map (λ s. s.offset) sites ≡ os → (i : ℕ)
-    → option_map place_in (slice_get sites i) ≡ both (slice_get ps i) (slice_get os i)
+pairs : (laid : List LaidStatement) (ps : List SectionOffset) (os : List ℕ) → map (λ s. s.located.section) laid ≡ map (λ (p : SectionOffset). p.section) ps → map (λ s. s.offset) laid ≡ os → (i : ℕ)
+    → option_map place_in (slice_get laid i) ≡ both (slice_get ps i) (slice_get os i)
 pairs [] [] [] e f zero = refl
 pairs [] [] [] e f (suc i) = refl
 pairs [] (p ∷ ps) os e f i = absurd (cc)
 pairs [] [] (o ∷ os) e f i = absurd (cc)
-pairs (s ∷ sites) [] os e f i = absurd (cc)
-pairs (s ∷ sites) (p ∷ ps) [] e f i = absurd (cc)
-pairs (s ∷ sites) (p ∷ ps) (o ∷ os) e f zero =
+pairs (s ∷ laid) [] os e f i = absurd (cc)
+pairs (s ∷ laid) (p ∷ ps) [] e f i = absurd (cc)
+pairs (s ∷ laid) (p ∷ ps) (o ∷ os) e f zero =
     ap (λ n. Some (n, s.offset)) (cons_parts _ _ _ _ e).0 ∙ ap (λ n. Some (p.section, n)) (cons_parts _ _ _ _ f).0
-pairs (s ∷ sites) (p ∷ ps) (o ∷ os) e f (suc i) = pairs sites ps os (cons_parts _ _ _ _ e).1 (cons_parts _ _ _ _ f).1 i
+pairs (s ∷ laid) (p ∷ ps) (o ∷ os) e f (suc i) = pairs laid ps os (cons_parts _ _ _ _ e).1 (cons_parts _ _ _ _ f).1 i
 
-pub place_of : (x : Source) (sites : List Site) → IsSource x sites → (i : ℕ) → both (slice_get x.unit.now.places.items i) (slice_get x.offsets.now i) ≡ option_map place_in (slice_get sites i)
-place_of x sites h i =
-    sym (pairs sites x.unit.now.places.items x.offsets.now
-    (sym (map_twice (λ (s : Site). s.located) (λ (l : Located). l.section) sites) ∙ ap (map (λ (l : Located). l.section)) h.located
+pub place_of : (x : Source) (laid : List LaidStatement) → IsSource x laid → (i : ℕ) → both (slice_get x.unit.now.places.items i) (slice_get x.offsets.now i) ≡ option_map place_in (slice_get laid i)
+place_of x laid h i =
+    sym (pairs laid x.unit.now.places.items x.offsets.now
+    (sym (map_twice (λ (s : LaidStatement). s.located) (λ (l : Located). l.section) laid) ∙ ap (map (λ (l : Located). l.section)) h.located
     ∙ sections_are 1 (at_start (said x.unit.now)) (said x.unit.now) ∙ ap (map (λ (p : Standing). p.section)) (sym h.filled.stand)
     ∙ map_twice offset_of (λ (p : Standing). p.section) x.unit.now.places.items) h.at i)
 
@@ -100,33 +100,33 @@ kinds_are : (k : ℕ) (t : Tables) (ss : List Statement) → map (λ (l : Locate
 kinds_are k t [] = refl
 kinds_are k t (s ∷ ss) = ap (λ l. s.kind ∷ l) (kinds_are (suc k) (after t k s.kind) ss)
 
-pub ordinal_by : (k : ℕ) (t : Tables) (ss : List Statement) (sites : List Site) → map (λ s. s.located) sites ≡ located_from 1 k t ss → (i : ℕ) (s : Site) → slice_get sites i ≡ Some s → s.located.ordinal ≡ k + i
+pub ordinal_by : (k : ℕ) (t : Tables) (ss : List Statement) (laid : List LaidStatement) → map (λ s. s.located) laid ≡ located_from 1 k t ss → (i : ℕ) (s : LaidStatement) → slice_get laid i ≡ Some s → s.located.ordinal ≡ k + i
 ordinal_by k t ss [] e zero s f = absurd (cc)
 ordinal_by k t ss [] e (suc i) s f = absurd (cc)
-ordinal_by k t [] (x ∷ sites) e i s f = absurd (cc)
-ordinal_by k t (y ∷ ss) (x ∷ sites) e zero s f =
+ordinal_by k t [] (x ∷ laid) e i s f = absurd (cc)
+ordinal_by k t (y ∷ ss) (x ∷ laid) e zero s f =
     let same : x ≡ s = cc in
-    ap (λ (s : Site). s.located.ordinal) (sym same) ∙ ap (λ (l : Located). l.ordinal) (cons_parts _ _ _ _ e).0 ∙ (let m : k ≡ k + 0 = omega arith in m)
-ordinal_by k t (y ∷ ss) (x ∷ sites) e (suc i) s f =
-    ordinal_by (suc k) (after t k y.kind) ss sites (cons_parts _ _ _ _ e).1 i s f ∙ (let m : suc k + i ≡ k + suc i = omega arith in m)
+    ap (λ (s : LaidStatement). s.located.ordinal) (sym same) ∙ ap (λ (l : Located). l.ordinal) (cons_parts _ _ _ _ e).0 ∙ (let m : k ≡ k + 0 = omega arith in m)
+ordinal_by k t (y ∷ ss) (x ∷ laid) e (suc i) s f =
+    ordinal_by (suc k) (after t k y.kind) ss laid (cons_parts _ _ _ _ e).1 i s f ∙ (let m : suc k + i ≡ k + suc i = omega arith in m)
 
 -- the statement at an index
-pub ordinal_is : (x : Source) (sites : List Site) → IsSource x sites → (i : ℕ) (s : Site) → slice_get sites i ≡ Some s → s.located.ordinal ≡ i + 1
-ordinal_is x sites h i s e = ordinal_by 1 (at_start (said x.unit.now)) (said x.unit.now) sites h.located i s e ∙ (let m : 1 + i ≡ i + 1 = omega arith in m)
+pub ordinal_is : (x : Source) (laid : List LaidStatement) → IsSource x laid → (i : ℕ) (s : LaidStatement) → slice_get laid i ≡ Some s → s.located.ordinal ≡ i + 1
+ordinal_is x laid h i s e = ordinal_by 1 (at_start (said x.unit.now)) (said x.unit.now) laid h.located i s e ∙ (let m : 1 + i ≡ i + 1 = omega arith in m)
 
-pub count_is : (x : Source) (sites : List Site) → IsSource x sites → length sites ≡ length (said x.unit.now)
-count_is x sites h = sym (counts (λ (s : Site). s.located) sites) ∙ ap length h.located ∙ sym (counts (λ (l : Located). l.kind) (located_from 1 1 (at_start (said x.unit.now)) (said x.unit.now)))
+pub count_is : (x : Source) (laid : List LaidStatement) → IsSource x laid → length laid ≡ length (said x.unit.now)
+count_is x laid h = sym (counts (λ (s : LaidStatement). s.located) laid) ∙ ap length h.located ∙ sym (counts (λ (l : Located). l.kind) (located_from 1 1 (at_start (said x.unit.now)) (said x.unit.now)))
     ∙ ap length (kinds_are 1 (at_start (said x.unit.now)) (said x.unit.now)) ∙ counts (λ (s : Statement). s.kind) (said x.unit.now)
   where
     counts : {A B : Type 0} (f : A → B) (xs : List A) → length (map f xs) ≡ length xs
     counts f [] = refl
     counts f (x ∷ xs) = ap suc (counts f xs)
 
-pub kind_is : (x : Source) (sites : List Site) → IsSource x sites → (i : ℕ) (s : Site) → slice_get sites i ≡ Some s
+pub kind_is : (x : Source) (laid : List LaidStatement) → IsSource x laid → (i : ℕ) (s : LaidStatement) → slice_get laid i ≡ Some s
     → option_map (λ (y : Statement). y.kind) (slice_get (said x.unit.now) i) ≡ Some s.located.kind
-kind_is x sites h i s e =
-    sym (got_map (λ (y : Statement). y.kind) (said x.unit.now) i) ∙ ap (λ l. slice_get l i) (sym (kinds_are 1 (at_start (said x.unit.now)) (said x.unit.now)) ∙ ap (map (λ (l : Located). l.kind)) (sym h.located) ∙ map_twice (λ (s : Site). s.located) (λ (l : Located). l.kind) sites)
-    ∙ got_map (λ (s : Site). s.located.kind) sites i ∙ ap (option_map (λ (s : Site). s.located.kind)) e
+kind_is x laid h i s e =
+    sym (got_map (λ (y : Statement). y.kind) (said x.unit.now) i) ∙ ap (λ l. slice_get l i) (sym (kinds_are 1 (at_start (said x.unit.now)) (said x.unit.now)) ∙ ap (map (λ (l : Located). l.kind)) (sym h.located) ∙ map_twice (λ (s : LaidStatement). s.located) (λ (l : Located). l.kind) laid)
+    ∙ got_map (λ (s : LaidStatement). s.located.kind) laid i ∙ ap (option_map (λ (s : LaidStatement). s.located.kind)) e
 
 pub some_at : {X : Type 0} (xs : List X) (k : ℕ) (d : X) → k < length xs → slice_get xs k ≡ Some (slice_index_or xs k d)
 some_at [] k d inside = absurd (omega arith)
@@ -145,30 +145,30 @@ got None xs k found is = sym (none_at xs k (ltb-false k (length xs) (sym found))
 got (Some x) xs k found is = ap Some is ∙ sym (some_at xs k x.now (ltb-true k (length xs) (sym found)))
 
 -- a place after the start of a statement, by the statement's own place
-pub after_some : (found : Option Site) (section offset plus : ℕ) → Some (section, offset) ≡ option_map place_in found → InSection section (add offset plus) ≡ after_found found plus
+pub after_some : (found : Option LaidStatement) (section offset plus : ℕ) → Some (section, offset) ≡ option_map place_in found → InSection section (add offset plus) ≡ after_found found plus
 after_some None section offset plus e = absurd (cc)
 after_some (Some s) section offset plus e =
     let f : (section, offset) ≡ (s.located.section, s.offset) = cc in
     ap (λ (p : ℕ × ℕ). InSection p.0 (add p.1 plus)) f
 
-pub after_none : (found : Option Site) (plus : ℕ) → None ≡ option_map place_in found → Skipped 0 ≡ after_found found plus
+pub after_none : (found : Option LaidStatement) (plus : ℕ) → None ≡ option_map place_in found → Skipped 0 ≡ after_found found plus
 after_none None plus e = refl
 after_none (Some s) plus e = absurd (cc)
 
 -- what the statement at an index says, by the code's statement
-pub kind_at : (x : Source) (sites : List Site) → IsSource x sites → (i : ℕ) (s : Site) → slice_get sites i ≡ Some s → (y : DeclaredStatement) → i < length x.unit.now.statements.items
+pub kind_at : (x : Source) (laid : List LaidStatement) → IsSource x laid → (i : ℕ) (s : LaidStatement) → slice_get laid i ≡ Some s → (y : DeclaredStatement) → i < length x.unit.now.statements.items
     → y ≡ slice_index_or x.unit.now.statements.items i y → (statement_of y).kind ≡ s.located.kind
-kind_at x sites h i s e y inside is =
+kind_at x laid h i s e y inside is =
     let at : slice_get x.unit.now.statements.items i ≡ Some y = some_at x.unit.now.statements.items i y inside ∙ ap Some (sym is) in
     let same : Some (statement_of y).kind ≡ Some s.located.kind =
-    ap (λ o. option_map (λ (z : Statement). z.kind) (option_map statement_of o)) (sym at) ∙ ap (option_map (λ (z : Statement). z.kind)) (sym (got_map statement_of x.unit.now.statements.items i)) ∙ kind_is x sites h i s e in
+    ap (λ o. option_map (λ (z : Statement). z.kind) (option_map statement_of o)) (sym at) ∙ ap (option_map (λ (z : Statement). z.kind)) (sym (got_map statement_of x.unit.now.statements.items i)) ∙ kind_is x laid h i s e in
     cc
 
-pub sites_inside : (x : Source) (sites : List Site) → IsSource x sites → (i : ℕ) → i < length x.unit.now.statements.items → i < length sites
-sites_inside x sites h i inside = subst (λ n. i < n) (sym (length-map x.unit.now.statements.items statement_of) ∙ sym (count_is x sites h)) inside
+pub laid_inside : (x : Source) (laid : List LaidStatement) → IsSource x laid → (i : ℕ) → i < length x.unit.now.statements.items → i < length laid
+laid_inside x laid h i inside = subst (λ n. i < n) (sym (length-map x.unit.now.statements.items statement_of) ∙ sym (count_is x laid h)) inside
 
-pub sites_past : (x : Source) (sites : List Site) → IsSource x sites → (i : ℕ) → length x.unit.now.statements.items ≤ i → drop i sites ≡ []
-sites_past x sites h i past = at_drop_all (λ l. l) sites i (subst (λ n. n ≤ i) (sym (length-map x.unit.now.statements.items statement_of) ∙ sym (count_is x sites h)) past)
+pub laid_past : (x : Source) (laid : List LaidStatement) → IsSource x laid → (i : ℕ) → length x.unit.now.statements.items ≤ i → drop i laid ≡ []
+laid_past x laid h i past = at_drop_all (λ l. l) laid i (subst (λ n. n ≤ i) (sym (length-map x.unit.now.statements.items statement_of) ∙ sym (count_is x laid h)) past)
 
 pub said_at : (u : SourceUnit) (i : ℕ) (y : DeclaredStatement) → i < length u.statements.items → y ≡ slice_index_or u.statements.items i y → slice_get (said u) i ≡ Some (statement_of y)
 said_at u i y inside is =

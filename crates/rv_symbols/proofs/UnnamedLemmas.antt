@@ -14,9 +14,9 @@ use Rattle.rv_unit_laws.proofs.FoundLemmas.{same_bytes}
 use Rattle.rv_object.specs.declared.symbol.Definition.{Definition as Defined}
 use Rattle.rv_object.specs.declared.symbol.Definition.TheVariants.{Undefined, Absolute, InSection, Skipped}
 use Rattle.rv_object.specs.Object.{Symbol}
-use Rattle.rv_assemble_laws.specs.Sites.{Site}
+use Rattle.rv_assemble_laws.specs.LaidStatements.{LaidStatement}
 use Rattle.rv_object.specs.Bindings.{is_weak}
-use Rattle.rv_assemble_laws.specs.Symbols.{SymbolUse, references, site_at, local_symbol, is_unnamed, is_at, is_meant, unnamed_symbols, named_symbols, local_symbols, exports, symbols_of, IsNamed, IsDefinedBy, StandsFor}
+use Rattle.rv_assemble_laws.specs.Symbols.{SymbolUse, references, laid_at, local_symbol, is_unnamed, is_at, is_meant, unnamed_symbols, named_symbols, local_symbols, exports, symbols_of, IsNamed, IsDefinedBy, StandsFor}
 use Rattle.rv_symbols.specs.Numbers.{last_index, stands_in, is_at_place, own_symbols, missing_names, own_number, place_number, number_by, number_in}
 use Rattle.rv_symbols.proofs.DefinedNamesLemmas.{AreSome}
 use Rattle.rv_symbols.proofs.NumberedLemmas.{any_front, any_behind, all_index, got_last, got_front, whole}
@@ -25,46 +25,46 @@ use Rattle.rv_symbols.proofs.OwnedLemmas.{each_own}
 place_here : (section offset : ℕ) → is_at_place section offset (local_symbol [] (InSection section offset)) ≡ true
 place_here section offset = and_from (section == section) (offset == offset) (eq-eqb section section refl) (eq-eqb offset offset refl)
 
-module _ (t : Tables) (sites : List Site) where
-  abbrev meant : Site → Bool
-  meant s = is_meant t (references t sites) s
+module _ (t : Tables) (laid : List LaidStatement) where
+  abbrev meant : LaidStatement → Bool
+  meant s = is_meant t (references t laid) s
 
-  abbrev seen : ℕ → ℕ → List Site → Bool
+  abbrev seen : ℕ → ℕ → List LaidStatement → Bool
   seen section offset before = list_any (λ y. ((section == y.located.section) && (offset == y.offset)) && meant y) before
 
-  abbrev At : Site → List Symbol → Type 0
+  abbrev At : LaidStatement → List Symbol → Type 0
   At s xs = list_any (is_at_place s.located.section s.offset) xs ≡ true
 
-  here_has : (before : List Site) (s : Site) (tail : List Symbol) → meant s ≡ true → (seen s.located.section s.offset before ≡ true) ⊎ At s (unnamed_symbols t (references t sites) before s ++ tail)
+  here_has : (before : List LaidStatement) (s : LaidStatement) (tail : List Symbol) → meant s ≡ true → (seen s.located.section s.offset before ≡ true) ⊎ At s (unnamed_symbols t (references t laid) before s ++ tail)
   here_has before s tail m = go (seen s.located.section s.offset before) refl
     where
-      go : (b : Bool) → seen s.located.section s.offset before ≡ b → (seen s.located.section s.offset before ≡ true) ⊎ At s (unnamed_symbols t (references t sites) before s ++ tail)
+      go : (b : Bool) → seen s.located.section s.offset before ≡ b → (seen s.located.section s.offset before ≡ true) ⊎ At s (unnamed_symbols t (references t laid) before s ++ tail)
       go true e = inl e
       go false e = inr (
           ap (λ b. list_any (is_at_place s.located.section s.offset) ((if b && not (seen s.located.section s.offset before) then local_symbol [] (InSection s.located.section s.offset) ∷ [] else []) ++ tail)) m
           ∙ ap (λ b. list_any (is_at_place s.located.section s.offset) ((if not b then local_symbol [] (InSection s.located.section s.offset) ∷ [] else []) ++ tail)) e
           ∙ or_left (is_at_place s.located.section s.offset (local_symbol [] (InSection s.located.section s.offset))) _ (place_here s.located.section s.offset))
 
-  local_has : (before rest : List Site) (i : ℕ) (q : Site) → slice_get rest i ≡ Some q → meant q ≡ true → (seen q.located.section q.offset before ≡ true) ⊎ At q (local_symbols t sites before rest)
+  local_has : (before rest : List LaidStatement) (i : ℕ) (q : LaidStatement) → slice_get rest i ≡ Some q → meant q ≡ true → (seen q.located.section q.offset before ≡ true) ⊎ At q (local_symbols t laid before rest)
   local_has before [] zero q e m = absurd (cc)
   local_has before [] (suc i) q e m = absurd (cc)
   local_has before (s ∷ rest) zero q e m =
       let same : s ≡ q = cc in
-      subst (λ (y : Site). (seen y.located.section y.offset before ≡ true) ⊎ At y (local_symbols t sites before (s ∷ rest))) same
-      (here_has before s (named_symbols t sites s ++ local_symbols t sites (before ++ s ∷ []) rest) (ap meant same ∙ m))
+      subst (λ (y : LaidStatement). (seen y.located.section y.offset before ≡ true) ⊎ At y (local_symbols t laid before (s ∷ rest))) same
+      (here_has before s (named_symbols t laid s ++ local_symbols t laid (before ++ s ∷ []) rest) (ap meant same ∙ m))
   local_has before (s ∷ rest) (suc i) q e m = go (local_has (before ++ s ∷ []) rest i q e m)
     where
       tail : List Symbol
-      tail = named_symbols t sites s ++ local_symbols t sites (before ++ s ∷ []) rest
+      tail = named_symbols t laid s ++ local_symbols t laid (before ++ s ∷ []) rest
 
       test : Symbol → Bool
       test = is_at_place q.located.section q.offset
 
-      moved : (a b c d : ℕ) → a ≡ c → b ≡ d → (seen c d before ≡ true) ⊎ (list_any (is_at_place c d) (unnamed_symbols t (references t sites) before s ++ tail) ≡ true)
-          → (seen a b before ≡ true) ⊎ (list_any (is_at_place a b) (unnamed_symbols t (references t sites) before s ++ tail) ≡ true)
+      moved : (a b c d : ℕ) → a ≡ c → b ≡ d → (seen c d before ≡ true) ⊎ (list_any (is_at_place c d) (unnamed_symbols t (references t laid) before s ++ tail) ≡ true)
+          → (seen a b before ≡ true) ⊎ (list_any (is_at_place a b) (unnamed_symbols t (references t laid) before s ++ tail) ≡ true)
       moved a b c d e f h =
-          subst (λ n. (seen n b before ≡ true) ⊎ (list_any (is_at_place n b) (unnamed_symbols t (references t sites) before s ++ tail) ≡ true)) (sym e)
-          (subst (λ n. (seen c n before ≡ true) ⊎ (list_any (is_at_place c n) (unnamed_symbols t (references t sites) before s ++ tail) ≡ true)) (sym f) h)
+          subst (λ n. (seen n b before ≡ true) ⊎ (list_any (is_at_place n b) (unnamed_symbols t (references t laid) before s ++ tail) ≡ true)) (sym e)
+          (subst (λ n. (seen c n before ≡ true) ⊎ (list_any (is_at_place c n) (unnamed_symbols t (references t laid) before s ++ tail) ≡ true)) (sym f) h)
 
       or_last : (a b : Bool) → (a || (b || false)) ≡ true → (a ≡ true) ⊎ (b ≡ true)
       or_last true b e = inl refl
@@ -72,28 +72,28 @@ module _ (t : Tables) (sites : List Site) where
       or_last false false e = absurd (cc)
 
       last : (seen q.located.section q.offset before ≡ true) ⊎ ((((q.located.section == s.located.section) && (q.offset == s.offset)) && meant s) ≡ true)
-          → (seen q.located.section q.offset before ≡ true) ⊎ At q (local_symbols t sites before (s ∷ rest))
+          → (seen q.located.section q.offset before ≡ true) ⊎ At q (local_symbols t laid before (s ∷ rest))
       last (inl h) = inl h
       last (inr h) =
           let parts = and_parts ((q.located.section == s.located.section) && (q.offset == s.offset)) (meant s) h in
           let place = and_parts (q.located.section == s.located.section) (q.offset == s.offset) parts.0 in
           moved q.located.section q.offset s.located.section s.offset (eqb-true q.located.section s.located.section place.0) (eqb-true q.offset s.offset place.1) (here_has before s tail parts.1)
 
-      go : (seen q.located.section q.offset (before ++ s ∷ []) ≡ true) ⊎ At q (local_symbols t sites (before ++ s ∷ []) rest)
-          → (seen q.located.section q.offset before ≡ true) ⊎ At q (local_symbols t sites before (s ∷ rest))
+      go : (seen q.located.section q.offset (before ++ s ∷ []) ≡ true) ⊎ At q (local_symbols t laid (before ++ s ∷ []) rest)
+          → (seen q.located.section q.offset before ≡ true) ⊎ At q (local_symbols t laid before (s ∷ rest))
       go (inl h) = last (or_last (seen q.located.section q.offset before) (((q.located.section == s.located.section) && (q.offset == s.offset)) && meant s)
           (sym (list_any-append (λ y. ((q.located.section == y.located.section) && (q.offset == y.offset)) && meant y) before (s ∷ [])) ∙ h))
-      go (inr h) = inr (any_behind test (unnamed_symbols t (references t sites) before s) tail (any_behind test (named_symbols t sites s) (local_symbols t sites (before ++ s ∷ []) rest) h))
+      go (inr h) = inr (any_behind test (unnamed_symbols t (references t laid) before s) tail (any_behind test (named_symbols t laid s) (local_symbols t laid (before ++ s ∷ []) rest) h))
 
-  own_has : (i : ℕ) (q : Site) → slice_get sites i ≡ Some q → meant q ≡ true → At q (own_symbols t sites)
-  own_has i q e m = go (local_has [] sites i q e m)
+  own_has : (i : ℕ) (q : LaidStatement) → slice_get laid i ≡ Some q → meant q ≡ true → At q (own_symbols t laid)
+  own_has i q e m = go (local_has [] laid i q e m)
     where
-      go : (false ≡ true) ⊎ At q (local_symbols t sites [] sites) → At q (own_symbols t sites)
+      go : (false ≡ true) ⊎ At q (local_symbols t laid [] laid) → At q (own_symbols t laid)
       go (inl h) = absurd (cc)
-      go (inr h) = any_front (is_at_place q.located.section q.offset) (local_symbols t sites [] sites) (exports t sites) h
+      go (inr h) = any_front (is_at_place q.located.section q.offset) (local_symbols t laid [] laid) (exports t laid) h
 
   -- a statement that a use without a name means
-  is_meant_by : (rs : List SymbolUse) (j : ℕ) (r : SymbolUse) (s : Site) (d : laws.Definition) → slice_get rs j ≡ Some r → is_unnamed r.symbol ≡ true → laws.definition t r.ordinal r.symbol ≡ Some d
+  is_meant_by : (rs : List SymbolUse) (j : ℕ) (r : SymbolUse) (s : LaidStatement) (d : laws.Definition) → slice_get rs j ≡ Some r → is_unnamed r.symbol ≡ true → laws.definition t r.ordinal r.symbol ≡ Some d
       → d.ordinal ≡ s.located.ordinal → is_meant t rs s ≡ true
   is_meant_by [] zero r s d e u f o = absurd (cc)
   is_meant_by [] (suc j) r s d e u f o = absurd (cc)
@@ -117,7 +117,7 @@ module _ (t : Tables) (sites : List Site) where
       stood (Absolute n) h = absurd (cc)
       stood (Skipped n) h = absurd (cc)
 
-  own_is : (q : Primary) (d : laws.Definition) → is_unnamed q ≡ true → own_number (own_symbols t sites) sites d q ≡ place_number (own_symbols t sites) (site_at sites d.ordinal)
+  own_is : (q : Primary) (d : laws.Definition) → is_unnamed q ≡ true → own_number (own_symbols t laid) laid d q ≡ place_number (own_symbols t laid) (laid_at laid d.ordinal)
   own_is (Named name) d u = absurd (cc)
   own_is (Literal n) d u = refl
   own_is Here d u = refl
@@ -137,28 +137,28 @@ module _ (t : Tables) (sites : List Site) where
   keeps (Reference digits forward) u = refl
 
   -- symbols without names are not weak: names are not empty
-  strong : AllByRecursion (λ s. AreSome t s.located) sites → AllByRecursion (λ x. bytes_eq x.name [] ≡ true → is_weak x.binding ≡ false) (own_symbols t sites)
+  strong : AllByRecursion (λ s. AreSome t s.located) laid → AllByRecursion (λ x. bytes_eq x.name [] ≡ true → is_weak x.binding ≡ false) (own_symbols t laid)
   strong names =
-      each_own t sites (λ x. bytes_eq x.name [] ≡ true → is_weak x.binding ≡ false) (λ n d. bytes_eq n [] ≡ false) (λ d e. refl) (λ n d e h f. refl) (λ n d h f. absurd (cc)) names
+      each_own t laid (λ x. bytes_eq x.name [] ≡ true → is_weak x.binding ≡ false) (λ n d. bytes_eq n [] ≡ false) (λ d e. refl) (λ n d e h f. refl) (λ n d h f. absurd (cc)) names
 
   -- a use without a name, whose statement stands at an index
-  pub unnamed_stands : AllByRecursion (λ s. AreSome t s.located) sites → (j : ℕ) (r : SymbolUse) (d : laws.Definition) (i : ℕ) (s : Site) → slice_get (references t sites) j ≡ Some r → is_unnamed r.symbol ≡ true → laws.definition t r.ordinal r.symbol ≡ Some d
-      → slice_get sites i ≡ Some s → site_at sites d.ordinal ≡ Some s → d.ordinal ≡ s.located.ordinal → s.located.placed ≡ true → d.plus ≡ 0 → s.offset < 2 ^ 64
-      → StandsFor t sites r.ordinal r.symbol (slice_get (symbols_of t sites) (number_in t sites r.ordinal r.symbol))
-  unnamed_stands names j r d i s at u f here site o placed plus low =
-      let own = own_symbols t sites in
+  pub unnamed_stands : AllByRecursion (λ s. AreSome t s.located) laid → (j : ℕ) (r : SymbolUse) (d : laws.Definition) (i : ℕ) (s : LaidStatement) → slice_get (references t laid) j ≡ Some r → is_unnamed r.symbol ≡ true → laws.definition t r.ordinal r.symbol ≡ Some d
+      → slice_get laid i ≡ Some s → laid_at laid d.ordinal ≡ Some s → d.ordinal ≡ s.located.ordinal → s.located.placed ≡ true → d.plus ≡ 0 → s.offset < 2 ^ 64
+      → StandsFor t laid r.ordinal r.symbol (slice_get (symbols_of t laid) (number_in t laid r.ordinal r.symbol))
+  unnamed_stands names j r d i s at u f here laid_statement o placed plus low =
+      let own = own_symbols t laid in
       let test = is_at_place s.located.section s.offset in
-      let found = got_last test own (own_has i s here (is_meant_by (references t sites) j r s d at u f o)) in
+      let found = got_last test own (own_has i s here (is_meant_by (references t laid) j r s d at u f o)) in
       let x : Symbol = found.0 in
       let parts = place_parts s.located.section s.offset x found.2 in
-      let n : number_in t sites r.ordinal r.symbol ≡ unwrap_or (last_index test own) 0 =
-      ap (number_by own (missing_names t (references t sites)) sites r.symbol) f ∙ own_is r.symbol d u ∙ ap (place_number own) site in
-      let got : slice_get (symbols_of t sites) (number_in t sites r.ordinal r.symbol) ≡ Some x =
-      ap (slice_get (symbols_of t sites)) n ∙ ap (λ l. slice_get l (unwrap_or (last_index test own) 0)) (whole t sites) ∙ got_front own _ (unwrap_or (last_index test own) 0) x found.1 in
+      let n : number_in t laid r.ordinal r.symbol ≡ unwrap_or (last_index test own) 0 =
+      ap (number_by own (missing_names t (references t laid)) laid r.symbol) f ∙ own_is r.symbol d u ∙ ap (place_number own) laid_statement in
+      let got : slice_get (symbols_of t laid) (number_in t laid r.ordinal r.symbol) ≡ Some x =
+      ap (slice_get (symbols_of t laid)) n ∙ ap (λ l. slice_get l (unwrap_or (last_index test own) 0)) (whole t laid) ∙ got_front own _ (unwrap_or (last_index test own) 0) x found.1 in
       let end : s.offset ≡ add s.offset d.plus = omega arith in
-      subst (λ y. StandsFor t sites r.ordinal r.symbol y) (sym got) (
+      subst (λ y. StandsFor t laid r.ordinal r.symbol y) (sym got) (
         nameless r.symbol r.ordinal d x u f parts.0,
         all_index (λ x. bytes_eq x.name [] ≡ true → is_weak x.binding ≡ false) own (unwrap_or (last_index test own) 0) x found.1 (strong names) (ap (λ n. bytes_eq n []) parts.0)
             ∙ sym (keeps r.symbol u),
-        subst (λ h. IsDefinedBy sites r.symbol h x) (sym f) (s, site, placed, parts.1 ∙ ap (InSection s.located.section) end),
+        subst (λ h. IsDefinedBy laid r.symbol h x) (sym f) (s, laid_statement, placed, parts.1 ∙ ap (InSection s.located.section) end),
       )

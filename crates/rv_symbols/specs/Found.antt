@@ -8,7 +8,7 @@ use Rattle.rv_unit_laws.specs.Tables.{Tables, definition}
 use Rattle.rv_unit_laws.specs.Tables as laws
 use Rattle.rv_object.specs.declared.symbol.Definition.{Definition as Defined}
 use Rattle.rv_object.specs.declared.symbol.Definition.TheVariants.{Absolute}
-use Rattle.rv_assemble_laws.specs.Sites.{Site}
+use Rattle.rv_assemble_laws.specs.LaidStatements.{LaidStatement}
 use Rattle.rv_assemble_laws.specs.Symbols.{SymbolUse, is_unnamed, is_at, is_meant}
 
 -- a number of the source's own
@@ -58,9 +58,9 @@ abbrev pub same_place : ℕ × ℕ → ℕ × ℕ → Bool
 same_place p q = (p.0 == q.0) && (p.1 == q.1)
 
 -- whether a reference without a name means one of the statements at a place
-abbrev pub is_seen : Tables → List SymbolUse → List Site → ℕ × ℕ → Bool
-is_seen t rs sites q =
-    list_any (λ s. same_place q (s.located.section, s.offset) && is_meant t rs s) sites
+abbrev pub is_seen : Tables → List SymbolUse → List LaidStatement → ℕ × ℕ → Bool
+is_seen t rs laid q =
+    list_any (λ s. same_place q (s.located.section, s.offset) && is_meant t rs s) laid
 
 -- ---- names that are missing
 

@@ -7,8 +7,8 @@ use Rattle.rv_unit_laws.specs.Tables as laws
 use Rattle.rv_object.specs.declared.symbol.Definition.{Definition as Defined}
 use Rattle.rv_object.specs.declared.symbol.Definition.TheVariants.{InSection}
 use Rattle.rv_object.specs.Object.{Symbol}
-use Rattle.rv_assemble_laws.specs.Sites.{Site}
-use Rattle.rv_assemble_laws.specs.Symbols.{SymbolUse, references, site_at, local_symbols, exports, missing_name, distinct_from}
+use Rattle.rv_assemble_laws.specs.LaidStatements.{LaidStatement}
+use Rattle.rv_assemble_laws.specs.Symbols.{SymbolUse, references, laid_at, local_symbols, exports, missing_name, distinct_from}
 use Rattle.rv_assemble_laws.specs.IsObjectOf.{Numbering}
 
 -- the index of the last symbol that passes a test
@@ -32,13 +32,13 @@ is_at_place section offset x = bytes_eq x.name [] && stands_in section offset x.
 
 -- ---- the file's own symbols
 
-abbrev pub place_number : List Symbol → Option Site → ℕ
+abbrev pub place_number : List Symbol → Option LaidStatement → ℕ
 place_number own None = 0
 place_number own (Some s) = unwrap_or (last_index (is_at_place s.located.section s.offset) own) 0
 
-abbrev pub own_number : List Symbol → List Site → laws.Definition → Primary → ℕ
-own_number own sites d (Named name) = unwrap_or (last_index (is_named name) own) 0
-own_number own sites d _ = place_number own (site_at sites d.ordinal)
+abbrev pub own_number : List Symbol → List LaidStatement → laws.Definition → Primary → ℕ
+own_number own laid d (Named name) = unwrap_or (last_index (is_named name) own) 0
+own_number own laid d _ = place_number own (laid_at laid d.ordinal)
 
 -- ---- those that it leaves undefined, which stand after them
 
@@ -48,19 +48,19 @@ outer_number count names _ = 0
 
 -- ---- both
 
-abbrev pub number_by : List Symbol → List (List ℕ) → List Site → Primary →
+abbrev pub number_by : List Symbol → List (List ℕ) → List LaidStatement → Primary →
     Option laws.Definition → ℕ
-number_by own names sites q (Some d) = own_number own sites d q
-number_by own names sites q None = outer_number (length own) names q
+number_by own names laid q (Some d) = own_number own laid d q
+number_by own names laid q None = outer_number (length own) names q
 
-abbrev pub own_symbols : Tables → List Site → List Symbol
-own_symbols t sites = local_symbols t sites [] sites ++ exports t sites
+abbrev pub own_symbols : Tables → List LaidStatement → List Symbol
+own_symbols t laid = local_symbols t laid [] laid ++ exports t laid
 
 -- the names of those that are missing, in their order
 abbrev pub missing_names : Tables → List SymbolUse → List (List ℕ)
 missing_names t rs = distinct_from [] (flat_map (λ r. missing_name t r.ordinal r.symbol) rs)
 
-abbrev pub number_in : Tables → List Site → Numbering
-number_in t sites ordinal q =
-    number_by (own_symbols t sites) (missing_names t (references t sites)) sites q
+abbrev pub number_in : Tables → List LaidStatement → Numbering
+number_in t laid ordinal q =
+    number_by (own_symbols t laid) (missing_names t (references t laid)) laid q
     (definition t ordinal q)

@@ -10,8 +10,8 @@ ghost use Rattle.rv_unit_laws.specs.Tables.{Tables};
 ghost use Rattle.rv_unit.specs.Unit.{definition_of};
 ghost use Rattle.rv_object.specs.Object.{Symbol as SaidSymbol};
 ghost use Rattle.rv_object.specs.Parts.{symbol_of as object_symbol};
-ghost use Rattle.rv_assemble_laws.specs.Sites.{Site};
-ghost use Rattle.rv_assemble_laws.specs.Symbols.{site_at};
+ghost use Rattle.rv_assemble_laws.specs.LaidStatements.{LaidStatement};
+ghost use Rattle.rv_assemble_laws.specs.Symbols.{laid_at};
 ghost use Rattle.rv_symbols.specs.SymbolUse.{uses_of};
 ghost use Rattle.rv_symbols.specs.Source.{IsSource};
 ghost use Rattle.rv_symbols.specs.Numbers.{place_number, own_number, outer_number, number_by};
@@ -128,9 +128,9 @@ impl<'i, 'u, 'a> Indices<'i, 'u, 'a> {
 
     /// The index of the symbol without a name where the statement of this ordinal stands.
     fn place_number(&self, ordinal: u32) -> u32
-        ensures { (sites : List Site) (own : List SaidSymbol) (names : List (List ℕ))
-            → IsSource (self.now).source.now sites → AreIndices self.now own names
-            → result ≡ place_number own (site_at sites ordinal) }
+        ensures { (laid : List LaidStatement) (own : List SaidSymbol) (names : List (List ℕ))
+            → IsSource (self.now).source.now laid → AreIndices self.now own names
+            → result ≡ place_number own (laid_at laid ordinal) }
     {
         if ordinal == 0 {
             return 0;
@@ -143,9 +143,9 @@ impl<'i, 'u, 'a> Indices<'i, 'u, 'a> {
 
     /// The index of a symbol that is defined in the file.
     fn own_number(&self, symbol: Named<'_>, definition: Definition) -> u32
-        ensures { (sites : List Site) (own : List SaidSymbol) (names : List (List ℕ))
-            → IsSource (self.now).source.now sites → AreIndices self.now own names
-            → result ≡ own_number own sites (definition_of definition) (symbol_of symbol.entry) }
+        ensures { (laid : List LaidStatement) (own : List SaidSymbol) (names : List (List ℕ))
+            → IsSource (self.now).source.now laid → AreIndices self.now own names
+            → result ≡ own_number own laid (definition_of definition) (symbol_of symbol.entry) }
     {
         match symbol {
             Named::Name(name) => self.names.get(&name).copied().unwrap_or(0),
@@ -175,9 +175,9 @@ impl<'i, 'u, 'a> Indices<'i, 'u, 'a> {
     /// The index of the symbol that a use names.
     fn number(&self, symbol: Named<'_>, definition: Option<Definition>) -> u32
         requires { AreFew self.now }
-        ensures { (sites : List Site) (own : List SaidSymbol) (names : List (List ℕ))
-            → IsSource (self.now).source.now sites → AreIndices self.now own names
-            → result ≡ number_by own names sites (symbol_of symbol.entry)
+        ensures { (laid : List LaidStatement) (own : List SaidSymbol) (names : List (List ℕ))
+            → IsSource (self.now).source.now laid → AreIndices self.now own names
+            → result ≡ number_by own names laid (symbol_of symbol.entry)
             (option_map definition_of definition) }
     {
         match definition {
@@ -198,11 +198,11 @@ pub(crate) fn numbers<'a>(
 ) -> Result<Vec<u32>, AllocError>
     requires each { length definitions.now ≡ length uses.now }
     requires few { length own.now + length (missing.now).keys < 2 ^ 32 }
-    ensures { IfOk result (λ x. (sites : List Site) (t : Tables) → IsSource source.now sites
+    ensures { IfOk result (λ x. (laid : List LaidStatement) (t : Tables) → IsSource source.now laid
         → map (option_map definition_of) definitions.now
         ≡ map (definition_in t) (uses_of uses.now)
         → x.items
-        ≡ map (λ r. number_by (map object_symbol own.now) (map now_of (missing.now).keys) sites
+        ≡ map (λ r. number_by (map object_symbol own.now) (map now_of (missing.now).keys) laid
         r.symbol (definition_in t r)) (uses_of uses.now)) }
 {
     let indices = Indices::of(alloc, source, own, missing)?;

@@ -10,7 +10,7 @@ ghost use Rattle.rv_map.specs.Name.{is_name};
 ghost use Rattle.rv_object.specs.declared.symbol.Binding.TheVariants.{Local};
 ghost use Rattle.rv_object.specs.declared.symbol.Definition.TheVariants.{InSection};
 ghost use Rattle.rv_object.specs.Parts.{symbol_of};
-ghost use Rattle.rv_assemble_laws.specs.Sites.{Site};
+ghost use Rattle.rv_assemble_laws.specs.LaidStatements.{LaidStatement};
 ghost use Rattle.rv_assemble_laws.specs.Symbols.{local_symbol, named_symbols, exports_of, references};
 ghost use Rattle.rv_assemble_laws.specs.ShownNames.{said_names, are_shown, HasNames};
 ghost use Rattle.rv_symbols.specs.Source.{tables_of, place_in, IsSource};
@@ -88,14 +88,14 @@ fn put_name<'a>(
 ) -> Result<(), AllocError>
     requires inside { index < length (source.now).offsets.now }
     requires shown { are_shown (said_names (statement_of statement.now).kind) ≡ true }
-    ensures symbols { OnOk result ((sites : List Site) (s : Site) → IsSource source.now sites
-        → slice_get sites index ≡ Some s → (statement_of statement.now).kind ≡ s.located.kind
+    ensures symbols { OnOk result ((laid : List LaidStatement) (s : LaidStatement) → IsSource source.now laid
+        → slice_get laid index ≡ Some s → (statement_of statement.now).kind ≡ s.located.kind
         → map symbol_of symbols.new.items ≡ map symbol_of symbols.old.items
-        ++ named_symbols (tables_of source.now) sites s) }
-    ensures exported { OnOk result ((sites : List Site) (s : Site) → IsSource source.now sites
-        → slice_get sites index ≡ Some s → (statement_of statement.now).kind ≡ s.located.kind
+        ++ named_symbols (tables_of source.now) laid s) }
+    ensures exported { OnOk result ((laid : List LaidStatement) (s : LaidStatement) → IsSource source.now laid
+        → slice_get laid index ≡ Some s → (statement_of statement.now).kind ≡ s.located.kind
         → map symbol_of exported.new.items ≡ map symbol_of exported.old.items
-        ++ exports_of (tables_of source.now) sites s) }
+        ++ exports_of (tables_of source.now) laid s) }
     ensures few { OnOk result (length symbols.new.items ≤ length symbols.old.items + 1) }
     ensures few_exported { OnOk result (length exported.new.items ≤ length exported.old.items + 1) }
 {
@@ -138,20 +138,20 @@ fn put_both<'a>(
 ) -> Result<(), AllocError>
     requires inside { index < length (source.now).offsets.now }
     requires shown { are_shown (said_names (statement_of statement.now).kind) ≡ true }
-    ensures symbols { OnOk result ((sites : List Site) (s : Site) → IsSource source.now sites
-        → slice_get sites index ≡ Some s → (statement_of statement.now).kind ≡ s.located.kind
+    ensures symbols { OnOk result ((laid : List LaidStatement) (s : LaidStatement) → IsSource source.now laid
+        → slice_get laid index ≡ Some s → (statement_of statement.now).kind ≡ s.located.kind
         → map symbol_of symbols.new.items ≡ map symbol_of symbols.old.items
         ++ ((if meant && not (contains same_place seen.old (place_in s))
         then local_symbol [] (InSection s.located.section s.offset) ∷ [] else [])
-        ++ named_symbols (tables_of source.now) sites s)) }
-    ensures exported { OnOk result ((sites : List Site) (s : Site) → IsSource source.now sites
-        → slice_get sites index ≡ Some s → (statement_of statement.now).kind ≡ s.located.kind
+        ++ named_symbols (tables_of source.now) laid s)) }
+    ensures exported { OnOk result ((laid : List LaidStatement) (s : LaidStatement) → IsSource source.now laid
+        → slice_get laid index ≡ Some s → (statement_of statement.now).kind ≡ s.located.kind
         → map symbol_of exported.new.items ≡ map symbol_of exported.old.items
-        ++ exports_of (tables_of source.now) sites s) }
+        ++ exports_of (tables_of source.now) laid s) }
     ensures few { OnOk result (length symbols.new.items ≤ length symbols.old.items + 2) }
     ensures few_exported { OnOk result (length exported.new.items ≤ length exported.old.items + 1) }
-    ensures seen { OnOk result ((sites : List Site) (s : Site) → IsSource source.now sites
-        → slice_get sites index ≡ Some s → (q : ℕ × ℕ) → contains same_place seen.new q
+    ensures seen { OnOk result ((laid : List LaidStatement) (s : LaidStatement) → IsSource source.now laid
+        → slice_get laid index ≡ Some s → (q : ℕ × ℕ) → contains same_place seen.new q
         ≡ (contains same_place seen.old q || meant && same_place (place_in s) q)) }
 {
     put_unnamed(symbols, seen, source.here(index), meant)?;
@@ -170,10 +170,10 @@ pub(crate) fn own_symbols<'a>(
     requires marks { length meant.now ≡ length (said (source.now).unit.now) }
     requires names { HasNames (said (source.now).unit.now) }
     ensures few { IfOk result (λ x. length x.items ≤ 3 * length meant.now) }
-    ensures symbols { IfOk result (λ x. (sites : List Site) → IsSource source.now sites
-        → AreMarks (tables_of source.now) (references (tables_of source.now) sites) meant.now
+    ensures symbols { IfOk result (λ x. (laid : List LaidStatement) → IsSource source.now laid
+        → AreMarks (tables_of source.now) (references (tables_of source.now) laid) meant.now
         (length meant.now)
-        → map symbol_of x.items ≡ own_in (tables_of source.now) sites) }
+        → map symbol_of x.items ≡ own_in (tables_of source.now) laid) }
 {
     let statements = source.unit.statements();
     let mut symbols = Vec::new(alloc);

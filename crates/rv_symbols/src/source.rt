@@ -9,8 +9,8 @@ ghost use Rattle.rv_unit.specs.Unit.{said, IsFilled};
 ghost use Rattle.rv_map.specs.Name.{is_name};
 ghost use Rattle.rv_object.specs.Valid.{is_shown};
 ghost use Rattle.rv_source_laws.specs.Exports.{sets_first, defined_name};
-ghost use Rattle.rv_assemble_laws.specs.Sites.{Site};
-ghost use Rattle.rv_assemble_laws.specs.Symbols.{site_at, after_found, assigned_definition, site_definition, outer_binding};
+ghost use Rattle.rv_assemble_laws.specs.LaidStatements.{LaidStatement};
+ghost use Rattle.rv_assemble_laws.specs.Symbols.{laid_at, after_found, assigned_definition, statement_definition, outer_binding};
 ghost use Rattle.rv_assemble_laws.specs.ShownNames.{said_names, are_shown};
 ghost use Rattle.rv_symbols.specs.Settings.{AreFirsts};
 
@@ -55,7 +55,7 @@ impl<'u, 'a> Source<'u, 'a> {
 
     /// Whether other files can mean a name.
     pub(crate) fn is_shared(&self, name: &[u8]) -> bool
-        ensures { (sites : List Site) → IsSource self.now sites
+        ensures { (laid : List LaidStatement) → IsSource self.now laid
             → result ≡ is_shared ((tables_of self.now).bindings name.now) }
     {
         !matches!(self.unit.binding(name), Binding::Local)
@@ -63,7 +63,7 @@ impl<'u, 'a> Source<'u, 'a> {
 
     /// The binding in an object of a name that other files can mean, or define.
     pub(crate) fn outer_binding(&self, name: &[u8]) -> ObjectBinding
-        ensures binding { (sites : List Site) → IsSource self.now sites
+        ensures binding { (laid : List LaidStatement) → IsSource self.now laid
             → result ≡ outer_binding ((tables_of self.now).bindings name.now) }
         ensures shown { is_name name.now ≡ true → is_shown result name.now ≡ true }
     {
@@ -77,7 +77,7 @@ impl<'u, 'a> Source<'u, 'a> {
     /// The name that the statement at this index defines.
     pub(crate) fn defined<'s>(&self, index: usize, statement: &Statement<'s>) -> Option<&'s [u8]>
         requires { index < length (self.now).offsets.now }
-        ensures name { (sites : List Site) → IsSource self.now sites
+        ensures name { (laid : List LaidStatement) → IsSource self.now laid
             → name_in result
             ≡ defined_name (tables_of self.now) (index + 1) (statement_of statement.now).kind }
         ensures shown { are_shown (said_names (statement_of statement.now).kind) ≡ true
@@ -94,7 +94,7 @@ impl<'u, 'a> Source<'u, 'a> {
     fn first_set<'s>(&self, index: usize, name: &'s [u8]) -> Option<&'s [u8]>
         requires { index < length (self.now).offsets.now }
         ensures same { IfSome result (λ n. n.now ≡ name.now) }
-        ensures name { (sites : List Site) → IsSource self.now sites
+        ensures name { (laid : List LaidStatement) → IsSource self.now laid
             → name_in result
             ≡ (if sets_first (tables_of self.now).assignments (index + 1) name.now
             then name.now ∷ [] else []) }
@@ -108,8 +108,8 @@ impl<'u, 'a> Source<'u, 'a> {
 
     /// The section and the offset of the statement at this index, if there is one.
     pub(crate) fn place(&self, index: usize) -> Option<(u32, u64)>
-        ensures { (sites : List Site) → IsSource self.now sites
-            → result ≡ option_map place_in (slice_get sites index) }
+        ensures { (laid : List LaidStatement) → IsSource self.now laid
+            → result ≡ option_map place_in (slice_get laid index) }
     {
         let Some(place) = self.unit.places().get(index) else {
             return None;
@@ -122,8 +122,8 @@ impl<'u, 'a> Source<'u, 'a> {
 
     /// The section and the offset of the statement at this index.
     pub(crate) fn here(&self, index: usize) -> (u32, u64)
-        ensures { (sites : List Site) (s : Site) → IsSource self.now sites
-            → slice_get sites index ≡ Some s → result ≡ place_in s }
+        ensures { (laid : List LaidStatement) (s : LaidStatement) → IsSource self.now laid
+            → slice_get laid index ≡ Some s → result ≡ place_in s }
     {
         match self.place(index) {
             Some(place) => place,
@@ -133,8 +133,8 @@ impl<'u, 'a> Source<'u, 'a> {
 
     /// So many bytes after the start of the statement of this ordinal.
     fn after(&self, ordinal: usize, plus: u64) -> Definition
-        ensures { (sites : List Site) → IsSource self.now sites
-            → result ≡ after_found (site_at sites ordinal) plus }
+        ensures { (laid : List LaidStatement) → IsSource self.now laid
+            → result ≡ after_found (laid_at laid ordinal) plus }
     {
         if ordinal == 0 {
             return Definition::Skipped(0);
@@ -147,8 +147,8 @@ impl<'u, 'a> Source<'u, 'a> {
 
     /// A number, or a place that `.set` gives.
     fn assigned(&self, assignment: Assignment<'a>) -> Definition
-        ensures { (sites : List Site) → IsSource self.now sites
-            → result ≡ assigned_definition sites (Some (assignment_of assignment.entry)) }
+        ensures { (laid : List LaidStatement) → IsSource self.now laid
+            → result ≡ assigned_definition laid (Some (assignment_of assignment.entry)) }
     {
         match assignment.meaning {
             Meaning::Constant(number) => Definition::Absolute(number),
@@ -159,8 +159,8 @@ impl<'u, 'a> Source<'u, 'a> {
 
     /// What `.set` gives a name last.
     fn set_definition(&self, name: &[u8]) -> Definition
-        ensures { (sites : List Site) → IsSource self.now sites
-            → result ≡ assigned_definition sites
+        ensures { (laid : List LaidStatement) → IsSource self.now laid
+            → result ≡ assigned_definition laid
             (assigned_ever (tables_of self.now).assignments name.now) }
     {
         match self.unit.assignment(name) {
@@ -171,9 +171,9 @@ impl<'u, 'a> Source<'u, 'a> {
 
     /// What the statement at this index defines: a label its own place, `.set` what the name has last.
     pub(crate) fn definition(&self, index: usize, statement: &Statement<'_>) -> Definition
-        ensures { (sites : List Site) (s : Site) → IsSource self.now sites
-            → slice_get sites index ≡ Some s
-            → result ≡ site_definition (tables_of self.now) sites s
+        ensures { (laid : List LaidStatement) (s : LaidStatement) → IsSource self.now laid
+            → slice_get laid index ≡ Some s
+            → result ≡ statement_definition (tables_of self.now) laid s
             (statement_of statement.now).kind }
     {
         match &statement.kind {

@@ -4,10 +4,10 @@ ghost use Rattle.std.specs.Prelude.{◌≡◌, ◌+◌, ◌*◌, ◌^◌, ◌<�
 ghost use Rattle.rv_unit_laws.specs.Tables.{tables};
 ghost use Rattle.rv_unit_laws.specs.Faults.{first_fault};
 ghost use Rattle.rv_unit.specs.Unit.{said, IsFilled};
-ghost use Rattle.rv_assemble_laws.specs.Sites.{Site};
+ghost use Rattle.rv_assemble_laws.specs.LaidStatements.{LaidStatement};
 ghost use Rattle.rv_assemble_laws.specs.ShownNames.{used_names, HasNames, AreShown};
 ghost use Rattle.rv_symbols.specs.SymbolUse.{uses_of, AreMeant};
-ghost use Rattle.rv_symbols.specs.HasSymbols.{AreSites, HasSymbols};
+ghost use Rattle.rv_symbols.specs.HasSymbols.{AreLaid, HasSymbols};
 
 use crate::numbers::numbers;
 use crate::own::own_symbols;
@@ -43,9 +43,9 @@ pub fn symbols<'a>(
     requires meant { AreMeant (tables (said unit.now)) (uses_of uses.now) }
     requires each { length offsets.now ≡ length (said unit.now) }
     requires few { 3 * length offsets.now + length (used_names (uses_of uses.now)) < 2 ^ 32 }
-    ensures { IfOk result (λ r. (sites : List Site)
-        → AreSites (said unit.now) offsets.now (uses_of uses.now) sites
-        → HasSymbols (tables (said unit.now)) sites (uses_of uses.now) r) }
+    ensures { IfOk result (λ r. (laid : List LaidStatement)
+        → AreLaid (said unit.now) offsets.now (uses_of uses.now) laid
+        → HasSymbols (tables (said unit.now)) laid (uses_of uses.now) r) }
 {
     let source = Source::of(alloc, unit, offsets)?;
     let definitions = definitions(alloc, unit, uses)?;

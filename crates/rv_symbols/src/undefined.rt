@@ -4,7 +4,7 @@ ghost use Rattle.std.specs.Prelude.{◌≡◌, ◌++◌, List, true, map, OnOk};
 ghost use Rattle.rv_statement.specs.View.{now_of};
 ghost use Rattle.rv_object.specs.declared.symbol.Definition.TheVariants.{Undefined};
 ghost use Rattle.rv_object.specs.Parts.{symbol_of};
-ghost use Rattle.rv_assemble_laws.specs.Sites.{Site};
+ghost use Rattle.rv_assemble_laws.specs.LaidStatements.{LaidStatement};
 ghost use Rattle.rv_assemble_laws.specs.Symbols.{shared_symbol};
 ghost use Rattle.rv_assemble_laws.specs.ShownNames.{are_shown};
 ghost use Rattle.rv_symbols.specs.Source.{tables_of, IsSource};
@@ -20,7 +20,7 @@ pub(crate) fn put_undefined<'a>(
     names: &[&'a [u8]],
 ) -> Result<(), AllocError>
     requires { are_shown (map now_of names.now) ≡ true }
-    ensures { OnOk result ((sites : List Site) → IsSource source.now sites
+    ensures { OnOk result ((laid : List LaidStatement) → IsSource source.now laid
         → map symbol_of symbols.new.items ≡ map symbol_of symbols.old.items
         ++ map (λ name. shared_symbol (tables_of source.now) name Undefined)
         (map now_of names.now)) }

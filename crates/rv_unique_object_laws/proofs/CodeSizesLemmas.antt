@@ -10,7 +10,7 @@ use Rattle.rv_layout_laws.proofs.WideningLemmas.{one_least_good}
 use Rattle.rv_unit_laws.specs.Tables.{Tables}
 use Rattle.rv_source_laws.specs.Located.{Located}
 use Rattle.rv_source_laws.specs.Sizes.{near_forms, item_by, item_by_kind, items_of, settled, AreLeast}
-use Rattle.rv_assemble_laws.specs.Sites.{form}
+use Rattle.rv_assemble_laws.specs.LaidStatements.{form}
 use Rattle.rv_assemble_laws.specs.Refusals.{HasCodeSize, AreCodeSizes}
 use Rattle.rv_layout.proofs.FixedLemmas.{code_fixed}
 use Rattle.rv_unique_object_laws.proofs.OneCodeLemmas.{code_one}

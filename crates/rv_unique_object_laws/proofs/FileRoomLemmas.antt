@@ -18,12 +18,12 @@ use Rattle.rv_object.specs.declared.row.Row.{Row}
 use Rattle.rv_object.specs.Object.{Section, Symbol, Object}
 use Rattle.rv_object_file_laws.specs.Written.{unseen, strings_of, table_of, Piece, section_piece, table_piece, relocations_bytes, rela_pieces, row_pieces, symbol_names, symbols_bytes, locals, symtab_index, last_index, first_pieces, section_names, HasFile}
 use Rattle.rv_assemble_laws.specs.ShownNames.{said_names}
-use Rattle.rv_assemble_laws.specs.Sites.{Site}
+use Rattle.rv_assemble_laws.specs.LaidStatements.{LaidStatement}
 use Rattle.rv_assemble_laws.specs.IsObjectOf.{Numbering, AreSectionsOf, IsObjectOf}
 use Rattle.rv_unique_object_laws.proofs.SmallLemmas.{few_sections}
 use Rattle.rv_assemble_laws.specs.Small.{weight, all_said}
 use Rattle.rv_assemble_laws.proofs.WeightsLemmas.{weight_append, light_names}
-use Rattle.rv_assemble_laws.proofs.UseWeightsLemmas.{site_said, sites_said}
+use Rattle.rv_assemble_laws.proofs.UseWeightsLemmas.{statement_said, laid_said}
 use Rattle.rv_unique_object_laws.proofs.SymbolWeightsLemmas.{symbol_weight, symbols_names, symbols_count, symbols_light}
 
 -- ---- tables of strings
@@ -106,7 +106,7 @@ start_light ss = refl
 abbrev names_in : List Section → List (List ℕ)
 names_in xs = map (λ s. s.name) xs
 
-same_names : (t : Tables) (all : List Site) (number : Numbering) (symbols : List Symbol) (k : ℕ) (homes : List SourceSection) (xs : List Section) → AreSectionsOf t all number symbols k homes xs
+same_names : (t : Tables) (all : List LaidStatement) (number : Numbering) (symbols : List Symbol) (k : ℕ) (homes : List SourceSection) (xs : List Section) → AreSectionsOf t all number symbols k homes xs
     → names_in xs ≡ home_names homes
 same_names t all number symbols k [] [] h = refl
 same_names t all number symbols k [] (x ∷ xs) h = absurd h
@@ -116,7 +116,7 @@ same_names t all number symbols k (home ∷ homes) (x ∷ xs) (h, hs) =
 
 sections_light : (ss : List Statement) (o : Object) → IsObjectOf ss o → weight (names_in o.sections) ≤ 6 + (8 * length ss + all_said ss)
 sections_light ss o h =
-    let a = ap weight (same_names (tables ss) h.sites h.number o.symbols 0 (opened_of (tables ss)).sections o.sections h.sections) in
+    let a = ap weight (same_names (tables ss) h.laid h.number o.symbols 0 (opened_of (tables ss)).sections o.sections h.sections) in
     let b = after_light (at_start ss) 1 ss in
     let c = start_light ss in
     omega (arith, a, b, c)
@@ -202,10 +202,10 @@ has_file bytes ss o reads h =
     let first = first_light o in
     let first_count = first.0 in
     let first_weight = first.1 in
-    let told = sites_said 1 (at_start ss) ss h.sites h.located in
+    let told = laid_said 1 (at_start ss) ss h.laid h.located in
     let told_said = told.0 in
     let told_count = told.1 in
-    let symbols : symbol_weight o.symbols ≤ length h.sites + 4 * site_said h.sites = subst (λ l. symbol_weight l ≤ length h.sites + 4 * site_said h.sites) (sym h.symbols) (symbols_light (tables ss) h.sites) in
+    let symbols : symbol_weight o.symbols ≤ length h.laid + 4 * statement_said h.laid = subst (λ l. symbol_weight l ≤ length h.laid + 4 * statement_said h.laid) (sym h.symbols) (symbols_light (tables ss) h.laid) in
     let counted = symbols_count o.symbols in
     let named : weight (symbol_names o) ≡ symbol_weight o.symbols = symbols_names o.symbols in
     let symbol_table = table_light (symbol_names o) in

@@ -13,7 +13,7 @@ use Rattle.rv_unit_laws.proofs.FoundLemmas.{same_bytes, bytes_same}
 use Rattle.rv_unit_laws.proofs.BeforeLemmas.{before_start}
 use Rattle.rv_source_laws.specs.Located.{located_from}
 use Rattle.rv_source_laws.specs.Exports.{sets_first, defined_name}
-use Rattle.rv_assemble_laws.specs.Sites.{Site}
+use Rattle.rv_assemble_laws.specs.LaidStatements.{LaidStatement}
 use Rattle.rv_symbols.proofs.StandsLemmas.{ordinal_by}
 use Rattle.rv_symbols.proofs.NumberedLemmas.{all_index}
 use Rattle.rv_symbols.proofs.OneNameLemmas.{Is, IsFound, one_name, labels_found}
@@ -98,26 +98,26 @@ how_defined t name o (Directs (Sets n x)) h = go (sets_first t.assignments o n) 
     go false f h = absurd (omega (arith, h))
 how_defined t name o kind h = absurd (omega (arith, h))
 
-module _ (ss : List Statement) (sites : List Site) (located : map (λ s. s.located) sites ≡ located_from 1 1 (at_start ss) ss) (free : first_fault ss ≡ None) (name : List ℕ) where
+module _ (ss : List Statement) (laid : List LaidStatement) (located : map (λ s. s.located) laid ≡ located_from 1 1 (at_start ss) ss) (free : first_fault ss ≡ None) (name : List ℕ) where
   abbrev t : Tables
   t = tables ss
 
-  founds : AllByRecursion (IsFound name t) sites
-  founds = labels_found name t 1 (at_start ss) ss sites located (no_fault_from ss free) (before_start ss 1) refl
+  founds : AllByRecursion (IsFound name t) laid
+  founds = labels_found name t 1 (at_start ss) ss laid located (no_fault_from ss free) (before_start ss 1) refl
 
   -- the label that is found for it
-  label_at : (i : ℕ) (s : Site) → slice_get sites i ≡ Some s → s.located.kind ≡ Label name → (l : Labelled) × (label_of t.labels true 0 name ≡ Some l) × (l.ordinal ≡ s.located.ordinal)
-  label_at i s at is = all_index (IsFound name t) sites i s at founds name is (bytes_same name)
+  label_at : (i : ℕ) (s : LaidStatement) → slice_get laid i ≡ Some s → s.located.kind ≡ Label name → (l : Labelled) × (label_of t.labels true 0 name ≡ Some l) × (l.ordinal ≡ s.located.ordinal)
+  label_at i s at is = all_index (IsFound name t) laid i s at founds name is (bytes_same name)
 
   -- a label is not set
   label_alone : (o : ℕ) (l : Labelled) → label_of t.labels true 0 name ≡ Some l → sets_first t.assignments o name ≡ true → ⊥
-  label_alone o l e f = go (assigned_ever t.assignments name) refl (subst (λ found. Is name sites t.assignments found (assigned_ever t.assignments name)) e (one_name name sites 0 1 (at_start ss) ss sites refl located (before_start ss 1) tt))
+  label_alone o l e f = go (assigned_ever t.assignments name) refl (subst (λ found. Is name laid t.assignments found (assigned_ever t.assignments name)) e (one_name name laid 0 1 (at_start ss) ss laid refl located (before_start ss 1) tt))
     where
-      go : (a : Option Assignment) → assigned_ever t.assignments name ≡ a → Is name sites t.assignments (Some l) a → ⊥
+      go : (a : Option Assignment) → assigned_ever t.assignments name ≡ a → Is name laid t.assignments (Some l) a → ⊥
       go None g h = first_ever name o t.assignments g (and_parts (list_any (λ (s : Assignment). (s.ordinal == o) && bytes_eq s.name name) t.assignments) (not (is_some (assigned_before t.assignments o name))) f).0
       go (Some a) g h = h
 
-  one_ordinal : (i j : ℕ) (s q : Site) → slice_get sites i ≡ Some s → slice_get sites j ≡ Some q → Defines t name s.located.ordinal s.located.kind → Defines t name q.located.ordinal q.located.kind
+  one_ordinal : (i j : ℕ) (s q : LaidStatement) → slice_get laid i ≡ Some s → slice_get laid j ≡ Some q → Defines t name s.located.ordinal s.located.kind → Defines t name q.located.ordinal q.located.kind
       → s.located.ordinal ≡ q.located.ordinal
   one_ordinal i j s q at_i at_j (inl e) (inl f) =
       let x = label_at i s at_i e in
@@ -129,13 +129,13 @@ module _ (ss : List Statement) (sites : List Site) (located : map (λ s. s.locat
   one_ordinal i j s q at_i at_j (inr e) (inl f) = let y = label_at j q at_j f in absurd (label_alone s.located.ordinal y.0 y.1 e)
   one_ordinal i j s q at_i at_j (inr e) (inr f) = first_once name t.assignments s.located.ordinal q.located.ordinal e f
 
-  abbrev Names : Site → ℕ
+  abbrev Names : LaidStatement → ℕ
   Names s = count (is_this name) (names_of t s)
 
-  one_statement : (i j : ℕ) (s q : Site) → slice_get sites i ≡ Some s → slice_get sites j ≡ Some q → 1 ≤ Names s → 1 ≤ Names q → i ≡ j
+  one_statement : (i j : ℕ) (s q : LaidStatement) → slice_get laid i ≡ Some s → slice_get laid j ≡ Some q → 1 ≤ Names s → 1 ≤ Names q → i ≡ j
   one_statement i j s q at_i at_j h k =
-      let a : s.located.ordinal ≡ 1 + i = ordinal_by 1 (at_start ss) ss sites located i s at_i in
-      let b : q.located.ordinal ≡ 1 + j = ordinal_by 1 (at_start ss) ss sites located j q at_j in
+      let a : s.located.ordinal ≡ 1 + i = ordinal_by 1 (at_start ss) ss laid located i s at_i in
+      let b : q.located.ordinal ≡ 1 + j = ordinal_by 1 (at_start ss) ss laid located j q at_j in
       let same : s.located.ordinal ≡ q.located.ordinal =
       one_ordinal i j s q at_i at_j (how_defined t name s.located.ordinal s.located.kind h) (how_defined t name q.located.ordinal q.located.kind k) in
       omega (arith, a, b, same)
@@ -150,7 +150,7 @@ module _ (ss : List Statement) (sites : List Site) (located : map (λ s. s.locat
   few o (Directs (Sets n x)) = few_if (sets_first t.assignments o n) n
   few o kind = omega arith
 
-  none_left : (xs : List Site) → ((j : ℕ) (q : Site) → slice_get xs j ≡ Some q → 1 ≤ Names q → ⊥) → count (is_this name) (flat_map (names_of t) xs) ≡ 0
+  none_left : (xs : List LaidStatement) → ((j : ℕ) (q : LaidStatement) → slice_get xs j ≡ Some q → 1 ≤ Names q → ⊥) → count (is_this name) (flat_map (names_of t) xs) ≡ 0
   none_left [] f = refl
   none_left (x ∷ xs) f =
       let here : 1 ≤ Names x → ⊥ = f 0 x refl in
@@ -163,7 +163,7 @@ module _ (ss : List Statement) (sites : List Site) (located : map (λ s. s.locat
       go zero e h r a = omega (arith, e, r, a)
       go (suc n) e h r a = absurd (h (omega arith))
 
-  once_in : (xs : List Site) → ((i j : ℕ) (s q : Site) → slice_get xs i ≡ Some s → slice_get xs j ≡ Some q → 1 ≤ Names s → 1 ≤ Names q → i ≡ j)
+  once_in : (xs : List LaidStatement) → ((i j : ℕ) (s q : LaidStatement) → slice_get xs i ≡ Some s → slice_get xs j ≡ Some q → 1 ≤ Names s → 1 ≤ Names q → i ≡ j)
       → count (is_this name) (flat_map (names_of t) xs) ≤ 1
   once_in [] f = omega arith
   once_in (x ∷ xs) f =
@@ -184,5 +184,5 @@ module _ (ss : List Statement) (sites : List Site) (located : map (λ s. s.locat
           omega (arith, all, most, none)
 
   -- the name is defined once
-  pub defined_once : count (is_this name) (flat_map (names_of t) sites) ≤ 1
-  defined_once = once_in sites one_statement
+  pub defined_once : count (is_this name) (flat_map (names_of t) laid) ≤ 1
+  defined_once = once_in laid one_statement

@@ -17,8 +17,8 @@ use Rattle.rv_source_laws.specs.Located.{located_from}
 use Rattle.rv_object.specs.declared.symbol.Definition.TheVariants.{Undefined, InSection}
 use Rattle.rv_object.specs.Object.{Symbol}
 use Rattle.rv_assemble_laws.specs.Templates.{Open, template_fields}
-use Rattle.rv_assemble_laws.specs.Sites.{Site, Part, part_bytes}
-use Rattle.rv_assemble_laws.specs.Symbols.{SymbolUse, use_of, after_site, after_found, symbols_of, IsNamed, IsOwn, IsOuter, IsDefinedBy, StandsFor}
+use Rattle.rv_assemble_laws.specs.LaidStatements.{LaidStatement, Part, part_bytes}
+use Rattle.rv_assemble_laws.specs.Symbols.{SymbolUse, use_of, after_statement, after_found, symbols_of, IsNamed, IsOwn, IsOuter, IsDefinedBy, StandsFor}
 use Rattle.rv_assemble_laws.specs.ShownNames.{HasNames}
 use Rattle.rv_assemble_laws.specs.IsObjectOf.{Numbering, relocation_at, relocations_from, IsNumbered, ArePartsNumbered}
 use Rattle.rv_symbols.proofs.DefinedNamesLemmas.{names_some}
@@ -59,7 +59,7 @@ outer_is Here x h = absurd h
 outer_is (Reference digits forward) x h = absurd h
 
 module _ (ss : List Statement) (names : HasNames ss) (free : first_fault ss ≡ None)
-    (xs ys : List Site) (located : map (λ s. s.located) xs ≡ located_from 1 1 (at_start ss) ss) (same : Recoded (tables ss) xs ys) where
+    (xs ys : List LaidStatement) (located : map (λ s. s.located) xs ≡ located_from 1 1 (at_start ss) ss) (same : Recoded (tables ss) xs ys) where
   abbrev t : Tables
   t = tables ss
 
@@ -81,7 +81,7 @@ module _ (ss : List Statement) (names : HasNames ss) (free : first_fault ss ≡ 
       (at_place (name_for q) s.located.section (add s.offset d.plus) x (has_name q x h) is)
       (at_place (name_for q) s.located.section (add s.offset d.plus) y (has_name q y k) (js ∙ moved))
     where
-      moved : after_site r d.plus ≡ InSection s.located.section (add s.offset d.plus)
+      moved : after_statement r d.plus ≡ InSection s.located.section (add s.offset d.plus)
       moved = sym (ap (λ found. after_found found d.plus) there) ∙ place_same t xs ys same d.ordinal d.plus ∙ ap (λ found. after_found found d.plus) at
 
   one_outer : (q : Primary) (i j : ℕ) (x y : Symbol) → slice_get all i ≡ Some x → slice_get all j ≡ Some y → IsNamed q x → IsNamed q y → IsOuter q x → IsOuter q y → i ≡ j

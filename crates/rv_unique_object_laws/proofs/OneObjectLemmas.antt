@@ -9,7 +9,7 @@ use Rattle.rv_unit_laws.specs.Tables.{Tables, at_start, tables, opened_of}
 use Rattle.rv_unit_laws.specs.Faults.{first_fault}
 use Rattle.rv_source_laws.specs.Located.{Located, located_from}
 use Rattle.rv_object.specs.Object.{Contents, Relocation, Section, Object}
-use Rattle.rv_assemble_laws.specs.Sites.{Site, part_bytes, parts, sites_in, end_of}
+use Rattle.rv_assemble_laws.specs.LaidStatements.{LaidStatement, part_bytes, parts, laid_in, end_of}
 use Rattle.rv_assemble_laws.specs.Symbols.{symbols_of}
 use Rattle.rv_assemble_laws.specs.ShownNames.{HasNames}
 use Rattle.rv_assemble_laws.specs.IsObjectOf.{contents_of, relocations_from, ArePartsNumbered, IsSectionOf, AreSectionsOf, IsObjectOf}
@@ -24,7 +24,7 @@ use Rattle.rv_unique_object_laws.proofs.OneNumberLemmas.{relocations_one}
 
 -- ---- both objects
 
-said_pairs : (t : Tables) (home : SourceSection) (a b : ℕ) (xs ys : List Site) → Pairs SameOffset xs ys → AllByRecursion (λ s. (s.located.home ≡ home) × IsSaid t a s) xs
+said_pairs : (t : Tables) (home : SourceSection) (a b : ℕ) (xs ys : List LaidStatement) → Pairs SameOffset xs ys → AllByRecursion (λ s. (s.located.home ≡ home) × IsSaid t a s) xs
     → AllByRecursion (λ s. (s.located.home ≡ home) × IsSaid t b s) ys → Pairs (AreSaid t) xs ys
 said_pairs t home a b [] [] l h k = tt
 said_pairs t home a b [] (y ∷ ys) l h k = absurd l
@@ -46,11 +46,11 @@ module _ (ss : List Statement) (names : HasNames ss) (o p : Object) (h : IsObjec
   abbrev t : Tables
   t = tables ss
 
-  abbrev xs : List Site
-  xs = h.sites
+  abbrev xs : List LaidStatement
+  xs = h.laid
 
-  abbrev ys : List Site
-  ys = k.sites
+  abbrev ys : List LaidStatement
+  ys = k.laid
 
   abbrev ls : List Located
   ls = located_from 1 1 (at_start ss) ss
@@ -71,21 +71,21 @@ module _ (ss : List Statement) (names : HasNames ss) (o p : Object) (h : IsObjec
       (one_code_sizes t ls (map code_bytes xs) (map code_bytes ys) (sizes_of_code ss o h) (sizes_of_code ss p k) (least_of_code ss o h) (least_of_code ss p k))
 
   module _ (j : ℕ) (home : SourceSection) (at : slice_get sections j ≡ Some home) where
-    first : (x : Section) × IsSectionOf t xs h.number o.symbols j home (sites_in j xs) x
+    first : (x : Section) × IsSectionOf t xs h.number o.symbols j home (laid_in j xs) x
     first = section_in ss o h j home at
 
-    second : (x : Section) × IsSectionOf t ys k.number p.symbols j home (sites_in j ys) x
+    second : (x : Section) × IsSectionOf t ys k.number p.symbols j home (laid_in j ys) x
     second = section_in ss p k j home at
 
-    bytes_in : Pairs SameBytes (sites_in j xs) (sites_in j ys)
+    bytes_in : Pairs SameBytes (laid_in j xs) (laid_in j ys)
     bytes_in =
-        section_bytes t home (section_in ss o h j home at).0.alignment (section_in ss p k j home at).0.alignment (sites_in j xs) (sites_in j ys)
+        section_bytes t home (section_in ss o h j home at).0.alignment (section_in ss p k j home at).0.alignment (laid_in j xs) (laid_in j ys)
         (pairs_in SameCode (λ x y e. e.0) j xs ys same_code) first.1.tile second.1.tile (said_in ss o h j home at) (said_in ss p k j home at)
 
-    alike_in : Pairs (AreSaid t) (sites_in j xs) (sites_in j ys)
+    alike_in : Pairs (AreSaid t) (laid_in j xs) (laid_in j ys)
     alike_in =
-        said_pairs t home (section_in ss o h j home at).0.alignment (section_in ss p k j home at).0.alignment (sites_in j xs) (sites_in j ys)
-        (offsets_one t 0 0 refl (sites_in j xs) (sites_in j ys) bytes_in first.1.tile second.1.tile) (said_in ss o h j home at) (said_in ss p k j home at)
+        said_pairs t home (section_in ss o h j home at).0.alignment (section_in ss p k j home at).0.alignment (laid_in j xs) (laid_in j ys)
+        (offsets_one t 0 0 refl (laid_in j xs) (laid_in j ys) bytes_in first.1.tile second.1.tile) (said_in ss o h j home at) (said_in ss p k j home at)
 
   recoded_all : Recoded t xs ys
   recoded_all = recoded t xs ys (pairs_all (AreSaid t) sections xs ys same (at_home ss o h) alike_in)
@@ -101,23 +101,23 @@ module _ (ss : List Statement) (names : HasNames ss) (o p : Object) (h : IsObjec
   second_symbols : p.symbols ≡ symbols_of t xs
   second_symbols = k.symbols ∙ one_table
 
-  relocations_same : (j : ℕ) (loaded : Bool) → (loaded ≡ true → ArePartsNumbered t xs h.number o.symbols (parts t (sites_in j xs))) → (loaded ≡ true → ArePartsNumbered t ys k.number p.symbols (parts t (sites_in j ys)))
-      → (if loaded then relocations_from h.number 0 (parts t (sites_in j xs)) else []) ≡ (if loaded then relocations_from k.number 0 (parts t (sites_in j ys)) else [])
+  relocations_same : (j : ℕ) (loaded : Bool) → (loaded ≡ true → ArePartsNumbered t xs h.number o.symbols (parts t (laid_in j xs))) → (loaded ≡ true → ArePartsNumbered t ys k.number p.symbols (parts t (laid_in j ys)))
+      → (if loaded then relocations_from h.number 0 (parts t (laid_in j xs)) else []) ≡ (if loaded then relocations_from k.number 0 (parts t (laid_in j ys)) else [])
   relocations_same j true f g =
-      let whole : parts t (sites_in j ys) ≡ parts t (sites_in j xs) = parts_same t (sites_in j xs) (sites_in j ys) (section_same t j xs ys recoded_all) in
-      let a = subst (λ l. ArePartsNumbered t xs h.number l (parts t (sites_in j xs))) first_symbols (f refl) in
-      let b = subst (λ l. ArePartsNumbered t ys k.number l (parts t (sites_in j xs))) second_symbols (subst (λ ps. ArePartsNumbered t ys k.number p.symbols ps) whole (g refl)) in
-      relocations_one ss names free xs ys h.located recoded_all h.number k.number 0 (parts t (sites_in j xs)) a b ∙ ap (relocations_from k.number 0) (sym whole)
+      let whole : parts t (laid_in j ys) ≡ parts t (laid_in j xs) = parts_same t (laid_in j xs) (laid_in j ys) (section_same t j xs ys recoded_all) in
+      let a = subst (λ l. ArePartsNumbered t xs h.number l (parts t (laid_in j xs))) first_symbols (f refl) in
+      let b = subst (λ l. ArePartsNumbered t ys k.number l (parts t (laid_in j xs))) second_symbols (subst (λ ps. ArePartsNumbered t ys k.number p.symbols ps) whole (g refl)) in
+      relocations_one ss names free xs ys h.located recoded_all h.number k.number 0 (parts t (laid_in j xs)) a b ∙ ap (relocations_from k.number 0) (sym whole)
   relocations_same j false f g = refl
 
-  one_section : (j : ℕ) (home : SourceSection) (x y : Section) → IsSectionOf t xs h.number o.symbols j home (sites_in j xs) x → IsSectionOf t ys k.number p.symbols j home (sites_in j ys) y → x ≡ y
+  one_section : (j : ℕ) (home : SourceSection) (x y : Section) → IsSectionOf t xs h.number o.symbols j home (laid_in j xs) x → IsSectionOf t ys k.number p.symbols j home (laid_in j ys) y → x ≡ y
   one_section j home x y f g =
-      let whole : parts t (sites_in j ys) ≡ parts t (sites_in j xs) = parts_same t (sites_in j xs) (sites_in j ys) (section_same t j xs ys recoded_all) in
-      let end : end_of 0 (sites_in j ys) ≡ end_of 0 (sites_in j xs) = ends_same t 0 (sites_in j xs) (sites_in j ys) (section_same t j xs ys recoded_all) in
+      let whole : parts t (laid_in j ys) ≡ parts t (laid_in j xs) = parts_same t (laid_in j xs) (laid_in j ys) (section_same t j xs ys recoded_all) in
+      let end : end_of 0 (laid_in j ys) ≡ end_of 0 (laid_in j xs) = ends_same t 0 (laid_in j xs) (laid_in j ys) (section_same t j xs ys recoded_all) in
       let contents : x.contents ≡ y.contents =
       f.contents
-      ∙ ap (λ n. contents_of home.section_type n (flat_map part_bytes (parts t (sites_in j xs)))) (sym end)
-      ∙ ap (λ ps. contents_of home.section_type (end_of 0 (sites_in j ys)) (flat_map part_bytes ps)) (sym whole)
+      ∙ ap (λ n. contents_of home.section_type n (flat_map part_bytes (parts t (laid_in j xs)))) (sym end)
+      ∙ ap (λ ps. contents_of home.section_type (end_of 0 (laid_in j ys)) (flat_map part_bytes ps)) (sym whole)
       ∙ sym g.contents in
       let relocations : x.relocations ≡ y.relocations = f.relocations ∙ relocations_same j home.loaded f.numbered g.numbered ∙ sym g.relocations in
       ap (λ n. record_of n x.loaded x.executable x.writable x.contents x.alignment x.relocations) (f.name ∙ sym g.name)

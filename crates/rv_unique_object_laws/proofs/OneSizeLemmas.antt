@@ -10,13 +10,13 @@ use Rattle.rv_unit_laws.specs.Tables.{Tables, alignment_of, padding}
 use Rattle.rv_object.specs.Padding.{operations_in}
 use Rattle.rv_source_laws.specs.Located.{Located}
 use Rattle.rv_source_laws.proofs.HeldLemmas.{IsHeld}
-use Rattle.rv_assemble_laws.specs.Sites.{Site, form, Tile, IsPaddedIn, DirectiveSize, HasSize}
+use Rattle.rv_assemble_laws.specs.LaidStatements.{LaidStatement, form, Tile, IsPaddedIn, DirectiveSize, HasSize}
 use Rattle.rv_unique_object_laws.proofs.PairsLemmas.{Pairs, SameBy, SameBytes}
 use Rattle.rv_unique_object_laws.proofs.SaidLemmas.{IsSaid, bare_size, code_bytes, in_code}
 
 -- ---- the sizes of one statement
 
-padded_one : (code : Bool) (s q : Site) (alignment : Option ℕ) → (code ≡ false → s.offset ≡ q.offset) → IsPaddedIn code s alignment → IsPaddedIn code q alignment
+padded_one : (code : Bool) (s q : LaidStatement) (alignment : Option ℕ) → (code ≡ false → s.offset ≡ q.offset) → IsPaddedIn code s alignment → IsPaddedIn code q alignment
     → (s.bytes ≡ q.bytes) × (s.instructions ≡ q.instructions)
 padded_one true s q alignment at (n, i) (m, j) =
     let same : s.bytes ≡ q.bytes = n ∙ sym m in (same, i ∙ ap operations_in same ∙ sym j)
@@ -26,7 +26,7 @@ constant_one : (n m : ℕ) → Constant n ≡ Constant m → n ≡ m
 constant_one n m e = cc
 
 -- a directive's, in data by where it stands
-pub directive_one : (v : Expression → Value) (s q : Site) (a b : ℕ) (d : Directive) → s.located ≡ q.located → (s.located.home.executable ≡ false → s.offset ≡ q.offset)
+pub directive_one : (v : Expression → Value) (s q : LaidStatement) (a b : ℕ) (d : Directive) → s.located ≡ q.located → (s.located.home.executable ≡ false → s.offset ≡ q.offset)
     → DirectiveSize v s a d → DirectiveSize v q b d → (s.bytes ≡ q.bytes) × (s.instructions ≡ q.instructions)
 directive_one v s q a b (Values width values) l at (i, n) (j, m) = (n ∙ sym m, i ∙ sym j)
 directive_one v s q a b (Strings ended strings) l at (i, n) (j, m) = (n ∙ sym m, i ∙ sym j)
@@ -42,25 +42,25 @@ directive_one v s q a b d l at h k = (h.0 ∙ sym k.0, h.1 ∙ sym k.1)
 -- ---- the statements of two objects
 
 -- with as many bytes in sections of code
-abbrev pub SameCode : Site → Site → Type 0
+abbrev pub SameCode : LaidStatement → LaidStatement → Type 0
 SameCode x y = SameBy code_bytes x y
 
 module _ (t : Tables) where
-  abbrev SizeOf : Site → ℕ → Site → StatementKind → Type 0
+  abbrev SizeOf : LaidStatement → ℕ → LaidStatement → StatementKind → Type 0
   SizeOf z multiple s kind = HasSize (form t z.located) s multiple kind
 
-  same_size : (s q : Site) (b : ℕ) → s.located ≡ q.located → HasSize (form t q.located) q b q.located.kind → SizeOf s b q s.located.kind
+  same_size : (s q : LaidStatement) (b : ℕ) → s.located ≡ q.located → HasSize (form t q.located) q b q.located.kind → SizeOf s b q s.located.kind
   same_size s q b l k = subst (λ (z : Located). HasSize (form t z) q b z.kind) (sym l) k
 
   -- in data a statement's bytes go by where it stands
-  data_by : (s q : Site) (a b : ℕ) (kind : StatementKind) → s.located ≡ q.located → s.located.home.executable ≡ false → IsHeld s.located.home kind → s.offset ≡ q.offset
+  data_by : (s q : LaidStatement) (a b : ℕ) (kind : StatementKind) → s.located ≡ q.located → s.located.home.executable ≡ false → IsHeld s.located.home kind → s.offset ≡ q.offset
       → SizeOf s a s kind → SizeOf s b q kind → s.bytes ≡ q.bytes
   data_by s q a b (Label name) l outside held at (n, i) (m, j) = n ∙ sym m
   data_by s q a b (Numbered number) l outside held at (n, i) (m, j) = n ∙ sym m
   data_by s q a b (Instruction mnemonic os) l outside (code, stored) at h k = absurd (let both : true ≡ false = sym code ∙ outside in cc)
   data_by s q a b (Directs d) l outside held at h k = (directive_one (form t s.located) s q a b d l (λ e. at) h k).0
 
-  data_one : (s q : Site) (a b : ℕ) (placed : Bool) → s.located.placed ≡ placed → s.located ≡ q.located → s.located.home.executable ≡ false → s.offset ≡ q.offset
+  data_one : (s q : LaidStatement) (a b : ℕ) (placed : Bool) → s.located.placed ≡ placed → s.located ≡ q.located → s.located.home.executable ≡ false → s.offset ≡ q.offset
       → IsSaid t a s → IsSaid t b q → s.bytes ≡ q.bytes
   data_one s q a b true e l outside at h k =
       data_by s q a b s.located.kind l outside h.held at (h.size e) (same_size s q b l (k.size (ap (λ (z : Located). z.placed) (sym l) ∙ e)))
@@ -68,10 +68,10 @@ module _ (t : Tables) where
 
   -- ---- the statements of a section
 
-  abbrev In : Section → ℕ → Site → Type 0
+  abbrev In : Section → ℕ → LaidStatement → Type 0
   In home multiple s = (s.located.home ≡ home) × IsSaid t multiple s
 
-  in_data_bytes : (home : Section) (a b : ℕ) → home.executable ≡ false → (o p : ℕ) → o ≡ p → (xs ys : List Site) → Pairs SameCode xs ys
+  in_data_bytes : (home : Section) (a b : ℕ) → home.executable ≡ false → (o p : ℕ) → o ≡ p → (xs ys : List LaidStatement) → Pairs SameCode xs ys
       → Tile t o xs → Tile t p ys → AllByRecursion (In home a) xs → AllByRecursion (In home b) ys → Pairs SameBytes xs ys
   in_data_bytes home a b outside o p same [] [] l f g h k = tt
   in_data_bytes home a b outside o p same [] (y ∷ ys) l f g h k = absurd l
@@ -84,7 +84,7 @@ module _ (t : Tables) where
         in_data_bytes home a b outside (o + x.bytes) (p + y.bytes) next xs ys ls f g hs ks,
       )
 
-  in_code_bytes : (home : Section) (a b : ℕ) → home.executable ≡ true → (xs ys : List Site) → Pairs SameCode xs ys
+  in_code_bytes : (home : Section) (a b : ℕ) → home.executable ≡ true → (xs ys : List LaidStatement) → Pairs SameCode xs ys
       → AllByRecursion (In home a) xs → AllByRecursion (In home b) ys → Pairs SameBytes xs ys
   in_code_bytes home a b code [] [] l h k = tt
   in_code_bytes home a b code [] (y ∷ ys) l h k = absurd l
@@ -95,7 +95,7 @@ module _ (t : Tables) where
       let bytes : x.bytes ≡ y.bytes = sym (in_code x.located.home.executable x.bytes here) ∙ c ∙ in_code y.located.home.executable y.bytes there in
       ((l, bytes), in_code_bytes home a b code xs ys ls hs ks)
 
-  pub section_bytes : (home : Section) (a b : ℕ) (xs ys : List Site) → Pairs SameCode xs ys
+  pub section_bytes : (home : Section) (a b : ℕ) (xs ys : List LaidStatement) → Pairs SameCode xs ys
       → Tile t 0 xs → Tile t 0 ys → AllByRecursion (In home a) xs → AllByRecursion (In home b) ys → Pairs SameBytes xs ys
   section_bytes home a b xs ys l f g h k = go home.executable refl
     where

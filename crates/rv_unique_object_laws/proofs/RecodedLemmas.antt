@@ -11,7 +11,7 @@ use Rattle.rv_source_laws.specs.Located.{Located}
 use Rattle.rv_source_laws.specs.Compressed.{is_compressed_code}
 use Rattle.rv_assemble_laws.specs.CodeFields.{part_fields}
 use Rattle.rv_assemble_laws.specs.Coded.{constants}
-use Rattle.rv_assemble_laws.specs.Sites.{Site, form, coded_templates, templates, parts_of, parts, part_of, sites_in, Tile, end_of, HasSize}
+use Rattle.rv_assemble_laws.specs.LaidStatements.{LaidStatement, form, coded_templates, templates, parts_of, parts, part_of, laid_in, Tile, end_of, HasSize}
 use Rattle.rv_assemble_laws.specs.IsObjectOf.{row_of, rows_at}
 use Rattle.rv_unique_object_laws.proofs.OneCodeLemmas.{IsOneCode, code_one}
 use Rattle.rv_unique_object_laws.proofs.OneSizeLemmas.{directive_one}
@@ -20,10 +20,10 @@ use Rattle.rv_unique_object_laws.proofs.SaidLemmas.{IsSaid}
 
 -- ---- offsets
 
-abbrev pub SameOffset : Site → Site → Type 0
+abbrev pub SameOffset : LaidStatement → LaidStatement → Type 0
 SameOffset x y = SameBytes x y × (x.offset ≡ y.offset)
 
-pub offsets_one : (t : Tables) (o p : ℕ) → o ≡ p → (xs ys : List Site) → Pairs SameBytes xs ys → Tile t o xs → Tile t p ys → Pairs SameOffset xs ys
+pub offsets_one : (t : Tables) (o p : ℕ) → o ≡ p → (xs ys : List LaidStatement) → Pairs SameBytes xs ys → Tile t o xs → Tile t p ys → Pairs SameOffset xs ys
 offsets_one t o p same [] [] h f g = tt
 offsets_one t o p same [] (y ∷ ys) h f g = absurd h
 offsets_one t o p same (x ∷ xs) [] h f g = absurd h
@@ -35,26 +35,26 @@ offsets_one t o p same (x ∷ xs) (y ∷ ys) ((l, n), hs) (at, a, f) (there, b, 
 -- ---- one statement
 
 -- a statement with other code
-abbrev pub recode : Site → ℕ → List (List ℕ) → Site
+abbrev pub recode : LaidStatement → ℕ → List (List ℕ) → LaidStatement
 recode s instructions coded =
     record { located = s.located; offset = s.offset; bytes = s.bytes; instructions = instructions; coded = coded }
 
 -- neither its parts nor its row tell
-pub record IsAlike (t : Tables) (s : Site) (instructions : ℕ) (coded : List (List ℕ)) : Type 0 where
+pub record IsAlike (t : Tables) (s : LaidStatement) (instructions : ℕ) (coded : List (List ℕ)) : Type 0 where
   pub parts : parts_of t (recode s instructions coded) ≡ parts_of t s
   pub rows : rows_at (recode s instructions coded) ≡ rows_at s
 
-pub data Recoded (t : Tables) : List Site → List Site → Type 0 where
+pub data Recoded (t : Tables) : List LaidStatement → List LaidStatement → Type 0 where
   Ended : Recoded t [] []
-  More : (s : Site) (instructions : ℕ) (coded : List (List ℕ)) (xs ys : List Site) → IsAlike t s instructions coded → Recoded t xs ys
+  More : (s : LaidStatement) (instructions : ℕ) (coded : List (List ℕ)) (xs ys : List LaidStatement) → IsAlike t s instructions coded → Recoded t xs ys
       → Recoded t (s ∷ xs) (recode s instructions coded ∷ ys)
 
 module _ (t : Tables) where
   -- by the kind of statement: the code of an instruction is one
-  abbrev IsSameCode : Site → ℕ → List (List ℕ) → StatementKind → Type 0
+  abbrev IsSameCode : LaidStatement → ℕ → List (List ℕ) → StatementKind → Type 0
   IsSameCode s instructions coded kind = (templates t (recode s instructions coded) kind ≡ templates t s kind) × (instructions ≡ s.instructions)
 
-  same_code : (s : Site) (i : ℕ) (c : List (List ℕ)) (a b : ℕ) (kind : StatementKind) → HasSize (form t s.located) s a kind → HasSize (form t s.located) (recode s i c) b kind
+  same_code : (s : LaidStatement) (i : ℕ) (c : List (List ℕ)) (a b : ℕ) (kind : StatementKind) → HasSize (form t s.located) s a kind → HasSize (form t s.located) (recode s i c) b kind
       → IsSameCode s i c kind
   same_code s i c a b (Label name) (n, x) (m, y) = (refl, y ∙ sym x)
   same_code s i c a b (Numbered number) (n, x) (m, y) = (refl, y ∙ sym x)
@@ -70,7 +70,7 @@ module _ (t : Tables) where
   unplaced_row true loaded x y e = absurd (cc)
   unplaced_row false loaded x y e = refl
 
-  alike_by : (s : Site) (i : ℕ) (c : List (List ℕ)) (a b : ℕ) (placed : Bool) → s.located.placed ≡ placed → IsSaid t a s → IsSaid t b (recode s i c) → IsAlike t s i c
+  alike_by : (s : LaidStatement) (i : ℕ) (c : List (List ℕ)) (a b : ℕ) (placed : Bool) → s.located.placed ≡ placed → IsSaid t a s → IsSaid t b (recode s i c) → IsAlike t s i c
   alike_by s i c a b true e h k =
       let same = same_code s i c a b s.located.kind (h.size e) (k.size e) in
       record {
@@ -83,20 +83,20 @@ module _ (t : Tables) where
   }
 
   -- both of two statements
-  abbrev Said : ℕ → ℕ → Site → Site → Type 0
+  abbrev Said : ℕ → ℕ → LaidStatement → LaidStatement → Type 0
   Said a b x y = SameOffset x y × (IsSaid t a x × IsSaid t b y)
 
-  recoded_path : (x y : Site) → SameOffset x y → y ≡ recode x y.instructions y.coded
+  recoded_path : (x y : LaidStatement) → SameOffset x y → y ≡ recode x y.instructions y.coded
   recoded_path x y ((l, n), o) =
       ap (λ (z : Located). record { located = z; offset = y.offset; bytes = y.bytes; instructions = y.instructions; coded = y.coded }) (sym l)
       ∙ ap (λ k. record { located = x.located; offset = k; bytes = y.bytes; instructions = y.instructions; coded = y.coded }) (sym o)
       ∙ ap (λ k. record { located = x.located; offset = x.offset; bytes = k; instructions = y.instructions; coded = y.coded }) (sym n)
 
   -- what is said of all statements, whatever the sections' alignments
-  abbrev pub AreSaid : Site → Site → Type 0
+  abbrev pub AreSaid : LaidStatement → LaidStatement → Type 0
   AreSaid x y = SameOffset x y × ((a : ℕ) × IsSaid t a x) × ((b : ℕ) × IsSaid t b y)
 
-  pub recoded : (xs ys : List Site) → Pairs AreSaid xs ys → Recoded t xs ys
+  pub recoded : (xs ys : List LaidStatement) → Pairs AreSaid xs ys → Recoded t xs ys
   recoded [] [] h = Ended
   recoded [] (y ∷ ys) h = absurd h
   recoded (x ∷ xs) [] h = absurd h
@@ -110,27 +110,27 @@ module _ (t : Tables) where
   append_same : {X : Type 0} (a b c d : List X) → a ≡ b → c ≡ d → a ++ c ≡ b ++ d
   append_same a b c d e f = ap (λ l. l ++ c) e ∙ ap (λ l. b ++ l) f
 
-  pub parts_same : (xs ys : List Site) → Recoded t xs ys → parts t ys ≡ parts t xs
+  pub parts_same : (xs ys : List LaidStatement) → Recoded t xs ys → parts t ys ≡ parts t xs
   parts_same _ _ Ended = refl
   parts_same _ _ (More s i c xs ys one rest) = append_same (parts_of t (recode s i c)) (parts_of t s) (parts t ys) (parts t xs) one.parts (parts_same xs ys rest)
 
-  pub rows_same : (xs ys : List Site) → Recoded t xs ys → flat_map rows_at ys ≡ flat_map rows_at xs
+  pub rows_same : (xs ys : List LaidStatement) → Recoded t xs ys → flat_map rows_at ys ≡ flat_map rows_at xs
   rows_same _ _ Ended = refl
   rows_same _ _ (More s i c xs ys one rest) = append_same (rows_at (recode s i c)) (rows_at s) (flat_map rows_at ys) (flat_map rows_at xs) one.rows (rows_same xs ys rest)
 
-  pub ends_same : (o : ℕ) (xs ys : List Site) → Recoded t xs ys → end_of o ys ≡ end_of o xs
+  pub ends_same : (o : ℕ) (xs ys : List LaidStatement) → Recoded t xs ys → end_of o ys ≡ end_of o xs
   ends_same o _ _ Ended = refl
   ends_same o _ _ (More s i c xs ys one rest) = ends_same (o + s.bytes) xs ys rest
 
-  kept_same : (b : Bool) (s : Site) (i : ℕ) (c : List (List ℕ)) (xs ys : List Site) → IsAlike t s i c → Recoded t xs ys
+  kept_same : (b : Bool) (s : LaidStatement) (i : ℕ) (c : List (List ℕ)) (xs ys : List LaidStatement) → IsAlike t s i c → Recoded t xs ys
       → Recoded t (if b then s ∷ xs else xs) (if b then recode s i c ∷ ys else ys)
   kept_same true s i c xs ys one rest = More s i c xs ys one rest
   kept_same false s i c xs ys one rest = rest
 
-  pub section_same : (j : ℕ) (xs ys : List Site) → Recoded t xs ys → Recoded t (sites_in j xs) (sites_in j ys)
+  pub section_same : (j : ℕ) (xs ys : List LaidStatement) → Recoded t xs ys → Recoded t (laid_in j xs) (laid_in j ys)
   section_same j _ _ Ended = Ended
-  section_same j _ _ (More s i c xs ys one rest) = kept_same (s.located.section == j) s i c (sites_in j xs) (sites_in j ys) one (section_same j xs ys rest)
+  section_same j _ _ (More s i c xs ys one rest) = kept_same (s.located.section == j) s i c (laid_in j xs) (laid_in j ys) one (section_same j xs ys rest)
 
-  pub compressed_same : (xs ys : List Site) → Recoded t xs ys → list_any (λ s. is_compressed_code s.located) ys ≡ list_any (λ s. is_compressed_code s.located) xs
+  pub compressed_same : (xs ys : List LaidStatement) → Recoded t xs ys → list_any (λ s. is_compressed_code s.located) ys ≡ list_any (λ s. is_compressed_code s.located) xs
   compressed_same _ _ Ended = refl
   compressed_same _ _ (More s i c xs ys one rest) = ap (λ b. is_compressed_code s.located || b) (compressed_same xs ys rest)

@@ -12,7 +12,7 @@ use Rattle.rv_unit_laws.specs.Tables.{Tables, at_start, with_section, after, aft
 use Rattle.rv_unit_laws.proofs.EnteringLemmas.{sections_more, sections_count, entering}
 use Rattle.rv_unit_laws.proofs.OpenedLemmas.{entered_in, after_opened}
 use Rattle.rv_object.specs.Object.{Section, Symbol, Object, size_of}
-use Rattle.rv_assemble_laws.specs.Sites.{Site, end_of, part_bytes, parts, sites_in}
+use Rattle.rv_assemble_laws.specs.LaidStatements.{LaidStatement, end_of, part_bytes, parts, laid_in}
 use Rattle.rv_assemble_laws.specs.IsObjectOf.{Numbering, contents_of, IsSectionOf, AreSectionsOf, IsObjectOf}
 use Rattle.rv_assemble_laws.proofs.FilledLemmas.{filled}
 
@@ -39,7 +39,7 @@ few_after t k (s ∷ ss) h = few_after (after t k s.kind) (suc k) ss (subst IsFe
 few_start : (ss : List Statement) → IsFew (opened_of (at_start ss))
 few_start ss = let one : length (opened_of (at_start ss)).sections ≡ 1 = refl in omega (arith, one)
 
-same_count : (t : Tables) (all : List Site) (number : Numbering) (symbols : List Symbol) (k : ℕ) (homes : List SourceSection) (xs : List Section) → AreSectionsOf t all number symbols k homes xs
+same_count : (t : Tables) (all : List LaidStatement) (number : Numbering) (symbols : List Symbol) (k : ℕ) (homes : List SourceSection) (xs : List Section) → AreSectionsOf t all number symbols k homes xs
     → length xs ≡ length homes
 same_count t all number symbols k [] [] h = refl
 same_count t all number symbols k [] (x ∷ xs) h = absurd h
@@ -48,7 +48,7 @@ same_count t all number symbols k (home ∷ homes) (x ∷ xs) (h, hs) = ap suc (
 
 pub few_sections : (ss : List Statement) (o : Object) → IsObjectOf ss o → length o.sections ≤ most_sections
 few_sections ss o h =
-    subst (λ n. n ≤ most_sections) (sym (same_count (tables ss) h.sites h.number o.symbols 0 (opened_of (tables ss)).sections o.sections h.sections)) (few_after (at_start ss) 1 ss (few_start ss))
+    subst (λ n. n ≤ most_sections) (sym (same_count (tables ss) h.laid h.number o.symbols 0 (opened_of (tables ss)).sections o.sections h.sections)) (few_after (at_start ss) 1 ss (few_start ss))
 
 -- ---- short code
 
@@ -60,16 +60,16 @@ contents_size types.Nobits size bytes e = refl
 abbrev pub IsShort : Section → Type 0
 IsShort x = (x.loaded && x.executable) ≡ true → size_of x.contents ≤ longest_section
 
-one_short : (t : Tables) (all : List Site) (number : Numbering) (symbols : List Symbol) (k : ℕ) (home : SourceSection) (x : Section) → IsSectionOf t all number symbols k home (sites_in k all) x → IsShort x
+one_short : (t : Tables) (all : List LaidStatement) (number : Numbering) (symbols : List Symbol) (k : ℕ) (home : SourceSection) (x : Section) → IsSectionOf t all number symbols k home (laid_in k all) x → IsShort x
 one_short t all number symbols k home x h code =
-    let sites = sites_in k all in
-    let bytes = flat_map part_bytes (parts t sites) in
-    let long : end_of 0 sites ≡ length bytes = filled t 0 sites h.tile ∙ (let n = length bytes in let e : 0 + n ≡ n = omega arith in e) in
-    let size : size_of x.contents ≡ end_of 0 sites = ap size_of h.contents ∙ contents_size home.section_type (end_of 0 sites) bytes long in
-    let short : end_of 0 sites ≤ longest_section = h.short (sym h.executable ∙ (and_parts x.loaded x.executable code).1) in
+    let laid = laid_in k all in
+    let bytes = flat_map part_bytes (parts t laid) in
+    let long : end_of 0 laid ≡ length bytes = filled t 0 laid h.tile ∙ (let n = length bytes in let e : 0 + n ≡ n = omega arith in e) in
+    let size : size_of x.contents ≡ end_of 0 laid = ap size_of h.contents ∙ contents_size home.section_type (end_of 0 laid) bytes long in
+    let short : end_of 0 laid ≤ longest_section = h.short (sym h.executable ∙ (and_parts x.loaded x.executable code).1) in
     subst (λ n. n ≤ longest_section) (sym size) short
 
-all_short : (t : Tables) (all : List Site) (number : Numbering) (symbols : List Symbol) (k : ℕ) (homes : List SourceSection) (xs : List Section) → AreSectionsOf t all number symbols k homes xs
+all_short : (t : Tables) (all : List LaidStatement) (number : Numbering) (symbols : List Symbol) (k : ℕ) (homes : List SourceSection) (xs : List Section) → AreSectionsOf t all number symbols k homes xs
     → AllByRecursion IsShort xs
 all_short t all number symbols k [] [] h = tt
 all_short t all number symbols k [] (x ∷ xs) h = absurd h
@@ -77,4 +77,4 @@ all_short t all number symbols k (home ∷ homes) [] h = absurd h
 all_short t all number symbols k (home ∷ homes) (x ∷ xs) (h, hs) = (one_short t all number symbols k home x h, all_short t all number symbols (suc k) homes xs hs)
 
 pub short_sections : (ss : List Statement) (o : Object) → IsObjectOf ss o → AllByRecursion IsShort o.sections
-short_sections ss o h = all_short (tables ss) h.sites h.number o.symbols 0 (opened_of (tables ss)).sections o.sections h.sections
+short_sections ss o h = all_short (tables ss) h.laid h.number o.symbols 0 (opened_of (tables ss)).sections o.sections h.sections

@@ -12,13 +12,13 @@ use Rattle.rv_object.specs.declared.symbol.Definition.{Definition as Defined}
 use Rattle.rv_object.specs.declared.symbol.Definition.TheVariants.{Undefined, InSection}
 use Rattle.rv_object.specs.Object.{Symbol}
 use Rattle.rv_assemble_laws.specs.ShownNames.{said_names}
-use Rattle.rv_assemble_laws.specs.Sites.{Site}
-use Rattle.rv_assemble_laws.specs.Symbols.{SymbolUse, site_definition, local_symbol, shared_symbol, references, unnamed_symbols, is_absolute, named_symbols, local_symbols, exports_of, exports, missing_name, distinct_from, undefined_symbols, symbols_of}
+use Rattle.rv_assemble_laws.specs.LaidStatements.{LaidStatement}
+use Rattle.rv_assemble_laws.specs.Symbols.{SymbolUse, statement_definition, local_symbol, shared_symbol, references, unnamed_symbols, is_absolute, named_symbols, local_symbols, exports_of, exports, missing_name, distinct_from, undefined_symbols, symbols_of}
 use Rattle.rv_unique_object_laws.proofs.LoneSymbolsLemmas.{names_of}
 use Rattle.rv_assemble_laws.specs.Small.{weight}
 use Rattle.rv_assemble_laws.proofs.WeightsLemmas.{weight_append}
 use Rattle.rv_assemble_laws.proofs.ValueWeightsLemmas.{symbol_heft}
-use Rattle.rv_assemble_laws.proofs.UseWeightsLemmas.{use_heft, site_said, references_light}
+use Rattle.rv_assemble_laws.proofs.UseWeightsLemmas.{use_heft, statement_said, references_light}
 
 -- ---- names and symbols
 
@@ -73,17 +73,17 @@ defined_light t o (Label n) = omega arith
 defined_light t o (Directs (Sets n e)) = if_light (sets_first t.assignments o n) n (weight (said_names (Directs (Sets n e)))) (omega arith)
 defined_light t o kind = omega arith
 
-module _ (t : Tables) (sites : List Site) where
-  unnamed_light : (before : List Site) (s : Site) → symbol_weight (unnamed_symbols t (references t sites) before s) ≤ 1
+module _ (t : Tables) (laid : List LaidStatement) where
+  unnamed_light : (before : List LaidStatement) (s : LaidStatement) → symbol_weight (unnamed_symbols t (references t laid) before s) ≤ 1
   unnamed_light before s = go _
     where
       go : (b : Bool) → symbol_weight (if b then local_symbol [] (InSection s.located.section s.offset) ∷ [] else []) ≤ 1
       go true = omega arith
       go false = omega arith
 
-  named_light : (s : Site) → symbol_weight (named_symbols t sites s) ≤ weight (said_names s.located.kind)
+  named_light : (s : LaidStatement) → symbol_weight (named_symbols t laid s) ≤ weight (said_names s.located.kind)
   named_light s =
-      let d = site_definition t sites s s.located.kind in
+      let d = statement_definition t laid s s.located.kind in
       let mine = filter (λ n. not (is_shared (t.bindings n))) (names_of t s) in
       let a = symbols_kept (λ x. not (is_absolute x)) (map (λ n. local_symbol n d) mine) in
       let b = locals_of d mine in
@@ -91,29 +91,29 @@ module _ (t : Tables) (sites : List Site) where
       let e = defined_light t s.located.ordinal s.located.kind in
       omega (arith, a, b, c, e)
 
-  exported_light : (s : Site) → symbol_weight (exports_of t sites s) ≤ weight (said_names s.located.kind)
+  exported_light : (s : LaidStatement) → symbol_weight (exports_of t laid s) ≤ weight (said_names s.located.kind)
   exported_light s =
-      let d = site_definition t sites s s.located.kind in
+      let d = statement_definition t laid s s.located.kind in
       let b = globals_of t d (filter (λ n. is_shared (t.bindings n)) (names_of t s)) in
       let c = weight_kept (λ n. is_shared (t.bindings n)) (names_of t s) in
       let e = defined_light t s.located.ordinal s.located.kind in
       omega (arith, b, c, e)
 
-  locals_light : (before xs : List Site) → symbol_weight (local_symbols t sites before xs) ≤ length xs + site_said xs
+  locals_light : (before xs : List LaidStatement) → symbol_weight (local_symbols t laid before xs) ≤ length xs + statement_said xs
   locals_light before [] = omega arith
   locals_light before (s ∷ xs) =
-      let next = local_symbols t sites (before ++ s ∷ []) xs in
-      let a = symbols_append (unnamed_symbols t (references t sites) before s) (named_symbols t sites s ++ next) in
-      let b = symbols_append (named_symbols t sites s) next in
+      let next = local_symbols t laid (before ++ s ∷ []) xs in
+      let a = symbols_append (unnamed_symbols t (references t laid) before s) (named_symbols t laid s ++ next) in
+      let b = symbols_append (named_symbols t laid s) next in
       let c = unnamed_light before s in
       let d = named_light s in
       let e = locals_light (before ++ s ∷ []) xs in
       omega (arith, a, b, c, d, e)
 
-  exports_light : (xs : List Site) → symbol_weight (flat_map (exports_of t sites) xs) ≤ site_said xs
+  exports_light : (xs : List LaidStatement) → symbol_weight (flat_map (exports_of t laid) xs) ≤ statement_said xs
   exports_light [] = omega arith
   exports_light (s ∷ xs) =
-      let a = symbols_append (exports_of t sites s) (flat_map (exports_of t sites) xs) in
+      let a = symbols_append (exports_of t laid s) (flat_map (exports_of t laid) xs) in
       let b = exported_light s in
       let c = exports_light xs in
       omega (arith, a, b, c)
@@ -147,20 +147,20 @@ module _ (t : Tables) (sites : List Site) where
       go true h k = omega (arith, h)
       go false h k = omega (arith, k)
 
-  undefined_light : symbol_weight (undefined_symbols t sites) ≤ 2 * site_said sites
+  undefined_light : symbol_weight (undefined_symbols t laid) ≤ 2 * statement_said laid
   undefined_light =
-      let ns = flat_map (λ r. missing_name t r.ordinal r.symbol) (references t sites) in
+      let ns = flat_map (λ r. missing_name t r.ordinal r.symbol) (references t laid) in
       let a = globals_of t Undefined (distinct_from [] ns) in
       let b = distinct_light [] ns in
-      let c = all_missing (references t sites) in
-      let d = references_light t sites in
+      let c = all_missing (references t laid) in
+      let d = references_light t laid in
       omega (arith, a, b, c, d)
 
-  pub symbols_light : symbol_weight (symbols_of t sites) ≤ length sites + 4 * site_said sites
+  pub symbols_light : symbol_weight (symbols_of t laid) ≤ length laid + 4 * statement_said laid
   symbols_light =
-      let a = symbols_append (local_symbols t sites [] sites) (exports t sites ++ undefined_symbols t sites) in
-      let b = symbols_append (exports t sites) (undefined_symbols t sites) in
-      let c = locals_light [] sites in
-      let d = exports_light sites in
+      let a = symbols_append (local_symbols t laid [] laid) (exports t laid ++ undefined_symbols t laid) in
+      let b = symbols_append (exports t laid) (undefined_symbols t laid) in
+      let c = locals_light [] laid in
+      let d = exports_light laid in
       let e = undefined_light in
       omega (arith, a, b, c, d, e)

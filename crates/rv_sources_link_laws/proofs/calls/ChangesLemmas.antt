@@ -34,7 +34,7 @@ use Rattle.rv_object_laws.specs.Moves.{full_padding, alignment_of}
 use Rattle.rv_object_laws.specs.Names.{Place, symbol_place}
 use Rattle.rv_assemble_laws.specs.CodeFields.{relax_fields}
 use Rattle.rv_assemble_laws.specs.Templates.{Template, Coded, Open, template_fields, align_field, padding_templates}
-use Rattle.rv_assemble_laws.specs.Sites.{Site, form, part_of, part_bytes, IsPaddedIn}
+use Rattle.rv_assemble_laws.specs.LaidStatements.{LaidStatement, form, part_of, part_bytes, IsPaddedIn}
 use Rattle.rv_assemble_laws.specs.Symbols.{StandsFor}
 use Rattle.rv_assemble_laws.specs.IsObjectOf.{Numbering, relocation_at, relocations_from}
 use Rattle.rv_sources_link_laws.proofs.sections.AssembledLemmas.{assembled_templates, parts_of}
@@ -114,25 +114,25 @@ module _ (test : Relocation → Bool) where
 -- ---- a section
 
 module _ (p : Program) (starts : Starts) (os : List Object) (text : List Placed) (f : ℕ) (t : Tables) (same_tables : tables_in p f ≡ t)
-    (o : Object) (j : ℕ) (x : Section) (s : SourceSection) (code : s.executable ≡ true) (number : Numbering) (all : List Site) (multiple : ℕ)
+    (o : Object) (j : ℕ) (x : Section) (s : SourceSection) (code : s.executable ≡ true) (number : Numbering) (all : List LaidStatement) (multiple : ℕ)
     (flag : o.rvc ≡ has_compressed p f)
     (meant : (l : Located) (name : Primary) (y : Option Symbol) → StandsFor t all l.ordinal name y
     → stands_in os (option_and_then (symbol_place os f) y) ≡ option_and_then (aim_at text) (aim_of p (renumbered f l) name))
-    (final : Site → Site) (stays : (z : Site) → (final z).located ≡ z.located) where
+    (final : LaidStatement → LaidStatement) (stays : (z : LaidStatement) → (final z).located ≡ z.located) where
   abbrev pub i : InputSection
   i = record { file = f; object = o; index = j; section = x }
 
   abbrev pub may : Relocation → Bool
   may r = may_change os i r
 
-  abbrev rels : Site → List Relocation
+  abbrev rels : LaidStatement → List Relocation
   rels z = relocations_from number z.offset (parts_of t z)
 
-  abbrev pub placed_at : ℕ → Site → Placed
+  abbrev pub placed_at : ℕ → LaidStatement → Placed
   placed_at first z = record { site = mapped_at starts f (final z); offset = first + z.offset }
 
   -- what may change of a statement
-  pub record IsOne (z : Site) : Type 0 where
+  pub record IsOne (z : LaidStatement) : Type 0 where
     pub change : Option Relocation
     pub is : filter may (rels z) ≡ list_of change
     pub fits : (r : Relocation) → change ≡ Some r → (r.place ≡ z.offset) × (held r ≤ z.bytes)
@@ -140,7 +140,7 @@ module _ (p : Program) (starts : Starts) (os : List Object) (text : List Placed)
 
   -- ---- one that stays
 
-  module _ (z : Site) where
+  module _ (z : LaidStatement) where
     -- fields that are neither calls nor alignments
     may_not : (q : ℕ) (fs : List Open) → NoCalls fs → AllByRecursion (λ (g : Open). is_align g.kind ≡ false) fs → AllByRecursion (λ r. may r ≡ false) (map (relocation_at number q) fs)
     may_not q [] h k = tt
@@ -169,7 +169,7 @@ module _ (p : Program) (starts : Starts) (os : List Object) (text : List Placed)
     }
 
   -- what a source says at the statement: its own located form
-  located_as : (first : ℕ) (z : Site) (kind : StatementKind)
+  located_as : (first : ℕ) (z : LaidStatement) (kind : StatementKind)
       → sites_by p text (placed_at first z) kind
       ≡ sites_by p text (record { site = record { located = renumbered f z.located; row = row_in starts f (final z) }; offset = first + z.offset }) kind
   located_as first z kind =
@@ -177,7 +177,7 @@ module _ (p : Program) (starts : Starts) (os : List Object) (text : List Placed)
 
   -- ---- an alignment
 
-  module _ (z : Site) (d : Directive) (is_kind : z.located.kind ≡ Directs d) (home : z.located.home ≡ s)
+  module _ (z : LaidStatement) (d : Directive) (is_kind : z.located.kind ≡ Directs d) (home : z.located.home ≡ s)
       (padded : assembled_templates t z (Directs d) ≡ padding_templates z.located.home.executable z.located.ordinal z.bytes) where
     v : Expression → Value
     v e = form t z.located e
@@ -238,7 +238,7 @@ module _ (p : Program) (starts : Starts) (os : List Object) (text : List Placed)
 
   -- ---- a call
 
-  module _ (z : Site) (m : Mnemonic) (ops : List Operand) (is_kind : z.located.kind ≡ Instruction m ops) (call : is_call m ≡ true) (h : IsLongCall t z m ops)
+  module _ (z : LaidStatement) (m : Mnemonic) (ops : List Operand) (is_kind : z.located.kind ≡ Instruction m ops) (call : is_call m ≡ true) (h : IsLongCall t z m ops)
       (relaxed : has_relax z.offset x.relocations ≡ z.located.options.relax) (words : are_call_words (stored x.contents) z.offset ≡ true) (linked : linked_by (stored x.contents) z.offset ≡ link_register m ops)
       (entered : is_entered o j z.offset ≡ false) (counted : count_by (meets z.offset) x.relocations ≡ 1)
       (stands : StandsFor t all z.located.ordinal h.symbol (slice_get o.symbols (number z.located.ordinal h.symbol))) where

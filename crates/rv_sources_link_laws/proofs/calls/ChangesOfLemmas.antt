@@ -26,7 +26,7 @@ use Rattle.rv_object_laws.specs.Inputs.{Starts, InputSection}
 use Rattle.rv_object_laws.specs.Names.{symbol_place}
 use Rattle.rv_assemble_laws.specs.CodeFields.{relax_fields}
 use Rattle.rv_assemble_laws.specs.Coded.{constants}
-use Rattle.rv_assemble_laws.specs.Sites.{Site, form, part_of, part_bytes, coded_templates, HasSize}
+use Rattle.rv_assemble_laws.specs.LaidStatements.{LaidStatement, form, part_of, part_bytes, coded_templates, HasSize}
 use Rattle.rv_assemble_laws.specs.Templates.{Coded}
 use Rattle.rv_assemble_laws.specs.Symbols.{StandsFor, references_in}
 use Rattle.rv_assemble_laws.specs.IsObjectOf.{Numbering, IsNumbered, relocation_at, relocations_from, ArePartsNumbered}
@@ -45,7 +45,7 @@ use Rattle.rv_sources_link_laws.proofs.statements.PadsLemmas.{power_valid, byte_
 use Rattle.rv_sources_link_laws.proofs.fields.TextPlacesLemmas.{stands_in, aim_at}
 use Rattle.rv_sources_link_laws.proofs.fields.RangesLemmas.{InRange, even_bytes, in_range}
 use Rattle.rv_sources_link_laws.proofs.sections.SectionsLemmas.{split, join}
-use Rattle.rv_sources_link_laws.proofs.statements.SettledLemmas.{IsSiteIn}
+use Rattle.rv_sources_link_laws.proofs.statements.SettledLemmas.{IsLaidIn}
 use Rattle.rv_sources_link_laws.proofs.statements.StatementsLemmas.{renumbered, mapped_at}
 use Rattle.rv_sources_link_laws.proofs.sections.StoodLemmas.{IsAside}
 use Rattle.rv_sources_link_laws.proofs.calls.UncutLemmas.{IsUncut}
@@ -57,28 +57,28 @@ abbrev pub IsBefore : ℕ → Relocation → Type 0
 IsBefore o r = (r.place < o) × (r.place + width_of r.kind ≤ o)
 
 module _ (p : Program) (starts : Starts) (os : List Object) (text : List Placed) (f : ℕ) (t : Tables) (same_tables : tables_in p f ≡ t)
-    (o : Object) (j : ℕ) (x : Section) (s : SourceSection) (is_text : source_text s ≡ true) (number : Numbering) (all zs : List Site) (multiple : ℕ)
+    (o : Object) (j : ℕ) (x : Section) (s : SourceSection) (is_text : source_text s ≡ true) (number : Numbering) (all zs : List LaidStatement) (multiple : ℕ)
     (flag : o.rvc ≡ has_compressed p f)
     (meant : (l : Located) (name : Primary) (y : Option Symbol) → StandsFor t all l.ordinal name y
     → stands_in os (option_and_then (symbol_place os f) y) ≡ option_and_then (aim_at text) (aim_of p (renumbered f l) name))
-    (final : Site → Site) (stays : (z : Site) → (final z).located ≡ z.located)
+    (final : LaidStatement → LaidStatement) (stays : (z : LaidStatement) → (final z).located ≡ z.located)
     (none_inside : (q : ℕ) → AllByRecursion (IsAside q) zs → is_entered o j q ≡ false)
     (whole : x.relocations ≡ relocations_from number 0 (parts t zs)) (bytes_are : stored x.contents ≡ flat_map part_bytes (parts t zs)) where
   pub code : s.executable ≡ true
   code = (and_parts s.loaded s.executable is_text).1
 
-  abbrev pub One : Site → Type 0
+  abbrev pub One : LaidStatement → Type 0
   One z = change.IsOne p starts os text f t same_tables o j x s code number all multiple flag meant final stays z
 
   abbrev pub may : Relocation → Bool
   may r = change.may p starts os text f t same_tables o j x s code number all multiple flag meant final stays r
 
-  abbrev rels : ℕ → List Site → List Relocation
+  abbrev rels : ℕ → List LaidStatement → List Relocation
   rels o ys = relocations_from number o (parts t ys)
 
   -- ---- one statement
 
-  module _ (z : Site) (inside : IsSiteIn j s z) (uncut : IsUncut z) (sound : IsSound t z.located) (bytes : z.bytes ≡ length (flat_map part_bytes (parts_of t z)))
+  module _ (z : LaidStatement) (inside : IsLaidIn j s z) (uncut : IsUncut z) (sound : IsSound t z.located) (bytes : z.bytes ≡ length (flat_map part_bytes (parts_of t z)))
       (size : z.located.placed ≡ true → HasSize (form t z.located) z multiple z.located.kind) where
     -- what a call owes by where it stands
     pub record IsSeated (m : Mnemonic) (ops : List Operand) (h : IsLongCall t z m ops) : Type 0 where
@@ -162,17 +162,17 @@ module _ (p : Program) (starts : Starts) (os : List Object) (text : List Placed)
 
   -- ---- all of them
 
-  abbrev Done : Site → Type 0
+  abbrev Done : LaidStatement → Type 0
   Done z = ((has_row z.located ≡ true) × One z) ⊎ ((has_row z.located ≡ false) × (filter may (relocations_from number z.offset (parts_of t z)) ≡ []))
 
-  tile_from : (q : ℕ) (ys : List Site) → Tile t q ys → AllByRecursion (λ (y : Site). q ≤ y.offset) ys
+  tile_from : (q : ℕ) (ys : List LaidStatement) → Tile t q ys → AllByRecursion (λ (y : LaidStatement). q ≤ y.offset) ys
   tile_from q [] tile = tt
   tile_from q (y ∷ ys) (off, bytes, tile) = (omega (arith, off), further (tile_from (q + y.bytes) ys tile))
     where
-      further : AllByRecursion (λ (w : Site). q + y.bytes ≤ w.offset) ys → AllByRecursion (λ (w : Site). q ≤ w.offset) ys
+      further : AllByRecursion (λ (w : LaidStatement). q + y.bytes ≤ w.offset) ys → AllByRecursion (λ (w : LaidStatement). q ≤ w.offset) ys
       further h = weaker ys h
         where
-          weaker : (ws : List Site) → AllByRecursion (λ (w : Site). q + y.bytes ≤ w.offset) ws → AllByRecursion (λ (w : Site). q ≤ w.offset) ws
+          weaker : (ws : List LaidStatement) → AllByRecursion (λ (w : LaidStatement). q + y.bytes ≤ w.offset) ws → AllByRecursion (λ (w : LaidStatement). q ≤ w.offset) ws
           weaker [] h = tt
           weaker (w ∷ ws) (h, hs) = (omega (arith, h), weaker ws hs)
 
@@ -219,8 +219,8 @@ module _ (p : Program) (starts : Starts) (os : List Object) (text : List Placed)
       last false c = refl
 
   -- a call amid the statements of its section
-  module _ (front : List ℕ) (R : List Relocation) (pre : List Site) (q : ℕ) (z : Site) (ys : List Site) (long_front : q ≡ length front) (q_even : q % 2 ≡ 0)
-      (sites_are : zs ≡ pre ++ z ∷ ys) (low : AllByRecursion (λ (y : Site). y.offset ≤ q) pre) (rels_are : x.relocations ≡ R ++ rels q (z ∷ ys)) (before : AllByRecursion (IsBefore q) R)
+  module _ (front : List ℕ) (R : List Relocation) (pre : List LaidStatement) (q : ℕ) (z : LaidStatement) (ys : List LaidStatement) (long_front : q ≡ length front) (q_even : q % 2 ≡ 0)
+      (sites_are : zs ≡ pre ++ z ∷ ys) (low : AllByRecursion (λ (y : LaidStatement). y.offset ≤ q) pre) (rels_are : x.relocations ≡ R ++ rels q (z ∷ ys)) (before : AllByRecursion (IsBefore q) R)
       (stored_are : stored x.contents ≡ front ++ flat_map part_bytes (parts t (z ∷ ys))) (off : z.offset ≡ q) (bytes : z.bytes ≡ length (flat_map part_bytes (parts_of t z)))
       (tile : Tile t (q + z.bytes) ys) (numbered : ArePartsNumbered t all number o.symbols (parts t (z ∷ ys)))
       (m : Mnemonic) (ops : List Operand) (e : z.located.kind ≡ Instruction m ops) (call : is_call m ≡ true) (h : IsLongCall t z m ops) where
@@ -284,11 +284,11 @@ module _ (p : Program) (starts : Starts) (os : List Object) (text : List Placed)
     aside : AllByRecursion (IsAside q) zs
     aside = subst (λ l. AllByRecursion (IsAside q) l) (sym sites_are) (join (IsAside q) pre (z ∷ ys) (lower pre low) (inl (let g : z.offset ≤ q = omega (arith, off) in g), higher ys (tile_from (q + z.bytes) ys tile)))
       where
-        lower : (ws : List Site) → AllByRecursion (λ (y : Site). y.offset ≤ q) ws → AllByRecursion (IsAside q) ws
+        lower : (ws : List LaidStatement) → AllByRecursion (λ (y : LaidStatement). y.offset ≤ q) ws → AllByRecursion (IsAside q) ws
         lower [] k = tt
         lower (w ∷ ws) (k, ks) = (inl k, lower ws ks)
 
-        higher : (ws : List Site) → AllByRecursion (λ (y : Site). q + z.bytes ≤ y.offset) ws → AllByRecursion (IsAside q) ws
+        higher : (ws : List LaidStatement) → AllByRecursion (λ (y : LaidStatement). q + z.bytes ≤ y.offset) ws → AllByRecursion (IsAside q) ws
         higher [] k = tt
         higher (w ∷ ws) (k, ks) = (inr (let eight = h.bytes in let g : q + 8 ≤ w.offset = omega (arith, eight, k) in g), higher ws ks)
 
@@ -297,7 +297,7 @@ module _ (p : Program) (starts : Starts) (os : List Object) (text : List Placed)
         let own = (split (λ w. AllByRecursion (IsNumbered t all number o.symbols) (references_in w)) (parts_of t z) (parts t ys) numbered).0 in
         ((subst (λ l. AllByRecursion (λ w. AllByRecursion (IsNumbered t all number o.symbols) (references_in w)) l) own_parts own).0).0
 
-    pub seated_at : (inside : IsSiteIn j s z) (uncut : IsUncut z) (sound : IsSound t z.located) (size : z.located.placed ≡ true → HasSize (form t z.located) z multiple z.located.kind)
+    pub seated_at : (inside : IsLaidIn j s z) (uncut : IsUncut z) (sound : IsSound t z.located) (size : z.located.placed ≡ true → HasSize (form t z.located) z multiple z.located.kind)
         → IsSeated z inside uncut sound bytes size m ops h
     seated_at inside uncut sound size = record {
       relaxed = subst (λ n. has_relax n x.relocations ≡ z.located.options.relax) (sym off) relaxed;
@@ -308,9 +308,9 @@ module _ (p : Program) (starts : Starts) (os : List Object) (text : List Placed)
       stands = stands;
     }
 
-  dones : (front : List ℕ) (R : List Relocation) (pre : List Site) (q : ℕ) (ys : List Site) → q ≡ length front → q % 2 ≡ 0 → zs ≡ pre ++ ys → AllByRecursion (λ (y : Site). y.offset ≤ q) pre
+  dones : (front : List ℕ) (R : List Relocation) (pre : List LaidStatement) (q : ℕ) (ys : List LaidStatement) → q ≡ length front → q % 2 ≡ 0 → zs ≡ pre ++ ys → AllByRecursion (λ (y : LaidStatement). y.offset ≤ q) pre
       → x.relocations ≡ R ++ rels q ys → AllByRecursion (IsBefore q) R → stored x.contents ≡ front ++ flat_map part_bytes (parts t ys) → Tile t q ys
-      → AllByRecursion (IsSiteIn j s) ys → AllByRecursion IsUncut ys → AllByRecursion (λ z. IsSound t z.located) ys
+      → AllByRecursion (IsLaidIn j s) ys → AllByRecursion IsUncut ys → AllByRecursion (λ z. IsSound t z.located) ys
       → AllByRecursion (λ z. z.located.placed ≡ true → HasSize (form t z.located) z multiple z.located.kind) ys → ArePartsNumbered t all number o.symbols (parts t ys) → AllByRecursion Done ys
   dones front R pre q [] long_front q_even sites_are low rels_are before stored_are tile i u k h n = tt
   dones front R pre q (z ∷ ys) long_front q_even sites_are low rels_are before stored_are (off, bytes, tile) (i, is) (u, us) (k, ks) (h, hs) n =
@@ -322,7 +322,7 @@ module _ (p : Program) (starts : Starts) (os : List Object) (text : List Placed)
       let range : AllByRecursion (InRange q z.bytes) own_rels = subst (λ n. AllByRecursion (InRange n z.bytes) (relocations_from number n (parts_of t z))) off (in_range t number j s code multiple z i bytes h) in (
         done z i u k bytes h (λ m ops e call w. seated_at front R pre q z ys long_front q_even sites_are low rels_are before stored_are off bytes tile n m ops e call w i u k h),
         dones (front ++ own) (R ++ own_rels) (pre ++ z ∷ []) (q + z.bytes) ys (omega (arith, long_front, bytes, more)) (omega (arith, q_even, even_here))
-            (sites_are ∙ sym (sites_assoc pre ys)) (join (λ (y : Site). y.offset ≤ q + z.bytes) pre (z ∷ []) (lows pre low) (let g : z.offset ≤ q + z.bytes = omega (arith, off) in g, tt))
+            (sites_are ∙ sym (sites_assoc pre ys)) (join (λ (y : LaidStatement). y.offset ≤ q + z.bytes) pre (z ∷ []) (lows pre low) (let g : z.offset ≤ q + z.bytes = omega (arith, off) in g, tt))
             (rels_are
             ∙ ap (λ l. R ++ l) (relocations_join t number q (parts_of t z) (parts t ys) ∙ ap (λ n. own_rels ++ relocations_from number (q + n) (parts t ys)) (sym bytes))
             ∙ sym (append_assoc R own_rels (rels (q + z.bytes) ys)))
@@ -331,11 +331,11 @@ module _ (p : Program) (starts : Starts) (os : List Object) (text : List Placed)
             tile is us ks hs (split (λ w. AllByRecursion (IsNumbered t all number o.symbols) (references_in w)) (parts_of t z) (parts t ys) n).1,
       )
     where
-      sites_assoc : (pre ys : List Site) → (pre ++ z ∷ []) ++ ys ≡ pre ++ z ∷ ys
+      sites_assoc : (pre ys : List LaidStatement) → (pre ++ z ∷ []) ++ ys ≡ pre ++ z ∷ ys
       sites_assoc [] ys = refl
       sites_assoc (w ∷ pre) ys = ap (λ l. w ∷ l) (sites_assoc pre ys)
 
-      lows : (ws : List Site) → AllByRecursion (λ (y : Site). y.offset ≤ q) ws → AllByRecursion (λ (y : Site). y.offset ≤ q + z.bytes) ws
+      lows : (ws : List LaidStatement) → AllByRecursion (λ (y : LaidStatement). y.offset ≤ q) ws → AllByRecursion (λ (y : LaidStatement). y.offset ≤ q + z.bytes) ws
       lows [] k = tt
       lows (w ∷ ws) (k, ks) = (omega (arith, k), lows ws ks)
 
@@ -344,26 +344,26 @@ module _ (p : Program) (starts : Starts) (os : List Object) (text : List Placed)
   abbrev pub i : InputSection
   i = record { file = f; object = o; index = j; section = x }
 
-  abbrev pub placed_at : ℕ → Site → Placed
+  abbrev pub placed_at : ℕ → LaidStatement → Placed
   placed_at first z = record { site = mapped_at starts f (final z); offset = first + z.offset }
 
-  abbrev pub lined : ℕ → List Site → List Placed
+  abbrev pub lined : ℕ → List LaidStatement → List Placed
   lined first [] = []
   lined first (z ∷ ys) = if has_row z.located then placed_at first z ∷ lined first ys else lined first ys
 
-  both_parts : (q : ℕ) (z : Site) (ys : List Site) → z.bytes ≡ length (flat_map part_bytes (parts_of t z))
+  both_parts : (q : ℕ) (z : LaidStatement) (ys : List LaidStatement) → z.bytes ≡ length (flat_map part_bytes (parts_of t z))
       → filter may (rels q (z ∷ ys)) ≡ filter may (relocations_from number q (parts_of t z)) ++ filter may (rels (q + z.bytes) ys)
   both_parts q z ys bytes =
       ap (filter may) (relocations_join t number q (parts_of t z) (parts t ys))
       ∙ filter_join may (relocations_from number q (parts_of t z)) (relocations_from number (q + length (flat_map part_bytes (parts_of t z))) (parts t ys))
       ∙ ap (λ n. filter may (relocations_from number q (parts_of t z)) ++ filter may (relocations_from number (q + n) (parts t ys))) (sym bytes)
 
-  abbrev found : (ys : List Site) → AllByRecursion Done ys → List Relocation
+  abbrev found : (ys : List LaidStatement) → AllByRecursion Done ys → List Relocation
   found [] h = []
   found (z ∷ ys) (inl (row, one), hs) = list_of one.change ++ found ys hs
   found (z ∷ ys) (inr (row, none), hs) = found ys hs
 
-  filtered : (q : ℕ) (ys : List Site) → Tile t q ys → (h : AllByRecursion Done ys) → filter may (rels q ys) ≡ found ys h
+  filtered : (q : ℕ) (ys : List LaidStatement) → Tile t q ys → (h : AllByRecursion Done ys) → filter may (rels q ys) ≡ found ys h
   filtered q [] tile h = refl
   filtered q (z ∷ ys) (off, bytes, tile) (inl (row, one), hs) =
       both_parts q z ys bytes ∙ ap (λ n. filter may (relocations_from number n (parts_of t z)) ++ filter may (rels (q + z.bytes) ys)) (sym off)
@@ -380,14 +380,14 @@ module _ (p : Program) (starts : Starts) (os : List Object) (text : List Placed)
       go true ih = (h, ih)
       go false ih = ih
 
-  found_from : (q : ℕ) (ys : List Site) → Tile t q ys → (h : AllByRecursion Done ys) → From t number q (found ys h)
+  found_from : (q : ℕ) (ys : List LaidStatement) → Tile t q ys → (h : AllByRecursion Done ys) → From t number q (found ys h)
   found_from q ys tile h = subst (From t number q) (filtered q ys tile h) (from_filter q (rels q ys) (parts_from t number q (parts t ys)))
 
   in_front : (r : Relocation) (n : ℕ) (rs : List Relocation) → r.place + held r ≤ n → From t number n rs → inserted_change r rs ≡ r ∷ rs
   in_front r n [] l h = refl
   in_front r n (w ∷ rs) l (h, hs) = ap (λ b. if b then r ∷ w ∷ rs else w ∷ inserted_change r rs) (le-leb (r.place + held r) w.place (let e = held r in let g : r.place + e ≤ n = l in let k : r.place + e ≤ w.place = omega (arith, g, h) in k))
 
-  ordered : (q : ℕ) (ys : List Site) → Tile t q ys → (h : AllByRecursion Done ys) → in_order (found ys h) ≡ found ys h
+  ordered : (q : ℕ) (ys : List LaidStatement) → Tile t q ys → (h : AllByRecursion Done ys) → in_order (found ys h) ≡ found ys h
   ordered q [] tile h = refl
   ordered q (z ∷ ys) (off, bytes, tile) (inl (row, one), hs) = go one.change (λ r e. one.fits r e) (ordered (q + z.bytes) ys tile hs)
     where
@@ -402,7 +402,7 @@ module _ (p : Program) (starts : Starts) (os : List Object) (text : List Placed)
   ordered q (z ∷ ys) (off, bytes, tile) (inr (row, none), hs) = ordered (q + z.bytes) ys tile hs
 
   -- the sites of a section: of the object's relocations, and of the source's statements
-  made : (first : ℕ) (ys : List Site) (h : AllByRecursion Done ys) → map (site_of os i first) (found ys h) ≡ flat_map (sites_at p text) (lined first ys)
+  made : (first : ℕ) (ys : List LaidStatement) (h : AllByRecursion Done ys) → map (site_of os i first) (found ys h) ≡ flat_map (sites_at p text) (lined first ys)
   made first [] h = refl
   made first (z ∷ ys) (inl (row, one), hs) =
       map_join (list_of one.change) (found ys hs) ∙ ap (λ l. l ++ map (site_of os i first) (found ys hs)) (one.made first) ∙ ap (λ l. sites_by p text (placed_at first z) z.located.kind ++ l) (made first ys hs)
@@ -416,7 +416,7 @@ module _ (p : Program) (starts : Starts) (os : List Object) (text : List Placed)
 
   -- ---- the section
 
-  module _ (tile : Tile t 0 zs) (inside : AllByRecursion (IsSiteIn j s) zs) (uncut : AllByRecursion IsUncut zs) (sound : AllByRecursion (λ z. IsSound t z.located) zs)
+  module _ (tile : Tile t 0 zs) (inside : AllByRecursion (IsLaidIn j s) zs) (uncut : AllByRecursion IsUncut zs) (sound : AllByRecursion (λ z. IsSound t z.located) zs)
       (sizes_are : AllByRecursion (λ z. z.located.placed ≡ true → HasSize (form t z.located) z multiple z.located.kind) zs) (numbered : ArePartsNumbered t all number o.symbols (parts t zs)) where
     all_done : AllByRecursion Done zs
     all_done = dones [] [] [] 0 zs refl refl refl tt whole tt bytes_are tile inside uncut sound sizes_are numbered

@@ -23,7 +23,7 @@ use Rattle.rv_object_laws.specs.Inputs.{goes_to_text}
 use Rattle.rv_object_laws.specs.Moves.{Move, dropped, new_offset, kept, lost}
 use Rattle.rv_object_laws.specs.Shortened.{Sizes, short_call, is_shortened, cut, cuts, shortened_relocation, shortened_contents, shortened_text}
 use Rattle.rv_source_laws.specs.Shortened.{link_register}
-use Rattle.rv_assemble_laws.specs.Sites.{Site, Part, part_bytes, end_of}
+use Rattle.rv_assemble_laws.specs.LaidStatements.{LaidStatement, Part, part_bytes, end_of}
 use Rattle.rv_assemble_laws.specs.Symbols.{references_in}
 use Rattle.rv_assemble_laws.specs.Templates.{Open, IsTemplate}
 use Rattle.rv_assemble_laws.specs.IsObjectOf.{Numbering, IsNumbered, ArePartsNumbered, contents_of, relocation_at, relocations_from}
@@ -32,7 +32,7 @@ use Rattle.rv_sources_link_laws.proofs.statements.OrderedLemmas.{filled}
 use Rattle.rv_sources_link_laws.proofs.sections.AssembledLemmas.{parts_of, parts, Tile, IsSectionOf}
 use Rattle.rv_sources_link_laws.proofs.calls.CutsLemmas.{link_of, AreCalm}
 use Rattle.rv_sources_link_laws.proofs.calls.CutStepsLemmas as walk
-use Rattle.rv_sources_link_laws.proofs.calls.CutStepsLemmas.{cut_site, cut_move, cuts_from}
+use Rattle.rv_sources_link_laws.proofs.calls.CutStepsLemmas.{cut_statement, cut_move, cuts_from}
 use Rattle.rv_sources_link_laws.proofs.calls.LongCallsLemmas as long
 use Rattle.rv_sources_link_laws.proofs.calls.LongCallsLemmas.{IsLongCall}
 use Rattle.rv_sources_link_laws.proofs.moves.WalkLemmas.{drop_past, relocations_join, From, parts_from}
@@ -57,7 +57,7 @@ pub record HasWords (bytes : List ℕ) (o link by : ℕ) : Type 0 where
   pub first : word_at bytes o ≡ 0x17 + by * 128
   pub second : word_at bytes (o + 4) ≡ 0x67 + link * 128 + by * 32768
 
-pub has_words : (t : Tables) (z : Site) (m : Mnemonic) (os : List Operand) (h : IsLongCall t z m os) (front rest : List ℕ)
+pub has_words : (t : Tables) (z : LaidStatement) (m : Mnemonic) (os : List Operand) (h : IsLongCall t z m os) (front rest : List ℕ)
     → HasWords (front ++ ((h.first ++ h.second) ++ rest)) (length front) (link_register m os) h.goes.by
 has_words t z m os h front rest =
     let by = h.goes.by in
@@ -113,35 +113,35 @@ from_filter sizes t number o (r ∷ rs) (h, hs) = go (is_shortened sizes r) (fro
     go false ih = ih
 
 module _ (t : Tables) (number : Numbering) (sizes : Sizes) (multiple : ℕ) where
-  abbrev Still : Site → Type 0
+  abbrev Still : LaidStatement → Type 0
   Still z = walk.Still t number sizes multiple z
 
-  abbrev Cut : Site → Type 0
+  abbrev Cut : LaidStatement → Type 0
   Cut z = walk.Cut t number sizes multiple z
 
-  abbrev Sorted : Site → Type 0
+  abbrev Sorted : LaidStatement → Type 0
   Sorted z = walk.Sorted t number sizes multiple z
 
-  abbrev call_field : (z : Site) → Cut z → Open
+  abbrev call_field : (z : LaidStatement) → Cut z → Open
   call_field z h = long.field t z multiple h.m h.os h.is_kind h.call h.long kinds.CallPlt
 
   -- the calls that are cut
-  abbrev shorts : ℕ → List Site → List Relocation
+  abbrev shorts : ℕ → List LaidStatement → List Relocation
   shorts o zs = filter (is_shortened sizes) (relocations_from number o (parts t zs))
 
-  shorts_split : (o : ℕ) (z : Site) (zs : List Site) → z.bytes ≡ length (flat_map part_bytes (parts_of t z))
+  shorts_split : (o : ℕ) (z : LaidStatement) (zs : List LaidStatement) → z.bytes ≡ length (flat_map part_bytes (parts_of t z))
       → shorts o (z ∷ zs) ≡ filter (is_shortened sizes) (relocations_from number o (parts_of t z)) ++ shorts (o + z.bytes) zs
   shorts_split o z zs bytes =
       ap (filter (is_shortened sizes)) (relocations_join t number o (parts_of t z) (parts t zs))
       ∙ filter_join sizes (relocations_from number o (parts_of t z)) (relocations_from number (o + length (flat_map part_bytes (parts_of t z))) (parts t zs))
       ∙ ap (λ n. filter (is_shortened sizes) (relocations_from number o (parts_of t z)) ++ filter (is_shortened sizes) (relocations_from number (o + n) (parts t zs))) (sym bytes)
 
-  shorts_still : (o : ℕ) (z : Site) (zs : List Site) → z.offset ≡ o → z.bytes ≡ length (flat_map part_bytes (parts_of t z)) → Still z → shorts o (z ∷ zs) ≡ shorts (o + z.bytes) zs
+  shorts_still : (o : ℕ) (z : LaidStatement) (zs : List LaidStatement) → z.offset ≡ o → z.bytes ≡ length (flat_map part_bytes (parts_of t z)) → Still z → shorts o (z ∷ zs) ≡ shorts (o + z.bytes) zs
   shorts_still o z zs off bytes h =
       shorts_split o z zs bytes
       ∙ ap (λ l. l ++ shorts (o + z.bytes) zs) (calm_none sizes (relocations_from number o (parts_of t z)) (subst (λ n. AreCalm sizes (relocations_from number n (parts_of t z))) off h.none))
 
-  shorts_cut : (o : ℕ) (z : Site) (zs : List Site) → z.offset ≡ o → z.bytes ≡ length (flat_map part_bytes (parts_of t z)) → (h : Cut z)
+  shorts_cut : (o : ℕ) (z : LaidStatement) (zs : List LaidStatement) → z.offset ≡ o → z.bytes ≡ length (flat_map part_bytes (parts_of t z)) → (h : Cut z)
       → shorts o (z ∷ zs) ≡ relocation_at number o (call_field z h) ∷ shorts (o + z.bytes) zs
   shorts_cut o z zs off bytes h =
       shorts_split o z zs bytes
@@ -159,7 +159,7 @@ module _ (t : Tables) (number : Numbering) (sizes : Sizes) (multiple : ℕ) wher
       no_more [] = refl
       no_more (x ∷ xs) = ap (λ l. x ∷ l) (no_more xs)
 
-  shorts_past : (o : ℕ) (zs : List Site) → From t number o (shorts o zs)
+  shorts_past : (o : ℕ) (zs : List LaidStatement) → From t number o (shorts o zs)
   shorts_past o zs = from_filter sizes t number o (relocations_from number o (parts t zs)) (parts_from t number o (parts t zs))
 
   in_front : (o p : ℕ) (f : Open) (rs : List Relocation) → f.kind ≡ kinds.CallPlt → o + 8 ≤ p → From t number p rs → inserted_change (relocation_at number o f) rs ≡ relocation_at number o f ∷ rs
@@ -168,7 +168,7 @@ module _ (t : Tables) (number : Numbering) (sizes : Sizes) (multiple : ℕ) wher
       ap (λ b. if b then relocation_at number o f ∷ r ∷ rs else r ∷ inserted_change (relocation_at number o f) rs)
       (ap (λ k. nat_le (o + held (record { place = o; kind = k; symbol = (relocation_at number o f).symbol; addend = f.addend })) r.place) e ∙ le-leb (o + 8) r.place (omega (arith, l, h)))
 
-  ordered : (o : ℕ) (zs : List Site) → Tile t o zs → AllByRecursion Sorted zs → in_order (shorts o zs) ≡ shorts o zs
+  ordered : (o : ℕ) (zs : List LaidStatement) → Tile t o zs → AllByRecursion Sorted zs → in_order (shorts o zs) ≡ shorts o zs
   ordered o [] tile h = refl
   ordered o (z ∷ zs) (off, bytes, tile) (inl h, hs) =
       ap in_order (shorts_still o z zs off bytes h) ∙ ordered (o + z.bytes) zs tile hs ∙ sym (shorts_still o z zs off bytes h)
@@ -179,7 +179,7 @@ module _ (t : Tables) (number : Numbering) (sizes : Sizes) (multiple : ℕ) wher
 
   -- each is cut by the words that stand there
   module _ (x : Section) where
-    cuts_are : (front : List ℕ) (o : ℕ) (zs : List Site) → o ≡ length front → Tile t o zs → AllByRecursion Sorted zs → stored x.contents ≡ front ++ flat_map part_bytes (parts t zs)
+    cuts_are : (front : List ℕ) (o : ℕ) (zs : List LaidStatement) → o ≡ length front → Tile t o zs → AllByRecursion Sorted zs → stored x.contents ≡ front ++ flat_map part_bytes (parts t zs)
         → map (cut sizes x) (shorts o zs) ≡ cuts_from sizes o zs
     cuts_are front o [] long tile h whole = refl
     cuts_are front o (z ∷ zs) long (off, bytes, tile) (inl h, hs) whole =
@@ -218,7 +218,7 @@ none_long [] e = refl
 none_long (x ∷ xs) e = absurd (omega (arith, e))
 
 -- what stands in a section of text
-module _ (t : Tables) (sites : List Site) (number : Numbering) (symbols : List Symbol) (j : ℕ) (s : SourceSection) (x : Section) (zs : List Site) (h : IsSectionOf t sites number symbols j s zs x) (text : source_text s ≡ true) where
+module _ (t : Tables) (laid : List LaidStatement) (number : Numbering) (symbols : List Symbol) (j : ℕ) (s : SourceSection) (x : Section) (zs : List LaidStatement) (h : IsSectionOf t laid number symbols j s zs x) (text : source_text s ≡ true) where
   stored_by : (k : SectionType) → s.section_type ≡ k → stored (contents_of k (end_of 0 zs) (flat_map part_bytes (parts t zs))) ≡ flat_map part_bytes (parts t zs)
   stored_by types.Progbits e = refl
   stored_by types.Note e = refl
@@ -227,15 +227,15 @@ module _ (t : Tables) (sites : List Site) (number : Numbering) (symbols : List S
   pub stored_is : stored x.contents ≡ flat_map part_bytes (parts t zs)
   stored_is = ap stored h.contents ∙ stored_by s.section_type refl
 
-module _ (t : Tables) (sites sites' : List Site) (number : Numbering) (symbols symbols' : List Symbol) (j : ℕ) (s : SourceSection) (x : Section) (sizes : Sizes)
-    (zs : List Site) (h : IsSectionOf t sites number symbols j s zs x) (text : source_text s ≡ true)
+module _ (t : Tables) (laid laid' : List LaidStatement) (number : Numbering) (symbols symbols' : List Symbol) (j : ℕ) (s : SourceSection) (x : Section) (sizes : Sizes)
+    (zs : List LaidStatement) (h : IsSectionOf t laid number symbols j s zs x) (text : source_text s ≡ true)
     (sorted : AllByRecursion (λ z. walk.Sorted t number sizes x.alignment z) zs)
-    (stands : (p : Part) → AllByRecursion (IsNumbered t sites number symbols) (references_in p) → AllByRecursion (IsNumbered t sites' number symbols') (references_in p)) where
+    (stands : (p : Part) → AllByRecursion (IsNumbered t laid number symbols) (references_in p) → AllByRecursion (IsNumbered t laid' number symbols') (references_in p)) where
   abbrev ms : List Move
   ms = cuts sizes x
 
-  abbrev zs' : List Site
-  zs' = map (cut_site true sizes ms) zs
+  abbrev zs' : List LaidStatement
+  zs' = map (cut_statement true sizes ms) zs
 
   loaded : s.loaded ≡ true
   loaded = (and_parts s.loaded s.executable text).0
@@ -254,7 +254,7 @@ module _ (t : Tables) (sites sites' : List Site) (number : Numbering) (symbols s
       ap (λ b. if b then map (cut sizes x) (in_order (filter (is_shortened sizes) x.relocations)) else []) in_text
       ∙ ap (λ rs. map (cut sizes x) (in_order (filter (is_shortened sizes) rs))) relocations_are
       ∙ ap (map (cut sizes x)) (ordered t number sizes x.alignment 0 zs h.tile sorted)
-      ∙ cuts_are t number sizes x.alignment x [] 0 zs refl h.tile sorted (stored_is t sites number symbols j s x zs h text)
+      ∙ cuts_are t number sizes x.alignment x [] 0 zs refl h.tile sorted (stored_is t laid number symbols j s x zs h text)
 
   st : walk.Steps t number sizes x.alignment ms 0 0 zs
   st = walk.steps t number sizes x.alignment ms 0 0 zs h.tile sorted (omega arith)
@@ -286,11 +286,11 @@ module _ (t : Tables) (sites sites' : List Site) (number : Numbering) (symbols s
   contents_left types.Note e = ap Note bytes_left
   contents_left types.Nobits e = let (a, b, c) = nothing_left (ap is_nobits_type e) in ap Nobits (a ∙ sym b)
 
-  stand_all : (ps : List Part) → ArePartsNumbered t sites number symbols ps → AllByRecursion (λ p. AllByRecursion (IsNumbered t sites' number symbols') (references_in p)) ps
+  stand_all : (ps : List Part) → ArePartsNumbered t laid number symbols ps → AllByRecursion (λ p. AllByRecursion (IsNumbered t laid' number symbols') (references_in p)) ps
   stand_all [] k = tt
   stand_all (p ∷ ps) (k, ks) = (stands p k, stand_all ps ks)
 
-  pub section_left : IsSectionOf t sites' number symbols' j s zs' (shortened_text sizes x)
+  pub section_left : IsSectionOf t laid' number symbols' j s zs' (shortened_text sizes x)
   section_left = record {
     loaded = h.loaded;
     executable = h.executable;
@@ -302,7 +302,7 @@ module _ (t : Tables) (sites sites' : List Site) (number : Numbering) (symbols s
     code = λ k none. (nothing_left none).2;
     relocations = ap (map (shortened_relocation sizes ms)) relocations_are ∙ walk.relocations_kept t number sizes x.alignment ms 0 0 zs st
         ∙ ap (λ b. if b then relocations_from number 0 (parts t zs') else []) (sym loaded);
-    numbered = λ k. walk.parts_kept t number sizes x.alignment ms (λ p. AllByRecursion (IsNumbered t sites' number symbols') (references_in p)) (λ o b b' q f fs y. y) 0 0 zs st
+    numbered = λ k. walk.parts_kept t number sizes x.alignment ms (λ p. AllByRecursion (IsNumbered t laid' number symbols') (references_in p)) (λ o b b' q f fs y. y) 0 0 zs st
         (stand_all (parts t zs) (h.numbered k));
     sizes = walk.sizes_kept t number sizes x.alignment ms 0 0 zs st;
     fields = walk.parts_kept t number sizes x.alignment ms (λ p. IsTemplate p.template) (λ o b b' q f fs y. tt) 0 0 zs st h.fields;

@@ -16,7 +16,7 @@ use Rattle.rv_object_laws.specs.Shortened.{Sizes, short_call, is_shortened, shor
 use Rattle.rv_source_laws.specs.Shortened.{calls, link_register}
 use Rattle.rv_assemble_laws.specs.CodeFields.{relax_fields}
 use Rattle.rv_assemble_laws.specs.Templates.{Open, Coded, template_fields}
-use Rattle.rv_assemble_laws.specs.Sites.{Site, Part, form, part_of, part_bytes, end_of, HasSize}
+use Rattle.rv_assemble_laws.specs.LaidStatements.{LaidStatement, Part, form, part_of, part_bytes, end_of, HasSize}
 use Rattle.rv_assemble_laws.specs.IsObjectOf.{Numbering, relocation_at, relocations_from}
 use Rattle.rv_assemble_laws.proofs.FilledLemmas.{bytes_append}
 use Rattle.rv_sources_link_laws.proofs.sections.AssembledLemmas.{assembled_templates, parts_of, parts, Tile}
@@ -30,12 +30,12 @@ use Rattle.rv_sources_link_laws.proofs.moves.WalkLemmas.{Ahead, dropped_none, lo
 
 -- ---- cuts ahead
 
-abbrev pub cut_move : Sizes → ℕ → Site → Move
+abbrev pub cut_move : Sizes → ℕ → LaidStatement → Move
 cut_move sizes o z = record { place = o; full = 8; text = short_call (sizes o) (link_of z.located.kind) }
 
 -- a statement with the cuts of its section made, where that is of text
-abbrev pub cut_site : Bool → Sizes → List Move → Site → Site
-cut_site text sizes ms z = record {
+abbrev pub cut_statement : Bool → Sizes → List Move → LaidStatement → LaidStatement
+cut_statement text sizes ms z = record {
   located = z.located;
   offset = new_offset ms z.offset;
   bytes = new_offset ms (z.offset + z.bytes) - new_offset ms z.offset;
@@ -44,7 +44,7 @@ cut_site text sizes ms z = record {
 }
 
 -- the calls of statements that are cut, where these follow one another from an offset on
-abbrev pub cuts_from : Sizes → ℕ → List Site → List Move
+abbrev pub cuts_from : Sizes → ℕ → List LaidStatement → List Move
 cuts_from sizes o [] = []
 cuts_from sizes o (z ∷ zs) = if is_cut sizes z then cut_move sizes o z ∷ cuts_from sizes (o + z.bytes) zs else cuts_from sizes (o + z.bytes) zs
 
@@ -52,7 +52,7 @@ ahead_less : (o p : ℕ) (ms : List Move) → o ≤ p → Ahead p ms → Ahead o
 ahead_less o p [] l h = tt
 ahead_less o p (m ∷ ms) l ((past, some), hs) = ((omega (arith, l, past), some), ahead_less o p ms l hs)
 
-pub cuts_ahead : (sizes : Sizes) (o : ℕ) (zs : List Site) → Ahead o (cuts_from sizes o zs)
+pub cuts_ahead : (sizes : Sizes) (o : ℕ) (zs : List LaidStatement) → Ahead o (cuts_from sizes o zs)
 cuts_ahead sizes o [] = tt
 cuts_ahead sizes o (z ∷ zs) = go (is_cut sizes z) (ahead_less o (o + z.bytes) (cuts_from sizes (o + z.bytes) zs) (omega arith) (cuts_ahead sizes (o + z.bytes) zs))
   where
@@ -61,39 +61,39 @@ cuts_ahead sizes o (z ∷ zs) = go (is_cut sizes z) (ahead_less o (o + z.bytes) 
     go false ih = ih
 
 module _ (t : Tables) (number : Numbering) (sizes : Sizes) (multiple : ℕ) where
-  abbrev pub Still : Site → Type 0
+  abbrev pub Still : LaidStatement → Type 0
   Still z = IsStill t number sizes multiple z z.located.kind
 
-  abbrev pub Cut : Site → Type 0
+  abbrev pub Cut : LaidStatement → Type 0
   Cut z = IsCutCall t sizes z
 
-  abbrev pub Sorted : Site → Type 0
+  abbrev pub Sorted : LaidStatement → Type 0
   Sorted z = Still z ⊎ Cut z
 
-  pub cuts_still : (o : ℕ) (z : Site) (zs : List Site) → Still z → cuts_from sizes o (z ∷ zs) ≡ cuts_from sizes (o + z.bytes) zs
+  pub cuts_still : (o : ℕ) (z : LaidStatement) (zs : List LaidStatement) → Still z → cuts_from sizes o (z ∷ zs) ≡ cuts_from sizes (o + z.bytes) zs
   cuts_still o z zs h = ap (λ b. if b then cut_move sizes o z ∷ cuts_from sizes (o + z.bytes) zs else cuts_from sizes (o + z.bytes) zs) h.calm
 
-  cut_true : (z : Site) → Cut z → is_cut sizes z ≡ true
+  cut_true : (z : LaidStatement) → Cut z → is_cut sizes z ≡ true
   cut_true z h = ap (λ k. calls k && nat_lt (sizes z.offset) 8) h.is_kind ∙ ap (λ b. b && nat_lt (sizes z.offset) 8) h.call ∙ h.less
 
-  pub cuts_cut : (o : ℕ) (z : Site) (zs : List Site) → Cut z → cuts_from sizes o (z ∷ zs) ≡ cut_move sizes o z ∷ cuts_from sizes (o + z.bytes) zs
+  pub cuts_cut : (o : ℕ) (z : LaidStatement) (zs : List LaidStatement) → Cut z → cuts_from sizes o (z ∷ zs) ≡ cut_move sizes o z ∷ cuts_from sizes (o + z.bytes) zs
   cuts_cut o z zs h = ap (λ b. if b then cut_move sizes o z ∷ cuts_from sizes (o + z.bytes) zs else cuts_from sizes (o + z.bytes) zs) (cut_true z h)
 
   -- what is left of a call
-  abbrev pub cut_at : ℕ → (z : Site) → Cut z → Site
+  abbrev pub cut_at : ℕ → (z : LaidStatement) → Cut z → LaidStatement
   cut_at n z h = long.cut_to t z multiple h.m h.os h.is_kind h.call h.long (sizes z.offset) h.short n
 
-  abbrev pub small : (z : Site) → Cut z → ℕ
+  abbrev pub small : (z : LaidStatement) → Cut z → ℕ
   small z h = sizes z.offset
 
-  small_fits : (z : Site) (h : Cut z) → (sizes z.offset ≤ 8) × (0 < sizes z.offset) × (operations_in (sizes z.offset) ≡ 1)
+  small_fits : (z : LaidStatement) (h : Cut z) → (sizes z.offset ≤ 8) × (0 < sizes z.offset) × (operations_in (sizes z.offset) ≡ 1)
   small_fits z h = go h.short
     where
       go : (sizes z.offset ≡ 4) ⊎ ((sizes z.offset ≡ 2) × (link_register h.m h.os ≡ 0)) → (sizes z.offset ≤ 8) × (0 < sizes z.offset) × (operations_in (sizes z.offset) ≡ 1)
       go (inl e) = (omega (arith, e), omega (arith, e), ap operations_in e)
       go (inr (e, none)) = (omega (arith, e), omega (arith, e), ap operations_in e)
 
-  text_long : (z : Site) (h : Cut z) → length (short_call (sizes z.offset) (link_of z.located.kind)) ≡ sizes z.offset
+  text_long : (z : LaidStatement) (h : Cut z) → length (short_call (sizes z.offset) (link_of z.located.kind)) ≡ sizes z.offset
   text_long z h = ap (λ k. length (short_call (sizes z.offset) (link_of k))) h.is_kind ∙ (short_coded None false (link_register h.m h.os) (sizes z.offset) h.long.link_low h.short).1
 
   -- ---- the walk
@@ -102,33 +102,33 @@ module _ (t : Tables) (number : Numbering) (sizes : Sizes) (multiple : ℕ) wher
     abbrev N : ℕ → ℕ
     N n = new_offset ms n
 
-    abbrev pub S : Site → Site
-    S z = cut_site true sizes ms z
+    abbrev pub S : LaidStatement → LaidStatement
+    S z = cut_statement true sizes ms z
 
-    pub record StillStep (o gone : ℕ) (z : Site) : Type 0 where
+    pub record StillStep (o gone : ℕ) (z : LaidStatement) : Type 0 where
       pub still : Still z
       pub is : S z ≡ at (o - gone) z
       pub shift : (d : ℕ) → d ≤ z.bytes → N (o + d) ≡ (o - gone) + d
 
-    pub record CutStep (o gone : ℕ) (z : Site) : Type 0 where
+    pub record CutStep (o gone : ℕ) (z : LaidStatement) : Type 0 where
       pub cut : Cut z
       pub is : S z ≡ cut_at (o - gone) z cut
       pub here : N o ≡ o - gone
 
-    abbrev pub Steps : ℕ → ℕ → List Site → Type 0
+    abbrev pub Steps : ℕ → ℕ → List LaidStatement → Type 0
     Steps o gone [] = N o ≡ o - gone
     Steps o gone (z ∷ zs) =
         (z.offset ≡ o) × (z.bytes ≡ length (flat_map part_bytes (parts_of t z))) × (gone ≤ o)
         × ((StillStep o gone z × Steps (o + z.bytes) gone zs) ⊎ (CutStep o gone z × Steps (o + z.bytes) (gone + (8 - sizes z.offset)) zs))
 
-    site_is : (z : Site) (a b c : ℕ) (l : List (List ℕ)) → N z.offset ≡ a → N (z.offset + z.bytes) - N z.offset ≡ b → z.instructions - lost ms z.offset z.bytes ≡ c → (S z).coded ≡ l
+    laid_is : (z : LaidStatement) (a b c : ℕ) (l : List (List ℕ)) → N z.offset ≡ a → N (z.offset + z.bytes) - N z.offset ≡ b → z.instructions - lost ms z.offset z.bytes ≡ c → (S z).coded ≡ l
         → S z ≡ record { located = z.located; offset = a; bytes = b; instructions = c; coded = l }
-    site_is z a b c l e f g h =
-        let mk : ℕ → ℕ → ℕ → List (List ℕ) → Site = λ a b c l. record { located = z.located; offset = a; bytes = b; instructions = c; coded = l } in
+    laid_is z a b c l e f g h =
+        let mk : ℕ → ℕ → ℕ → List (List ℕ) → LaidStatement = λ a b c l. record { located = z.located; offset = a; bytes = b; instructions = c; coded = l } in
         ap (λ n. mk n (N (z.offset + z.bytes) - N z.offset) (z.instructions - lost ms z.offset z.bytes) (S z).coded) e
         ∙ ap (λ n. mk a n (z.instructions - lost ms z.offset z.bytes) (S z).coded) f ∙ ap (λ n. mk a b n (S z).coded) g ∙ ap (mk a b c) h
 
-    module _ (o gone : ℕ) (z : Site) (zs : List Site) (off : z.offset ≡ o) (low : gone ≤ o)
+    module _ (o gone : ℕ) (z : LaidStatement) (zs : List LaidStatement) (off : z.offset ≡ o) (low : gone ≤ o)
         (before : (old : ℕ) → o ≤ old → dropped ms old ≡ gone + dropped (cuts_from sizes o (z ∷ zs)) old)
         (losses : (a b : ℕ) → o ≤ a → lost ms a b ≡ lost (cuts_from sizes o (z ∷ zs)) a b) where
       abbrev T : List Move
@@ -154,7 +154,7 @@ module _ (t : Tables) (number : Numbering) (sizes : Sizes) (multiple : ℕ) wher
         step_still : StillStep o gone z
         step_still = record {
           still = h;
-          is = site_is z (o - gone) z.bytes z.instructions z.coded here (ap (λ n. n - N z.offset) there ∙ ap (λ n. (o - gone) + z.bytes - n) here ∙ (let f : (o - gone) + z.bytes - (o - gone) ≡ z.bytes = omega arith in f))
+          is = laid_is z (o - gone) z.bytes z.instructions z.coded here (ap (λ n. n - N z.offset) there ∙ ap (λ n. (o - gone) + z.bytes - n) here ∙ (let f : (o - gone) + z.bytes - (o - gone) ≡ z.bytes = omega arith in f))
               (ap (λ n. z.instructions - n) none ∙ (let f : z.instructions - 0 ≡ z.instructions = omega arith in f))
               (ap (λ b. if b then short_call (sizes z.offset) (link_of z.located.kind) ∷ [] else z.coded) h.calm);
           shift = shift_still;
@@ -215,7 +215,7 @@ module _ (t : Tables) (number : Numbering) (sizes : Sizes) (multiple : ℕ) wher
         step_cut : CutStep o gone z
         step_cut = record {
           cut = h;
-          is = site_is z (o - gone) n 1 (short_call n (link_register h.m h.os) ∷ []) here (ap (λ x. x - N z.offset) there ∙ ap (λ x. (o - gone) + n - x) here ∙ (let f : (o - gone) + n - (o - gone) ≡ n = omega arith in f)) left
+          is = laid_is z (o - gone) n 1 (short_call n (link_register h.m h.os) ∷ []) here (ap (λ x. x - N z.offset) there ∙ ap (λ x. (o - gone) + n - x) here ∙ (let f : (o - gone) + n - (o - gone) ≡ n = omega arith in f)) left
               (ap (λ b. if b then short_call n (link_of z.located.kind) ∷ [] else z.coded) (cut_true z h) ∙ ap (λ k. short_call n (link_of k) ∷ []) h.is_kind);
           here = start_cut;
         }
@@ -245,7 +245,7 @@ module _ (t : Tables) (number : Numbering) (sizes : Sizes) (multiple : ℕ) wher
             left : z.instructions - lost ms z.offset z.bytes ≡ 1
             left = ap (λ x. x - lost ms z.offset z.bytes) h.long.count ∙ ap (λ x. 2 - x) gives
 
-    pub steps : (o gone : ℕ) (zs : List Site) → Tile t o zs → AllByRecursion Sorted zs → gone ≤ o
+    pub steps : (o gone : ℕ) (zs : List LaidStatement) → Tile t o zs → AllByRecursion Sorted zs → gone ≤ o
         → ((old : ℕ) → o ≤ old → dropped ms old ≡ gone + dropped (cuts_from sizes o zs) old)
         → ((a b : ℕ) → o ≤ a → lost ms a b ≡ lost (cuts_from sizes o zs) a b) → Steps o gone zs
     steps o gone [] tile h low before losses = ap (λ n. o - n) (before o (omega arith) ∙ (let f : gone + 0 ≡ gone = omega arith in f))
@@ -275,29 +275,29 @@ module _ (t : Tables) (number : Numbering) (sizes : Sizes) (multiple : ℕ) wher
 
     -- ---- what is left of a section
 
-    own_still : (o gone : ℕ) (z : Site) → StillStep o gone z → parts_of t (S z) ≡ parts_of t z
+    own_still : (o gone : ℕ) (z : LaidStatement) → StillStep o gone z → parts_of t (S z) ≡ parts_of t z
     own_still o gone z s = ap (parts_of t) s.is ∙ ap (map (part_of z.located.ordinal)) (s.still.same (o - gone))
 
     -- the part of a cut call
-    abbrev short_field : (z : Site) → Cut z → Open
+    abbrev short_field : (z : LaidStatement) → Cut z → Open
     short_field z h = long.field t z multiple h.m h.os h.is_kind h.call h.long (long.short_kind t z multiple h.m h.os h.is_kind h.call h.long (sizes z.offset) h.short)
 
-    abbrev mark : Site → List Open
+    abbrev mark : LaidStatement → List Open
     mark z = relax_fields z.located.options.relax z.located.ordinal
 
-    abbrev short_part : (z : Site) → Cut z → Part
+    abbrev short_part : (z : LaidStatement) → Cut z → Part
     short_part z h = part_of z.located.ordinal (Coded (short_call (sizes z.offset) (link_register h.m h.os)) (short_field z h ∷ mark z))
 
-    own_cut : (o gone : ℕ) (z : Site) (s : CutStep o gone z) → parts_of t (S z) ≡ short_part z s.cut ∷ []
+    own_cut : (o gone : ℕ) (z : LaidStatement) (s : CutStep o gone z) → parts_of t (S z) ≡ short_part z s.cut ∷ []
     own_cut o gone z s =
         let h = s.cut in
         ap (parts_of t) s.is ∙ ap (λ k. map (part_of z.located.ordinal) (assembled_templates t (cut_at (o - gone) z h) k)) h.is_kind
         ∙ ap (map (part_of z.located.ordinal)) (long.is t z multiple h.m h.os h.is_kind h.call h.long (sizes z.offset) h.short (o - gone))
 
-    pub long_part : (z : Site) (h : Cut z) → parts_of t z ≡ part_of z.located.ordinal (Coded (h.long.first ++ h.long.second) (long.field t z multiple h.m h.os h.is_kind h.call h.long kinds.CallPlt ∷ mark z)) ∷ []
+    pub long_part : (z : LaidStatement) (h : Cut z) → parts_of t z ≡ part_of z.located.ordinal (Coded (h.long.first ++ h.long.second) (long.field t z multiple h.m h.os h.is_kind h.call h.long kinds.CallPlt ∷ mark z)) ∷ []
     long_part z h = ap (λ k. map (part_of z.located.ordinal) (assembled_templates t z k)) h.is_kind ∙ ap (map (part_of z.located.ordinal)) (long.was t z multiple h.m h.os h.is_kind h.call h.long)
 
-    part_long : (z : Site) (h : Cut z) → length (flat_map part_bytes (short_part z h ∷ [])) ≡ sizes z.offset
+    part_long : (z : LaidStatement) (h : Cut z) → length (flat_map part_bytes (short_part z h ∷ [])) ≡ sizes z.offset
     part_long z h =
         ap length (append-nil (short_call (sizes z.offset) (link_register h.m h.os))) ∙ (short_coded None false (link_register h.m h.os) (sizes z.offset) h.long.link_low h.short).1
 
@@ -308,34 +308,34 @@ module _ (t : Tables) (number : Numbering) (sizes : Sizes) (multiple : ℕ) wher
     next_cut o gone b n low fit e = omega (arith, low, fit, e)
 
     -- they follow one another
-    pub tiled : (o gone : ℕ) (zs : List Site) → Steps o gone zs → Tile t (o - gone) (map S zs)
+    pub tiled : (o gone : ℕ) (zs : List LaidStatement) → Steps o gone zs → Tile t (o - gone) (map S zs)
     tiled o gone [] st = tt
     tiled o gone (z ∷ zs) (off, bytes, low, inl (s, st)) =
-        let long : (S z).bytes ≡ z.bytes = ap (λ (y : Site). y.bytes) s.is in (
-          ap (λ (y : Site). y.offset) s.is,
+        let long : (S z).bytes ≡ z.bytes = ap (λ (y : LaidStatement). y.bytes) s.is in (
+          ap (λ (y : LaidStatement). y.offset) s.is,
           long ∙ bytes ∙ ap (λ l. length (flat_map part_bytes l)) (sym (own_still o gone z s)),
           subst (λ n. Tile t n (map S zs)) (next_still o gone z.bytes low ∙ ap (λ n. (o - gone) + n) (sym long)) (tiled (o + z.bytes) gone zs st),
         )
     tiled o gone (z ∷ zs) (off, bytes, low, inr (s, st)) =
-        let long : (S z).bytes ≡ sizes z.offset = ap (λ (y : Site). y.bytes) s.is in (
-          ap (λ (y : Site). y.offset) s.is,
+        let long : (S z).bytes ≡ sizes z.offset = ap (λ (y : LaidStatement). y.bytes) s.is in (
+          ap (λ (y : LaidStatement). y.offset) s.is,
           long ∙ sym (part_long z s.cut) ∙ ap (λ l. length (flat_map part_bytes l)) (sym (own_cut o gone z s)),
           subst (λ n. Tile t n (map S zs)) (next_cut o gone z.bytes (sizes z.offset) low (small_fits z s.cut).0 s.cut.long.bytes ∙ ap (λ n. (o - gone) + n) (sym long))
               (tiled (o + z.bytes) (gone + (8 - sizes z.offset)) zs st),
         )
 
     -- their end
-    pub ended : (o gone : ℕ) (zs : List Site) → Steps o gone zs → new_offset ms (end_of o zs) ≡ end_of (o - gone) (map S zs)
+    pub ended : (o gone : ℕ) (zs : List LaidStatement) → Steps o gone zs → new_offset ms (end_of o zs) ≡ end_of (o - gone) (map S zs)
     ended o gone [] st = st
     ended o gone (z ∷ zs) (off, bytes, low, inl (s, st)) =
         ended (o + z.bytes) gone zs st
-        ∙ ap (λ n. end_of n (map S zs)) (next_still o gone z.bytes low ∙ ap (λ n. (o - gone) + n) (sym (ap (λ (y : Site). y.bytes) s.is)))
+        ∙ ap (λ n. end_of n (map S zs)) (next_still o gone z.bytes low ∙ ap (λ n. (o - gone) + n) (sym (ap (λ (y : LaidStatement). y.bytes) s.is)))
     ended o gone (z ∷ zs) (off, bytes, low, inr (s, st)) =
         ended (o + z.bytes) (gone + (8 - sizes z.offset)) zs st
-        ∙ ap (λ n. end_of n (map S zs)) (next_cut o gone z.bytes (sizes z.offset) low (small_fits z s.cut).0 s.cut.long.bytes ∙ ap (λ n. (o - gone) + n) (sym (ap (λ (y : Site). y.bytes) s.is)))
+        ∙ ap (λ n. end_of n (map S zs)) (next_cut o gone z.bytes (sizes z.offset) low (small_fits z s.cut).0 s.cut.long.bytes ∙ ap (λ n. (o - gone) + n) (sym (ap (λ (y : LaidStatement). y.bytes) s.is)))
 
     -- what is kept of the section
-    pub bytes_kept : (o gone : ℕ) (zs : List Site) → Steps o gone zs → kept o (cuts_from sizes o zs) (flat_map part_bytes (parts t zs)) ≡ flat_map part_bytes (parts t (map S zs))
+    pub bytes_kept : (o gone : ℕ) (zs : List LaidStatement) → Steps o gone zs → kept o (cuts_from sizes o zs) (flat_map part_bytes (parts t zs)) ≡ flat_map part_bytes (parts t (map S zs))
     bytes_kept o gone [] st = refl
     bytes_kept o gone (z ∷ zs) (off, bytes, low, inl (s, st)) =
         let own = flat_map part_bytes (parts_of t z) in
@@ -404,7 +404,7 @@ module _ (t : Tables) (number : Numbering) (sizes : Sizes) (multiple : ℕ) wher
         ∙ (let e : c + (length (part_bytes p) + d) ≡ c + length (part_bytes p) + d = omega arith in e)) both.1)
 
     -- those of a cut call
-    kind_cut : (z : Site) (h : Cut z) (o : ℕ) → z.offset ≡ o
+    kind_cut : (z : LaidStatement) (h : Cut z) (o : ℕ) → z.offset ≡ o
         → shortened_kind sizes (relocation_at number o (long.field t z multiple h.m h.os h.is_kind h.call h.long kinds.CallPlt)) ≡ (short_field z h).kind
     kind_cut z h o off =
         ap (λ b. if b then (if sizes o == 2 then kinds.RvcJump else kinds.Jal) else kinds.CallPlt) (ap (λ n. nat_lt (sizes n) 8) (sym off) ∙ h.less)
@@ -425,7 +425,7 @@ module _ (t : Tables) (number : Numbering) (sizes : Sizes) (multiple : ℕ) wher
     marks_calm o true ordinal = (refl, tt)
     marks_calm o false ordinal = tt
 
-    call_moved : (z : Site) (h : Cut z) (o c : ℕ) → z.offset ≡ o → N o ≡ c
+    call_moved : (z : LaidStatement) (h : Cut z) (o c : ℕ) → z.offset ≡ o → N o ≡ c
         → map (shortened_relocation sizes ms) (relocations_from number o (parts_of t z)) ≡ relocations_from number c (short_part z h ∷ [])
     call_moved z h o c off e =
         let f = long.field t z multiple h.m h.os h.is_kind h.call h.long kinds.CallPlt in
@@ -437,7 +437,7 @@ module _ (t : Tables) (number : Numbering) (sizes : Sizes) (multiple : ℕ) wher
         ∙ ap (λ n. (made n (short_field z h).kind ∷ map (shortened_relocation sizes ms) marks) ++ []) e
         ∙ ap (λ l. (made c (short_field z h).kind ∷ l) ++ []) (fields_still o c (mark z) e (marks_calm o z.located.options.relax z.located.ordinal))
 
-    pub relocations_kept : (o gone : ℕ) (zs : List Site) → Steps o gone zs
+    pub relocations_kept : (o gone : ℕ) (zs : List LaidStatement) → Steps o gone zs
         → map (shortened_relocation sizes ms) (relocations_from number o (parts t zs)) ≡ relocations_from number (o - gone) (parts t (map S zs))
     relocations_kept o gone [] st = refl
     relocations_kept o gone (z ∷ zs) (off, bytes, low, inl (s, st)) =
@@ -468,16 +468,16 @@ module _ (t : Tables) (number : Numbering) (sizes : Sizes) (multiple : ℕ) wher
         ∙ ap (λ l. relocations_from number c (l ++ later)) (sym (own_cut o gone z s))
 
     -- sizes
-    pub sizes_kept : (o gone : ℕ) (zs : List Site) → Steps o gone zs
-        → AllByRecursion (λ (y : Site). y.located.placed ≡ true → HasSize (form t y.located) y multiple y.located.kind) (map S zs)
+    pub sizes_kept : (o gone : ℕ) (zs : List LaidStatement) → Steps o gone zs
+        → AllByRecursion (λ (y : LaidStatement). y.located.placed ≡ true → HasSize (form t y.located) y multiple y.located.kind) (map S zs)
     sizes_kept o gone [] st = tt
     sizes_kept o gone (z ∷ zs) (off, bytes, low, inl (s, st)) = (
-      subst (λ (y : Site). y.located.placed ≡ true → HasSize (form t y.located) y multiple y.located.kind) (sym s.is) (λ placed. s.still.sized (o - gone) placed),
+      subst (λ (y : LaidStatement). y.located.placed ≡ true → HasSize (form t y.located) y multiple y.located.kind) (sym s.is) (λ placed. s.still.sized (o - gone) placed),
       sizes_kept (o + z.bytes) gone zs st,
     )
     sizes_kept o gone (z ∷ zs) (off, bytes, low, inr (s, st)) =
         let h = s.cut in (
-          subst (λ (y : Site). y.located.placed ≡ true → HasSize (form t y.located) y multiple y.located.kind) (sym s.is)
+          subst (λ (y : LaidStatement). y.located.placed ≡ true → HasSize (form t y.located) y multiple y.located.kind) (sym s.is)
               (λ placed. subst (λ k. HasSize (form t z.located) (cut_at (o - gone) z h) multiple k) (sym h.is_kind)
               (long.sized t z multiple h.m h.os h.is_kind h.call h.long (sizes z.offset) h.short (o - gone))),
           sizes_kept (o + z.bytes) (gone + (8 - sizes z.offset)) zs st,
@@ -485,7 +485,7 @@ module _ (t : Tables) (number : Numbering) (sizes : Sizes) (multiple : ℕ) wher
 
     -- what holds of each part by the symbols of its fields
     pub parts_kept : (P : Part → Type 0) → ((ordinal : ℕ) (bytes bytes' : List ℕ) (k : Kind) (f : Open) (fs : List Open) → P (part_of ordinal (Coded bytes (f ∷ fs))) → P (part_of ordinal (Coded bytes' (record f { kind = k } ∷ fs))))
-        → (o gone : ℕ) (zs : List Site) → Steps o gone zs → AllByRecursion P (parts t zs) → AllByRecursion P (parts t (map S zs))
+        → (o gone : ℕ) (zs : List LaidStatement) → Steps o gone zs → AllByRecursion P (parts t zs) → AllByRecursion P (parts t (map S zs))
     parts_kept P alike o gone [] st h = tt
     parts_kept P alike o gone (z ∷ zs) (off, bytes, low, inl (s, st)) h =
         let both = split P (parts_of t z) (parts t zs) h in
@@ -499,16 +499,16 @@ module _ (t : Tables) (number : Numbering) (sizes : Sizes) (multiple : ℕ) wher
         (parts_kept P alike (o + z.bytes) (gone + (8 - sizes z.offset)) zs st both.1)
 
     -- the bytes of each statement
-    abbrev pub IsResized : Site → Type 0
+    abbrev pub IsResized : LaidStatement → Type 0
     IsResized z = (calls z.located.kind ≡ true → (S z).bytes ≡ sizes z.offset) × (calls z.located.kind ≡ false → (S z).bytes ≡ z.bytes)
 
-    pub resized : (o gone : ℕ) (zs : List Site) → Steps o gone zs → AllByRecursion IsResized zs
+    pub resized : (o gone : ℕ) (zs : List LaidStatement) → Steps o gone zs → AllByRecursion IsResized zs
     resized o gone [] st = tt
     resized o gone (z ∷ zs) (off, bytes, low, inl (s, st)) =
-        let same : (S z).bytes ≡ z.bytes = ap (λ (y : Site). y.bytes) s.is in
+        let same : (S z).bytes ≡ z.bytes = ap (λ (y : LaidStatement). y.bytes) s.is in
         (((λ call. same ∙ s.still.whole call), (λ call. same)), resized (o + z.bytes) gone zs st)
     resized o gone (z ∷ zs) (off, bytes, low, inr (s, st)) =
         let is_call : calls z.located.kind ≡ true = ap calls s.cut.is_kind ∙ s.cut.call in (
-          ((λ call. ap (λ (y : Site). y.bytes) s.is), (λ call. let f : true ≡ false = sym is_call ∙ call in absurd (cc))),
+          ((λ call. ap (λ (y : LaidStatement). y.bytes) s.is), (λ call. let f : true ≡ false = sym is_call ∙ call in absurd (cc))),
           resized (o + z.bytes) (gone + (8 - sizes z.offset)) zs st,
         )

@@ -20,7 +20,7 @@ use Rattle.rv_object_laws.specs.Shortened.{Sizes, is_shortened}
 use Rattle.rv_assemble_laws.specs.CodeFields.{relax_fields}
 use Rattle.rv_assemble_laws.specs.Coded.{constants}
 use Rattle.rv_assemble_laws.specs.Templates.{Template, Fixed, Datum, Coded, Open, value_fields, template_fields, absolute_kind, add_kind, subtract_kind, padding_templates}
-use Rattle.rv_assemble_laws.specs.Sites.{Site, form, part_of, part_bytes, coded_templates, HasSize, IsPadded, IsPaddedIn}
+use Rattle.rv_assemble_laws.specs.LaidStatements.{LaidStatement, form, part_of, part_bytes, coded_templates, HasSize, IsPadded, IsPaddedIn}
 use Rattle.rv_assemble_laws.specs.IsObjectOf.{Numbering, relocation_at, relocations_from}
 use Rattle.rv_sources_link_laws.proofs.sections.AssembledLemmas.{assembled_templates}
 use Rattle.rv_sources_link_laws.proofs.calls.CalledLemmas.{IsForm, IsUncalled, uncalled}
@@ -30,7 +30,7 @@ use Rattle.rv_sources_link_laws.proofs.calls.LongCallsLemmas.{IsLongCall, long_c
 use Rattle.rv_sources_link_laws.proofs.statements.MarkedLemmas.{part_fields}
 use Rattle.rv_sources_link_laws.proofs.statements.PadsLemmas.{at, bare_before}
 use Rattle.rv_sources_link_laws.proofs.sections.SectionsLemmas.{join}
-use Rattle.rv_sources_link_laws.proofs.statements.SettledLemmas.{IsSiteIn}
+use Rattle.rv_sources_link_laws.proofs.statements.SettledLemmas.{IsLaidIn}
 use Rattle.rv_sources_link_laws.proofs.calls.UncutLemmas.{IsUncut}
 use Rattle.rv_sources_link_laws.proofs.fields.WholesLemmas.{IsSound}
 
@@ -41,14 +41,14 @@ link_of (Instruction m os) = link_register m os
 link_of _ = 0
 
 -- whether the statement is a call that is cut
-abbrev pub is_cut : Sizes → Site → Bool
+abbrev pub is_cut : Sizes → LaidStatement → Bool
 is_cut sizes z = calls z.located.kind && nat_lt (sizes z.offset) 8
 
 abbrev pub AreCalm : Sizes → List Relocation → Type 0
 AreCalm sizes rs = AllByRecursion (λ r. is_shortened sizes r ≡ false) rs
 
 -- one that stays as it is
-pub record IsStill (t : Tables) (number : Numbering) (sizes : Sizes) (multiple : ℕ) (z : Site) (kind : StatementKind) : Type 0 where
+pub record IsStill (t : Tables) (number : Numbering) (sizes : Sizes) (multiple : ℕ) (z : LaidStatement) (kind : StatementKind) : Type 0 where
   pub calm : (calls kind && nat_lt (sizes z.offset) 8) ≡ false
   pub whole : calls kind ≡ true → z.bytes ≡ sizes z.offset
   pub same : (n : ℕ) → assembled_templates t (at n z) kind ≡ assembled_templates t z kind
@@ -56,7 +56,7 @@ pub record IsStill (t : Tables) (number : Numbering) (sizes : Sizes) (multiple :
   pub sized : (n : ℕ) → z.located.placed ≡ true → HasSize (form t z.located) (at n z) multiple kind
 
 -- a call that is cut
-pub record IsCutCall (t : Tables) (sizes : Sizes) (z : Site) : Type 0 where
+pub record IsCutCall (t : Tables) (sizes : Sizes) (z : LaidStatement) : Type 0 where
   pub m : Mnemonic
   pub os : List Operand
   pub is_kind : z.located.kind ≡ Instruction m os
@@ -114,7 +114,7 @@ data_calm width v [] = tt
 data_calm width v (e ∷ es) = (tt, data_calm width v es)
 
 -- of a statement without calls
-pub code_calm : (t : Tables) (v : Expression → Value) (z : Site) (ps : List CodePart) (coded : List (List ℕ)) → AllByRecursion IsUncalled ps
+pub code_calm : (t : Tables) (v : Expression → Value) (z : LaidStatement) (ps : List CodePart) (coded : List (List ℕ)) → AllByRecursion IsUncalled ps
     → AllByRecursion IsCalm (coded_templates (part_fields t v z.located) ps coded)
 code_calm t v z [] coded h = tt
 code_calm t v z (p ∷ ps) [] h = tt
@@ -143,7 +143,7 @@ module _ (number : Numbering) (sizes : Sizes) where
 
 -- ---- which sort a statement is
 
-module _ (t : Tables) (number : Numbering) (sizes : Sizes) (multiple : ℕ) (section : SourceSection) (code : section.executable ≡ true) (z : Site) (home : z.located.home ≡ section) (uncut : IsUncut z)
+module _ (t : Tables) (number : Numbering) (sizes : Sizes) (multiple : ℕ) (section : SourceSection) (code : section.executable ≡ true) (z : LaidStatement) (home : z.located.home ≡ section) (uncut : IsUncut z)
     (sound : IsSound t z.located) (fits : calls z.located.kind ≡ true → IsForm (link_of z.located.kind) (sizes z.offset)) where
   abbrev v : Expression → Value
   v = form t z.located
@@ -245,7 +245,7 @@ module _ (t : Tables) (number : Numbering) (sizes : Sizes) (multiple : ℕ) (sec
   no_call (Numbered number) h e = refl
   no_call (Directs d) h e = refl
 
-  pub sort_of : (index : ℕ) → IsSiteIn index section z → (z.located.placed ≡ true → HasSize v z multiple z.located.kind) → Still z.located.kind ⊎ IsCutCall t sizes z
+  pub sort_of : (index : ℕ) → IsLaidIn index section z → (z.located.placed ≡ true → HasSize v z multiple z.located.kind) → Still z.located.kind ⊎ IsCutCall t sizes z
   sort_of index is size = go z.located.placed refl
     where
       go : (b : Bool) → z.located.placed ≡ b → Still z.located.kind ⊎ IsCutCall t sizes z

@@ -16,7 +16,7 @@ use Rattle.rv_object_laws.specs.Moves.{Move}
 use Rattle.rv_object_laws.specs.Shortened.{Sizes}
 use Rattle.rv_source_laws.specs.Sized.{statement_size}
 use Rattle.rv_source_laws.specs.Shortened.{calls}
-use Rattle.rv_assemble_laws.specs.Sites.{Site, form}
+use Rattle.rv_assemble_laws.specs.LaidStatements.{LaidStatement, form}
 use Rattle.rv_sources_link_laws.proofs.sections.KeptLemmas.{IsKept, AreKept, AreMasked}
 use Rattle.rv_sources_link_laws.proofs.sections.MaskedLemmas.{source_sections}
 use Rattle.rv_sources_link_laws.proofs.sections.AssembledLemmas.{IsAssembled, AreAssembled}
@@ -24,24 +24,24 @@ use Rattle.rv_sources_link_laws.proofs.statements.CountedLemmas.{bytes_with, siz
 use Rattle.rv_sources_link_laws.proofs.sections.SectionsLemmas.{split}
 use Rattle.rv_sources_link_laws.proofs.statements.SettledLemmas.{IsSettled, settled_left}
 use Rattle.rv_sources_link_laws.proofs.moves.ShrinkingLemmas.{shrunk_objects, moves_in}
-use Rattle.rv_sources_link_laws.proofs.moves.ShrinksLemmas.{Begun, begun_in, counted, objects_shrink, shrunk_is, shrunk_sites, shrunk_dropped}
+use Rattle.rv_sources_link_laws.proofs.moves.ShrinksLemmas.{Begun, begun_in, counted, objects_shrink, shrunk_is, shrunk_laid, shrunk_dropped}
 use Rattle.rv_sources_link_laws.proofs.moves.ShrunkLemmas as shrunk
-use Rattle.rv_sources_link_laws.proofs.moves.ShrunkSectionsLemmas.{site_with}
+use Rattle.rv_sources_link_laws.proofs.moves.ShrunkSectionsLemmas.{laid_with}
 use Rattle.rv_sources_link_laws.proofs.calls.UncutLemmas.{IsUncut, all_uncut}
 
 -- ---- what relaxation leaves of a statement
 
 -- a call in text has the bytes of its size, and all else its own
-abbrev pub IsResized : (ℕ → Sizes) → Site → Site → Type 0
+abbrev pub IsResized : (ℕ → Sizes) → LaidStatement → LaidStatement → Type 0
 IsResized sizes z y = (source_text z.located.home ≡ true → calls z.located.kind ≡ true → y.bytes ≡ sizes z.located.section z.offset) × (calls z.located.kind ≡ false → y.bytes ≡ z.bytes)
 
 -- of an object
 pub record IsCut (sizes : ℕ → Sizes) (ss : List Statement) (o : Object) (is : IsKept ss o) (u : Object) (js : IsAssembled ss u) : Type 0 where
   pub dropped : js.dropped ≡ is.dropped
-  pub mv : Site → Site
-  pub sites : js.sites ≡ map mv is.sites
-  pub stays : (z : Site) → (mv z).located ≡ z.located
-  pub resized : AllByRecursion (λ z. IsResized sizes z (mv z)) is.sites
+  pub mv : LaidStatement → LaidStatement
+  pub laid : js.laid ≡ map mv is.laid
+  pub stays : (z : LaidStatement) → (mv z).located ≡ z.located
+  pub resized : AllByRecursion (λ z. IsResized sizes z (mv z)) is.laid
 
 -- of all, files numbered from one on
 abbrev pub AreCut : (ℕ → ℕ → Sizes) → ℕ → (sources : List (List Statement)) (os : List Object) → AreKept sources os → (us : List Object) → AreAssembled sources us → Type 0
@@ -53,24 +53,24 @@ AreCut sizes file (ss ∷ sources) (o ∷ os) (is, h) (u ∷ us) (js, k) = IsCut
 
 -- ---- what is left of it in the program
 
-pub record IsFinal (t : Tables) (sizes : ℕ → Sizes) (z y : Site) : Type 0 where
+pub record IsFinal (t : Tables) (sizes : ℕ → Sizes) (z y : LaidStatement) : Type 0 where
   -- its size before anything is taken out, by its bytes in the program
   pub placed : z.located.placed ≡ true → z.bytes ≡ statement_size z.located.home.executable (form t z.located) z.located.kind y.bytes
   pub unplaced : z.located.placed ≡ false → z.bytes ≡ 0
   pub call : source_text z.located.home ≡ true → calls z.located.kind ≡ true → y.bytes ≡ sizes z.located.section z.offset
 
-pub record IsFinalFile (sizes : ℕ → Sizes) (ss : List Statement) (o : Object) (is : IsKept ss o) (ys : List Site) : Type 0 where
-  pub final : Site → Site
-  pub sites : ys ≡ map final is.sites
-  pub stays : (z : Site) → (final z).located ≡ z.located
-  pub finals : AllByRecursion (λ z. IsFinal (tables ss) sizes z (final z)) is.sites
+pub record IsFinalFile (sizes : ℕ → Sizes) (ss : List Statement) (o : Object) (is : IsKept ss o) (ys : List LaidStatement) : Type 0 where
+  pub final : LaidStatement → LaidStatement
+  pub laid : ys ≡ map final is.laid
+  pub stays : (z : LaidStatement) → (final z).located ≡ z.located
+  pub finals : AllByRecursion (λ z. IsFinal (tables ss) sizes z (final z)) is.laid
 
 abbrev pub AreFinal : (ℕ → ℕ → Sizes) → ℕ → (sources : List (List Statement)) (os : List Object) → AreKept sources os → (ws : List Object) → shrunk.AreObjectsOf sources ws → Type 0
 AreFinal sizes file [] [] h ws k = ⊤
 AreFinal sizes file [] (o ∷ os) h ws k = absurd h
 AreFinal sizes file (ss ∷ sources) [] h ws k = absurd h
 AreFinal sizes file (ss ∷ sources) (o ∷ os) (is, h) [] k = absurd k
-AreFinal sizes file (ss ∷ sources) (o ∷ os) (is, h) (w ∷ ws) (ks, k) = IsFinalFile (sizes file) ss o is ks.sites × AreFinal sizes (suc file) sources os h ws k
+AreFinal sizes file (ss ∷ sources) (o ∷ os) (is, h) (w ∷ ws) (ks, k) = IsFinalFile (sizes file) ss o is ks.laid × AreFinal sizes (suc file) sources os h ws k
 
 -- ---- sizes
 
@@ -102,7 +102,7 @@ call_placed l h c = go l.kind refl c
     go (Numbered number) e c = absurd (cc)
     go (Directs d) e c = absurd (cc)
 
-module _ (t : Tables) (sizes : ℕ → Sizes) (sections : List SourceSection) (z y : Site) (ms : List Move) (stays : y.located ≡ z.located) (k : IsSettled sections z) (eight : IsUncut z)
+module _ (t : Tables) (sizes : ℕ → Sizes) (sections : List SourceSection) (z y : LaidStatement) (ms : List Move) (stays : y.located ≡ z.located) (k : IsSettled sections z) (eight : IsUncut z)
     (resized : IsResized sizes z y) (count : IsCounted t ms y) where
   abbrev x : Bool
   x = z.located.home.executable
@@ -116,8 +116,8 @@ module _ (t : Tables) (sizes : ℕ → Sizes) (sections : List SourceSection) (z
   uncounted : z.located.placed ≡ false → y.bytes ≡ 0
   uncounted = subst (λ l. l.placed ≡ false → y.bytes ≡ 0) stays count.unplaced
 
-  pub final_site : IsFinal t sizes z (site_with ms y)
-  final_site = record {
+  pub final_laid : IsFinal t sizes z (laid_with ms y)
+  final_laid = record {
     placed = λ e. placed_by (calls z.located.kind) refl e;
     unplaced = λ e. unplaced_by (calls z.located.kind) refl e;
     call = λ text c. sym (counted_here (call_placed z.located k.instructed c) ∙ before_call x v z.located.kind (bytes_with ms y) c) ∙ resized.0 text c;
@@ -133,28 +133,28 @@ module _ (t : Tables) (sizes : ℕ → Sizes) (sections : List SourceSection) (z
 
 -- ---- a file
 
-map_map : (f g : Site → Site) (zs : List Site) → map f (map g zs) ≡ map (λ z. f (g z)) zs
+map_map : (f g : LaidStatement → LaidStatement) (zs : List LaidStatement) → map f (map g zs) ≡ map (λ z. f (g z)) zs
 map_map f g [] = refl
 map_map f g (z ∷ zs) = ap (λ l. f (g z) ∷ l) (map_map f g zs)
 
 final_file : (sizes : ℕ → Sizes) (ss : List Statement) (o : Object) (is : IsKept ss o) (u : Object) (js : IsAssembled ss u) (c : IsCut sizes ss o is u js) (f : ℕ → ℕ)
-    (counts : AllByRecursion (λ z. IsCounted (tables ss) (moves_in f u z.located.section) z) js.sites) (ys : List Site)
-    → ys ≡ map (λ z. site_with (moves_in f u z.located.section) z) js.sites → IsFinalFile sizes ss o is ys
+    (counts : AllByRecursion (λ z. IsCounted (tables ss) (moves_in f u z.located.section) z) js.laid) (ys : List LaidStatement)
+    → ys ≡ map (λ z. laid_with (moves_in f u z.located.section) z) js.laid → IsFinalFile sizes ss o is ys
 final_file sizes ss o is u js c f counts ys e = record {
   final = λ z. G (c.mv z);
-  sites = e ∙ ap (map G) c.sites ∙ map_map G c.mv is.sites;
+  laid = e ∙ ap (map G) c.laid ∙ map_map G c.mv is.laid;
   stays = c.stays;
-  finals = go is.sites (settled_left ss is.sites is.dropped is.good is.located) (all_uncut ss o is) c.resized (subst (λ l. AllByRecursion (λ z. IsCounted (tables ss) (moves_in f u z.located.section) z) l) c.sites counts);
+  finals = go is.laid (settled_left ss is.laid is.dropped is.good is.located) (all_uncut ss o is) c.resized (subst (λ l. AllByRecursion (λ z. IsCounted (tables ss) (moves_in f u z.located.section) z) l) c.laid counts);
 }
   where
-    G : Site → Site
-    G z = site_with (moves_in f u z.located.section) z
+    G : LaidStatement → LaidStatement
+    G z = laid_with (moves_in f u z.located.section) z
 
-    go : (zs : List Site) → AllByRecursion (IsSettled (source_sections is.dropped ss)) zs → AllByRecursion IsUncut zs → AllByRecursion (λ z. IsResized sizes z (c.mv z)) zs
+    go : (zs : List LaidStatement) → AllByRecursion (IsSettled (source_sections is.dropped ss)) zs → AllByRecursion IsUncut zs → AllByRecursion (λ z. IsResized sizes z (c.mv z)) zs
         → AllByRecursion (λ z. IsCounted (tables ss) (moves_in f u z.located.section) z) (map c.mv zs) → AllByRecursion (λ z. IsFinal (tables ss) sizes z (G (c.mv z))) zs
     go [] a b r d = tt
     go (z ∷ zs) (a, as') (b, bs) (r, rs) (d, ds) = (
-      final_site (tables ss) sizes (source_sections is.dropped ss) z (c.mv z) (moves_in f u (c.mv z).located.section) (c.stays z) a b r d,
+      final_laid (tables ss) sizes (source_sections is.dropped ss) z (c.mv z) (moves_in f u (c.mv z).located.section) (c.stays z) a b r d,
       go zs as' bs rs ds,
     )
 
@@ -170,7 +170,7 @@ all_final starts sizes file (ss ∷ sources) (o ∷ os) (is, h) [] k c b = absur
 all_final starts sizes file (ss ∷ sources) (o ∷ os) (is, h) (u ∷ us) (js, k) (c, cs) b =
     let both = split (Begun starts) (inputs_from goes_to_text file u 0 u.sections) (inputs_of goes_to_text (suc file) us) b in
     let begun = begun_in starts file u both.0 in (
-      final_file (sizes file) ss o is u js c (starts file) (counted ss u js (starts file) begun) (shrunk_is ss u js (starts file) begun).sites (shrunk_sites ss u js (starts file) begun),
+      final_file (sizes file) ss o is u js c (starts file) (counted ss u js (starts file) begun) (shrunk_is ss u js (starts file) begun).laid (shrunk_laid ss u js (starts file) begun),
       all_final starts sizes (suc file) sources os h us k cs both.1,
     )
 

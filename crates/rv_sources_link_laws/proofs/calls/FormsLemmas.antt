@@ -24,7 +24,7 @@ use Rattle.rv_object_laws.specs.Inputs.{InputSection, goes_to_text, inputs_from,
 use Rattle.rv_object_laws.specs.Moves.{full_padding, has_padding, alignment_of}
 use Rattle.rv_object_laws.specs.Names.{object_at}
 use Rattle.rv_object_laws.specs.Shortened.{sizes_by}
-use Rattle.rv_assemble_laws.specs.Sites.{Site, form, part_of, part_bytes, sites_in, end_of, HasSize}
+use Rattle.rv_assemble_laws.specs.LaidStatements.{LaidStatement, form, part_of, part_bytes, laid_in, end_of, HasSize}
 use Rattle.rv_assemble_laws.specs.IsObjectOf.{Numbering, relocations_from}
 use Rattle.rv_assemble_laws.proofs.FilledLemmas.{bytes_append}
 use Rattle.rv_sources_link_laws.proofs.sections.KeptLemmas.{IsKept, AreKept}
@@ -39,7 +39,7 @@ use Rattle.rv_sources_link_laws.proofs.calls.LongCallsLemmas.{IsLongCall, long_c
 use Rattle.rv_sources_link_laws.proofs.moves.PiecesOfLemmas.{size_is}
 use Rattle.rv_sources_link_laws.proofs.fields.RangesLemmas.{InRange, in_range}
 use Rattle.rv_sources_link_laws.proofs.sections.SectionsLemmas.{join}
-use Rattle.rv_sources_link_laws.proofs.statements.SettledLemmas.{of_sections, IsSiteIn, sites_are_in}
+use Rattle.rv_sources_link_laws.proofs.statements.SettledLemmas.{of_sections, IsLaidIn, laid_are_in}
 use Rattle.rv_sources_link_laws.proofs.moves.ShrinkingLemmas.{AreAt, all_at}
 use Rattle.rv_sources_link_laws.proofs.fields.TargetsLemmas.{section_of, all_settled, present_of}
 use Rattle.rv_sources_link_laws.proofs.calls.UncutLemmas.{IsUncut, all_uncut, sections_same}
@@ -212,11 +212,11 @@ module _ (t : Tables) (number : Numbering) (j : ℕ) (s : SourceSection) (code :
   place_low q n [] h m l = tt
   place_low q n (r ∷ rs) ((a, b, c), hs) m l = (omega (arith, b, l), place_low q n rs hs m l)
 
-  end_high : (q : ℕ) (zs : List Site) → q ≤ end_of q zs
+  end_high : (q : ℕ) (zs : List LaidStatement) → q ≤ end_of q zs
   end_high q [] = omega arith
   end_high q (z ∷ zs) = let h = end_high (q + z.bytes) zs in let e = end_of (q + z.bytes) zs in let k : q + z.bytes ≤ e = h in let g : q ≤ e = omega (arith, k) in g
 
-  places_low : (q : ℕ) (zs : List Site) → Tile t q zs → AllByRecursion (IsSiteIn j s) zs
+  places_low : (q : ℕ) (zs : List LaidStatement) → Tile t q zs → AllByRecursion (IsLaidIn j s) zs
       → AllByRecursion (λ z. z.located.placed ≡ true → HasSize (form t z.located) z multiple z.located.kind) zs
       → AllByRecursion (λ (r : Relocation). r.place < end_of q zs) (relocations_from number q (parts t zs))
   places_low q [] tile i h = tt
@@ -229,10 +229,10 @@ module _ (t : Tables) (number : Numbering) (j : ℕ) (s : SourceSection) (code :
       (places_low (q + z.bytes) zs tile is hs))
 
   -- each call links what its words say, and lies before the end
-  abbrev IsLinking : List ℕ → ℕ → Site → Type 0
+  abbrev IsLinking : List ℕ → ℕ → LaidStatement → Type 0
   IsLinking bytes end z = calls z.located.kind ≡ true → (linked_by bytes z.offset ≡ link_of z.located.kind) × (z.offset < end)
 
-  linking : (bytes front : List ℕ) (q : ℕ) (zs : List Site) → q ≡ length front → bytes ≡ front ++ flat_map part_bytes (parts t zs) → Tile t q zs → AllByRecursion (IsSiteIn j s) zs → AllByRecursion IsUncut zs
+  linking : (bytes front : List ℕ) (q : ℕ) (zs : List LaidStatement) → q ≡ length front → bytes ≡ front ++ flat_map part_bytes (parts t zs) → Tile t q zs → AllByRecursion (IsLaidIn j s) zs → AllByRecursion IsUncut zs
       → AllByRecursion (λ z. IsSound t z.located) zs → AllByRecursion (λ z. z.located.placed ≡ true → HasSize (form t z.located) z multiple z.located.kind) zs → AllByRecursion (IsLinking bytes (end_of q zs)) zs
   linking bytes front q [] begins whole tile i u k h = tt
   linking bytes front q (z ∷ zs) begins whole (off, size, tile) (i, is) (u, us) (k, ks) (h, hs) =
@@ -270,7 +270,7 @@ module _ (t : Tables) (number : Numbering) (j : ℕ) (s : SourceSection) (code :
 
 module _ (os : List Object) where
   module _ (file : ℕ) (ss : List Statement) (o : Object) (is : IsKept ss o) (here : object_at os file ≡ o) where
-    texts_from : (index : ℕ) (sss : List SourceSection) (xs : List Section) → AreSectionsOf (tables ss) is.sites is.number o.symbols index sss xs
+    texts_from : (index : ℕ) (sss : List SourceSection) (xs : List Section) → AreSectionsOf (tables ss) is.laid is.number o.symbols index sss xs
         → ((j : ℕ) → slice_get (source_sections is.dropped ss) (index + j) ≡ slice_get sss j) → ((j : ℕ) → slice_get o.sections (index + j) ≡ slice_get xs j)
         → AllByRecursion (IsText os) (inputs_from goes_to_text file o index xs)
     texts_from index [] [] h at_s at_x = tt
@@ -291,21 +291,21 @@ module _ (os : List Object) where
         go true text at_s there ih =
             let flags : goes_to_text x ≡ source_text s = ap (λ b. b && x.executable) h.loaded ∙ ap (λ b. s.loaded && b) h.executable in
             let both = and_parts s.loaded s.executable (sym flags ∙ text) in
-            let zs = sites_in index is.sites in
+            let zs = laid_in index is.laid in
             let rels : x.relocations ≡ relocations_from is.number 0 (parts (tables ss) zs) = h.relocations ∙ ap (λ b. if b then relocations_from is.number 0 (parts (tables ss) zs) else []) both.0 in
-            let size = size_is (tables ss) is.sites is.number o index s zs x h in (
+            let size = size_is (tables ss) is.laid is.number o index s zs x h in (
               record {
                 there = ap (λ (u : Object). slice_get u.sections index) here ∙ there;
                 low = subst (λ n. AllByRecursion (λ (r : Relocation). r.place < n) x.relocations) (sym size)
                     (subst (λ l. AllByRecursion (λ (r : Relocation). r.place < end_of 0 zs) l) (sym rels)
-                    (places_low (tables ss) is.number index s both.1 x.alignment 0 zs h.tile (sites_are_in (source_sections is.dropped ss) index s is.sites at_s (all_settled ss o is)) h.sizes));
+                    (places_low (tables ss) is.number index s both.1 x.alignment 0 zs h.tile (laid_are_in (source_sections is.dropped ss) index s is.laid at_s (all_settled ss o is)) h.sizes));
               },
               ih,
             )
 
     file_texts : AllByRecursion (IsText os) (inputs_from goes_to_text file o 0 o.sections)
     file_texts =
-        texts_from 0 (source_sections is.dropped ss) o.sections (sections_same (tables ss) is.sites (all_uncut ss o is) is.number o.symbols 0 (source_sections is.dropped ss) o.sections is.sections)
+        texts_from 0 (source_sections is.dropped ss) o.sections (sections_same (tables ss) is.laid (all_uncut ss o is) is.number o.symbols 0 (source_sections is.dropped ss) o.sections is.sections)
         (λ j. ap (slice_get (source_sections is.dropped ss)) (let e : 0 + j ≡ j = omega arith in e)) (λ j. ap (slice_get o.sections) (let e : 0 + j ≡ j = omega arith in e))
 
   texts : (file : ℕ) (sources : List (List Statement)) (us : List Object) → AreKept sources us → AreAt os file us → AllByRecursion (IsText os) (inputs_of goes_to_text file us)
@@ -316,8 +316,8 @@ module _ (os : List Object) where
       join (IsText os) (inputs_from goes_to_text file o 0 o.sections) (inputs_of goes_to_text (suc file) us) (file_texts file ss o is e) (texts (suc file) sources us h es)
 
   module _ (sources : List (List Statement)) (h : AreKept sources os) (kept : List ℕ) (offered : (i : ℕ) → Offers (spot_at (sites_of os) i).kind (slice_index kept i)) where
-    pub fitting : (file : ℕ) (ss : List Statement) (o : Object) (is : IsKept ss o) → 1 ≤ file → object_at os file ≡ o → AllByRecursion (Fitting (sizes_by os kept file)) is.sites
-    fitting file ss o is least here = of_sections sections (Fitting (sizes_by os kept file)) is.sites (all_settled ss o is) by
+    pub fitting : (file : ℕ) (ss : List Statement) (o : Object) (is : IsKept ss o) → 1 ≤ file → object_at os file ≡ o → AllByRecursion (Fitting (sizes_by os kept file)) is.laid
+    fitting file ss o is least here = of_sections sections (Fitting (sizes_by os kept file)) is.laid (all_settled ss o is) by
       where
         sections : List SourceSection
         sections = source_sections is.dropped ss
@@ -325,23 +325,23 @@ module _ (os : List Object) where
         t : Tables
         t = tables ss
 
-        by : (j : ℕ) (s : SourceSection) → slice_get sections j ≡ Some s → AllByRecursion (Fitting (sizes_by os kept file)) (sites_in j is.sites)
+        by : (j : ℕ) (s : SourceSection) → slice_get sections j ≡ Some s → AllByRecursion (Fitting (sizes_by os kept file)) (laid_in j is.laid)
         by j s at = go (source_text s) refl
           where
-            found : (x : Section) × (slice_get o.sections j ≡ Some x) × IsSectionOf (tables ss) is.sites is.number o.symbols j s (sites_in j is.sites) x
+            found : (x : Section) × (slice_get o.sections j ≡ Some x) × IsSectionOf (tables ss) is.laid is.number o.symbols j s (laid_in j is.laid) x
             found = section_of ss o is j s at
 
-            zs : List Site
-            zs = sites_in j is.sites
+            zs : List LaidStatement
+            zs = laid_in j is.laid
 
-            inside : AllByRecursion (IsSiteIn j s) (sites_in j is.sites)
-            inside = sites_are_in sections j s is.sites at (all_settled ss o is)
+            inside : AllByRecursion (IsLaidIn j s) (laid_in j is.laid)
+            inside = laid_are_in sections j s is.laid at (all_settled ss o is)
 
-            aside_all : (ys : List Site) → AllByRecursion (IsSiteIn j s) ys → source_text s ≡ false → AllByRecursion (Fitting (sizes_by os kept file)) ys
+            aside_all : (ys : List LaidStatement) → AllByRecursion (IsLaidIn j s) ys → source_text s ≡ false → AllByRecursion (Fitting (sizes_by os kept file)) ys
             aside_all [] i e = tt
             aside_all (y ∷ ys) (i, is') e = ((λ text c. let f : true ≡ false = sym text ∙ ap source_text i.home ∙ e in absurd (cc)), aside_all ys is' e)
 
-            text_all : (x : Section) → slice_get o.sections j ≡ Some x → goes_to_text x ≡ true → (ys : List Site) → AllByRecursion (IsSiteIn j s) ys
+            text_all : (x : Section) → slice_get o.sections j ≡ Some x → goes_to_text x ≡ true → (ys : List LaidStatement) → AllByRecursion (IsLaidIn j s) ys
                 → AllByRecursion (λ z. calls z.located.kind ≡ true → (linked_by (stored x.contents) z.offset ≡ link_of z.located.kind) × (z.offset < size_of x.contents)) ys → AllByRecursion (Fitting (sizes_by os kept file)) ys
             text_all x there text [] i k = tt
             text_all x there text (y ∷ ys) (i, is') (k, ks) = (
@@ -356,13 +356,13 @@ module _ (os : List Object) where
               text_all x there text ys is' ks,
             )
 
-            go : (b : Bool) → source_text s ≡ b → AllByRecursion (Fitting (sizes_by os kept file)) (sites_in j is.sites)
-            go false e = aside_all (sites_in j is.sites) inside e
+            go : (b : Bool) → source_text s ≡ b → AllByRecursion (Fitting (sizes_by os kept file)) (laid_in j is.laid)
+            go false e = aside_all (laid_in j is.laid) inside e
             go true e =
                 let (x, there, k) = found in
                 let text : goes_to_text x ≡ true = ap (λ b. b && x.executable) k.loaded ∙ ap (λ b. s.loaded && b) k.executable ∙ e in
-                let linked = linking t is.number j s (and_parts s.loaded s.executable e).1 x.alignment (stored x.contents) [] 0 (sites_in j is.sites) refl
-                (stored_is t is.sites is.number o.symbols j s x (sites_in j is.sites) k e) k.tile inside
-                (all_filter IsUncut (λ z. z.located.section == j) is.sites (all_uncut ss o is)) (all_filter (λ z. IsSound t z.located) (λ z. z.located.section == j) is.sites (sound ss is.sites is.dropped is.good is.located)) k.sizes in
-                text_all x there text (sites_in j is.sites) inside
-                (subst (λ n. AllByRecursion (λ z. calls z.located.kind ≡ true → (linked_by (stored x.contents) z.offset ≡ link_of z.located.kind) × (z.offset < n)) (sites_in j is.sites)) (sym (size_is t is.sites is.number o j s (sites_in j is.sites) x k)) linked)
+                let linked = linking t is.number j s (and_parts s.loaded s.executable e).1 x.alignment (stored x.contents) [] 0 (laid_in j is.laid) refl
+                (stored_is t is.laid is.number o.symbols j s x (laid_in j is.laid) k e) k.tile inside
+                (all_filter IsUncut (λ z. z.located.section == j) is.laid (all_uncut ss o is)) (all_filter (λ z. IsSound t z.located) (λ z. z.located.section == j) is.laid (sound ss is.laid is.dropped is.good is.located)) k.sizes in
+                text_all x there text (laid_in j is.laid) inside
+                (subst (λ n. AllByRecursion (λ z. calls z.located.kind ≡ true → (linked_by (stored x.contents) z.offset ≡ link_of z.located.kind) × (z.offset < n)) (laid_in j is.laid)) (sym (size_is t is.laid is.number o j s (laid_in j is.laid) x k)) linked)

@@ -26,7 +26,7 @@ use Rattle.rv_assemble_laws.specs.Coded.{constants, AreCodedParts, joined, instr
 use Rattle.rv_pseudo_laws.specs.InstructionFaults.{operand_faults, scratch_faults, own_faults, has_row as has_operands_row}
 use Rattle.rv_assemble_laws.specs.InstructionFaults.{instruction_faults, worths, is_label}
 use Rattle.rv_assemble_laws.specs.Templates.{Open, Coded, open_at}
-use Rattle.rv_assemble_laws.specs.Sites.{Site, form, coded_templates, HasSize}
+use Rattle.rv_assemble_laws.specs.LaidStatements.{LaidStatement, form, coded_templates, HasSize}
 use Rattle.rv_sources_link_laws.proofs.sections.AssembledLemmas.{assembled_templates}
 use Rattle.rv_sources_link_laws.proofs.calls.CalledLemmas.{IsCalled, called, short_part, short_coded, short_one}
 use Rattle.rv_sources_link_laws.proofs.statements.MarkedLemmas.{is_jump, marked, part_fields}
@@ -34,7 +34,7 @@ use Rattle.rv_sources_link_laws.proofs.statements.OperandsLemmas.{target_symboli
 use Rattle.rv_sources_link_laws.proofs.fields.UppersLemmas.{none_of_its_own}
 use Rattle.rv_sources_link_laws.proofs.fields.WholesLemmas.{IsSound}
 
-pub record IsLongCall (t : Tables) (z : Site) (m : Mnemonic) (os : List Operand) : Type 0 where
+pub record IsLongCall (t : Tables) (z : LaidStatement) (m : Mnemonic) (os : List Operand) : Type 0 where
   pub goes : IsCalled (constants (form t z.located)) z.located.options.rvc m os
   pub symbol : Primary
   pub meaning : Meaning
@@ -57,7 +57,7 @@ in_four i bytes (inr (e, rest)) = absurd (omega (arith, e))
 some_same : (ps qs : List CodePart) → Some ps ≡ Some qs → ps ≡ qs
 some_same ps qs e = cc
 
-module _ (t : Tables) (z : Site) (multiple : ℕ) (m : Mnemonic) (os : List Operand) (is_kind : z.located.kind ≡ Instruction m os) (call : is_call m ≡ true) where
+module _ (t : Tables) (z : LaidStatement) (multiple : ℕ) (m : Mnemonic) (os : List Operand) (is_kind : z.located.kind ≡ Instruction m os) (call : is_call m ≡ true) where
   abbrev v : Expression → Value
   v = form t z.located
 
@@ -131,7 +131,7 @@ module _ (t : Tables) (z : Site) (multiple : ℕ) (m : Mnemonic) (os : List Oper
     -- ---- and shortened
 
     module _ (size : ℕ) (short : (size ≡ 4) ⊎ ((size ≡ 2) × (link ≡ 0))) where
-      abbrev pub cut_to : ℕ → Site
+      abbrev pub cut_to : ℕ → LaidStatement
       cut_to n = record { located = z.located; offset = n; bytes = size; instructions = 1; coded = short_call size link ∷ [] }
 
       abbrev pub short_kind : Kind

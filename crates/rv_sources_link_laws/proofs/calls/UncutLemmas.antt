@@ -20,7 +20,7 @@ use Rattle.rv_source_laws.specs.Shortened.{calls, link_register}
 use Rattle.rv_assemble_laws.specs.CodeFields.{part_fields as plain_fields}
 use Rattle.rv_assemble_laws.specs.Coded.{constants}
 use Rattle.rv_assemble_laws.specs.Templates.{Open, Coded, IsTemplate}
-use Rattle.rv_assemble_laws.specs.Sites.{Site, form, part_of, part_bytes, coded_templates, sites_in, end_of, templates as plain_templates, parts_of as plain_parts_of, parts as plain_parts, Tile as PlainTile}
+use Rattle.rv_assemble_laws.specs.LaidStatements.{LaidStatement, form, part_of, part_bytes, coded_templates, laid_in, end_of, templates as plain_templates, parts_of as plain_parts_of, parts as plain_parts, Tile as PlainTile}
 use Rattle.rv_assemble_laws.specs.IsObjectOf.{Numbering, relocations_from, contents_of, ArePartsNumbered, IsSectionOf as IsPlainSectionOf, AreSectionsOf as ArePlainSectionsOf, IsObjectOf}
 use Rattle.rv_sources_link_laws.proofs.sections.KeptLemmas.{IsKept, AreKept}
 use Rattle.rv_sources_link_laws.proofs.sections.MaskedLemmas.{source_sections, none_masked}
@@ -30,7 +30,7 @@ use Rattle.rv_sources_link_laws.proofs.sections.AssembledLemmas.{assembled_templ
 
 -- ---- calls have 8 bytes
 
-abbrev pub IsUncut : Site → Type 0
+abbrev pub IsUncut : LaidStatement → Type 0
 IsUncut z = calls z.located.kind ≡ true → z.bytes ≡ 8
 
 settled_eight : (t : Tables) (all : List Located) (s : Located) (bytes : ℕ) (kind : StatementKind) → calls kind ≡ true → (item_by_kind t all s bytes kind).forms ≡ Settled 8
@@ -42,27 +42,27 @@ settled_eight t all s bytes (Label name) e = absurd (cc)
 settled_eight t all s bytes (Numbered number) e = absurd (cc)
 settled_eight t all s bytes (Directs d) e = absurd (cc)
 
-uncut_from : (t : Tables) (all : List Located) (dropped : ℕ → Bool) (ls : List Located) (zs : List Site) → map (λ (z : Site). z.located) zs ≡ map (masked dropped) ls
-    → ((i : ℕ) → Offers (item_at (items_of t all ls (map (λ (z : Site). z.bytes) zs)) i).forms (slice_index (map (λ (z : Site). z.bytes) zs) i))
+uncut_from : (t : Tables) (all : List Located) (dropped : ℕ → Bool) (ls : List Located) (zs : List LaidStatement) → map (λ (z : LaidStatement). z.located) zs ≡ map (masked dropped) ls
+    → ((i : ℕ) → Offers (item_at (items_of t all ls (map (λ (z : LaidStatement). z.bytes) zs)) i).forms (slice_index (map (λ (z : LaidStatement). z.bytes) zs) i))
     → AllByRecursion IsUncut zs
 uncut_from t all dropped ls [] e h = tt
 uncut_from t all dropped [] (z ∷ zs) e h = absurd (cc)
 uncut_from t all dropped (l ∷ ls) (z ∷ zs) e h =
     let same : z.located ≡ masked dropped l = cc in
     let kind : l.kind ≡ z.located.kind = sym (ap (λ (q : Located). q.kind) same) in
-    let rest : map (λ (z : Site). z.located) zs ≡ map (masked dropped) ls = cc in (
+    let rest : map (λ (z : LaidStatement). z.located) zs ≡ map (masked dropped) ls = cc in (
       (λ call. subst (λ f. Offers f z.bytes) (settled_eight t all l z.bytes l.kind (ap calls kind ∙ call)) (h 0)),
       uncut_from t all dropped ls zs rest (λ i. h (suc i)),
     )
 
-pub uncut : (ss : List Statement) (o : Object) (is : IsObjectOf ss o) → AllByRecursion IsUncut is.sites
+pub uncut : (ss : List Statement) (o : Object) (is : IsObjectOf ss o) → AllByRecursion IsUncut is.laid
 uncut ss o is =
-    let ls = located_from 1 1 (at_start ss) ss in uncut_from (tables ss) ls (λ index. false) ls is.sites (is.located ∙ sym (none_masked ls)) is.least.good.family.offered
+    let ls = located_from 1 1 (at_start ss) ss in uncut_from (tables ss) ls (λ index. false) ls is.laid (is.located ∙ sym (none_masked ls)) is.least.good.family.offered
 
 -- those that are kept too
-pub all_uncut : (ss : List Statement) (o : Object) (is : IsKept ss o) → AllByRecursion IsUncut is.sites
+pub all_uncut : (ss : List Statement) (o : Object) (is : IsKept ss o) → AllByRecursion IsUncut is.laid
 all_uncut ss o is =
-    let ls = located_from 1 1 (at_start ss) ss in uncut_from (tables ss) ls is.dropped ls is.sites is.located is.least.good.family.offered
+    let ls = located_from 1 1 (at_start ss) ss in uncut_from (tables ss) ls is.dropped ls is.laid is.located is.least.good.family.offered
 
 -- ---- so no field of theirs is marked
 
@@ -90,7 +90,7 @@ whole : (t : Tables) (s : Located) (link by : ℕ) (coded : List (List ℕ))
 whole t s link by [] = refl
 whole t s link by (bytes ∷ coded) = refl
 
-module _ (t : Tables) (z : Site) (eight : IsUncut z) where
+module _ (t : Tables) (z : LaidStatement) (eight : IsUncut z) where
   abbrev v : Expression → Value
   v = form t z.located
 
@@ -121,24 +121,24 @@ module _ (t : Tables) (z : Site) (eight : IsUncut z) where
 -- ---- sections
 
 module _ (t : Tables) where
-  all_same : (zs : List Site) → AllByRecursion IsUncut zs → parts t zs ≡ plain_parts t zs
+  all_same : (zs : List LaidStatement) → AllByRecursion IsUncut zs → parts t zs ≡ plain_parts t zs
   all_same [] h = refl
   all_same (z ∷ zs) (h, hs) = ap (λ l. l ++ parts t zs) (parts_same t z h) ∙ ap (λ l. plain_parts_of t z ++ l) (all_same zs hs)
 
-  tile_same : (o : ℕ) (zs : List Site) → AllByRecursion IsUncut zs → PlainTile t o zs → Tile t o zs
+  tile_same : (o : ℕ) (zs : List LaidStatement) → AllByRecursion IsUncut zs → PlainTile t o zs → Tile t o zs
   tile_same o [] h tile = tt
   tile_same o (z ∷ zs) (h, hs) (at, bytes, tile) =
       (at, bytes ∙ ap (λ l. length (flat_map part_bytes l)) (sym (parts_same t z h)), tile_same (o + z.bytes) zs hs tile)
 
-  uncut_in : (j : ℕ) (zs : List Site) → AllByRecursion IsUncut zs → AllByRecursion IsUncut (sites_in j zs)
+  uncut_in : (j : ℕ) (zs : List LaidStatement) → AllByRecursion IsUncut zs → AllByRecursion IsUncut (laid_in j zs)
   uncut_in j [] h = tt
   uncut_in j (z ∷ zs) (h, hs) = go (z.located.section == j) (uncut_in j zs hs)
     where
-      go : (b : Bool) → AllByRecursion IsUncut (sites_in j zs) → AllByRecursion IsUncut (if b then z ∷ sites_in j zs else sites_in j zs)
+      go : (b : Bool) → AllByRecursion IsUncut (laid_in j zs) → AllByRecursion IsUncut (if b then z ∷ laid_in j zs else laid_in j zs)
       go true ih = (h, ih)
       go false ih = ih
 
-  section_same : (all : List Site) (number : Numbering) (symbols : List Symbol) (j : ℕ) (s : SourceSection) (zs : List Site) (x : Section) → AllByRecursion IsUncut zs
+  section_same : (all : List LaidStatement) (number : Numbering) (symbols : List Symbol) (j : ℕ) (s : SourceSection) (zs : List LaidStatement) (x : Section) → AllByRecursion IsUncut zs
       → IsPlainSectionOf t all number symbols j s zs x → IsSectionOf t all number symbols j s zs x
   section_same all number symbols j s zs x u h =
       let same : plain_parts t zs ≡ parts t zs = sym (all_same zs u) in
@@ -158,13 +158,13 @@ module _ (t : Tables) where
         short = h.short;
       }
 
-  pub sections_same : (all : List Site) → AllByRecursion IsUncut all → (number : Numbering) (symbols : List Symbol) (j : ℕ) (ss : List SourceSection) (xs : List Section)
+  pub sections_same : (all : List LaidStatement) → AllByRecursion IsUncut all → (number : Numbering) (symbols : List Symbol) (j : ℕ) (ss : List SourceSection) (xs : List Section)
       → ArePlainSectionsOf t all number symbols j ss xs → AreSectionsOf t all number symbols j ss xs
   sections_same all u number symbols j [] [] h = tt
   sections_same all u number symbols j [] (x ∷ xs) h = h
   sections_same all u number symbols j (s ∷ ss) [] h = h
   sections_same all u number symbols j (s ∷ ss) (x ∷ xs) (h, hs) =
-      (section_same all number symbols j s (sites_in j all) x (uncut_in j all u) h, sections_same all u number symbols (suc j) ss xs hs)
+      (section_same all number symbols j s (laid_in j all) x (uncut_in j all u) h, sections_same all u number symbols (suc j) ss xs hs)
 
 -- ---- objects
 
@@ -172,19 +172,19 @@ pub assembled : (ss : List Statement) (o : Object) → IsKept ss o → IsAssembl
 assembled ss o is = record {
   dropped = is.dropped;
   good = is.good;
-  sites = is.sites;
+  laid = is.laid;
   located = is.located;
   places = is.places;
   number = is.number;
-  sections = sections_same (tables ss) is.sites (all_uncut ss o is) is.number o.symbols 0 (source_sections is.dropped ss) o.sections is.sections;
+  sections = sections_same (tables ss) is.laid (all_uncut ss o is) is.number o.symbols 0 (source_sections is.dropped ss) o.sections is.sections;
   exported_are = is.exported_are;
   rows = is.rows;
   rvc = is.rvc;
 }
 
-pub assembled_sites : (ss : List Statement) (o : Object) (is : IsKept ss o) → (assembled ss o is).sites ≡ is.sites
+pub assembled_laid : (ss : List Statement) (o : Object) (is : IsKept ss o) → (assembled ss o is).laid ≡ is.laid
 unfolding assembled
-assembled_sites ss o is = refl
+assembled_laid ss o is = refl
 
 pub assembled_dropped : (ss : List Statement) (o : Object) (is : IsKept ss o) → (assembled ss o is).dropped ≡ is.dropped
 unfolding assembled

@@ -18,8 +18,8 @@ use Rattle.rv_object.specs.Object.{Section, Object}
 use Rattle.rv_object_laws.specs.Names as objects
 use Rattle.rv_object_laws.specs.Names.{Place, is_in_text, can_begin, place_in}
 use Rattle.rv_object_laws.specs.Collects.{run_place, lies_in}
-use Rattle.rv_assemble_laws.specs.Sites.{Site, form, sites_in, HasSize}
-use Rattle.rv_assemble_laws.specs.Symbols.{site_at, after_found, assigned_definition, site_definition}
+use Rattle.rv_assemble_laws.specs.LaidStatements.{LaidStatement, form, laid_in, HasSize}
+use Rattle.rv_assemble_laws.specs.Symbols.{laid_at, after_found, assigned_definition, statement_definition}
 use Rattle.rv_assemble_laws.specs.IsObjectOf.{IsInData, StandsInData, IsObjectOf}
 use Rattle.rv_sources_link_laws.proofs.calls.UncutLemmas.{uncut, sections_same}
 use Rattle.rv_sources_link_laws.proofs.collected.HereLemmas.{seen}
@@ -30,7 +30,7 @@ use Rattle.rv_sources_link_laws.proofs.names.PairLemmas.{IsAlike, IsPair}
 use Rattle.rv_sources_link_laws.proofs.sections.AssembledLemmas.{Tile, IsSectionOf}
 use Rattle.rv_sources_link_laws.proofs.statements.EvensLemmas.{IsEven}
 use Rattle.rv_sources_link_laws.proofs.statements.OrderedLemmas.{its_section}
-use Rattle.rv_sources_link_laws.proofs.statements.SettledLemmas.{IsSettled, settled, of_sections, IsSiteIn, sites_are_in}
+use Rattle.rv_sources_link_laws.proofs.statements.SettledLemmas.{IsSettled, settled, of_sections, IsLaidIn, laid_are_in}
 use Rattle.rv_sources_link_laws.proofs.statements.StatementsLemmas.{renumbered}
 
 pub lies_home : (T : SectionId) (p : Option Place) → lies_in T p ≡ is_in T (place_home p)
@@ -57,18 +57,18 @@ module _ (ss : List Statement) (o : Object) (is : IsObjectOf ss o) where
   abbrev sections : List SourceSection
   sections = (opened_of (tables ss)).sections
 
-  all_settled : AllByRecursion (IsSettled sections) is.sites
-  all_settled = settled ss is.sites is.good is.located
+  all_settled : AllByRecursion (IsSettled sections) is.laid
+  all_settled = settled ss is.laid is.good is.located
 
   section_of : (j : ℕ) (s : SourceSection) → slice_get sections j ≡ Some s
-      → (x : Section) × (slice_get o.sections j ≡ Some x) × IsSectionOf t is.sites is.number o.symbols j s (sites_in j is.sites) x
+      → (x : Section) × (slice_get o.sections j ≡ Some x) × IsSectionOf t is.laid is.number o.symbols j s (laid_in j is.laid) x
   section_of j s at =
-      its_section (IsSectionOf t is.sites is.number o.symbols) is.sites j sections o.sections s
-      (sections_same t is.sites (uncut ss o is) is.number o.symbols 0 sections o.sections is.sections) at
+      its_section (IsSectionOf t is.laid is.number o.symbols) is.laid j sections o.sections s
+      (sections_same t is.laid (uncut ss o is) is.number o.symbols 0 sections o.sections is.sections) at
 
   -- ---- statements of text stand at even offsets
 
-  in_code : (j : ℕ) (s : SourceSection) (code : s.executable ≡ true) (multiple offset : ℕ) (zs : List Site) → offset % 2 ≡ 0 → AllByRecursion (IsSiteIn j s) zs → Tile t offset zs
+  in_code : (j : ℕ) (s : SourceSection) (code : s.executable ≡ true) (multiple offset : ℕ) (zs : List LaidStatement) → offset % 2 ≡ 0 → AllByRecursion (IsLaidIn j s) zs → Tile t offset zs
       → AllByRecursion (λ z. z.located.placed ≡ true → HasSize (form t z.located) z multiple z.located.kind) zs → AllByRecursion IsEven zs
   in_code j s code multiple offset [] even h tile sizes = tt
   in_code j s code multiple offset (z ∷ zs) even (h, hs) (at, bytes, tile) (size, sizes) =
@@ -77,58 +77,58 @@ module _ (ss : List Statement) (o : Object) (is : IsObjectOf ss o) where
         in_code j s code multiple (offset + z.bytes) zs (omega (arith, even, own)) hs tile sizes,
       )
 
-  aside : (j : ℕ) (s : SourceSection) (zs : List Site) → goes_to_text s ≡ false → AllByRecursion (IsSiteIn j s) zs → AllByRecursion IsEven zs
+  aside : (j : ℕ) (s : SourceSection) (zs : List LaidStatement) → goes_to_text s ≡ false → AllByRecursion (IsLaidIn j s) zs → AllByRecursion IsEven zs
   aside j s [] none h = tt
   aside j s (z ∷ zs) none (h, hs) = ((λ text. let e : true ≡ false = sym text ∙ ap goes_to_text h.home ∙ none in absurd (cc)), aside j s zs none hs)
 
-  section_even : (j : ℕ) (s : SourceSection) → slice_get sections j ≡ Some s → AllByRecursion IsEven (sites_in j is.sites)
+  section_even : (j : ℕ) (s : SourceSection) → slice_get sections j ≡ Some s → AllByRecursion IsEven (laid_in j is.laid)
   section_even j s at = go (goes_to_text s) refl
     where
-      here : AllByRecursion (IsSiteIn j s) (sites_in j is.sites)
-      here = sites_are_in sections j s is.sites at all_settled
+      here : AllByRecursion (IsLaidIn j s) (laid_in j is.laid)
+      here = laid_are_in sections j s is.laid at all_settled
 
-      go : (b : Bool) → goes_to_text s ≡ b → AllByRecursion IsEven (sites_in j is.sites)
+      go : (b : Bool) → goes_to_text s ≡ b → AllByRecursion IsEven (laid_in j is.laid)
       go true text =
           let (x, there, h) = section_of j s at in
-          in_code j s ((and_parts s.loaded s.executable text).1) x.alignment 0 (sites_in j is.sites) refl here h.tile h.sizes
-      go false none = aside j s (sites_in j is.sites) none here
+          in_code j s ((and_parts s.loaded s.executable text).1) x.alignment 0 (laid_in j is.laid) refl here h.tile h.sizes
+      go false none = aside j s (laid_in j is.laid) none here
 
-  evens : AllByRecursion IsEven is.sites
-  evens = of_sections sections IsEven is.sites all_settled section_even
+  evens : AllByRecursion IsEven is.laid
+  evens = of_sections sections IsEven is.laid all_settled section_even
 
   -- ---- a definition
 
-  text_is : (z : Site) → IsSettled sections z → is_in_text (slice_get o.sections z.located.section) ≡ goes_to_text z.located.home
+  text_is : (z : LaidStatement) → IsSettled sections z → is_in_text (slice_get o.sections z.located.section) ≡ goes_to_text z.located.home
   text_is z here =
       let found = section_of z.located.section z.located.home here.home in
       ap is_in_text found.1 ∙ ap (λ b. b && found.0.executable) found.2.loaded ∙ ap (λ b. z.located.home.loaded && b) found.2.executable
 
   -- a place that `.set` gives is in no text
-  found_aside : (a : Option Site) (ordinal plus : ℕ) → site_at is.sites ordinal ≡ a → IsInData a → can_begin o (after_found a plus) ≡ false
+  found_aside : (a : Option LaidStatement) (ordinal plus : ℕ) → laid_at is.laid ordinal ≡ a → IsInData a → can_begin o (after_found a plus) ≡ false
   found_aside None ordinal plus e h = refl
   found_aside (Some z) ordinal plus e (aside, placed) =
-      let here = all_found (IsSettled sections) (λ z. z.located.ordinal == ordinal) is.sites all_settled z e in
+      let here = all_found (IsSettled sections) (λ z. z.located.ordinal == ordinal) is.laid all_settled z e in
       ap (λ b. b && (add z.offset plus % 2 == 0)) (text_is z here ∙ ap (λ b. z.located.home.loaded && b) aside ∙ never z.located.home.loaded)
     where
       never : (b : Bool) → (b && false) ≡ false
       never true = refl
       never false = refl
 
-  assigned_aside : (name : List ℕ) → can_begin o (assigned_definition is.sites (assigned_ever t.assignments name)) ≡ false
+  assigned_aside : (name : List ℕ) → can_begin o (assigned_definition is.laid (assigned_ever t.assignments name)) ≡ false
   assigned_aside name = go (assigned_ever t.assignments name) refl
     where
-      by : (a : Assignment) (m : Meaning) → (is_location (record a { meaning = m }) ≡ true → IsInData (site_at is.sites a.ordinal))
-          → can_begin o (assigned_definition is.sites (Some (record a { meaning = m }))) ≡ false
+      by : (a : Assignment) (m : Meaning) → (is_location (record a { meaning = m }) ≡ true → IsInData (laid_at is.laid a.ordinal))
+          → can_begin o (assigned_definition is.laid (Some (record a { meaning = m }))) ≡ false
       by a (Known n) h = refl
-      by a (InData section offset) h = found_aside (site_at is.sites a.ordinal) a.ordinal a.plus refl (h refl)
+      by a (InData section offset) h = found_aside (laid_at is.laid a.ordinal) a.ordinal a.plus refl (h refl)
       by a OpenAddress h = refl
       by a (Refused code) h = refl
 
-      go : (a : Option Assignment) → assigned_ever t.assignments name ≡ a → can_begin o (assigned_definition is.sites a) ≡ false
+      go : (a : Option Assignment) → assigned_ever t.assignments name ≡ a → can_begin o (assigned_definition is.laid a) ≡ false
       go None e = refl
-      go (Some a) e = by a a.meaning (all_found (StandsInData is.sites) (λ s. bytes_eq s.name name) t.assignments is.places a e)
+      go (Some a) e = by a a.meaning (all_found (StandsInData is.laid) (λ s. bytes_eq s.name name) t.assignments is.places a e)
 
-  label_begins : (z : Site) → IsSettled sections z → IsEven z → can_begin o (InSection z.located.section z.offset) ≡ goes_to_text z.located.home
+  label_begins : (z : LaidStatement) → IsSettled sections z → IsEven z → can_begin o (InSection z.located.section z.offset) ≡ goes_to_text z.located.home
   label_begins z here even = ap (λ b. b && (z.offset % 2 == 0)) (text_is z here) ∙ go (goes_to_text z.located.home) refl
     where
       go : (b : Bool) → goes_to_text z.located.home ≡ b → (b && (z.offset % 2 == 0)) ≡ b
@@ -136,30 +136,30 @@ module _ (ss : List Statement) (o : Object) (is : IsObjectOf ss o) where
       go false e = refl
 
   module _ (f : ℕ) where
-    either : (b : Bool) (z : Site) → (if b then Some (home_of (renumbered f z.located)) else None) ≡ place_home (if b then place_in f (InSection z.located.section z.offset) else None)
+    either : (b : Bool) (z : LaidStatement) → (if b then Some (home_of (renumbered f z.located)) else None) ≡ place_home (if b then place_in f (InSection z.located.section z.offset) else None)
     either true z = refl
     either false z = refl
 
-    kind_alike : (z : Site) (kind : StatementKind) (name : List ℕ) → IsSettled sections z → IsEven z → defined_name t z.located.ordinal kind ≡ name ∷ []
-        → let d = site_definition t is.sites z kind in
+    kind_alike : (z : LaidStatement) (kind : StatementKind) (name : List ℕ) → IsSettled sections z → IsEven z → defined_name t z.located.ordinal kind ≡ name ∷ []
+        → let d = statement_definition t is.laid z kind in
         (if is_label kind && goes_to_text z.located.home then Some (home_of (renumbered f z.located)) else None) ≡ place_home (if can_begin o d then place_in f d else None)
     kind_alike z (Label n) name here even e =
         either (goes_to_text z.located.home) z
         ∙ ap (λ b. place_home (if b then place_in f (InSection z.located.section z.offset) else None)) (sym (label_begins z here even))
     kind_alike z (Directs (Sets n x)) name here even e =
-        let d = assigned_definition is.sites (assigned_ever t.assignments n) in
+        let d = assigned_definition is.laid (assigned_ever t.assignments n) in
         ap (λ b. place_home (if b then place_in f d else None)) (sym (assigned_aside n))
     kind_alike z (Directs (Enters section)) name here even e = absurd (cc)
     kind_alike z (Directs _) name here even e = absurd (cc)
     kind_alike z (Numbered number) name here even e = absurd (cc)
     kind_alike z (Instruction mnemonic operands) name here even e = absurd (cc)
 
-    abbrev Alike : Site → Type 0
-    Alike z = IsPair BeginsAlike t is.sites (seen f) f o z
+    abbrev Alike : LaidStatement → Type 0
+    Alike z = IsPair BeginsAlike t is.laid (seen f) f o z
 
-    alike_from : (zs : List Site) → AllByRecursion (IsSettled sections) zs → AllByRecursion IsEven zs → AllByRecursion Alike zs
+    alike_from : (zs : List LaidStatement) → AllByRecursion (IsSettled sections) zs → AllByRecursion IsEven zs → AllByRecursion Alike zs
     alike_from [] h v = tt
     alike_from (z ∷ zs) (h, hs) (v, vs) = ((λ name index e shared. kind_alike z z.located.kind name h v e), alike_from zs hs vs)
 
-    pub begins_alike : AllByRecursion Alike is.sites
-    begins_alike = alike_from is.sites all_settled evens
+    pub begins_alike : AllByRecursion Alike is.laid
+    begins_alike = alike_from is.laid all_settled evens

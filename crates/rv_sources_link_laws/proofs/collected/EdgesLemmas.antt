@@ -21,7 +21,7 @@ use Rattle.rv_source_laws.specs.Collected.{means, value_refers, operand_refers, 
 use Rattle.rv_assemble_laws.specs.Coded.{constants, AreCodedParts}
 use Rattle.rv_assemble_laws.specs.CodeFields.{part_fields}
 use Rattle.rv_assemble_laws.specs.Templates.{Open as Field, Template, Datum, template_fields, value_fields, padding_templates, contribution_templates}
-use Rattle.rv_assemble_laws.specs.Sites.{Site, Part, form, part_of, coded_templates, templates, HasSize}
+use Rattle.rv_assemble_laws.specs.LaidStatements.{LaidStatement, Part, form, part_of, coded_templates, templates, HasSize}
 use Rattle.rv_sources_link_laws.proofs.collected.NamedLemmas.{names, fields, Row, rows_same}
 use Rattle.rv_sources_link_laws.proofs.statements.StatementsLemmas.{renumbered}
 
@@ -79,7 +79,7 @@ module _ (p : Program) (T : SectionId) (f : ℕ) where
     contribution_is x (Zero_bytes count) bytes = refl
     contribution_is x (Alignment form number) bytes = padding_none x bytes
 
-  module _ (z : Site) (multiple : ℕ) (no_self : names p T f z.located.ordinal (Some Here) ≡ false) where
+  module _ (z : LaidStatement) (multiple : ℕ) (no_self : names p T f z.located.ordinal (Some Here) ≡ false) where
     abbrev it : Located
     it = renumbered f z.located
 

@@ -15,24 +15,24 @@ use Rattle.rv_source_laws.specs.Shortened.{aim}
 use Rattle.rv_source_laws.specs.Collected.{unplaced, home_of, home_at}
 use Rattle.rv_object.specs.Object.{Object}
 use Rattle.rv_object_laws.specs.Names as objects
-use Rattle.rv_assemble_laws.specs.Sites.{Site}
-use Rattle.rv_assemble_laws.specs.Symbols.{site_at}
+use Rattle.rv_assemble_laws.specs.LaidStatements.{LaidStatement}
+use Rattle.rv_assemble_laws.specs.Symbols.{laid_at}
 use Rattle.rv_assemble_laws.specs.IsObjectOf.{IsObjectOf}
 use Rattle.rv_sources_link_laws.specs.Joins.{AreObjectsOf}
 use Rattle.rv_sources_link_laws.proofs.names.ExportedLemmas.{exported_are}
 use Rattle.rv_sources_link_laws.proofs.names.PairLemmas.{Rise, IsPair, AreMade}
 use Rattle.rv_sources_link_laws.proofs.statements.StatementsLemmas.{renumbered, renumbers}
 
--- a statement without a row, and that of a site in a file
+-- a statement without a row, and that of a laid statement in a file
 abbrev pub bare : Located → MaybeMapped
 bare l = record { located = l; row = None }
 
-abbrev pub seen : ℕ → Site → MaybeMapped
+abbrev pub seen : ℕ → LaidStatement → MaybeMapped
 seen f z = bare (renumbered f z.located)
 
--- the section of a site in a file
-abbrev pub site_home : ℕ → Site → SectionId
-site_home f z = record { file = f; section = suc z.located.section }
+-- the section of a laid statement in a file
+abbrev pub laid_home : ℕ → LaidStatement → SectionId
+laid_home f z = record { file = f; section = suc z.located.section }
 
 -- ---- the statement of a file and an ordinal
 
@@ -59,7 +59,7 @@ others_of f k n (ss ∷ sources) lt =
 abbrev found_home : Option MaybeMapped → Option SectionId
 found_home e = option_map (λ e. home_of e.located) e
 
-own_from : (f n : ℕ) (zs : List Site) (more : List MaybeMapped) → F f n more ≡ None → found_home (F f n (map (seen f) zs ++ more)) ≡ option_map (site_home f) (site_at zs n)
+own_from : (f n : ℕ) (zs : List LaidStatement) (more : List MaybeMapped) → F f n more ≡ None → found_home (F f n (map (seen f) zs ++ more)) ≡ option_map (laid_home f) (laid_at zs n)
 own_from f n [] more none = ap found_home none
 own_from f n (z ∷ zs) more none =
     ap (λ b. found_home (if b && (z.located.ordinal == n) then Some (seen f z) else F f n (map (seen f) zs ++ more))) (eq-eqb f f refl)
@@ -68,17 +68,17 @@ own_from f n (z ∷ zs) more none =
     rest : Option MaybeMapped
     rest = F f n (map (seen f) zs ++ more)
 
-    go : (b : Bool) → found_home rest ≡ option_map (site_home f) (site_at zs n)
-        → found_home (if b then Some (seen f z) else rest) ≡ option_map (site_home f) (if b then Some z else site_at zs n)
+    go : (b : Bool) → found_home rest ≡ option_map (laid_home f) (laid_at zs n)
+        → found_home (if b then Some (seen f z) else rest) ≡ option_map (laid_home f) (if b then Some z else laid_at zs n)
     go true h = refl
     go false h = h
 
--- the statements of a file are its sites
-pub own_are : (f : ℕ) (ss : List Statement) (o : Object) (is : IsObjectOf ss o) → map bare (located_from f 1 (at_start ss) ss) ≡ map (seen f) is.sites
+-- the statements of a file are its laid statements
+pub own_are : (f : ℕ) (ss : List Statement) (o : Object) (is : IsObjectOf ss o) → map bare (located_from f 1 (at_start ss) ss) ≡ map (seen f) is.laid
 own_are f ss o is =
-    ap (map bare) (renumbers f 1 (at_start ss) ss) ∙ ap (λ l. map bare (map (renumbered f) l)) (sym is.located) ∙ twice is.sites
+    ap (map bare) (renumbers f 1 (at_start ss) ss) ∙ ap (λ l. map bare (map (renumbered f) l)) (sym is.located) ∙ twice is.laid
   where
-    twice : (zs : List Site) → map bare (map (renumbered f) (map (λ s. s.located) zs)) ≡ map (seen f) zs
+    twice : (zs : List LaidStatement) → map bare (map (renumbered f) (map (λ s. s.located) zs)) ≡ map (seen f) zs
     twice [] = refl
     twice (z ∷ zs) = ap (λ l. seen f z ∷ l) (twice zs)
 
@@ -86,7 +86,7 @@ own_are f ss o is =
 
 pub record IsHere (p : Program) (f : ℕ) (ss : List Statement) (o : Object) (is : IsObjectOf ss o) : Type 0 where
   pub tables_are : tables_in p f ≡ tables ss
-  pub found : (n : ℕ) → home_at p.statements (aim f n) ≡ option_map (site_home f) (site_at is.sites n)
+  pub found : (n : ℕ) → home_at p.statements (aim f n) ≡ option_map (laid_home f) (laid_at is.laid n)
 
 abbrev pub AreHere : Program → ℕ → (sources : List (List Statement)) (us : List Object) → AreObjectsOf sources us → Type 0
 AreHere p f [] [] k = ⊤
@@ -106,7 +106,7 @@ here_from p f (ss ∷ sources) (o ∷ us) (is, k) found t = (
     found = λ n.
         ap found_home (found f n (omega arith) ∙ joined f n f ss sources)
         ∙ ap (λ l. found_home (F f n (l ++ all_from (suc f) sources))) (own_are f ss o is)
-        ∙ own_from f n is.sites (all_from (suc f) sources) (others_of f (suc f) n sources (omega arith));
+        ∙ own_from f n is.laid (all_from (suc f) sources) (others_of f (suc f) n sources (omega arith));
   },
   here_from p (suc f) sources us k
       (λ g n le. found g n (omega (arith, le)) ∙ joined g n f ss sources ∙ other_from g f n 1 (at_start ss) ss (all_from (suc f) sources) (λ e. omega (arith, le, e)))
@@ -119,21 +119,21 @@ all_here sources os k =
 
 -- ---- the definitions of all files
 
-pub rises : (k : ℕ) (t : Tables) (ss : List Statement) (sites : List Site) → map (λ s. s.located) sites ≡ located_from 1 k t ss → Rise k sites
+pub rises : (k : ℕ) (t : Tables) (ss : List Statement) (laid : List LaidStatement) → map (λ s. s.located) laid ≡ located_from 1 k t ss → Rise k laid
 rises k t ss [] e = tt
-rises k t [] (s ∷ sites) e = absurd (cc)
-rises k t (x ∷ ss) (s ∷ sites) e =
+rises k t [] (s ∷ laid) e = absurd (cc)
+rises k t (x ∷ ss) (s ∷ laid) e =
     let now : s.located ≡ located_now 1 k t x = cc in
     let own : s.located.ordinal ≡ k = ap (λ (l : Located). l.ordinal) now in
-    let rest : map (λ s. s.located) sites ≡ located_from 1 (suc k) (after t k x.kind) ss = cc in
-    (omega (arith, own), subst (λ n. Rise (suc n) sites) (sym own) (rises (suc k) (after t k x.kind) ss sites rest))
+    let rest : map (λ s. s.located) laid ≡ located_from 1 (suc k) (after t k x.kind) ss = cc in
+    (omega (arith, own), subst (λ n. Rise (suc n) laid) (sym own) (rises (suc k) (after t k x.kind) ss laid rest))
 
 module _ (R : source.Export → objects.Export → Type 0) (p : Program) where
   -- the pairs of a file
   abbrev pub PairsOf : Type 0
   PairsOf =
       (f : ℕ) (ss : List Statement) (o : Object) (is : IsObjectOf ss o) → IsHere p f ss o is
-      → AllByRecursion (IsPair R (tables ss) is.sites (seen f) f o) is.sites
+      → AllByRecursion (IsPair R (tables ss) is.laid (seen f) f o) is.laid
 
   pub all_made : PairsOf → (f : ℕ) (sources : List (List Statement)) (us : List Object) (k : AreObjectsOf sources us) → AreHere p f sources us k → AreMade R p f us (all_from f sources)
   all_made pairs f [] [] k a = refl
@@ -145,12 +145,12 @@ module _ (R : source.Export → objects.Export → Type 0) (p : Program) where
     map-append bare (located_from f 1 (at_start ss) ss) (located_of (suc f) sources),
     record {
       t = tables ss;
-      sites = is.sites;
+      laid = is.laid;
       seen = seen f;
       tables = a.tables_are;
       own_are = own_are f ss o is;
       located = λ z. refl;
-      rise = rises 1 (at_start ss) ss is.sites is.located;
+      rise = rises 1 (at_start ss) ss is.laid is.located;
       exported_are = exported_are ss o is;
       pairs = pairs f ss o is a;
     },

@@ -12,11 +12,11 @@ use Rattle.rv_object.specs.Object.{Section, Symbol, Object}
 use Rattle.rv_object_laws.specs.Inputs.{InputSection, inputs_from, inputs_of}
 use Rattle.rv_object_laws.specs.IsLinkOf.{is_loaded}
 use Rattle.rv_object_laws.specs.Collects.{id_of, loaded_sections}
-use Rattle.rv_assemble_laws.specs.Sites.{Site}
+use Rattle.rv_assemble_laws.specs.LaidStatements.{LaidStatement}
 use Rattle.rv_assemble_laws.specs.IsObjectOf.{Numbering, AreSectionsOf}
 use Rattle.rv_sources_link_laws.specs.Joins.{AreObjectsOf}
 
-own : (file : ℕ) (o : Object) (t : Tables) (all : List Site) (number : Numbering) (symbols : List Symbol) (index : ℕ) (ss : List SourceSection) (xs : List Section)
+own : (file : ℕ) (o : Object) (t : Tables) (all : List LaidStatement) (number : Numbering) (symbols : List Symbol) (index : ℕ) (ss : List SourceSection) (xs : List Section)
     → AreSectionsOf t all number symbols index ss xs → map id_of (inputs_from is_loaded file o index xs) ≡ loaded_from file index ss
 own file o t all number symbols index [] [] h = refl
 own file o t all number symbols index [] (x ∷ xs) h = absurd h
@@ -45,7 +45,7 @@ of_files file [] (o ∷ os) h = absurd h
 of_files file (ss ∷ sources) [] h = absurd h
 of_files file (ss ∷ sources) (o ∷ os) (is, h) =
     map-append id_of (inputs_from is_loaded file o 0 o.sections) (inputs_of is_loaded (suc file) os)
-    ∙ ap (λ l. l ++ map id_of (inputs_of is_loaded (suc file) os)) (own file o (tables ss) is.sites is.number o.symbols 0 (opened_of (tables ss)).sections o.sections is.sections)
+    ∙ ap (λ l. l ++ map id_of (inputs_of is_loaded (suc file) os)) (own file o (tables ss) is.laid is.number o.symbols 0 (opened_of (tables ss)).sections o.sections is.sections)
     ∙ ap (λ l. loaded_from file 0 (opened_of (tables ss)).sections ++ l) (of_files (suc file) sources os h)
 
 pub loaded_alike : (sources : List (List Statement)) (os : List Object) → AreObjectsOf sources os → loaded_sections os ≡ loaded_of 1 sources

@@ -19,7 +19,7 @@ use Rattle.rv_object.specs.Object.{Section, Object}
 use Rattle.rv_object_laws.specs.Inputs.{InputSection, inputs_from, inputs_of, inputs}
 use Rattle.rv_object_laws.specs.IsLinkOf.{is_loaded}
 use Rattle.rv_object_laws.specs.Collects.{id_of, loaded_sections, leads_to, is_at, refers as objects_refer}
-use Rattle.rv_assemble_laws.specs.Sites.{Site, sites_in}
+use Rattle.rv_assemble_laws.specs.LaidStatements.{LaidStatement, laid_in}
 use Rattle.rv_assemble_laws.specs.IsObjectOf.{AreSectionsOf, IsObjectOf}
 use Rattle.rv_sources_link_laws.specs.Joins.{AreObjectsOf}
 use Rattle.rv_sources_link_laws.proofs.collected.HereLemmas.{bare, seen, own_are, IsHere, AreHere}
@@ -130,24 +130,24 @@ module _ (p : Program) (os : List Object) (s T : SectionId) (apart : is_same s T
   other_index_has k n h = and_right (s.file == k) (s.section == suc n) (ne_eqb s.section (suc n) (λ e. h (sym e)))
 
   module _ (ss : List Statement) (o : Object) (is : IsObjectOf ss o) (here : IsHere p s.file ss o is) (meant : AreMeant p os s.file ss o is) where
-    abbrev own : Site → Bool
+    abbrev own : LaidStatement → Bool
     own z = refers_by p os T s.file ss o is here meant z
 
-    sites_same : (j : ℕ) → s.section ≡ suc j → (zs : List Site) → list_any B (map (seen s.file) zs) ≡ list_any own (sites_in j zs)
-    sites_same j e [] = refl
-    sites_same j e (z ∷ zs) =
+    laid_same : (j : ℕ) → s.section ≡ suc j → (zs : List LaidStatement) → list_any B (map (seen s.file) zs) ≡ list_any own (laid_in j zs)
+    laid_same j e [] = refl
+    laid_same j e (z ∷ zs) =
         ap (λ b. (b && (suc z.located.section == s.section)) && own z || list_any B (map (seen s.file) zs)) (eq-eqb s.file s.file refl)
         ∙ ap (λ m. (suc z.located.section == m) && own z || list_any B (map (seen s.file) zs)) e
         ∙ ap (λ b. b && own z || list_any B (map (seen s.file) zs)) (same_suc z.located.section j)
-        ∙ ap (λ b. (z.located.section == j) && own z || b) (sites_same j e zs)
+        ∙ ap (λ b. (z.located.section == j) && own z || b) (laid_same j e zs)
         ∙ go (z.located.section == j)
       where
-        go : (b : Bool) → (b && own z || list_any own (sites_in j zs)) ≡ list_any own (if b then z ∷ sites_in j zs else sites_in j zs)
+        go : (b : Bool) → (b && own z || list_any own (laid_in j zs)) ≡ list_any own (if b then z ∷ laid_in j zs else laid_in j zs)
         go true = refl
         go false = refl
 
-    in_file_same : (n : ℕ) (xs : List SourceSection) (ys : List Section) → AreSectionsOf (tables ss) is.sites is.number o.symbols n xs ys
-        → list_any H (inputs_from is_loaded s.file o n ys) ≡ true → list_any A (inputs_from is_loaded s.file o n ys) ≡ list_any B (map (seen s.file) is.sites)
+    in_file_same : (n : ℕ) (xs : List SourceSection) (ys : List Section) → AreSectionsOf (tables ss) is.laid is.number o.symbols n xs ys
+        → list_any H (inputs_from is_loaded s.file o n ys) ≡ true → list_any A (inputs_from is_loaded s.file o n ys) ≡ list_any B (map (seen s.file) is.laid)
     in_file_same n [] [] h has = absurd (true≢false (sym has))
     in_file_same n [] (y ∷ ys) h has = absurd h
     in_file_same n (x ∷ xs) [] h has = absurd h
@@ -159,7 +159,7 @@ module _ (p : Program) (os : List Object) (s T : SectionId) (apart : is_same s T
         more : List InputSection
         more = inputs_from is_loaded s.file o (suc n) ys
 
-        here_it : y.loaded ≡ true → suc n ≡ s.section → list_any A (it ∷ more) ≡ list_any B (map (seen s.file) is.sites)
+        here_it : y.loaded ≡ true → suc n ≡ s.section → list_any A (it ∷ more) ≡ list_any B (map (seen s.file) is.laid)
         here_it loaded e =
             ap (λ b. (b && (suc n == s.section)) && list_any (leads_to os T it) y.relocations || list_any A more) (eq-eqb s.file s.file refl)
             ∙ ap (λ b. b && list_any (leads_to os T it) y.relocations || list_any A more) (eq-eqb (suc n) s.section e)
@@ -167,10 +167,10 @@ module _ (p : Program) (os : List Object) (s T : SectionId) (apart : is_same s T
             (later_none A s.file n o (λ m z lt. other_index s.file m (list_any (leads_to os T (record { file = s.file; object = o; index = m; section = z })) z.relocations) (λ q. omega (arith, lt, q, e))) (suc n) ys (omega arith))
             ∙ or-false (list_any (leads_to os T it) y.relocations)
             ∙ section_leads p os T s.file ss o is here meant it refl refl n x h (sym h.loaded ∙ loaded) (ap (λ m. (s.file == T.file) && (m == T.section)) e ∙ apart)
-            ∙ sym (sites_same n (sym e) is.sites)
+            ∙ sym (laid_same n (sym e) is.laid)
 
-        go : (b : Bool) → y.loaded ≡ b → list_any H (if b then it ∷ more else more) ≡ true → (list_any H more ≡ true → list_any A more ≡ list_any B (map (seen s.file) is.sites))
-            → list_any A (if b then it ∷ more else more) ≡ list_any B (map (seen s.file) is.sites)
+        go : (b : Bool) → y.loaded ≡ b → list_any H (if b then it ∷ more else more) ≡ true → (list_any H more ≡ true → list_any A more ≡ list_any B (map (seen s.file) is.laid))
+            → list_any A (if b then it ∷ more else more) ≡ list_any B (map (seen s.file) is.laid)
         go false e k ih = ih k
         go true e k ih = elim (cases_eq (suc n) s.section) [
           | inl same ↦ here_it e same

@@ -19,10 +19,10 @@ use Rattle.rv_object_laws.specs.Inputs.{InputSection}
 use Rattle.rv_object_laws.specs.Names.{symbol_place}
 use Rattle.rv_object_laws.specs.Collects.{lies_in, leads_to}
 use Rattle.rv_assemble_laws.specs.Templates.{Open as Field, template_fields}
-use Rattle.rv_assemble_laws.specs.Sites.{Site, Part, form, part_bytes, templates, parts_of, parts, sites_in, HasSize}
+use Rattle.rv_assemble_laws.specs.LaidStatements.{LaidStatement, Part, form, part_bytes, templates, parts_of, parts, laid_in, HasSize}
 use Rattle.rv_assemble_laws.specs.Symbols.{SymbolUse, use_of, StandsFor}
 use Rattle.rv_assemble_laws.specs.IsObjectOf.{relocation_at, relocations_from, IsNumbered, ArePartsNumbered, IsSectionOf, IsObjectOf}
-use Rattle.rv_sources_link_laws.proofs.collected.HereLemmas.{site_home, IsHere}
+use Rattle.rv_sources_link_laws.proofs.collected.HereLemmas.{laid_home, IsHere}
 use Rattle.rv_sources_link_laws.proofs.collected.MeantLemmas.{place_home, IsFirst, firsts}
 use Rattle.rv_sources_link_laws.proofs.collected.BeginsLemmas.{lies_home}
 use Rattle.rv_sources_link_laws.proofs.collected.NamedLemmas.{names}
@@ -34,7 +34,7 @@ use Rattle.rv_sources_link_laws.proofs.statements.StatementsLemmas.{renumbered}
 -- the symbols of a file's relocations stand in the sections of what its statements mean
 abbrev pub AreMeant : Program → List Object → (f : ℕ) (ss : List Statement) (o : Object) → IsObjectOf ss o → Type 0
 AreMeant p os f ss o is =
-    (n : ℕ) (q : Primary) (y : Option Symbol) → StandsFor (tables ss) is.sites n q y
+    (n : ℕ) (q : Primary) (y : Option Symbol) → StandsFor (tables ss) is.laid n q y
     → place_home (option_and_then (symbol_place os f) y) ≡ option_and_then (home_at p.statements) (aim_by p f q (sure_definition (tables ss) n q))
 
 module _ (p : Program) (os : List Object) (T : SectionId) (f : ℕ) (ss : List Statement) (o : Object) (is : IsObjectOf ss o) (here : IsHere p f ss o is) (meant : AreMeant p os f ss o is) where
@@ -42,7 +42,7 @@ module _ (p : Program) (os : List Object) (T : SectionId) (f : ℕ) (ss : List S
   t = tables ss
 
   abbrev N : SymbolUse → Type 0
-  N = IsNumbered t is.sites is.number o.symbols
+  N = IsNumbered t is.laid is.number o.symbols
 
   abbrev U : ℕ → Option Primary → Bool
   U n q = names p T f n q
@@ -70,7 +70,7 @@ module _ (p : Program) (os : List Object) (T : SectionId) (f : ℕ) (ss : List S
         ap (λ b. b || list_any (leads_to os T i) (map (relocation_at is.number place) xs)) (one_leads place x both.0)
         ∙ ap (λ b. U x.ordinal x.symbol || b) (fields_lead place xs both.1)
 
-    parts_lead : (offset : ℕ) (ps : List Part) → ArePartsNumbered t is.sites is.number o.symbols ps
+    parts_lead : (offset : ℕ) (ps : List Part) → ArePartsNumbered t is.laid is.number o.symbols ps
         → list_any (leads_to os T i) (relocations_from is.number offset ps) ≡ list_any (in_part p T f) ps
     parts_lead offset [] h = refl
     parts_lead offset (q ∷ ps) (h, hs) =
@@ -82,48 +82,48 @@ module _ (p : Program) (os : List Object) (T : SectionId) (f : ℕ) (ss : List S
   -- ---- statements
 
   -- what a statement refers to
-  abbrev pub refers_by : Site → Bool
+  abbrev pub refers_by : LaidStatement → Bool
   refers_by z = statement_refers p T (renumbered f z.located) z.located.kind
 
-  abbrev IsKnown : Site → Type 0
-  IsKnown z = IsFirst is.sites z × ((m : Mnemonic) (os : List Operand) → z.located.kind ≡ Instruction m os → z.located.placed ≡ true)
+  abbrev IsKnown : LaidStatement → Type 0
+  IsKnown z = IsFirst is.laid z × ((m : Mnemonic) (os : List Operand) → z.located.kind ≡ Instruction m os → z.located.placed ≡ true)
 
   module _ (j : ℕ) (apart : ((f == T.file) && (suc j == T.section)) ≡ false) (multiple : ℕ) where
-    not_self : (z : Site) → z.located.section ≡ j → IsFirst is.sites z → U z.located.ordinal (Some Here) ≡ false
+    not_self : (z : LaidStatement) → z.located.section ≡ j → IsFirst is.laid z → U z.located.ordinal (Some Here) ≡ false
     not_self z e found =
-        ap (is_in T) (here.found z.located.ordinal ∙ ap (option_map (site_home f)) found) ∙ ap (λ m. (f == T.file) && (suc m == T.section)) e ∙ apart
+        ap (is_in T) (here.found z.located.ordinal ∙ ap (option_map (laid_home f)) found) ∙ ap (λ m. (f == T.file) && (suc m == T.section)) e ∙ apart
 
-    sites_lead : (zs : List Site) → AllByRecursion (λ z. z.located.section ≡ j) zs → AllByRecursion IsKnown zs
+    laid_lead : (zs : List LaidStatement) → AllByRecursion (λ z. z.located.section ≡ j) zs → AllByRecursion IsKnown zs
         → AllByRecursion (λ z. z.located.placed ≡ true → HasSize (form t z.located) z multiple z.located.kind) zs
         → list_any (in_part p T f) (parts t zs) ≡ list_any refers_by zs
-    sites_lead [] e k h = refl
-    sites_lead (z ∷ zs) (e, es) (k, ks) (h, hs) =
+    laid_lead [] e k h = refl
+    laid_lead (z ∷ zs) (e, es) (k, ks) (h, hs) =
         list_any-append (in_part p T f) (parts_of t z) (parts t zs)
         ∙ ap (λ b. b || list_any (in_part p T f) (parts t zs))
         (parts_are p T f z.located.ordinal (templates t z z.located.kind)
         ∙ statement_is p T f z multiple (not_self z e k.0) t here.tables_are (λ m ops is'. h (k.1 m ops is')))
-        ∙ ap (λ b. refers_by z || b) (sites_lead zs es ks hs)
+        ∙ ap (λ b. refers_by z || b) (laid_lead zs es ks hs)
 
-  in_section : (j : ℕ) (zs : List Site) → AllByRecursion IsKnown zs → AllByRecursion (λ z. z.located.section ≡ j) (sites_in j zs) × AllByRecursion IsKnown (sites_in j zs)
+  in_section : (j : ℕ) (zs : List LaidStatement) → AllByRecursion IsKnown zs → AllByRecursion (λ z. z.located.section ≡ j) (laid_in j zs) × AllByRecursion IsKnown (laid_in j zs)
   in_section j [] h = (tt, tt)
   in_section j (z ∷ zs) (h, hs) = go (z.located.section == j) refl (in_section j zs hs)
     where
-      go : (b : Bool) → (z.located.section == j) ≡ b → AllByRecursion (λ z. z.located.section ≡ j) (sites_in j zs) × AllByRecursion IsKnown (sites_in j zs)
-          → AllByRecursion (λ z. z.located.section ≡ j) (if b then z ∷ sites_in j zs else sites_in j zs) × AllByRecursion IsKnown (if b then z ∷ sites_in j zs else sites_in j zs)
+      go : (b : Bool) → (z.located.section == j) ≡ b → AllByRecursion (λ z. z.located.section ≡ j) (laid_in j zs) × AllByRecursion IsKnown (laid_in j zs)
+          → AllByRecursion (λ z. z.located.section ≡ j) (if b then z ∷ laid_in j zs else laid_in j zs) × AllByRecursion IsKnown (if b then z ∷ laid_in j zs else laid_in j zs)
       go true e (k, ks) = ((eqb-true z.located.section j e, k), (h, ks))
       go false e k = k
 
-  known : (zs : List Site) → AllByRecursion (IsFirst is.sites) zs → AllByRecursion (IsSettled (opened_of (tables ss)).sections) zs → AllByRecursion IsKnown zs
+  known : (zs : List LaidStatement) → AllByRecursion (IsFirst is.laid) zs → AllByRecursion (IsSettled (opened_of (tables ss)).sections) zs → AllByRecursion IsKnown zs
   known [] h k = tt
   known (z ∷ zs) (h, hs) (k, ks) = ((h, k.instructed), known zs hs ks)
 
   -- a section with an address refers as its statements do, to all sections but itself
-  pub section_leads : (i : InputSection) → i.file ≡ f → i.object ≡ o → (j : ℕ) (s : SourceSection) → IsSectionOf t is.sites is.number o.symbols j s (sites_in j is.sites) i.section
+  pub section_leads : (i : InputSection) → i.file ≡ f → i.object ≡ o → (j : ℕ) (s : SourceSection) → IsSectionOf t is.laid is.number o.symbols j s (laid_in j is.laid) i.section
       → s.loaded ≡ true → ((f == T.file) && (suc j == T.section)) ≡ false
-      → list_any (leads_to os T i) i.section.relocations ≡ list_any refers_by (sites_in j is.sites)
+      → list_any (leads_to os T i) i.section.relocations ≡ list_any refers_by (laid_in j is.laid)
   section_leads i file_is object_is j s h loaded apart =
-      let zs = in_section j is.sites (known is.sites (firsts ss o is) (settled ss is.sites is.good is.located)) in
+      let zs = in_section j is.laid (known is.laid (firsts ss o is) (settled ss is.laid is.good is.located)) in
       ap (list_any (leads_to os T i)) h.relocations
-      ∙ ap (λ b. list_any (leads_to os T i) (if b then relocations_from is.number 0 (parts t (sites_in j is.sites)) else [])) loaded
-      ∙ parts_lead i file_is object_is 0 (parts t (sites_in j is.sites)) (h.numbered loaded)
-      ∙ sites_lead j apart i.section.alignment (sites_in j is.sites) zs.0 zs.1 h.sizes
+      ∙ ap (λ b. list_any (leads_to os T i) (if b then relocations_from is.number 0 (parts t (laid_in j is.laid)) else [])) loaded
+      ∙ parts_lead i file_is object_is 0 (parts t (laid_in j is.laid)) (h.numbered loaded)
+      ∙ laid_lead j apart i.section.alignment (laid_in j is.laid) zs.0 zs.1 h.sizes

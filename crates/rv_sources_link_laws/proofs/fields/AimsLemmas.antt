@@ -13,11 +13,11 @@ use Rattle.rv_object.specs.Object.{size_of}
 use Rattle.rv_object_laws.specs.CallSites.{start_padding, base_in}
 use Rattle.rv_object_laws.specs.Inputs.{Starts, InputSection}
 use Rattle.rv_object_laws.specs.Shortened.{Sizes}
-use Rattle.rv_assemble_laws.specs.Sites.{Site, sites_in}
-use Rattle.rv_assemble_laws.specs.Symbols.{site_at}
+use Rattle.rv_assemble_laws.specs.LaidStatements.{LaidStatement, laid_in}
+use Rattle.rv_assemble_laws.specs.Symbols.{laid_at}
 use Rattle.rv_sources_link_laws.proofs.names.KnownLemmas.{all_found}
 use Rattle.rv_sources_link_laws.proofs.moves.PiecesLemmas.{IsPiece, ArePieces, own, placed_at, line_of, line_at, lines}
-use Rattle.rv_sources_link_laws.proofs.statements.SettledLemmas.{IsSiteIn}
+use Rattle.rv_sources_link_laws.proofs.statements.SettledLemmas.{IsLaidIn}
 use Rattle.rv_sources_link_laws.proofs.fields.UppersLemmas.{find_join, find_front}
 
 map_none : {X Y : Type 0} (f : X → Y) (o : Option X) → option_map f o ≡ None → o ≡ None
@@ -26,26 +26,26 @@ map_none f (Some x) e = absurd (cc)
 
 -- ---- a statement of an ordinal, in a section
 
-abbrev pub passes : ℕ → Site → Bool
+abbrev pub passes : ℕ → LaidStatement → Bool
 passes n z = (z.located.ordinal == n) && has_row z.located
 
 -- each is the first of its ordinal
-abbrev pub IsFirst : List Site → Site → Type 0
-IsFirst S z = site_at S z.located.ordinal ≡ Some z
+abbrev pub IsFirst : List LaidStatement → LaidStatement → Type 0
+IsFirst S z = laid_at S z.located.ordinal ≡ Some z
 
-module _ (S : List Site) (n j : ℕ) where
-  one : (z y : Site) → site_at S n ≡ Some z → IsFirst S y → y.located.ordinal ≡ n → y ≡ z
+module _ (S : List LaidStatement) (n j : ℕ) where
+  one : (z y : LaidStatement) → laid_at S n ≡ Some z → IsFirst S y → y.located.ordinal ≡ n → y ≡ z
   one z y e h f =
-      let both : Some y ≡ Some z = sym h ∙ ap (site_at S) f ∙ e in cc
+      let both : Some y ≡ Some z = sym h ∙ ap (laid_at S) f ∙ e in cc
 
-  none_after : (z : Site) → site_at S n ≡ Some z → ((z.located.section == j) && has_row z.located) ≡ false → (ys : List Site) → AllByRecursion (IsFirst S) ys → find (passes n) (sites_in j ys) ≡ None
+  none_after : (z : LaidStatement) → laid_at S n ≡ Some z → ((z.located.section == j) && has_row z.located) ≡ false → (ys : List LaidStatement) → AllByRecursion (IsFirst S) ys → find (passes n) (laid_in j ys) ≡ None
   none_after z e lacks [] h = refl
   none_after z e lacks (y ∷ ys) (h, hs) = go (y.located.section == j) refl (none_after z e lacks ys hs)
     where
-      rest : Option Site
-      rest = find (passes n) (sites_in j ys)
+      rest : Option LaidStatement
+      rest = find (passes n) (laid_in j ys)
 
-      go : (b : Bool) → (y.located.section == j) ≡ b → rest ≡ None → find (passes n) (if b then y ∷ sites_in j ys else sites_in j ys) ≡ None
+      go : (b : Bool) → (y.located.section == j) ≡ b → rest ≡ None → find (passes n) (if b then y ∷ laid_in j ys else laid_in j ys) ≡ None
       go false f ih = ih
       go true f ih = ap (λ b. if b then Some y else rest) (never (y.located.ordinal == n) refl) ∙ ih
         where
@@ -53,21 +53,21 @@ module _ (S : List Site) (n j : ℕ) where
           never false g = refl
           never true g =
               let same : y ≡ z = one z y e h (eqb-true y.located.ordinal n g) in
-              ap (λ b. b && has_row y.located) (sym f) ∙ ap (λ (q : Site). (q.located.section == j) && has_row q.located) same ∙ lacks
+              ap (λ b. b && has_row y.located) (sym f) ∙ ap (λ (q : LaidStatement). (q.located.section == j) && has_row q.located) same ∙ lacks
 
   -- the one of the ordinal, where it is in the section and has a row
-  abbrev answer : Option Site → Option Site
+  abbrev answer : Option LaidStatement → Option LaidStatement
   answer None = None
   answer (Some z) = if (z.located.section == j) && has_row z.located then Some z else None
 
-  found_in : (ys : List Site) → AllByRecursion (IsFirst S) ys → find (passes n) (sites_in j ys) ≡ answer (site_at ys n)
+  found_in : (ys : List LaidStatement) → AllByRecursion (IsFirst S) ys → find (passes n) (laid_in j ys) ≡ answer (laid_at ys n)
   found_in [] h = refl
   found_in (y ∷ ys) (h, hs) = go (y.located.ordinal == n) refl (found_in ys hs)
     where
-      rest : Option Site
-      rest = find (passes n) (sites_in j ys)
+      rest : Option LaidStatement
+      rest = find (passes n) (laid_in j ys)
 
-      skip : (b : Bool) → rest ≡ answer (site_at ys n) → find (passes n) (if b then y ∷ sites_in j ys else sites_in j ys) ≡ (if b then (if passes n y then Some y else rest) else rest)
+      skip : (b : Bool) → rest ≡ answer (laid_at ys n) → find (passes n) (if b then y ∷ laid_in j ys else laid_in j ys) ≡ (if b then (if passes n y then Some y else rest) else rest)
       skip true e = refl
       skip false e = refl
 
@@ -75,16 +75,16 @@ module _ (S : List Site) (n j : ℕ) where
       either true = refl
       either false = refl
 
-      go : (c : Bool) → (y.located.ordinal == n) ≡ c → rest ≡ answer (site_at ys n)
-          → find (passes n) (if y.located.section == j then y ∷ sites_in j ys else sites_in j ys) ≡ answer (if c then Some y else site_at ys n)
+      go : (c : Bool) → (y.located.ordinal == n) ≡ c → rest ≡ answer (laid_at ys n)
+          → find (passes n) (if y.located.section == j then y ∷ laid_in j ys else laid_in j ys) ≡ answer (if c then Some y else laid_at ys n)
       go false f ih =
           skip (y.located.section == j) ih ∙ ap (λ c. if y.located.section == j then (if c && has_row y.located then Some y else rest) else rest) f ∙ either (y.located.section == j) ∙ ih
       go true f ih =
           skip (y.located.section == j) ih ∙ ap (λ c. if y.located.section == j then (if c && has_row y.located then Some y else rest) else rest) f
           ∙ by (y.located.section == j) (has_row y.located) refl refl
         where
-          there : site_at S n ≡ Some y
-          there = ap (site_at S) (sym (eqb-true y.located.ordinal n f)) ∙ h
+          there : laid_at S n ≡ Some y
+          there = ap (laid_at S) (sym (eqb-true y.located.ordinal n f)) ∙ h
 
           by : (a r : Bool) → (y.located.section == j) ≡ a → has_row y.located ≡ r → (if a then (if r then Some y else rest) else rest) ≡ (if a && r then Some y else None)
           by true true x w = refl
@@ -93,31 +93,31 @@ module _ (S : List Site) (n j : ℕ) where
 
 -- ---- in the line
 
-module _ (p : Program) (starts : Starts) (at : ℕ → List Site) (sizes : ℕ → ℕ → Sizes) (f n : ℕ) where
+module _ (p : Program) (starts : Starts) (at : ℕ → List LaidStatement) (sizes : ℕ → ℕ → Sizes) (f n : ℕ) where
   abbrev pub test : Placed → Bool
   test x = (x.site.located.file == f) && (x.site.located.ordinal == n)
 
   -- what a section has of it
-  abbrev look : InputSection → Option Site
+  abbrev look : InputSection → Option LaidStatement
   look i = if i.file == f then find (passes n) (own p starts at sizes i) else None
 
   line_look : (first : ℕ) (i : InputSection) (b : source.InputSection) (h : IsPiece p starts at sizes i b)
       → option_map (λ x. x.offset) (find test (line_at p starts at sizes first i b h)) ≡ option_map (λ z. first + z.offset) (look i)
   line_look first i b h = go (own p starts at sizes i)
     where
-      line : List Site → List Placed
+      line : List LaidStatement → List Placed
       line zs = line_of p starts at sizes i.file h.t h.tables h.final h.stays first zs
 
-      place : Site → Placed
+      place : LaidStatement → Placed
       place z = placed_at p starts at sizes i.file h.t h.tables h.final h.stays first z
 
       off : Placed → ℕ
       off x = x.offset
 
-      go : (zs : List Site) → option_map off (find test (line zs)) ≡ option_map (λ z. first + z.offset) (if i.file == f then find (passes n) zs else None)
+      go : (zs : List LaidStatement) → option_map off (find test (line zs)) ≡ option_map (λ z. first + z.offset) (if i.file == f then find (passes n) zs else None)
       go [] = by (i.file == f)
         where
-          by : (b : Bool) → None ≡ option_map (λ (z : Site). first + z.offset) (if b then None else None)
+          by : (b : Bool) → None ≡ option_map (λ (z : LaidStatement). first + z.offset) (if b then None else None)
           by true = refl
           by false = refl
       go (z ∷ zs) = by (has_row z.located) refl (go zs)
@@ -163,7 +163,7 @@ module _ (p : Program) (starts : Starts) (at : ℕ → List Site) (sizes : ℕ �
   abbrev is_at : ℕ → InputSection → Bool
   is_at j i = (i.file == f) && (i.index == j)
 
-  some_line : (z : Site) (off : ℕ) (is : List InputSection) (bs : List source.InputSection) (h : ArePieces p starts at sizes is bs)
+  some_line : (z : LaidStatement) (off : ℕ) (is : List InputSection) (bs : List source.InputSection) (h : ArePieces p starts at sizes is bs)
       → AllByRecursion (λ i. look i ≡ (if is_at z.located.section i then Some z else None)) is → list_any (is_at z.located.section) is ≡ true
       → option_map (λ x. x.offset) (find test (lines p starts at sizes off is bs h)) ≡ Some (off + base_in is f z.located.section + z.offset)
   some_line z off [] [] h q some = absurd (cc)
@@ -208,11 +208,11 @@ module _ (p : Program) (starts : Starts) (at : ℕ → List Site) (sizes : ℕ �
   -- ---- by the statement of the ordinal
 
   module _ (unique : AllByRecursion (IsFirst (at f)) (at f)) where
-    look_is : (i : InputSection) → (i.file ≡ f → look i ≡ find (passes n) (sites_in i.index (at f)))
-    look_is i e = ap (λ b. if b then find (passes n) (own p starts at sizes i) else None) (eq-eqb i.file f e) ∙ ap (λ k. find (passes n) (sites_in i.index (at k))) e
+    look_is : (i : InputSection) → (i.file ≡ f → look i ≡ find (passes n) (laid_in i.index (at f)))
+    look_is i e = ap (λ b. if b then find (passes n) (own p starts at sizes i) else None) (eq-eqb i.file f e) ∙ ap (λ k. find (passes n) (laid_in i.index (at k))) e
 
     -- where it stands in text
-    looks_some : (z : Site) → site_at (at f) n ≡ Some z → has_row z.located ≡ true → (i : InputSection) → look i ≡ (if is_at z.located.section i then Some z else None)
+    looks_some : (z : LaidStatement) → laid_at (at f) n ≡ Some z → has_row z.located ≡ true → (i : InputSection) → look i ≡ (if is_at z.located.section i then Some z else None)
     looks_some z e row i = go (i.file == f) refl
       where
         turned : (a b : ℕ) → (a == b) ≡ (b == a)
@@ -237,31 +237,31 @@ module _ (p : Program) (starts : Starts) (at : ℕ → List Site) (sizes : ℕ �
             last true = refl
             last false = refl
 
-    all_some : (z : Site) → site_at (at f) n ≡ Some z → has_row z.located ≡ true → (is : List InputSection) → AllByRecursion (λ i. look i ≡ (if is_at z.located.section i then Some z else None)) is
+    all_some : (z : LaidStatement) → laid_at (at f) n ≡ Some z → has_row z.located ≡ true → (is : List InputSection) → AllByRecursion (λ i. look i ≡ (if is_at z.located.section i then Some z else None)) is
     all_some z e row [] = tt
     all_some z e row (i ∷ is) = (looks_some z e row i, all_some z e row is)
 
     -- where it doesn't
-    looks_none : ((z : Site) → site_at (at f) n ≡ Some z → source_text z.located.home ≡ false) → (i : InputSection) (b : source.InputSection) → IsPiece p starts at sizes i b → look i ≡ None
+    looks_none : ((z : LaidStatement) → laid_at (at f) n ≡ Some z → source_text z.located.home ≡ false) → (i : InputSection) (b : source.InputSection) → IsPiece p starts at sizes i b → look i ≡ None
     looks_none aside i b h = go (i.file == f) refl
       where
         go : (c : Bool) → (i.file == f) ≡ c → look i ≡ None
         go false g = ap (λ b. if b then find (passes n) (own p starts at sizes i) else None) g
-        go true g = by (find (passes n) (sites_in i.index (at f))) refl
+        go true g = by (find (passes n) (laid_in i.index (at f))) refl
           where
             file : i.file ≡ f
             file = eqb-true i.file f g
 
-            by : (o : Option Site) → find (passes n) (sites_in i.index (at f)) ≡ o → look i ≡ None
+            by : (o : Option LaidStatement) → find (passes n) (laid_in i.index (at f)) ≡ o → look i ≡ None
             by None q = look_is i file ∙ q
             by (Some z) q =
-                let inside : IsSiteIn i.index h.s z =
-                all_found (λ z. IsSiteIn i.index h.s z) (passes n) (sites_in i.index (at f)) (subst (λ k. AllByRecursion (λ z. IsSiteIn i.index h.s z) (sites_in i.index (at k))) file h.inside) z q in
+                let inside : IsLaidIn i.index h.s z =
+                all_found (λ z. IsLaidIn i.index h.s z) (passes n) (laid_in i.index (at f)) (subst (λ k. AllByRecursion (λ z. IsLaidIn i.index h.s z) (laid_in i.index (at k))) file h.inside) z q in
                 let text : source_text z.located.home ≡ true = ap source_text inside.home ∙ h.text in
-                let is_z : answer (at f) n i.index (site_at (at f) n) ≡ Some z = sym (found_in (at f) n i.index (at f) unique) ∙ q in
-                let e : true ≡ false = sym text ∙ aside z (of_answer (site_at (at f) n) z is_z) in absurd (cc)
+                let is_z : answer (at f) n i.index (laid_at (at f) n) ≡ Some z = sym (found_in (at f) n i.index (at f) unique) ∙ q in
+                let e : true ≡ false = sym text ∙ aside z (of_answer (laid_at (at f) n) z is_z) in absurd (cc)
               where
-                of_answer : (o : Option Site) (z : Site) → answer (at f) n i.index o ≡ Some z → o ≡ Some z
+                of_answer : (o : Option LaidStatement) (z : LaidStatement) → answer (at f) n i.index o ≡ Some z → o ≡ Some z
                 of_answer None z e = absurd (cc)
                 of_answer (Some y) z e = pick ((y.located.section == i.index) && has_row y.located) e
                   where
@@ -269,18 +269,18 @@ module _ (p : Program) (starts : Starts) (at : ℕ → List Site) (sizes : ℕ �
                     pick true e = e
                     pick false e = absurd (cc)
 
-    all_none : ((z : Site) → site_at (at f) n ≡ Some z → source_text z.located.home ≡ false) → (is : List InputSection) (bs : List source.InputSection) → ArePieces p starts at sizes is bs → AllByRecursion (λ i. look i ≡ None) is
+    all_none : ((z : LaidStatement) → laid_at (at f) n ≡ Some z → source_text z.located.home ≡ false) → (is : List InputSection) (bs : List source.InputSection) → ArePieces p starts at sizes is bs → AllByRecursion (λ i. look i ≡ None) is
     all_none aside [] bs h = tt
     all_none aside (i ∷ is) [] h = absurd h
     all_none aside (i ∷ is) (b ∷ bs) (h, hs) = (looks_none aside i b h, all_none aside is bs hs)
 
     -- ---- the offset of a statement
 
-    pub offset_some : (z : Site) → site_at (at f) n ≡ Some z → has_row z.located ≡ true → (is : List InputSection) (bs : List source.InputSection) (h : ArePieces p starts at sizes is bs)
+    pub offset_some : (z : LaidStatement) → laid_at (at f) n ≡ Some z → has_row z.located ≡ true → (is : List InputSection) (bs : List source.InputSection) (h : ArePieces p starts at sizes is bs)
         → list_any (is_at z.located.section) is ≡ true → option_map (λ x. x.offset) (find test (lines p starts at sizes 0 is bs h)) ≡ Some (base_in is f z.located.section + z.offset)
     offset_some z e row is bs h some =
         some_line z 0 is bs h (all_some z e row is) some ∙ ap Some (let w = base_in is f z.located.section in let d : 0 + w + z.offset ≡ w + z.offset = omega arith in d)
 
-    pub offset_none : ((z : Site) → site_at (at f) n ≡ Some z → source_text z.located.home ≡ false) → (is : List InputSection) (bs : List source.InputSection) (h : ArePieces p starts at sizes is bs)
+    pub offset_none : ((z : LaidStatement) → laid_at (at f) n ≡ Some z → source_text z.located.home ≡ false) → (is : List InputSection) (bs : List source.InputSection) (h : ArePieces p starts at sizes is bs)
         → option_map (λ x. x.offset) (find test (lines p starts at sizes 0 is bs h)) ≡ None
     offset_none aside is bs h = ap (option_map (λ x. x.offset)) (none_line 0 is bs h (all_none aside is bs h))

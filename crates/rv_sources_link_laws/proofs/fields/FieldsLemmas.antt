@@ -17,37 +17,37 @@ use Rattle.rv_object_laws.specs.Moves.{alignments_of, moves, new_offset}
 use Rattle.rv_object_laws.specs.Inputs.{Starts, InputSection}
 use Rattle.rv_object_laws.specs.Values.{target, value, IsRelocated}
 use Rattle.rv_assemble_laws.specs.Templates.{Open, template_fields}
-use Rattle.rv_assemble_laws.specs.Sites.{Site, Part, form, part_bytes, sites_in}
-use Rattle.rv_assemble_laws.specs.Symbols.{use_of, references_in, site_at}
+use Rattle.rv_assemble_laws.specs.LaidStatements.{LaidStatement, Part, form, part_bytes, laid_in}
+use Rattle.rv_assemble_laws.specs.Symbols.{use_of, references_in, laid_at}
 use Rattle.rv_assemble_laws.specs.IsObjectOf.{Numbering, relocation_at, relocations_from, IsNumbered}
 use Rattle.rv_sources_link_laws.proofs.fields.PatchesLemmas.{is_data, IsKnownIn}
 use Rattle.rv_sources_link_laws.proofs.statements.StatementsLemmas.{row_address}
-use Rattle.rv_sources_link_laws.proofs.statements.SettledLemmas.{IsSettled, IsSiteIn, sites_are_in}
+use Rattle.rv_sources_link_laws.proofs.statements.SettledLemmas.{IsSettled, IsLaidIn, laid_are_in}
 use Rattle.rv_sources_link_laws.proofs.names.KnownLemmas.{still, outer_in, meant_of}
 use Rattle.rv_sources_link_laws.proofs.names.GlobalsLemmas.{IsLow}
 use Rattle.rv_sources_link_laws.proofs.fields.WholesLemmas.{IsSound, IsWhole}
-use Rattle.rv_sources_link_laws.proofs.sections.SectionsLemmas.{split, each, AtOffsets, AreAt, at_sites, of_parts, meant_in}
+use Rattle.rv_sources_link_laws.proofs.sections.SectionsLemmas.{split, each, AtOffsets, AreAt, at_laid, of_parts, meant_in}
 use Rattle.rv_sources_link_laws.proofs.moves.ShrunkLemmas.{parts_of, parts, HasShrunkSize, IsSectionOf, AreSectionsOf}
 
-module _ (p : Program) (os : List Object) (starts : Starts) (file : ℕ) (sites : List Site) (number : Numbering) (o : Object) (sections : List SourceSection)
-    (low : AllByRecursion IsGlobal p.map.globals) (are : AreSectionsOf (tables_in p file) sites number o.symbols 0 sections o.sections)
-    (settled : AllByRecursion (IsSettled sections) sites) (all_worths : ℕ → ℕ → Open → ℤ) (whole : IsWhole p os starts file sites number o all_worths)
+module _ (p : Program) (os : List Object) (starts : Starts) (file : ℕ) (laid : List LaidStatement) (number : Numbering) (o : Object) (sections : List SourceSection)
+    (low : AllByRecursion IsGlobal p.map.globals) (are : AreSectionsOf (tables_in p file) laid number o.symbols 0 sections o.sections)
+    (settled : AllByRecursion (IsSettled sections) laid) (all_worths : ℕ → ℕ → Open → ℤ) (whole : IsWhole p os starts file laid number o all_worths)
     (plain : (j : ℕ) (x : Section) → slice_get o.sections j ≡ Some x → alignments_of x ≡ [])
-    (address : (n : ℕ) → address_at p.statements file n ≡ option_and_then (row_address starts file) (site_at sites n)) where
+    (address : (n : ℕ) → address_at p.statements file n ≡ option_and_then (row_address starts file) (laid_at laid n)) where
   abbrev pub t : Tables
   t = tables_in p file
 
   abbrev pub a : ℕ → Primary → Option ℕ
   a ordinal q = meant_in p file ordinal q
 
-  module _ (index : ℕ) (section : SourceSection) (x : Section) (is : IsSectionOf t sites number o.symbols index section (sites_in index sites) x)
+  module _ (index : ℕ) (section : SourceSection) (x : Section) (is : IsSectionOf t laid number o.symbols index section (laid_in index laid) x)
       (at : slice_get sections index ≡ Some section) (none : alignments_of x ≡ []) (loaded : section.loaded ≡ true)
       (relocated : AllByRecursion (IsRelocated (outer_in p os) starts os (record { file = file; object = o; index = index; section = x })) x.relocations) where
     abbrev pub i : InputSection
     i = record { file = file; object = o; index = index; section = x }
 
-    abbrev pub own : List Site
-    own = sites_in index sites
+    abbrev pub own : List LaidStatement
+    own = laid_in index laid
 
     abbrev pub ps : List Part
     ps = parts t own
@@ -93,21 +93,21 @@ module _ (p : Program) (os : List Object) (starts : Starts) (file : ℕ) (sites 
     pub relocations_are : x.relocations ≡ relocations_from number 0 ps
     relocations_are = is.relocations ∙ ap (λ b. if b then relocations_from number 0 ps else []) loaded
 
-    known_field : (ordinal : ℕ) (q : Option Primary) → AllByRecursion (IsNumbered t sites number o.symbols) (use_of ordinal q)
+    known_field : (ordinal : ℕ) (q : Option Primary) → AllByRecursion (IsNumbered t laid number o.symbols) (use_of ordinal q)
         → is_some (target (outer_in p os) (starts file) o (option_map (number ordinal) q)) ≡ true → K ordinal q
     known_field ordinal None h r = tt
     known_field ordinal (Some q) (h, tt) r =
-        let m = meant_of p os whole.given low starts file sites number o sections are settled plain address ordinal q h r in
+        let m = meant_of p os whole.given low starts file laid number o sections are settled plain address ordinal q h r in
         record { at = m.at; is = m.is; meant = m.worth; low = m.below }
 
-    known_fields : (offset : ℕ) (fs : List Open) → AllByRecursion (IsNumbered t sites number o.symbols) (flat_map (λ (f : Open). use_of f.ordinal f.symbol) fs)
+    known_fields : (offset : ℕ) (fs : List Open) → AllByRecursion (IsNumbered t laid number o.symbols) (flat_map (λ (f : Open). use_of f.ordinal f.symbol) fs)
         → AllByRecursion (λ (f : Open). Q (relocation_at number offset f)) fs → AllByRecursion (λ (f : Open). K f.ordinal f.symbol) fs
     known_fields offset [] h r = tt
     known_fields offset (f ∷ fs) h (r, rs) =
-        let both = split (IsNumbered t sites number o.symbols) (use_of f.ordinal f.symbol) (flat_map (λ (f : Open). use_of f.ordinal f.symbol) fs) h in
+        let both = split (IsNumbered t laid number o.symbols) (use_of f.ordinal f.symbol) (flat_map (λ (f : Open). use_of f.ordinal f.symbol) fs) h in
         (known_field f.ordinal f.symbol both.0 r.resolved, known_fields offset fs both.1 rs)
 
-    known_parts : (offset : ℕ) (qs : List Part) → AllByRecursion (λ q. AllByRecursion (IsNumbered t sites number o.symbols) (references_in q)) qs
+    known_parts : (offset : ℕ) (qs : List Part) → AllByRecursion (λ q. AllByRecursion (IsNumbered t laid number o.symbols) (references_in q)) qs
         → AtOffsets (AreAt Q number) offset qs → AllByRecursion Known qs
     known_parts offset [] h r = tt
     known_parts offset (q ∷ qs) (h, hs) (r, rs) = (known_fields offset (template_fields q.ordinal q.template) h r, known_parts (offset + length (part_bytes q)) qs hs rs)
@@ -120,32 +120,32 @@ module _ (p : Program) (os : List Object) (starts : Starts) (file : ℕ) (sites 
 
     -- ---- a statement
 
-    pub record Facts (z : Site) : Type 0 where
-      pub inside : IsSiteIn index section z
+    pub record Facts (z : LaidStatement) : Type 0 where
+      pub inside : IsLaidIn index section z
       pub sized : z.located.placed ≡ true → HasShrunkSize (form t z.located) z x.alignment z.located.kind
       pub knows : AllByRecursion Known (parts_of t z)
       pub related : AtOffsets (AreAt Q number) z.offset (parts_of t z)
-      pub uses : AllByRecursion (λ q. AllByRecursion (IsNumbered t sites number o.symbols) (references_in q)) (parts_of t z)
+      pub uses : AllByRecursion (λ q. AllByRecursion (IsNumbered t laid number o.symbols) (references_in q)) (parts_of t z)
       pub below : IsLow starts file z
       pub sound : IsSound t z.located
-      pub itself : site_at sites z.located.ordinal ≡ Some z
+      pub itself : laid_at laid z.located.ordinal ≡ Some z
 
-    facts_from : (zs : List Site) → AllByRecursion (IsSiteIn index section) zs
+    facts_from : (zs : List LaidStatement) → AllByRecursion (IsLaidIn index section) zs
         → AllByRecursion (λ z. z.located.placed ≡ true → HasShrunkSize (form t z.located) z x.alignment z.located.kind) zs
         → AllByRecursion (λ z. AllByRecursion Known (parts_of t z)) zs
         → AllByRecursion (λ z. AtOffsets (AreAt Q number) z.offset (parts_of t z)) zs
-        → AllByRecursion (λ z. AllByRecursion (λ q. AllByRecursion (IsNumbered t sites number o.symbols) (references_in q)) (parts_of t z)) zs
+        → AllByRecursion (λ z. AllByRecursion (λ q. AllByRecursion (IsNumbered t laid number o.symbols) (references_in q)) (parts_of t z)) zs
         → AllByRecursion (IsLow starts file) zs → AllByRecursion (λ z. IsSound t z.located) zs
-        → AllByRecursion (λ z. site_at sites z.located.ordinal ≡ Some z) zs → AllByRecursion Facts zs
+        → AllByRecursion (λ z. laid_at laid z.located.ordinal ≡ Some z) zs → AllByRecursion Facts zs
     facts_from [] a b c d e f g i = tt
     facts_from (z ∷ zs) (a, as') (b, bs) (c, cs) (d, ds) (e, es) (f, fs) (g, gs) (i, is') =
         (record { inside = a; sized = b; knows = c; related = d; uses = e; below = f; sound = g; itself = i }, facts_from zs as' bs cs ds es fs gs is')
 
     pub facts : AllByRecursion Facts own
     facts =
-        facts_from own (sites_are_in sections index section sites at settled) (is.sizes loaded) (each Known (parts_of t) own known)
-        (at_sites (AreAt Q number) t 0 own is.tile placed_parts)
-        (each (λ q. AllByRecursion (IsNumbered t sites number o.symbols) (references_in q)) (parts_of t) own (is.numbered loaded))
-        (all_filter (IsLow starts file) (λ s. s.located.section == index) sites whole.low)
-        (all_filter (λ z. IsSound t z.located) (λ s. s.located.section == index) sites whole.sound)
-        (all_filter (λ z. site_at sites z.located.ordinal ≡ Some z) (λ s. s.located.section == index) sites whole.itself)
+        facts_from own (laid_are_in sections index section laid at settled) (is.sizes loaded) (each Known (parts_of t) own known)
+        (at_laid (AreAt Q number) t 0 own is.tile placed_parts)
+        (each (λ q. AllByRecursion (IsNumbered t laid number o.symbols) (references_in q)) (parts_of t) own (is.numbered loaded))
+        (all_filter (IsLow starts file) (λ s. s.located.section == index) laid whole.low)
+        (all_filter (λ z. IsSound t z.located) (λ s. s.located.section == index) laid whole.sound)
+        (all_filter (λ z. laid_at laid z.located.ordinal ≡ Some z) (λ s. s.located.section == index) laid whole.itself)

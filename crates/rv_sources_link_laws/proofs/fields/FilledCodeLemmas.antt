@@ -35,8 +35,8 @@ use Rattle.rv_sources_link_laws.proofs.statements.MarkedLemmas.{marks, is_marked
 use Rattle.rv_assemble_laws.specs.Coded.{constants, AreCodedParts, IsCode}
 use Rattle.rv_assemble_laws.specs.InstructionFaults.{is_label}
 use Rattle.rv_assemble_laws.specs.Templates.{Open, open_at}
-use Rattle.rv_assemble_laws.specs.Sites.{Site, form, part_of, coded_templates, sites_in}
-use Rattle.rv_assemble_laws.specs.Symbols.{use_of, references_in, site_at}
+use Rattle.rv_assemble_laws.specs.LaidStatements.{LaidStatement, form, part_of, coded_templates, laid_in}
+use Rattle.rv_assemble_laws.specs.Symbols.{use_of, references_in, laid_at}
 use Rattle.rv_assemble_laws.specs.IsObjectOf.{Numbering, relocation_at, IsNumbered}
 use Rattle.rv_sources_link_laws.proofs.statements.StatementsLemmas.{row_in, row_address}
 use Rattle.rv_sources_link_laws.proofs.names.KnownLemmas.{outer_in}
@@ -114,12 +114,12 @@ module _ (p : Program) (s : Mapped) where
   all_valued (Target ex ∷ os) e h =
       and_from (has_value p s (Target ex)) (list_all (has_value p s) os) h (none_valued os (others_none ex (flat_map in_operand os) e))
 
-module _ (p : Program) (os : List Object) (starts : Starts) (file : ℕ) (sites : List Site) (number : Numbering) (o : Object) (sections : List SourceSection)
-    (low : AllByRecursion IsGlobal p.map.globals) (are : AreSectionsOf (tables_in p file) sites number o.symbols 0 sections o.sections)
-    (settled : AllByRecursion (IsSettled sections) sites) (all_worths : ℕ → ℕ → Open → ℤ) (whole : IsWhole p os starts file sites number o all_worths)
+module _ (p : Program) (os : List Object) (starts : Starts) (file : ℕ) (laid : List LaidStatement) (number : Numbering) (o : Object) (sections : List SourceSection)
+    (low : AllByRecursion IsGlobal p.map.globals) (are : AreSectionsOf (tables_in p file) laid number o.symbols 0 sections o.sections)
+    (settled : AllByRecursion (IsSettled sections) laid) (all_worths : ℕ → ℕ → Open → ℤ) (whole : IsWhole p os starts file laid number o all_worths)
     (plain : (j : ℕ) (x : Section) → slice_get o.sections j ≡ Some x → alignments_of x ≡ [])
-    (address : (n : ℕ) → address_at p.statements file n ≡ option_and_then (row_address starts file) (site_at sites n)) where
-  module _ (index : ℕ) (section : SourceSection) (x : Section) (is : IsSectionOf (tables_in p file) sites number o.symbols index section (sites_in index sites) x)
+    (address : (n : ℕ) → address_at p.statements file n ≡ option_and_then (row_address starts file) (laid_at laid n)) where
+  module _ (index : ℕ) (section : SourceSection) (x : Section) (is : IsSectionOf (tables_in p file) laid number o.symbols index section (laid_in index laid) x)
       (at : slice_get sections index ≡ Some section) (none : alignments_of x ≡ []) (loaded : section.loaded ≡ true)
       (relocated : AllByRecursion (IsRelocated (outer_in p os) starts os (record { file = file; object = o; index = index; section = x })) x.relocations) where
     abbrev T : Tables
@@ -128,7 +128,7 @@ module _ (p : Program) (os : List Object) (starts : Starts) (file : ℕ) (sites 
     abbrev start : ℕ
     start = starts file index
 
-    module _ (there : slice_get o.sections index ≡ Some x) (z : Site) (h : Facts p os starts file sites number o sections low are settled all_worths whole plain address index section x is at none loaded relocated z) (shown : has_row z.located ≡ true) (own : IsOwn p os starts file sites number o sections low are settled all_worths whole plain address index section x is at none loaded relocated 0 (sites_in index sites) z)
+    module _ (there : slice_get o.sections index ≡ Some x) (z : LaidStatement) (h : Facts p os starts file laid number o sections low are settled all_worths whole plain address index section x is at none loaded relocated z) (shown : has_row z.located ≡ true) (own : IsOwn p os starts file laid number o sections low are settled all_worths whole plain address index section x is at none loaded relocated 0 (laid_in index laid) z)
         (w : ℕ → Open → ℤ) (w_is : (n : ℕ) (f : Open) → w n f ≡ worth_at (outer_in p os) starts os file o index x none number n f)
         (mnemonic : Mnemonic) (os' : List Operand) (e : z.located.kind ≡ Instruction mnemonic os')
         (c : IsCode (form (tables_in p file) z.located) z.located.options.rvc mnemonic os' z.bytes z.coded z.instructions) where
@@ -167,13 +167,13 @@ module _ (p : Program) (os : List Object) (starts : Starts) (file : ℕ) (sites 
       worth n f = worth_at (outer_in p os) starts os file o index x none number n f
 
       abbrev Related : ℕ → List Open → Type 0
-      Related n fs = AllByRecursion (λ (f : Open). Q p os starts file sites number o sections low are settled all_worths whole plain address index section x is at none loaded relocated (relocation_at number n f)) fs
+      Related n fs = AllByRecursion (λ (f : Open). Q p os starts file laid number o sections low are settled all_worths whole plain address index section x is at none loaded relocated (relocation_at number n f)) fs
 
       abbrev Knows : List Open → Type 0
-      Knows fs = AllByRecursion (λ (f : Open). K p os starts file sites number o sections low are settled all_worths whole plain address index section x is at none loaded relocated f.ordinal f.symbol) fs
+      Knows fs = AllByRecursion (λ (f : Open). K p os starts file laid number o sections low are settled all_worths whole plain address index section x is at none loaded relocated f.ordinal f.symbol) fs
 
       abbrev Uses : List Open → Type 0
-      Uses fs = AllByRecursion (IsNumbered T sites number o.symbols) (flat_map (λ (f : Open). use_of f.ordinal f.symbol) fs)
+      Uses fs = AllByRecursion (IsNumbered T laid number o.symbols) (flat_map (λ (f : Open). use_of f.ordinal f.symbol) fs)
 
       abbrev IsFilledField : Kind → (n a : ℕ) → List Open → Type 0
       IsFilledField k n a fs = IsFilledBy w fields taken k n a fs
@@ -183,9 +183,9 @@ module _ (p : Program) (os : List Object) (starts : Starts) (file : ℕ) (sites 
       Fills q = (n a : ℕ) → a ≡ start + n → Related n (fields q) → Knows (fields q) → Uses (fields q) → IsFilledPart w fields taken n a q
 
       all_filled : (ps : List CodePart) (coded : List (List ℕ)) (n a : ℕ) → a ≡ start + n → AllByRecursion Fills ps
-          → AtOffsets (AreAt (Q p os starts file sites number o sections low are settled all_worths whole plain address index section x is at none loaded relocated) number) n (map (part_of ordinal) (coded_templates fields ps coded))
-          → AllByRecursion (Known p os starts file sites number o sections low are settled all_worths whole plain address index section x is at none loaded relocated) (map (part_of ordinal) (coded_templates fields ps coded))
-          → AllByRecursion (λ q. AllByRecursion (IsNumbered T sites number o.symbols) (references_in q)) (map (part_of ordinal) (coded_templates fields ps coded))
+          → AtOffsets (AreAt (Q p os starts file laid number o sections low are settled all_worths whole plain address index section x is at none loaded relocated) number) n (map (part_of ordinal) (coded_templates fields ps coded))
+          → AllByRecursion (Known p os starts file laid number o sections low are settled all_worths whole plain address index section x is at none loaded relocated) (map (part_of ordinal) (coded_templates fields ps coded))
+          → AllByRecursion (λ q. AllByRecursion (IsNumbered T laid number o.symbols) (references_in q)) (map (part_of ordinal) (coded_templates fields ps coded))
           → AreFilledParts w fields taken n a ps coded
       all_filled [] coded n a at_n f r k u = tt
       all_filled (q ∷ ps) [] n a at_n f r k u = tt
@@ -255,13 +255,13 @@ module _ (p : Program) (os : List Object) (starts : Starts) (file : ℕ) (sites 
         valued = valued;
         is_paired = paired;
         filled_parts = all_filled c.ps z.coded z.offset place (ap (λ j. starts file j + z.offset) h.inside.stands) fills
-            (subst (λ l. AtOffsets (AreAt (Q p os starts file sites number o sections low are settled all_worths whole plain address index section x is at none loaded relocated) number) z.offset l) (parts_are p os starts file sites number o sections low are settled all_worths whole plain address index section x is at none loaded relocated z h mnemonic os' e c) h.related)
-            (subst (λ l. AllByRecursion (Known p os starts file sites number o sections low are settled all_worths whole plain address index section x is at none loaded relocated) l) (parts_are p os starts file sites number o sections low are settled all_worths whole plain address index section x is at none loaded relocated z h mnemonic os' e c) h.knows)
-            (subst (λ l. AllByRecursion (λ q. AllByRecursion (IsNumbered T sites number o.symbols) (references_in q)) l) (parts_are p os starts file sites number o sections low are settled all_worths whole plain address index section x is at none loaded relocated z h mnemonic os' e c) h.uses);
+            (subst (λ l. AtOffsets (AreAt (Q p os starts file laid number o sections low are settled all_worths whole plain address index section x is at none loaded relocated) number) z.offset l) (parts_are p os starts file laid number o sections low are settled all_worths whole plain address index section x is at none loaded relocated z h mnemonic os' e c) h.related)
+            (subst (λ l. AllByRecursion (Known p os starts file laid number o sections low are settled all_worths whole plain address index section x is at none loaded relocated) l) (parts_are p os starts file laid number o sections low are settled all_worths whole plain address index section x is at none loaded relocated z h mnemonic os' e c) h.knows)
+            (subst (λ l. AllByRecursion (λ q. AllByRecursion (IsNumbered T laid number o.symbols) (references_in q)) l) (parts_are p os starts file laid number o sections low are settled all_worths whole plain address index section x is at none loaded relocated z h mnemonic os' e c) h.uses);
       }
 
       alone : flat_map in_operand os' ≡ in_maybe (other_operand os')
-      alone = (row p os starts file sites number o sections low are settled all_worths whole plain address index section x is at none loaded relocated z h mnemonic os' e c).alone
+      alone = (row p os starts file laid number o sections low are settled all_worths whole plain address index section x is at none loaded relocated z h mnemonic os' e c).alone
 
       valued_by : has_maybe p s (other_operand os') ≡ true → has_values p s ≡ true
       valued_by h = all_valued p s os' alone h
@@ -287,9 +287,9 @@ module _ (p : Program) (os : List Object) (starts : Starts) (file : ℕ) (sites 
       -- ---- what stands in the first part
 
       pub record IsFirst (q : CodePart) : Type 0 where
-        pub related_first : AllByRecursion (λ (f : Open). Q p os starts file sites number o sections low are settled all_worths whole plain address index section x is at none loaded relocated (relocation_at number z.offset f)) (part_fields (tables_in p file) (form (tables_in p file) z.located) z.located q)
-        pub known_first : AllByRecursion (λ (f : Open). K p os starts file sites number o sections low are settled all_worths whole plain address index section x is at none loaded relocated f.ordinal f.symbol) (part_fields (tables_in p file) (form (tables_in p file) z.located) z.located q)
-        pub used_first : AllByRecursion (IsNumbered (tables_in p file) sites number o.symbols)
+        pub related_first : AllByRecursion (λ (f : Open). Q p os starts file laid number o sections low are settled all_worths whole plain address index section x is at none loaded relocated (relocation_at number z.offset f)) (part_fields (tables_in p file) (form (tables_in p file) z.located) z.located q)
+        pub known_first : AllByRecursion (λ (f : Open). K p os starts file laid number o sections low are settled all_worths whole plain address index section x is at none loaded relocated f.ordinal f.symbol) (part_fields (tables_in p file) (form (tables_in p file) z.located) z.located q)
+        pub used_first : AllByRecursion (IsNumbered (tables_in p file) laid number o.symbols)
             (flat_map (λ (f : Open). use_of f.ordinal f.symbol) (part_fields (tables_in p file) (form (tables_in p file) z.located) z.located q))
 
       first : (q : CodePart) (rest : List CodePart) → c.ps ≡ q ∷ rest → IsFirst q
@@ -301,9 +301,9 @@ module _ (p : Program) (os : List Object) (starts : Starts) (file : ℕ) (sites 
               → map (part_of ordinal) (coded_templates fields c.ps z.coded) ≡ map (part_of ordinal) (coded_templates fields (q ∷ rest) coded) → IsFirst q
           go [] a are_same = absurd a
           go (bytes ∷ coded) a are_same = record {
-            related_first = (subst (λ l. AtOffsets (AreAt (Q p os starts file sites number o sections low are settled all_worths whole plain address index section x is at none loaded relocated) number) z.offset l) (parts_are p os starts file sites number o sections low are settled all_worths whole plain address index section x is at none loaded relocated z h mnemonic os' e c ∙ are_same) h.related).0;
-            known_first = (subst (λ l. AllByRecursion (Known p os starts file sites number o sections low are settled all_worths whole plain address index section x is at none loaded relocated) l) (parts_are p os starts file sites number o sections low are settled all_worths whole plain address index section x is at none loaded relocated z h mnemonic os' e c ∙ are_same) h.knows).0;
-            used_first = (subst (λ l. AllByRecursion (λ q. AllByRecursion (IsNumbered T sites number o.symbols) (references_in q)) l) (parts_are p os starts file sites number o sections low are settled all_worths whole plain address index section x is at none loaded relocated z h mnemonic os' e c ∙ are_same) h.uses).0;
+            related_first = (subst (λ l. AtOffsets (AreAt (Q p os starts file laid number o sections low are settled all_worths whole plain address index section x is at none loaded relocated) number) z.offset l) (parts_are p os starts file laid number o sections low are settled all_worths whole plain address index section x is at none loaded relocated z h mnemonic os' e c ∙ are_same) h.related).0;
+            known_first = (subst (λ l. AllByRecursion (Known p os starts file laid number o sections low are settled all_worths whole plain address index section x is at none loaded relocated) l) (parts_are p os starts file laid number o sections low are settled all_worths whole plain address index section x is at none loaded relocated z h mnemonic os' e c ∙ are_same) h.knows).0;
+            used_first = (subst (λ l. AllByRecursion (λ q. AllByRecursion (IsNumbered T laid number o.symbols) (references_in q)) l) (parts_are p os starts file laid number o sections low are settled all_worths whole plain address index section x is at none loaded relocated z h mnemonic os' e c ∙ are_same) h.uses).0;
           }
 
       -- ---- a part of an address
@@ -319,7 +319,7 @@ module _ (p : Program) (os : List Object) (starts : Starts) (file : ℕ) (sites 
         one_part k i ps_are field_as plain_kind as' =
             let fields_are : fields (Open_part k i) ≡ open_at k ordinal (Some q) plus ∷ marks (is_marked k z.located) z.located =
             marked_one (is_marked k z.located) z.located (open_at k ordinal (Some q) plus) (field_of T V ordinal (operand_of z.located.kind) k)
-            (ap (λ l. field_of T V ordinal l k) (operand_as p os starts file sites number o sections low are settled all_worths whole plain address index section x is at none loaded relocated z h mnemonic os' e c oper f) ∙ field_as ∙ symbol_as k) in
+            (ap (λ l. field_of T V ordinal l k) (operand_as p os starts file laid number o sections low are settled all_worths whole plain address index section x is at none loaded relocated z h mnemonic os' e c oper f) ∙ field_as ∙ symbol_as k) in
             let known = (subst (λ l. Knows l) fields_are (first (Open_part k i) [] ps_are).known_first).0 in
             made (valued_one ex (ap (has_maybe p s) f ∙ one) (value_some ex q meaning plus known.at symbolic known.is)) (subst (IsPaired p s) (sym f) paired)
             (subst (λ ps. AllByRecursion Fills ps) (sym ps_are) ((λ n a at_n r k' u. field_filled k (marks (is_marked k z.located) z.located) (fields (Open_part k i)) q plus fields_are (marks_relax (is_marked k z.located) z.located) plain_kind as' n a at_n r k'), tt))
@@ -343,7 +343,7 @@ module _ (p : Program) (os : List Object) (starts : Starts) (file : ℕ) (sites 
       module _ (ex : Expression) (f : other_operand os' ≡ Some (Target ex)) (q : Primary) (meaning : Meaning) (plus : ℕ) (symbolic : V ex ≡ Symbolic q meaning plus) where
         target_field : (k : Kind) → is_low_part k ≡ false → field_of T V ordinal (operand_of z.located.kind) k ≡ open_at k ordinal (Some q) plus ∷ []
         target_field k plain_part =
-            ap (λ l. field_of T V ordinal l k) (operand_as p os starts file sites number o sections low are settled all_worths whole plain address index section x is at none loaded relocated z h mnemonic os' e c (Target ex) f)
+            ap (λ l. field_of T V ordinal l k) (operand_as p os starts file laid number o sections low are settled all_worths whole plain address index section x is at none loaded relocated z h mnemonic os' e c (Target ex) f)
             ∙ ap (λ b. if b then low_field k ordinal 0 else symbol_field k ordinal (V ex)) plain_part ∙ ap (symbol_field k ordinal) symbolic
 
         far_taken : (k : Kind) → is_distance k ≡ true → (at_q : ℕ) → meant_in p file ordinal q ≡ Some at_q → (a : ℕ) → value_of k at_q (int_wrap w64 (pos plus)) a ≡ taken k a
@@ -376,7 +376,7 @@ module _ (p : Program) (os : List Object) (starts : Starts) (file : ℕ) (sites 
 
         -- one of its parts has the field
         far_known : (ps : List CodePart) (coded : List (List ℕ)) → AreCodedParts (named_form (constants (form (tables_in p file) z.located)) mnemonic os') (z.located.options.rvc && are_closed c.ps) ps coded → AllByRecursion IsFar ps → are_closed ps ≡ false
-            → AllByRecursion (Known p os starts file sites number o sections low are settled all_worths whole plain address index section x is at none loaded relocated) (map (part_of ordinal) (coded_templates fields ps coded)) → is_some (value_in_map p s ex) ≡ true
+            → AllByRecursion (Known p os starts file laid number o sections low are settled all_worths whole plain address index section x is at none loaded relocated) (map (part_of ordinal) (coded_templates fields ps coded)) → is_some (value_in_map p s ex) ≡ true
         far_known [] coded a h' open_one k = absurd (cc)
         far_known (q' ∷ ps) [] a h' open_one k = absurd a
         far_known (Closed i ∷ ps) (bytes ∷ coded) (a, as') (h', hs) open_one (k, ks) = far_known ps coded as' hs open_one ks
@@ -387,7 +387,7 @@ module _ (p : Program) (os : List Object) (starts : Starts) (file : ℕ) (sites 
 
         far_result : AllByRecursion IsFar c.ps → are_closed c.ps ≡ false → Result
         far_result far open_one =
-            made (valued_one ex (ap (has_maybe p s) f) (far_known c.ps z.coded c.coded_as far open_one (subst (λ l. AllByRecursion (Known p os starts file sites number o sections low are settled all_worths whole plain address index section x is at none loaded relocated) l) (parts_are p os starts file sites number o sections low are settled all_worths whole plain address index section x is at none loaded relocated z h mnemonic os' e c) h.knows)))
+            made (valued_one ex (ap (has_maybe p s) f) (far_known c.ps z.coded c.coded_as far open_one (subst (λ l. AllByRecursion (Known p os starts file laid number o sections low are settled all_worths whole plain address index section x is at none loaded relocated) l) (parts_are p os starts file laid number o sections low are settled all_worths whole plain address index section x is at none loaded relocated z h mnemonic os' e c) h.knows)))
             (subst (IsPaired p s) (sym f) tt) (far_fills c.ps far)
 
         -- by two instructions
@@ -397,15 +397,15 @@ module _ (p : Program) (os : List Object) (starts : Starts) (file : ℕ) (sites 
             (λ at_q known a. relative_is at_q plus a ∙ ap (distance a) (sym (number_is ex q meaning plus at_q symbolic known)) ∙ sym (taken_as kind.PcrelHi20 (Target ex) a f refl))
             n a at_n r k
 
-        lower_fills : (k : Kind) (j : Inst) → is_low_part k ≡ true → HasUpper p os starts file sites number o sections low are settled all_worths whole plain address index section x is at none loaded relocated z → Fills (Open_part k j)
+        lower_fills : (k : Kind) (j : Inst) → is_low_part k ≡ true → HasUpper p os starts file laid number o sections low are settled all_worths whole plain address index section x is at none loaded relocated z → Fills (Open_part k j)
         lower_fills k j low_part upper n a at_n r known u =
             let fields_are : fields (Open_part k j) ≡ open_at k ordinal (Some Here) 0 ∷ [] =
             low_marked k z.located (field_of T V ordinal (operand_of z.located.kind) k) low_part
-            ∙ ap (λ l. field_of T V ordinal l k) (operand_as p os starts file sites number o sections low are settled all_worths whole plain address index section x is at none loaded relocated z h mnemonic os' e c (Target ex) f) ∙ ap (λ b. if b then low_field k ordinal 0 else symbol_field k ordinal (V ex)) low_part in
+            ∙ ap (λ l. field_of T V ordinal l k) (operand_as p os starts file laid number o sections low are settled all_worths whole plain address index section x is at none loaded relocated z h mnemonic os' e c (Target ex) f) ∙ ap (λ b. if b then low_field k ordinal 0 else symbol_field k ordinal (V ex)) low_part in
             let stands = (subst (λ l. Uses l) fields_are u).0 in
             let worth_as : worth n (open_at k ordinal (Some Here) 0) ≡ taken k a =
-            ap (λ v. unwrap_or v (pos 0)) (own_low p os starts file sites number o sections low are settled all_worths whole plain address index section x is at none loaded relocated there z h shown upper own k (low_same k low_part).0 n stands)
-            ∙ ap (λ l. distance place (operand_number (number_of p s) l)) (operand_as p os starts file sites number o sections low are settled all_worths whole plain address index section x is at none loaded relocated z h mnemonic os' e c (Target ex) f)
+            ap (λ v. unwrap_or v (pos 0)) (own_low p os starts file laid number o sections low are settled all_worths whole plain address index section x is at none loaded relocated there z h shown upper own k (low_same k low_part).0 n stands)
+            ∙ ap (λ l. distance place (operand_number (number_of p s) l)) (operand_as p os starts file laid number o sections low are settled all_worths whole plain address index section x is at none loaded relocated z h mnemonic os' e c (Target ex) f)
             ∙ sym (taken_low k (Target ex) a f low_part) in
             low_filled k (fields (Open_part k j)) ordinal 0 fields_are n a worth_as r
 
@@ -413,12 +413,12 @@ module _ (p : Program) (os : List Object) (starts : Starts) (file : ℕ) (sites 
         pair_result k i j low_part ps_are =
             let known = (subst (λ l. Knows l) (target_field kind.PcrelHi20 refl) (first (Open_part kind.PcrelHi20 i) (Open_part k j ∷ []) ps_are).known_first).0 in
             made (valued_one ex (ap (has_maybe p s) f) (value_some ex q meaning plus known.at symbolic known.is)) (subst (IsPaired p s) (sym f) tt)
-            (subst (λ ps. AllByRecursion Fills ps) (sym ps_are) (upper_fills i, (lower_fills k j low_part (by (upper_or_not p os starts file sites number o sections low are settled all_worths whole plain address index section x is at none loaded relocated z h)), tt)))
+            (subst (λ ps. AllByRecursion Fills ps) (sym ps_are) (upper_fills i, (lower_fills k j low_part (by (upper_or_not p os starts file laid number o sections low are settled all_worths whole plain address index section x is at none loaded relocated z h)), tt)))
           where
-            by : NoUpper p os starts file sites number o sections low are settled all_worths whole plain address index section x is at none loaded relocated z ⊎ HasUpper p os starts file sites number o sections low are settled all_worths whole plain address index section x is at none loaded relocated z → HasUpper p os starts file sites number o sections low are settled all_worths whole plain address index section x is at none loaded relocated z
+            by : NoUpper p os starts file laid number o sections low are settled all_worths whole plain address index section x is at none loaded relocated z ⊎ HasUpper p os starts file laid number o sections low are settled all_worths whole plain address index section x is at none loaded relocated z → HasUpper p os starts file laid number o sections low are settled all_worths whole plain address index section x is at none loaded relocated z
             by (inr k) = k
             by (inl k) =
-                let e : false ≡ true = sym k.lacks ∙ have_is p os starts file sites number o sections low are settled all_worths whole plain address index section x is at none loaded relocated z h mnemonic os' e c ∙ ap (list_any is_upper_part) ps_are in absurd (cc)
+                let e : false ≡ true = sym k.lacks ∙ have_is p os starts file laid number o sections low are settled all_worths whole plain address index section x is at none loaded relocated z h mnemonic os' e c ∙ ap (list_any is_upper_part) ps_are in absurd (cc)
 
       -- ---- a label
 
@@ -430,24 +430,24 @@ module _ (p : Program) (os : List Object) (starts : Starts) (file : ℕ) (sites 
         label_fields : fields (Open_part k i) ≡ field ∷ []
         label_fields =
             low_marked k z.located (field_of T V ordinal (operand_of z.located.kind) k) low_part
-            ∙ ap (λ l. field_of T V ordinal l k) (operand_as p os starts file sites number o sections low are settled all_worths whole plain address index section x is at none loaded relocated z h mnemonic os' e c (Applied PcrelLo ex) f)
+            ∙ ap (λ l. field_of T V ordinal l k) (operand_as p os starts file laid number o sections low are settled all_worths whole plain address index section x is at none loaded relocated z h mnemonic os' e c (Applied PcrelLo ex) f)
             ∙ ap (label_field T k ordinal) symbolic ∙ ap (λ l. low_field_at k l plus) defined
 
         abbrev worth_option : ℕ → Option ℤ
         worth_option n = value (outer_in p os) starts os (record { file = file; object = o; index = index; section = x }) (relocation_at number n field)
 
-        pair_at : (n : ℕ) → Related n (fields (Open_part k i)) → Uses (fields (Open_part k i)) → IsLabelPair p os starts file sites number o sections low are settled all_worths whole plain address d plus (worth_option n)
+        pair_at : (n : ℕ) → Related n (fields (Open_part k i)) → Uses (fields (Open_part k i)) → IsLabelPair p os starts file laid number o sections low are settled all_worths whole plain address d plus (worth_option n)
         pair_at n related uses =
             let r = (subst (λ l. Related n l) label_fields related).0 in
             let stands = (subst (λ l. Uses l) label_fields uses).0 in
-            label_pair p os starts file sites number o sections low are settled all_worths whole plain address d plus (worth_option n) labelled (zero_addend plus (r.alone (low_same k low_part).0))
-            (low_value p os starts file sites number o sections low are settled all_worths whole plain address index x k (low_same k low_part).0 d.ordinal plus n stands) r.found
+            label_pair p os starts file laid number o sections low are settled all_worths whole plain address d plus (worth_option n) labelled (zero_addend plus (r.alone (low_same k low_part).0))
+            (low_value p os starts file laid number o sections low are settled all_worths whole plain address index x k (low_same k low_part).0 d.ordinal plus n stands) r.found
 
-        own_as : (n : ℕ) (w' : IsLabelPair p os starts file sites number o sections low are settled all_worths whole plain address d plus (worth_option n)) → own_value_in_map p s ex ≡ Some (add w'.place plus)
+        own_as : (n : ℕ) (w' : IsLabelPair p os starts file laid number o sections low are settled all_worths whole plain address d plus (worth_option n)) → own_value_in_map p s ex ≡ Some (add w'.place plus)
         own_as n w' =
             symbolic_some (own_address p s.located) (V ex) q meaning plus w'.place symbolic (ap (option_and_then (home_address p.statements file)) defined ∙ w'.stood)
 
-        pair_as : (n : ℕ) (w' : IsLabelPair p os starts file sites number o sections low are settled all_worths whole plain address d plus (worth_option n)) → pair_of p s ex ≡ Some w'.upper
+        pair_as : (n : ℕ) (w' : IsLabelPair p os starts file laid number o sections low are settled all_worths whole plain address d plus (worth_option n)) → pair_of p s ex ≡ Some w'.upper
         pair_as n w' =
             ap (λ a. upper_at p file (unwrap_or a 0) (label_section p s.located (V ex))) (own_as n w')
             ∙ ap (λ v. upper_at p file (add w'.place plus) (label_section p s.located v)) symbolic
@@ -483,21 +483,21 @@ module _ (p : Program) (os : List Object) (starts : Starts) (file : ℕ) (sites 
       by_operand (Some (Of_value ex)) f (closed, known) = known_closed ex (ap (has_maybe p s) f) (subst (IsPaired p s) (sym f) tt) closed known
       by_operand (Some (Applied Hi ex)) f (inl (closed, known)) = known_closed ex (ap (has_maybe p s) f) (subst (IsPaired p s) (sym f) tt) closed known
       by_operand (Some (Applied Hi ex)) f (inr ((k, (i, hi, ps_are)), open_one)) =
-          let (q, (meaning, (plus, symbolic))) = upper_symbolic (is_label T ordinal) (V ex) open_one (fault_none p os starts file sites number o sections low are settled all_worths whole plain address index section x is at none loaded relocated z h mnemonic os' e c (Applied Hi ex) f) in
+          let (q, (meaning, (plus, symbolic))) = upper_symbolic (is_label T ordinal) (V ex) open_one (fault_none p os starts file laid number o sections low are settled all_worths whole plain address index section x is at none loaded relocated z h mnemonic os' e c (Applied Hi ex) f) in
           absolute_part (Applied Hi ex) f ex refl tt q meaning plus symbolic kind.Hi20 i (ps_are ∙ is_hi k i hi) refl refl refl (λ at_q a. absolute_is at_q plus) (λ a. refl)
       by_operand (Some (Applied Lo ex)) f (inl (closed, known)) = known_closed ex (ap (has_maybe p s) f) (subst (IsPaired p s) (sym f) tt) closed known
       by_operand (Some (Applied Lo ex)) f (inr ((k, (i, inl lo, ps_are)), open_one)) =
-          let (q, (meaning, (plus, symbolic))) = low_symbolic (is_label T ordinal) mnemonic (V ex) open_one (fault_none p os starts file sites number o sections low are settled all_worths whole plain address index section x is at none loaded relocated z h mnemonic os' e c (Applied Lo ex) f) in
+          let (q, (meaning, (plus, symbolic))) = low_symbolic (is_label T ordinal) mnemonic (V ex) open_one (fault_none p os starts file laid number o sections low are settled all_worths whole plain address index section x is at none loaded relocated z h mnemonic os' e c (Applied Lo ex) f) in
           absolute_part (Applied Lo ex) f ex refl tt q meaning plus symbolic kind.Lo12I i (ps_are ∙ ap (λ k. Open_part k i ∷ []) lo) refl refl refl (λ at_q a. absolute_is at_q plus) (λ a. refl)
       by_operand (Some (Applied Lo ex)) f (inr ((k, (i, inr lo, ps_are)), open_one)) =
-          let (q, (meaning, (plus, symbolic))) = low_symbolic (is_label T ordinal) mnemonic (V ex) open_one (fault_none p os starts file sites number o sections low are settled all_worths whole plain address index section x is at none loaded relocated z h mnemonic os' e c (Applied Lo ex) f) in
+          let (q, (meaning, (plus, symbolic))) = low_symbolic (is_label T ordinal) mnemonic (V ex) open_one (fault_none p os starts file laid number o sections low are settled all_worths whole plain address index section x is at none loaded relocated z h mnemonic os' e c (Applied Lo ex) f) in
           absolute_part (Applied Lo ex) f ex refl tt q meaning plus symbolic kind.Lo12S i (ps_are ∙ ap (λ k. Open_part k i ∷ []) lo) refl refl refl (λ at_q a. absolute_is at_q plus) (λ a. refl)
       by_operand (Some (Applied PcrelHi ex)) f (k, (i, hi, ps_are)) =
-          let (q, (meaning, (plus, symbolic))) = target_symbolic (is_label T ordinal) (V ex) (fault_none p os starts file sites number o sections low are settled all_worths whole plain address index section x is at none loaded relocated z h mnemonic os' e c (Applied PcrelHi ex) f) in
+          let (q, (meaning, (plus, symbolic))) = target_symbolic (is_label T ordinal) (V ex) (fault_none p os starts file laid number o sections low are settled all_worths whole plain address index section x is at none loaded relocated z h mnemonic os' e c (Applied PcrelHi ex) f) in
           one_part (Applied PcrelHi ex) f ex refl tt q meaning plus symbolic kind.PcrelHi20 i (ps_are ∙ ap (λ k. Open_part k i ∷ []) hi) refl refl
           (distance_as (Applied PcrelHi ex) f ex refl tt q meaning plus symbolic kind.PcrelHi20 refl (λ at_q a. relative_is at_q plus a) (λ a. refl))
       by_operand (Some (Applied PcrelLo ex)) f (k, (i, low_part, ps_are)) =
-          let (q, (meaning, (plus, symbolic, is_one))) = label_symbolic (is_label T ordinal) mnemonic (V ex) (fault_none p os starts file sites number o sections low are settled all_worths whole plain address index section x is at none loaded relocated z h mnemonic os' e c (Applied PcrelLo ex) f) in
+          let (q, (meaning, (plus, symbolic, is_one))) = label_symbolic (is_label T ordinal) mnemonic (V ex) (fault_none p os starts file laid number o sections low are settled all_worths whole plain address index section x is at none loaded relocated z h mnemonic os' e c (Applied PcrelLo ex) f) in
           by_label ex f q meaning plus symbolic is_one (definition T ordinal q) refl (label_some T ordinal q is_one) k i low_part ps_are
         where
           by_label : (ex : Expression) → other_operand os' ≡ Some (Applied PcrelLo ex) → (q : Primary) (meaning : Meaning) (plus : ℕ) → V ex ≡ Symbolic q meaning plus → is_label T ordinal q ≡ true
@@ -506,11 +506,11 @@ module _ (p : Program) (os : List Object) (starts : Starts) (file : ℕ) (sites 
           by_label ex f q meaning plus symbolic is_one (Some d) defined some k i low_part ps_are =
               label_result ex f q meaning plus symbolic d defined (whole.labels ordinal q d is_one defined) k i low_part ps_are
       by_operand (Some (Target ex)) f (inl (far, open_one)) =
-          let (q, (meaning, (plus, symbolic))) = target_symbolic (is_label T ordinal) (V ex) (fault_none p os starts file sites number o sections low are settled all_worths whole plain address index section x is at none loaded relocated z h mnemonic os' e c (Target ex) f) in
+          let (q, (meaning, (plus, symbolic))) = target_symbolic (is_label T ordinal) (V ex) (fault_none p os starts file laid number o sections low are settled all_worths whole plain address index section x is at none loaded relocated z h mnemonic os' e c (Target ex) f) in
           far_result ex f q meaning plus symbolic far open_one
       by_operand (Some (Target ex)) f (inr (k, (i, (j, low_part, ps_are)))) =
-          let (q, (meaning, (plus, symbolic))) = target_symbolic (is_label T ordinal) (V ex) (fault_none p os starts file sites number o sections low are settled all_worths whole plain address index section x is at none loaded relocated z h mnemonic os' e c (Target ex) f) in
+          let (q, (meaning, (plus, symbolic))) = target_symbolic (is_label T ordinal) (V ex) (fault_none p os starts file laid number o sections low are settled all_worths whole plain address index section x is at none loaded relocated z h mnemonic os' e c (Target ex) f) in
           pair_result ex f q meaning plus symbolic k i j low_part ps_are
 
       pub filled_code : Result
-      filled_code = by_operand (other_operand os') refl (row p os starts file sites number o sections low are settled all_worths whole plain address index section x is at none loaded relocated z h mnemonic os' e c).shape
+      filled_code = by_operand (other_operand os') refl (row p os starts file laid number o sections low are settled all_worths whole plain address index section x is at none loaded relocated z h mnemonic os' e c).shape

@@ -15,7 +15,7 @@ use Rattle.rv_text_laws.specs.Values.{Meaning, Constant, Symbolic, Difference, F
 use Rattle.rv_object.specs.Object.{Relocation}
 use Rattle.rv_source_laws.specs.Program.{resolved}
 use Rattle.rv_assemble_laws.specs.Templates.{Template, Fixed, Datum, Coded, Open, opened, template_fields, IsTemplate, IsWide, IsWidth}
-use Rattle.rv_assemble_laws.specs.Sites.{Part, part_of, part_bytes}
+use Rattle.rv_assemble_laws.specs.LaidStatements.{Part, part_of, part_bytes}
 use Rattle.rv_assemble_laws.specs.IsObjectOf.{Numbering, relocation_at, relocations_from}
 use Rattle.rv_object_laws.specs.Values.{patched_at, applied}
 use Rattle.rv_sources_link_laws.proofs.fields.NumbersLemmas.{worth, address_32, address_64, difference_8, difference_16, difference_32, difference_64}

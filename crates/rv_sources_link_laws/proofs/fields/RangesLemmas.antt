@@ -18,16 +18,16 @@ use Rattle.rv_object.specs.Padding.{no_operations}
 use Rattle.rv_compress.specs.declared.form.Compressed.{Compressed}
 use Rattle.rv_assemble_laws.specs.Coded.{IsCodedPart, AreCodedParts}
 use Rattle.rv_assemble_laws.specs.Templates.{Template, Fixed, Datum, Coded, Open, template_fields, padding_templates}
-use Rattle.rv_assemble_laws.specs.Sites.{Site, form, part_of, part_bytes, coded_templates, HasSize}
+use Rattle.rv_assemble_laws.specs.LaidStatements.{LaidStatement, form, part_of, part_bytes, coded_templates, HasSize}
 use Rattle.rv_assemble_laws.specs.IsObjectOf.{Numbering, relocation_at, relocations_from}
 use Rattle.rv_sources_link_laws.proofs.sections.AssembledLemmas.{assembled_templates, parts_of}
 use Rattle.rv_sources_link_laws.proofs.statements.CodingLemmas.{encoded_long, encoded_two_or_four, joined_long}
 use Rattle.rv_sources_link_laws.proofs.statements.FieldedLemmas.{part_kinds}
 use Rattle.rv_sources_link_laws.proofs.statements.MarkedLemmas.{part_fields}
 use Rattle.rv_sources_link_laws.proofs.statements.NopsLemmas.{nops_long}
-use Rattle.rv_sources_link_laws.proofs.statements.PadsLemmas.{IsPlainSite, IsPadSite, bare_before, sort_of}
+use Rattle.rv_sources_link_laws.proofs.statements.PadsLemmas.{IsPlainLaid, IsPadLaid, bare_before, sort_of}
 use Rattle.rv_sources_link_laws.proofs.sections.SectionsLemmas.{join}
-use Rattle.rv_sources_link_laws.proofs.statements.SettledLemmas.{IsSiteIn}
+use Rattle.rv_sources_link_laws.proofs.statements.SettledLemmas.{IsLaidIn}
 use Rattle.rv_sources_link_laws.proofs.moves.WalkLemmas.{power_some}
 
 -- a relocation in the bytes from an offset on
@@ -82,7 +82,7 @@ module _ (number : Numbering) where
 
 -- ---- code
 
-part_solid : (t : Tables) (v : Expression → Value) (z : Site) (named : Option Compressed) (c : Bool) (p : CodePart) (bytes : List ℕ) → IsCodedPart named c p bytes → IsSolid (Coded bytes (part_fields t v z.located p))
+part_solid : (t : Tables) (v : Expression → Value) (z : LaidStatement) (named : Option Compressed) (c : Bool) (p : CodePart) (bytes : List ℕ) → IsCodedPart named c p bytes → IsSolid (Coded bytes (part_fields t v z.located p))
 part_solid t v z named c (Closed i) bytes h = tt
 part_solid t v z named c (Open_part k i) bytes h =
     part_kinds (λ k. (width_of k ≤ length bytes) × (0 < length bytes)) t v z.located (Open_part k i)
@@ -105,7 +105,7 @@ part_solid t v z named c (Joined k i j) bytes (fits, also, (first, (second, x, y
     width_low kinds.None = omega arith
     width_low k = omega arith
 
-coded_solid : (t : Tables) (v : Expression → Value) (z : Site) (named : Option Compressed) (c : Bool) (ps : List CodePart) (coded : List (List ℕ)) → AreCodedParts named c ps coded
+coded_solid : (t : Tables) (v : Expression → Value) (z : LaidStatement) (named : Option Compressed) (c : Bool) (ps : List CodePart) (coded : List (List ℕ)) → AreCodedParts named c ps coded
     → AllByRecursion IsSolid (coded_templates (part_fields t v z.located) ps coded)
 coded_solid t v z named c [] coded h = tt
 coded_solid t v z named c (p ∷ ps) [] h = tt
@@ -118,7 +118,7 @@ padding_solid true ordinal (suc n) even =
     (((omega arith, (let f : 0 < length (no_operations (suc n)) = omega (arith, long) in f)), tt), tt)
 padding_solid false ordinal bytes even = (tt, tt)
 
-module _ (t : Tables) (section : SourceSection) (multiple : ℕ) (z : Site) (code : section.executable ≡ true) where
+module _ (t : Tables) (section : SourceSection) (multiple : ℕ) (z : LaidStatement) (code : section.executable ≡ true) where
   no_data : {A : Type 0} → section.executable ≡ false → A
   no_data aside = let e : true ≡ false = sym code ∙ aside in absurd (cc)
 
@@ -142,12 +142,12 @@ module _ (t : Tables) (section : SourceSection) (multiple : ℕ) (z : Site) (cod
 
 -- ---- a statement of a section of text
 
-module _ (t : Tables) (number : Numbering) (j : ℕ) (s : SourceSection) (code : s.executable ≡ true) (multiple : ℕ) (z : Site) (inside : IsSiteIn j s z) (bytes : z.bytes ≡ length (flat_map part_bytes (parts_of t z)))
+module _ (t : Tables) (number : Numbering) (j : ℕ) (s : SourceSection) (code : s.executable ≡ true) (multiple : ℕ) (z : LaidStatement) (inside : IsLaidIn j s z) (bytes : z.bytes ≡ length (flat_map part_bytes (parts_of t z)))
     (size : z.located.placed ≡ true → HasSize (form t z.located) z multiple z.located.kind) where
   pub even_bytes : z.bytes % 2 ≡ 0
   even_bytes = go (sort_of t s multiple z inside.home j inside bytes size)
     where
-      go : IsPlainSite t s multiple z z.located.kind ⊎ IsPadSite t s multiple z z.located.kind → z.bytes % 2 ≡ 0
+      go : IsPlainLaid t s multiple z z.located.kind ⊎ IsPadLaid t s multiple z z.located.kind → z.bytes % 2 ≡ 0
       go (inl h) = h.even code
       go (inr h) = ap (λ n. n % 2) h.full ∙ (power_some h.a h.power).1
 

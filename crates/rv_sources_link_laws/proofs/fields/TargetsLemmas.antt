@@ -23,8 +23,8 @@ use Rattle.rv_object_laws.specs.Names as objects
 use Rattle.rv_object.specs.Bindings.{is_weak}
 use Rattle.rv_object_laws.specs.Names.{Place, is_sure, is_sure_by, place_in, shared_place, symbol_place, no_object, object_at, is_in_text}
 use Rattle.rv_object_laws.specs.Shortened.{Sizes}
-use Rattle.rv_assemble_laws.specs.Sites.{Site, sites_in, end_of}
-use Rattle.rv_assemble_laws.specs.Symbols.{site_at, after_found, assigned_definition, site_definition, IsNamed, IsOwn, IsOuter, IsDefinedBy, StandsFor}
+use Rattle.rv_assemble_laws.specs.LaidStatements.{LaidStatement, laid_in, end_of}
+use Rattle.rv_assemble_laws.specs.Symbols.{laid_at, after_found, assigned_definition, statement_definition, IsNamed, IsOwn, IsOuter, IsDefinedBy, StandsFor}
 use Rattle.rv_assemble_laws.specs.IsObjectOf.{IsInData, StandsInData}
 use Rattle.rv_sources_link_laws.proofs.sections.KeptLemmas.{IsKept, AreKept}
 use Rattle.rv_sources_link_laws.proofs.sections.MaskedLemmas.{source_sections}
@@ -44,10 +44,10 @@ use Rattle.rv_sources_link_laws.proofs.moves.MovedLemmas.{all_map, IsBound, Adds
 use Rattle.rv_sources_link_laws.proofs.statements.OrderedLemmas.{its_section}
 use Rattle.rv_sources_link_laws.proofs.moves.PiecesLemmas.{ArePieces, lines}
 use Rattle.rv_sources_link_laws.proofs.moves.PiecesOfLemmas.{size_is}
-use Rattle.rv_sources_link_laws.proofs.statements.SettledLemmas.{IsSettled, settled_left, of_sections, IsSiteIn, sites_are_in}
+use Rattle.rv_sources_link_laws.proofs.statements.SettledLemmas.{IsSettled, settled_left, of_sections, IsLaidIn, laid_are_in}
 use Rattle.rv_sources_link_laws.proofs.moves.ShrunkLemmas as shrunk
 use Rattle.rv_sources_link_laws.proofs.statements.StatementsLemmas.{renumbered, statement_at, all_statements}
-use Rattle.rv_sources_link_laws.proofs.calls.UncutLemmas.{all_uncut, sections_same, assembled, assembled_sites}
+use Rattle.rv_sources_link_laws.proofs.calls.UncutLemmas.{all_uncut, sections_same, assembled, assembled_laid}
 
 -- ---- the sections of text are there
 
@@ -113,47 +113,47 @@ present_of k (suc i) j (u ∷ us) x e text =
 
 -- the sections of an object by their source's
 pub section_of : (ss : List Statement) (o : Object) (is : IsKept ss o) (j : ℕ) (s : SourceSection) → slice_get (source_sections is.dropped ss) j ≡ Some s
-    → (x : Section) × (slice_get o.sections j ≡ Some x) × IsSectionOf (tables ss) is.sites is.number o.symbols j s (sites_in j is.sites) x
+    → (x : Section) × (slice_get o.sections j ≡ Some x) × IsSectionOf (tables ss) is.laid is.number o.symbols j s (laid_in j is.laid) x
 section_of ss o is j s at =
-    its_section (IsSectionOf (tables ss) is.sites is.number o.symbols) is.sites j (source_sections is.dropped ss) o.sections s
-    (sections_same (tables ss) is.sites (all_uncut ss o is) is.number o.symbols 0 (source_sections is.dropped ss) o.sections is.sections) at
+    its_section (IsSectionOf (tables ss) is.laid is.number o.symbols) is.laid j (source_sections is.dropped ss) o.sections s
+    (sections_same (tables ss) is.laid (all_uncut ss o is) is.number o.symbols 0 (source_sections is.dropped ss) o.sections is.sections) at
 
-pub all_settled : (ss : List Statement) (o : Object) (is : IsKept ss o) → AllByRecursion (IsSettled (source_sections is.dropped ss)) is.sites
-all_settled ss o is = settled_left ss is.sites is.dropped is.good is.located
+pub all_settled : (ss : List Statement) (o : Object) (is : IsKept ss o) → AllByRecursion (IsSettled (source_sections is.dropped ss)) is.laid
+all_settled ss o is = settled_left ss is.laid is.dropped is.good is.located
 
-pub firsts : (ss : List Statement) (o : Object) (is : IsKept ss o) → AllByRecursion (IsFirst is.sites) is.sites
-firsts ss o is = all_map (λ z. (1 ≤ z.located.ordinal) × IsFirst is.sites z) (IsFirst is.sites) is.sites (λ z k. k.1) (found_left 1 (at_start ss) ss is.dropped is.sites is.located)
+pub firsts : (ss : List Statement) (o : Object) (is : IsKept ss o) → AllByRecursion (IsFirst is.laid) is.laid
+firsts ss o is = all_map (λ z. (1 ≤ z.located.ordinal) × IsFirst is.laid z) (IsFirst is.laid) is.laid (λ z k. k.1) (found_left 1 (at_start ss) ss is.dropped is.laid is.located)
 
 -- no statement stands beyond its section
-abbrev IsLow : Object → Site → Type 0
+abbrev IsLow : Object → LaidStatement → Type 0
 IsLow o z = (x : Section) → slice_get o.sections z.located.section ≡ Some x → z.offset ≤ size_of x.contents
 
-lows : (ss : List Statement) (o : Object) (is : IsKept ss o) → AllByRecursion (IsLow o) is.sites
-lows ss o is = of_sections (source_sections is.dropped ss) (IsLow o) is.sites (all_settled ss o is) by
+lows : (ss : List Statement) (o : Object) (is : IsKept ss o) → AllByRecursion (IsLow o) is.laid
+lows ss o is = of_sections (source_sections is.dropped ss) (IsLow o) is.laid (all_settled ss o is) by
   where
-    by : (j : ℕ) (s : SourceSection) → slice_get (source_sections is.dropped ss) j ≡ Some s → AllByRecursion (IsLow o) (sites_in j is.sites)
-    by j s at = go (sites_in j is.sites) (sites_are_in (source_sections is.dropped ss) j s is.sites at (all_settled ss o is)) (offsets_low (tables ss) 0 (sites_in j is.sites) h.tile).1
+    by : (j : ℕ) (s : SourceSection) → slice_get (source_sections is.dropped ss) j ≡ Some s → AllByRecursion (IsLow o) (laid_in j is.laid)
+    by j s at = go (laid_in j is.laid) (laid_are_in (source_sections is.dropped ss) j s is.laid at (all_settled ss o is)) (offsets_low (tables ss) 0 (laid_in j is.laid) h.tile).1
       where
-        found : (x : Section) × (slice_get o.sections j ≡ Some x) × IsSectionOf (tables ss) is.sites is.number o.symbols j s (sites_in j is.sites) x
+        found : (x : Section) × (slice_get o.sections j ≡ Some x) × IsSectionOf (tables ss) is.laid is.number o.symbols j s (laid_in j is.laid) x
         found = section_of ss o is j s at
 
-        h : IsSectionOf (tables ss) is.sites is.number o.symbols j s (sites_in j is.sites) found.0
+        h : IsSectionOf (tables ss) is.laid is.number o.symbols j s (laid_in j is.laid) found.0
         h = found.2
 
-        go : (zs : List Site) → AllByRecursion (λ z. IsSiteIn j s z) zs → AllByRecursion (λ (z : Site). z.offset ≤ end_of 0 (sites_in j is.sites)) zs → AllByRecursion (IsLow o) zs
+        go : (zs : List LaidStatement) → AllByRecursion (λ z. IsLaidIn j s z) zs → AllByRecursion (λ (z : LaidStatement). z.offset ≤ end_of 0 (laid_in j is.laid)) zs → AllByRecursion (IsLow o) zs
         go [] i k = tt
         go (z ∷ zs) (i, is') (k, ks) = (
           (λ x at_x.
               let both : Some found.0 ≡ Some x = sym found.1 ∙ ap (slice_get o.sections) (sym i.stands) ∙ at_x in
               let same : found.0 ≡ x = cc in
-              subst (λ n. z.offset ≤ n) (sym (size_is (tables ss) is.sites is.number o j s (sites_in j is.sites) found.0 h) ∙ ap (λ (y : Section). size_of y.contents) same) k),
+              subst (λ n. z.offset ≤ n) (sym (size_is (tables ss) is.laid is.number o j s (laid_in j is.laid) found.0 h) ∙ ap (λ (y : Section). size_of y.contents) same) k),
           go zs is' ks,
         )
 
-short_bounds : (ss : List Statement) (o : Object) (is : IsKept ss o) → AllByRecursion IsBound is.sites
-short_bounds ss o is = subst (λ S. AllByRecursion IsBound S) (assembled_sites ss o is) (filed.bounds ss o (assembled ss o is))
+short_bounds : (ss : List Statement) (o : Object) (is : IsKept ss o) → AllByRecursion IsBound is.laid
+short_bounds ss o is = subst (λ S. AllByRecursion IsBound S) (assembled_laid ss o is) (filed.bounds ss o (assembled ss o is))
 
-module _ (p : Program) (starts : Starts) (at : ℕ → List Site) (sizes : ℕ → ℕ → Sizes) (os : List Object) (bs : List fits.InputSection) (h : ArePieces p starts at sizes (inputs goes_to_text os) bs) where
+module _ (p : Program) (starts : Starts) (at : ℕ → List LaidStatement) (sizes : ℕ → ℕ → Sizes) (os : List Object) (bs : List fits.InputSection) (h : ArePieces p starts at sizes (inputs goes_to_text os) bs) where
   abbrev pub line : List Placed
   line = lines p starts at sizes 0 (inputs goes_to_text os) bs h
 
@@ -167,7 +167,7 @@ module _ (p : Program) (starts : Starts) (at : ℕ → List Site) (sizes : ℕ �
   -- what is known of a file
   pub record IsHere (f : ℕ) (ss : List Statement) (o : Object) (is : IsKept ss o) : Type 0 where
     pub low : 1 ≤ f
-    pub sites : at f ≡ is.sites
+    pub laid : at f ≡ is.laid
     pub object : object_at os f ≡ o
     pub tables : tables_in p f ≡ tables ss
 
@@ -182,17 +182,17 @@ module _ (p : Program) (starts : Starts) (at : ℕ → List Site) (sizes : ℕ �
     t = tables ss
 
     unique : AllByRecursion (IsFirst (at f)) (at f)
-    unique = subst (λ S. AllByRecursion (IsFirst S) S) (sym here.sites) (firsts ss o is)
+    unique = subst (λ S. AllByRecursion (IsFirst S) S) (sym here.laid) (firsts ss o is)
 
     -- a place at a statement
-    pub place_at : (n : ℕ) (z : Site) (offset : ℕ) → site_at is.sites n ≡ Some z → z.located.placed ≡ true → (source_text z.located.home ≡ true → offset ≡ z.offset)
+    pub place_at : (n : ℕ) (z : LaidStatement) (offset : ℕ) → laid_at is.laid n ≡ Some z → z.located.placed ≡ true → (source_text z.located.home ≡ true → offset ≡ z.offset)
         → text_to (Some (put f z.located.section offset)) ≡ aim_at line (aim f n)
     place_at n z offset found placed same = go (source_text z.located.home) refl
       where
         k : IsSettled (source_sections is.dropped ss) z
-        k = all_found (IsSettled (source_sections is.dropped ss)) (λ z. z.located.ordinal == n) is.sites (all_settled ss o is) z found
+        k = all_found (IsSettled (source_sections is.dropped ss)) (λ z. z.located.ordinal == n) is.laid (all_settled ss o is) z found
 
-        found_x : (x : Section) × (slice_get o.sections z.located.section ≡ Some x) × IsSectionOf (tables ss) is.sites is.number o.symbols z.located.section z.located.home (sites_in z.located.section is.sites) x
+        found_x : (x : Section) × (slice_get o.sections z.located.section ≡ Some x) × IsSectionOf (tables ss) is.laid is.number o.symbols z.located.section z.located.home (laid_in z.located.section is.laid) x
         found_x = section_of ss o is z.located.section z.located.home k.home
 
         x : Section
@@ -201,8 +201,8 @@ module _ (p : Program) (starts : Starts) (at : ℕ → List Site) (sizes : ℕ �
         flags : goes_to_text x ≡ source_text z.located.home
         flags = ap (λ b. b && x.executable) found_x.2.loaded ∙ ap (λ b. z.located.home.loaded && b) found_x.2.executable
 
-        site_here : site_at (at f) n ≡ Some z
-        site_here = ap (λ S. site_at S n) here.sites ∙ found
+        laid_here : laid_at (at f) n ≡ Some z
+        laid_here = ap (λ S. laid_at S n) here.laid ∙ found
 
         home_is : home os (put f z.located.section offset) ≡ Some x
         home_is = ap (λ (u : Object). slice_get u.sections z.located.section) here.object ∙ found_x.1
@@ -213,7 +213,7 @@ module _ (p : Program) (starts : Starts) (at : ℕ → List Site) (sizes : ℕ �
         go : (b : Bool) → source_text z.located.home ≡ b → text_to (Some (put f z.located.section offset)) ≡ aim_at line (aim f n)
         go true text =
             let low : offset ≤ size_of x.contents =
-            subst (λ m. m ≤ size_of x.contents) (sym (same text)) (all_found (IsLow o) (λ z. z.located.ordinal == n) is.sites (lows ss o is) z found x found_x.1) in
+            subst (λ m. m ≤ size_of x.contents) (sym (same text)) (all_found (IsLow o) (λ z. z.located.ordinal == n) is.laid (lows ss o is) z found x found_x.1) in
             let inside : is_text_place os (Some (put f z.located.section offset)) ≡ true = in_object ∙ flags ∙ text in
             let within : moving (home os (put f z.located.section offset)) offset ≡ offset = ap (λ y. moving y offset) home_is ∙ (let e : min offset (size_of x.contents) ≡ offset = omega (arith, low) in e) in
             let none : past_end (home os (put f z.located.section offset)) offset ≡ 0 = ap (λ y. past_end y offset) home_is ∙ (let e : offset - size_of x.contents ≡ 0 = omega (arith, low) in e) in
@@ -224,45 +224,45 @@ module _ (p : Program) (starts : Starts) (at : ℕ → List Site) (sizes : ℕ �
             ap (λ b. if b then Some (base os f z.located.section + moving (home os (put f z.located.section offset)) offset, excess os (Some (put f z.located.section offset))) else None) inside
             ∙ ap (λ m. Some (base os f z.located.section + m, excess os (Some (put f z.located.section offset)))) (within ∙ same text)
             ∙ ap (λ m. Some (base os f z.located.section + z.offset, m)) none
-            ∙ sym (ap (option_map at_place) (aims.offset_some p starts at sizes f n unique z site_here row (inputs goes_to_text os) bs h there))
+            ∙ sym (ap (option_map at_place) (aims.offset_some p starts at sizes f n unique z laid_here row (inputs goes_to_text os) bs h there))
         go false aside =
             ap (λ b. if b then Some (base os f z.located.section + moving (home os (put f z.located.section offset)) offset, excess os (Some (put f z.located.section offset))) else None) (in_object ∙ flags ∙ aside)
             ∙ sym (ap (option_map at_place) (aims.offset_none p starts at sizes f n unique
-            (λ y e. (let both : Some z ≡ Some y = sym site_here ∙ e in let equal : z ≡ y = cc in ap (λ (q : Site). source_text q.located.home) (sym equal) ∙ aside)) (inputs goes_to_text os) bs h))
+            (λ y e. (let both : Some z ≡ Some y = sym laid_here ∙ e in let equal : z ≡ y = cc in ap (λ (q : LaidStatement). source_text q.located.home) (sym equal) ∙ aside)) (inputs goes_to_text os) bs h))
 
     -- none stands where there is no statement
-    pub nowhere : (n : ℕ) → site_at is.sites n ≡ None → aim_at line (aim f n) ≡ None
+    pub nowhere : (n : ℕ) → laid_at is.laid n ≡ None → aim_at line (aim f n) ≡ None
     nowhere n none =
-        ap (option_map at_place) (aims.offset_none p starts at sizes f n unique (λ y e. (let both : Some y ≡ None = sym e ∙ ap (λ S. site_at S n) here.sites ∙ none in absurd (cc))) (inputs goes_to_text os) bs h)
+        ap (option_map at_place) (aims.offset_none p starts at sizes f n unique (λ y e. (let both : Some y ≡ None = sym e ∙ ap (λ S. laid_at S n) here.laid ∙ none in absurd (cc))) (inputs goes_to_text os) bs h)
 
     -- ---- what a statement defines for all files
 
-    code_not : (z : Site) → z.located.home.executable ≡ false → source_text z.located.home ≡ true → ⊥
+    code_not : (z : LaidStatement) → z.located.home.executable ≡ false → source_text z.located.home ≡ true → ⊥
     code_not z e text = let g : true ≡ false = sym (and_parts z.located.home.loaded z.located.home.executable text).1 ∙ e in absurd (cc)
 
-    found_place : (a : Assignment) (y : Option Site) → site_at is.sites a.ordinal ≡ y → IsInData y
+    found_place : (a : Assignment) (y : Option LaidStatement) → laid_at is.laid a.ordinal ≡ y → IsInData y
         → text_to (place_in f (after_found y a.plus)) ≡ aim_at line (aim f a.ordinal)
     found_place a None e k = sym (nowhere a.ordinal e)
     found_place a (Some z) e (aside, placed) = place_at a.ordinal z (add z.offset a.plus) e placed (λ text. absurd (code_not z aside text))
 
-    assigned_place : (a : Option Assignment) → ((b : Assignment) → a ≡ Some b → StandsInData is.sites b)
-        → text_to (place_in f (assigned_definition is.sites a)) ≡ option_and_then (aim_at line) (assigned_aim f a)
+    assigned_place : (a : Option Assignment) → ((b : Assignment) → a ≡ Some b → StandsInData is.laid b)
+        → text_to (place_in f (assigned_definition is.laid a)) ≡ option_and_then (aim_at line) (assigned_aim f a)
     assigned_place None k = refl
     assigned_place (Some a) k = go a.meaning (k a refl)
       where
-        go : (m : Meaning) → StandsInData is.sites (record a { meaning = m })
-            → text_to (place_in f (assigned_definition is.sites (Some (record a { meaning = m })))) ≡ option_and_then (aim_at line) (assigned_aim f (Some (record a { meaning = m })))
+        go : (m : Meaning) → StandsInData is.laid (record a { meaning = m })
+            → text_to (place_in f (assigned_definition is.laid (Some (record a { meaning = m })))) ≡ option_and_then (aim_at line) (assigned_aim f (Some (record a { meaning = m })))
         go (Known n) k = refl
-        go (InData section offset) k = found_place (record a { meaning = InData section offset }) (site_at is.sites a.ordinal) refl (k refl)
+        go (InData section offset) k = found_place (record a { meaning = InData section offset }) (laid_at is.laid a.ordinal) refl (k refl)
         go OpenAddress k = refl
         go (Refused code) k = refl
 
-    aim_kind : (z : Site) (kind : StatementKind) (name : List ℕ) → site_at is.sites z.located.ordinal ≡ Some z → ((n : List ℕ) → kind ≡ Label n → z.located.placed ≡ true)
+    aim_kind : (z : LaidStatement) (kind : StatementKind) (name : List ℕ) → laid_at is.laid z.located.ordinal ≡ Some z → ((n : List ℕ) → kind ≡ Label n → z.located.placed ≡ true)
         → defined_name t z.located.ordinal kind ≡ name ∷ []
-        → option_and_then (aim_at line) (defined_aim t (renumbered f z.located) kind) ≡ text_to (place_in f (site_definition t is.sites z kind))
+        → option_and_then (aim_at line) (defined_aim t (renumbered f z.located) kind) ≡ text_to (place_in f (statement_definition t is.laid z kind))
     aim_kind z (Label n) name itself labelled e = sym (place_at z.located.ordinal z z.offset itself (labelled n refl) (λ text. refl))
     aim_kind z (Directs (Sets n x)) name itself labelled e =
-        sym (assigned_place (assigned_ever t.assignments n) (λ a k. all_found (StandsInData is.sites) (λ s. bytes_eq s.name n) t.assignments is.places a k))
+        sym (assigned_place (assigned_ever t.assignments n) (λ a k. all_found (StandsInData is.laid) (λ s. bytes_eq s.name n) t.assignments is.places a k))
     aim_kind z (Numbered digits) name itself labelled e = absurd (cc)
     aim_kind z (Instruction m ops) name itself labelled e = absurd (cc)
     aim_kind z (Directs (Enters section)) name itself labelled e = absurd (cc)
@@ -285,20 +285,20 @@ module _ (p : Program) (starts : Starts) (at : ℕ → List Site) (sizes : ℕ �
       go (Some x) None h = absurd h
       go (Some x) (Some e) h = sym h
 
-  module _ (f : ℕ) (ss : List Statement) (o : Object) (is : IsKept ss o) (here : IsHere f ss o is) (ys : List Site) (c : IsFinalFile (sizes f) ss o is ys) where
-    abbrev seen : Site → MaybeMapped
+  module _ (f : ℕ) (ss : List Statement) (o : Object) (is : IsKept ss o) (here : IsHere f ss o is) (ys : List LaidStatement) (c : IsFinalFile (sizes f) ss o is ys) where
+    abbrev seen : LaidStatement → MaybeMapped
     seen z = statement_at starts f (c.final z)
 
-    abbrev Alike : Site → Type 0
-    Alike z = IsPair AimsAlike (tables ss) is.sites seen f o z
+    abbrev Alike : LaidStatement → Type 0
+    Alike z = IsPair AimsAlike (tables ss) is.laid seen f o z
 
-    alike_from : (zs : List Site) → AllByRecursion (IsSettled (source_sections is.dropped ss)) zs → AllByRecursion (IsFirst is.sites) zs → AllByRecursion Alike zs
+    alike_from : (zs : List LaidStatement) → AllByRecursion (IsSettled (source_sections is.dropped ss)) zs → AllByRecursion (IsFirst is.laid) zs → AllByRecursion Alike zs
     alike_from [] k u = tt
     alike_from (z ∷ zs) (k, ks) (u, us) = ((λ name index e shared. aimed name e), alike_from zs ks us)
       where
         aimed : (name : List ℕ) → defined_name (tables ss) z.located.ordinal z.located.kind ≡ name ∷ []
             → option_and_then (aim_at line) (defined_aim (tables_in p f) (renumbered f (c.final z).located) (c.final z).located.kind)
-            ≡ text_to (place_in f (site_definition (tables ss) is.sites z z.located.kind))
+            ≡ text_to (place_in f (statement_definition (tables ss) is.laid z z.located.kind))
         aimed name e =
             ap (λ (l : Located). option_and_then (aim_at line) (defined_aim (tables_in p f) (renumbered f l) l.kind)) (c.stays z)
             ∙ ap (λ t. option_and_then (aim_at line) (defined_aim t (renumbered f z.located) z.located.kind)) here.tables
@@ -307,17 +307,17 @@ module _ (p : Program) (starts : Starts) (at : ℕ → List Site) (sizes : ℕ �
     made_file : IsMade AimsAlike p f o (map (statement_at starts f) ys)
     made_file = record {
       t = tables ss;
-      sites = is.sites;
+      laid = is.laid;
       seen = seen;
       tables = here.tables;
-      own_are = ap (map (statement_at starts f)) c.sites ∙ map_twice is.sites;
+      own_are = ap (map (statement_at starts f)) c.laid ∙ map_twice is.laid;
       located = λ z. ap (renumbered f) (c.stays z);
-      rise = rises 1 (at_start ss) ss is.dropped is.sites is.located;
+      rise = rises 1 (at_start ss) ss is.dropped is.laid is.located;
       exported_are = is.exported_are;
-      pairs = alike_from is.sites (all_settled ss o is) (firsts ss o is);
+      pairs = alike_from is.laid (all_settled ss o is) (firsts ss o is);
     }
       where
-        map_twice : (zs : List Site) → map (statement_at starts f) (map c.final zs) ≡ map seen zs
+        map_twice : (zs : List LaidStatement) → map (statement_at starts f) (map c.final zs) ≡ map seen zs
         map_twice [] = refl
         map_twice (z ∷ zs) = ap (λ l. seen z ∷ l) (map_twice zs)
 
@@ -329,10 +329,10 @@ module _ (p : Program) (starts : Starts) (at : ℕ → List Site) (sizes : ℕ �
   made f (ss ∷ sources) [] k ws q c a = absurd k
   made f (ss ∷ sources) (o ∷ us) (is, k) [] q c a = absurd q
   made f (ss ∷ sources) (o ∷ us) (is, k) (w ∷ ws) (js, q) (c, cs) (a, as') = (
-    map (statement_at starts f) js.sites,
+    map (statement_at starts f) js.laid,
     all_statements starts (suc f) sources ws q,
     refl,
-    made_file f ss o is a js.sites c,
+    made_file f ss o is a js.laid c,
     made (suc f) sources us k ws q cs as',
   )
 
@@ -356,18 +356,18 @@ module _ (p : Program) (starts : Starts) (at : ℕ → List Site) (sizes : ℕ �
       outer_is Here x named none = absurd none
       outer_is (Reference digits forward) x named none = absurd none
 
-      own_is : (ordinal : ℕ) (name : Primary) (d : Definition) (x : Symbol) → definition (tables ss) ordinal name ≡ Some d → IsOwn is.sites d x → is_weak x.binding ≡ false
+      own_is : (ordinal : ℕ) (name : Primary) (d : Definition) (x : Symbol) → definition (tables ss) ordinal name ≡ Some d → IsOwn is.laid d x → is_weak x.binding ≡ false
           → stands_at x ≡ aim_at line (aim f d.ordinal)
       own_is ordinal name d x e (z, found, placed, there) strong =
           ap (λ b. text_to (if b then place_in f x.definition else shared_place os x.name)) (ap (is_sure_by x.binding) there ∙ ap not strong)
           ∙ ap (λ d. text_to (place_in f d)) there
-          ∙ place_at f ss o is here d.ordinal z (add z.offset d.plus) found placed (λ text. stays text (adds (tables ss) is.sites is.places ordinal name d e))
+          ∙ place_at f ss o is here d.ordinal z (add z.offset d.plus) found placed (λ text. stays text (adds (tables ss) is.laid is.places ordinal name d e))
         where
           low : source_text z.located.home ≡ true → z.offset ≤ longest_section
-          low text = all_found IsBound (λ z. z.located.ordinal == d.ordinal) is.sites (short_bounds ss o is) z found
+          low text = all_found IsBound (λ z. z.located.ordinal == d.ordinal) is.laid (short_bounds ss o is) z found
               (and_parts z.located.home.loaded z.located.home.executable text).1
 
-          stays : source_text z.located.home ≡ true → AddsInData (tables ss) is.sites is.places d → add z.offset d.plus ≡ z.offset
+          stays : source_text z.located.home ≡ true → AddsInData (tables ss) is.laid is.places d → add z.offset d.plus ≡ z.offset
           stays text (inl none) =
               let bound : z.offset ≤ 268435456 = low text in
               ap (add z.offset) none ∙ (let g : add z.offset 0 ≡ z.offset = omega (arith, bound) in g)
@@ -377,7 +377,7 @@ module _ (p : Program) (starts : Starts) (at : ℕ → List Site) (sizes : ℕ �
       aimed_at name d = option_and_then (aim_at line) (aim_by p f name d)
 
       -- a place of the file's own: the name's, or if that is weak what all files say
-      own_by : (ordinal : ℕ) (name : Primary) (d : Definition) (x : Symbol) → definition (tables ss) ordinal name ≡ Some d → IsNamed name x → IsOwn is.sites d x
+      own_by : (ordinal : ℕ) (name : Primary) (d : Definition) (x : Symbol) → definition (tables ss) ordinal name ≡ Some d → IsNamed name x → IsOwn is.laid d x
           → is_weak x.binding ≡ gives_way (tables ss) name → (b : Bool) → gives_way (tables ss) name ≡ b → stands_at x ≡ aimed_at name (if b then None else Some d)
       own_by ordinal name d x e named own weak false g = own_is ordinal name d x e own (weak ∙ g)
       own_by ordinal (Named n) d x e named (z, found, placed, there) weak true g = unsure n x named (ap (is_sure_by x.binding) there ∙ ap not (weak ∙ g))
@@ -389,7 +389,7 @@ module _ (p : Program) (starts : Starts) (at : ℕ → List Site) (sizes : ℕ �
       none_either true = refl
       none_either false = refl
 
-      pub meant : (l : Located) (name : Primary) (y : Option Symbol) → StandsFor (tables ss) is.sites l.ordinal name y
+      pub meant : (l : Located) (name : Primary) (y : Option Symbol) → StandsFor (tables ss) is.laid l.ordinal name y
           → text_to (option_and_then (symbol_place os f) y) ≡ option_and_then (aim_at line) (aim_of p (renumbered f l) name)
       meant l name None s = absurd s
       meant l name (Some x) (named, weak, s) =
@@ -398,7 +398,7 @@ module _ (p : Program) (starts : Starts) (at : ℕ → List Site) (sizes : ℕ �
           sure : (d : Option Definition) → definition (tables ss) l.ordinal name ≡ d → aimed_at name (if gives_way (tables ss) name then None else d) ≡ aimed_at name (sure_definition (tables ss) l.ordinal name)
           sure d e = ap (λ d. aimed_at name (if gives_way (tables ss) name then None else d)) (sym e)
 
-          go : (d : Option Definition) → definition (tables ss) l.ordinal name ≡ d → IsDefinedBy is.sites name d x
+          go : (d : Option Definition) → definition (tables ss) l.ordinal name ≡ d → IsDefinedBy is.laid name d x
               → stands_at x ≡ aimed_at name (sure_definition (tables ss) l.ordinal name)
           go (Some d) e s = own_by l.ordinal name d x e named s weak (gives_way (tables ss) name) refl ∙ sure (Some d) e
           go None e s = outer_is name x named s ∙ ap (aimed_at name) (none_either (gives_way (tables ss) name)) ∙ sure None e

@@ -34,8 +34,8 @@ use Rattle.rv_assemble_laws.specs.Coded.{constants, AreCodedParts, IsCode, part_
 use Rattle.rv_pseudo_laws.specs.InstructionFaults.{operand_faults, scratch_faults, own_faults, else_unplaced, has_row as has_operands_row}
 use Rattle.rv_assemble_laws.specs.InstructionFaults.{instruction_faults, worths, is_label}
 use Rattle.rv_assemble_laws.specs.Templates.{Template, Fixed, Datum, Coded, Open, open_at, value_fields, template_fields}
-use Rattle.rv_assemble_laws.specs.Sites.{Site, Part, form, part_of, part_bytes, coded_templates, sites_in}
-use Rattle.rv_assemble_laws.specs.Symbols.{site_at}
+use Rattle.rv_assemble_laws.specs.LaidStatements.{LaidStatement, Part, form, part_of, part_bytes, coded_templates, laid_in}
+use Rattle.rv_assemble_laws.specs.Symbols.{laid_at}
 use Rattle.rv_assemble_laws.specs.IsObjectOf.{Numbering, relocation_at, relocations_from}
 use Rattle.rv_sources_link_laws.proofs.statements.StatementsLemmas.{mapped_at, mapped_from, row_address}
 use Rattle.rv_sources_link_laws.proofs.names.KnownLemmas.{outer_in}
@@ -175,38 +175,38 @@ far_low (Closed i ∷ ps) (h, hs) = (tt, far_low ps hs)
 far_low (Open_part k i ∷ ps) (h, hs) = (distance_not_high k h, far_low ps hs)
 far_low (Joined k i j ∷ ps) (h, hs) = (distance_not_high k h.0, far_low ps hs)
 
-module _ (p : Program) (os : List Object) (starts : Starts) (file : ℕ) (sites : List Site) (number : Numbering) (o : Object) (sections : List SourceSection)
-    (low : AllByRecursion IsGlobal p.map.globals) (are : AreSectionsOf (tables_in p file) sites number o.symbols 0 sections o.sections)
-    (settled : AllByRecursion (IsSettled sections) sites) (all_worths : ℕ → ℕ → Open → ℤ) (whole : IsWhole p os starts file sites number o all_worths)
+module _ (p : Program) (os : List Object) (starts : Starts) (file : ℕ) (laid : List LaidStatement) (number : Numbering) (o : Object) (sections : List SourceSection)
+    (low : AllByRecursion IsGlobal p.map.globals) (are : AreSectionsOf (tables_in p file) laid number o.symbols 0 sections o.sections)
+    (settled : AllByRecursion (IsSettled sections) laid) (all_worths : ℕ → ℕ → Open → ℤ) (whole : IsWhole p os starts file laid number o all_worths)
     (plain : (j : ℕ) (x : Section) → slice_get o.sections j ≡ Some x → alignments_of x ≡ [])
-    (address : (n : ℕ) → address_at p.statements file n ≡ option_and_then (row_address starts file) (site_at sites n)) where
-  module _ (index : ℕ) (section : SourceSection) (x : Section) (is : IsSectionOf (tables_in p file) sites number o.symbols index section (sites_in index sites) x)
+    (address : (n : ℕ) → address_at p.statements file n ≡ option_and_then (row_address starts file) (laid_at laid n)) where
+  module _ (index : ℕ) (section : SourceSection) (x : Section) (is : IsSectionOf (tables_in p file) laid number o.symbols index section (laid_in index laid) x)
       (at : slice_get sections index ≡ Some section) (none : alignments_of x ≡ []) (loaded : section.loaded ≡ true)
       (relocated : AllByRecursion (IsRelocated (outer_in p os) starts os (record { file = file; object = o; index = index; section = x })) x.relocations) where
     abbrev T : Tables
     T = tables_in p file
 
-    abbrev v : Site → Expression → Value
+    abbrev v : LaidStatement → Expression → Value
     v z = form T z.located
 
-    abbrev fields : Site → CodePart → List Open
+    abbrev fields : LaidStatement → CodePart → List Open
     fields z q = part_fields T (v z) z.located q
 
-    abbrev rels : Site → List Relocation
+    abbrev rels : LaidStatement → List Relocation
     rels z = relocations_from number z.offset (parts_of T z)
 
-    abbrev m : Site → Mapped
+    abbrev m : LaidStatement → Mapped
     m z = mapped_at starts file z
 
     abbrev worth_of : Relocation → ℤ
     worth_of r = own_value (outer_in p os) (starts file) o (starts file index) x r
 
-    pub record NoUpper (z : Site) : Type 0 where
+    pub record NoUpper (z : LaidStatement) : Type 0 where
       pub none_at : (offset : ℕ) → find (IsUpperAt offset) (relocations_from number z.offset (parts_of (tables_in p file) z)) ≡ None
       pub lacks : takes_upper z.located.kind ≡ false
 
     -- a statement with an upper part, which stands first in it
-    pub record HasUpper (z : Site) : Type 0 where
+    pub record HasUpper (z : LaidStatement) : Type 0 where
       pub field : Open
       pub found_at : (offset : ℕ) → find (IsUpperAt offset) (relocations_from number z.offset (parts_of (tables_in p file) z))
           ≡ (if z.offset == offset then Some (relocation_at number z.offset field) else None)
@@ -216,7 +216,7 @@ module _ (p : Program) (os : List Object) (starts : Starts) (file : ℕ) (sites 
       pub some : 0 < z.bytes
       pub shown : has_row z.located ≡ true
 
-    module _ (z : Site) (h : Facts p os starts file sites number o sections low are settled all_worths whole plain address index section x is at none loaded relocated z) where
+    module _ (z : LaidStatement) (h : Facts p os starts file laid number o sections low are settled all_worths whole plain address index section x is at none loaded relocated z) where
       low_templates : (ps : List CodePart) (coded : List (List ℕ)) → AllByRecursion IsLowPart ps → AllByRecursion IsLowTemplate (coded_templates (fields z) ps coded)
       low_templates [] coded k = tt
       low_templates (q ∷ ps) [] k = tt
@@ -277,7 +277,7 @@ module _ (p : Program) (os : List Object) (starts : Starts) (file : ℕ) (sites 
                   parts_are ∙ ap (λ l. map (part_of z.located.ordinal) (coded_templates (fields z) l z.coded)) ps_are
                   ∙ ap (λ l. map (part_of z.located.ordinal) (coded_templates (fields z) (Open_part kind.PcrelHi20 i ∷ rest) l)) f
                   ∙ ap (λ l. map (part_of z.located.ordinal) (Coded bytes l ∷ ts)) (field_as ∙ ap (symbol_field kind.PcrelHi20 z.located.ordinal) symbolic) in
-                  let known = (subst (λ l. AllByRecursion (Known p os starts file sites number o sections low are settled all_worths whole plain address index section x is at none loaded relocated) l) whole_parts h.knows).0.0 in
+                  let known = (subst (λ l. AllByRecursion (Known p os starts file laid number o sections low are settled all_worths whole plain address index section x is at none loaded relocated) l) whole_parts h.knows).0.0 in
                   let start_as : starts file index + z.offset ≡ starts file z.located.section + z.offset = ap (λ j. starts file j + z.offset) (sym h.inside.stands) in
                   let number_is : target_in p (m z) ≡ add known.at plus =
                   number_as (number_of p (m z)) ∙ ap (λ l. unwrap_or l 0) (symbolic_some (address_in p (m z).located) (v z ex) q meaning plus known.at symbolic known.is) in
@@ -368,13 +368,13 @@ module _ (p : Program) (os : List Object) (starts : Starts) (file : ℕ) (sites 
     Match (Some r) (Some s) = worth_of r ≡ distance s.row.address (target_in p s)
 
     module _ (offset a : ℕ) (same_place : (n : ℕ) → (starts file index + n == a) ≡ (n == offset)) where
-      abbrev Rest : ℕ → List Site → Option Relocation
+      abbrev Rest : ℕ → List LaidStatement → Option Relocation
       Rest off zs = find (IsUpperAt offset) (relocations_from number off (parts T zs))
 
-      abbrev Sought : List Site → Option Mapped
+      abbrev Sought : List LaidStatement → Option Mapped
       Sought zs = find (is_upper_at p file index a) (mapped_from starts file zs)
 
-      pub matches : (off : ℕ) (zs : List Site) → Tile T off zs → AllByRecursion (Facts p os starts file sites number o sections low are settled all_worths whole plain address index section x is at none loaded relocated) zs → Match (Rest off zs) (Sought zs)
+      pub matches : (off : ℕ) (zs : List LaidStatement) → Tile T off zs → AllByRecursion (Facts p os starts file laid number o sections low are settled all_worths whole plain address index section x is at none loaded relocated) zs → Match (Rest off zs) (Sought zs)
       matches off [] tile h = tt
       matches off (z ∷ zs) (here, size, tile) (h, hs) = go (upper_or_not z h) (matches (off + z.bytes) zs tile hs)
         where
@@ -440,20 +440,20 @@ module _ (p : Program) (os : List Object) (starts : Starts) (file : ℕ) (sites 
 
     -- ---- the upper part of a statement is the first at its place
 
-    later : (off : ℕ) (zs : List Site) → Tile T off zs → AllByRecursion (λ z. off ≤ z.offset) zs
+    later : (off : ℕ) (zs : List LaidStatement) → Tile T off zs → AllByRecursion (λ z. off ≤ z.offset) zs
     later off [] tile = tt
     later off (z ∷ zs) (here, size, tile) =
         (omega (arith, here), all_map (λ y. off + z.bytes ≤ y.offset) (λ y. off ≤ y.offset) zs (λ y l. omega (arith, l)) (later (off + z.bytes) zs tile))
 
-    abbrev pub IsOwn : ℕ → List Site → Site → Type 0
+    abbrev pub IsOwn : ℕ → List LaidStatement → LaidStatement → Type 0
     IsOwn off zs z = (k : HasUpper z) → find (IsUpperAt z.offset) (relocations_from number off (parts T zs)) ≡ Some (relocation_at number z.offset k.field)
 
-    pub owns : (off : ℕ) (zs : List Site) → Tile T off zs → AllByRecursion (Facts p os starts file sites number o sections low are settled all_worths whole plain address index section x is at none loaded relocated) zs → AllByRecursion (IsOwn off zs) zs
+    pub owns : (off : ℕ) (zs : List LaidStatement) → Tile T off zs → AllByRecursion (Facts p os starts file laid number o sections low are settled all_worths whole plain address index section x is at none loaded relocated) zs → AllByRecursion (IsOwn off zs) zs
     owns off [] tile h = tt
     owns off (z ∷ zs) (here, size, tile) (h, hs) =
         (first, both (IsOwn (off + z.bytes) zs) (λ y. off + z.bytes ≤ y.offset) (IsOwn off (z ∷ zs)) zs behind (owns (off + z.bytes) zs tile hs) (later (off + z.bytes) zs tile))
       where
-        both : (Q R S : Site → Type 0) (ys : List Site) → ((y : Site) → Q y → R y → S y) → AllByRecursion Q ys → AllByRecursion R ys → AllByRecursion S ys
+        both : (Q R S : LaidStatement → Type 0) (ys : List LaidStatement) → ((y : LaidStatement) → Q y → R y → S y) → AllByRecursion Q ys → AllByRecursion R ys → AllByRecursion S ys
         both Q R S [] f k l = tt
         both Q R S (y ∷ ys) f (k, ks) (l, ls) = (f y k l, both Q R S ys f ks ls)
 
@@ -469,7 +469,7 @@ module _ (p : Program) (os : List Object) (starts : Starts) (file : ℕ) (sites 
             ∙ find_front (IsUpperAt z.offset) (rels z) (relocations_from number (off + z.bytes) (parts T zs)) (relocation_at number z.offset k.field)
             (k.found_at z.offset ∙ ap (λ b. if b then Some (relocation_at number z.offset k.field) else None) (eq-eqb z.offset z.offset refl))
 
-        behind : (y : Site) → IsOwn (off + z.bytes) zs y → off + z.bytes ≤ y.offset → IsOwn off (z ∷ zs) y
+        behind : (y : LaidStatement) → IsOwn (off + z.bytes) zs y → off + z.bytes ≤ y.offset → IsOwn off (z ∷ zs) y
         behind y own after k =
             ap (find (IsUpperAt y.offset)) whole_rels
             ∙ find_join (IsUpperAt y.offset) (rels z) (relocations_from number (off + z.bytes) (parts T zs)) (go (upper_or_not z h)) ∙ own k

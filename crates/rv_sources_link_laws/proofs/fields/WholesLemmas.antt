@@ -18,12 +18,12 @@ use Rattle.rv_object_laws.specs.Inputs.{Starts, InputSection, inputs_from}
 use Rattle.rv_object_laws.specs.Names.{Outer, object_at, no_object}
 use Rattle.rv_object_laws.specs.Values.{value, IsRelocated}
 use Rattle.rv_assemble_laws.specs.Templates.{Open}
-use Rattle.rv_assemble_laws.specs.Sites.{Site, sites_in}
-use Rattle.rv_assemble_laws.specs.Symbols.{site_at}
+use Rattle.rv_assemble_laws.specs.LaidStatements.{LaidStatement, laid_in}
+use Rattle.rv_assemble_laws.specs.Symbols.{laid_at}
 use Rattle.rv_assemble_laws.specs.InstructionFaults.{is_label}
 use Rattle.rv_assemble_laws.specs.Refusals.{code_fault, code_fault_from, code_faults_at, else_fault, statements_fault}
 use Rattle.rv_assemble_laws.specs.IsObjectOf.{Numbering, relocation_at}
-use Rattle.rv_sources_link_laws.proofs.statements.StatementsLemmas.{mapped_from, site_section}
+use Rattle.rv_sources_link_laws.proofs.statements.StatementsLemmas.{mapped_from, laid_section}
 use Rattle.rv_sources_link_laws.proofs.sections.MaskedLemmas.{all_masked}
 use Rattle.rv_sources_link_laws.proofs.statements.SettledLemmas.{of_located}
 use Rattle.rv_sources_link_laws.proofs.names.LabelsLemmas.{labels_stand}
@@ -122,10 +122,10 @@ front_of : (P : Located → Type 0) (xs ys : List Located) → AllByRecursion P 
 front_of P [] ys h = tt
 front_of P (x ∷ xs) ys (h, hs) = (h, front_of P xs ys hs)
 
-pub sound : (ss : List Statement) (sites : List Site) (dropped : ℕ → Bool) → statements_fault ss ≡ None → map (λ s. s.located) sites ≡ map (masked dropped) (located_from 1 1 (at_start ss) ss)
-    → AllByRecursion (λ z. IsSound (tables ss) z.located) sites
-sound ss sites dropped good is =
-    of_located (IsSound (tables ss)) sites
+pub sound : (ss : List Statement) (laid : List LaidStatement) (dropped : ℕ → Bool) → statements_fault ss ≡ None → map (λ s. s.located) laid ≡ map (masked dropped) (located_from 1 1 (at_start ss) ss)
+    → AllByRecursion (λ z. IsSound (tables ss) z.located) laid
+sound ss laid dropped good is =
+    of_located (IsSound (tables ss)) laid
     (subst (λ l. AllByRecursion (IsSound (tables ss)) l) (sym is)
     (all_masked (IsSound (tables ss)) (IsSound (tables ss)) dropped (λ l h. h) (located_from 1 1 (at_start ss) ss)
     (front_of (IsSound (tables ss)) (located_from 1 1 (at_start ss) ss) []
@@ -140,16 +140,16 @@ labels ss = labels_stand ss
 
 -- ---- a file
 
-pub record IsWhole (p : Program) (os : List Object) (starts : Starts) (file : ℕ) (sites : List Site) (number : Numbering) (o : Object) (worths : ℕ → ℕ → Open → ℤ) : Type 0 where
+pub record IsWhole (p : Program) (os : List Object) (starts : Starts) (file : ℕ) (laid : List LaidStatement) (number : Numbering) (o : Object) (worths : ℕ → ℕ → Open → ℤ) : Type 0 where
   pub object : object_at os file ≡ o
-  pub mapped : (j : ℕ) → mapped_in p.mapped file j ≡ mapped_from starts file (sites_in j sites)
-  pub low : AllByRecursion (IsLow starts file) sites
-  pub sound : AllByRecursion (λ z. IsSound (tables_in p file) z.located) sites
+  pub mapped : (j : ℕ) → mapped_in p.mapped file j ≡ mapped_from starts file (laid_in j laid)
+  pub low : AllByRecursion (IsLow starts file) laid
+  pub sound : AllByRecursion (λ z. IsSound (tables_in p file) z.located) laid
   pub labels : StandsAlone (tables_in p file)
   pub given : AreGiven p os
   pub worth : AreWorths p os starts file o number worths
-  pub stands : (n : ℕ) → section_of p file n ≡ site_section starts (site_at sites n)
-  pub itself : AllByRecursion (λ z. site_at sites z.located.ordinal ≡ Some z) sites
+  pub stands : (n : ℕ) → section_of p file n ≡ laid_section starts (laid_at laid n)
+  pub itself : AllByRecursion (λ z. laid_at laid z.located.ordinal ≡ Some z) laid
   -- all fields of loaded sections are filled
   pub relocated : (j : ℕ) (x : Section) → slice_get o.sections j ≡ Some x → x.loaded ≡ true
       → AllByRecursion (IsRelocated (outer_in p os) starts os (record { file = file; object = o; index = j; section = x })) x.relocations

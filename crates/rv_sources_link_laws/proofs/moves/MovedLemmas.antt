@@ -17,8 +17,8 @@ use Rattle.rv_object.specs.Object.{Symbol}
 use Rattle.rv_object_laws.specs.Moves.{Move, dropped, new_offset}
 use Rattle.rv_object.specs.Bindings.{is_shared}
 use Rattle.rv_object_laws.specs.Names.{is_defined}
-use Rattle.rv_assemble_laws.specs.Sites.{Site, Part}
-use Rattle.rv_assemble_laws.specs.Symbols.{SymbolUse, references_in, site_at, after_found, assigned_definition, site_definition, shared_symbol, exports_of, IsNamed, IsOwn, IsOuter, IsDefinedBy, StandsFor}
+use Rattle.rv_assemble_laws.specs.LaidStatements.{LaidStatement, Part}
+use Rattle.rv_assemble_laws.specs.Symbols.{SymbolUse, references_in, laid_at, after_found, assigned_definition, statement_definition, shared_symbol, exports_of, IsNamed, IsOwn, IsOuter, IsDefinedBy, StandsFor}
 use Rattle.rv_assemble_laws.specs.IsObjectOf.{Numbering, IsNumbered, IsInData, StandsInData}
 use Rattle.rv_sources_link_laws.proofs.names.ExportedLemmas.{is_exported}
 use Rattle.rv_sources_link_laws.proofs.names.KnownLemmas.{all_found}
@@ -29,18 +29,18 @@ all_map P Q [] f h = tt
 all_map P Q (x ∷ xs) f (h, hs) = (f x h, all_map P Q xs f hs)
 
 -- what holds of the statements of code: none stands beyond the longest section
-abbrev pub IsBound : Site → Type 0
+abbrev pub IsBound : LaidStatement → Type 0
 IsBound z = z.located.home.executable ≡ true → z.offset ≤ longest_section
 
-module _ (t : Tables) (sites : List Site) (places : AllByRecursion (StandsInData sites) t.assignments) where
+module _ (t : Tables) (laid : List LaidStatement) (places : AllByRecursion (StandsInData laid) t.assignments) where
   -- a definition adds bytes in data alone
   abbrev pub AddsInData : Definition → Type 0
-  AddsInData d = (d.plus ≡ 0) ⊎ ((z : Site) → site_at sites d.ordinal ≡ Some z → z.located.home.executable ≡ false)
+  AddsInData d = (d.plus ≡ 0) ⊎ ((z : LaidStatement) → laid_at laid d.ordinal ≡ Some z → z.located.home.executable ≡ false)
 
-  aside_found : (n : ℕ) → IsInData (site_at sites n) → (z : Site) → site_at sites n ≡ Some z → z.located.home.executable ≡ false
+  aside_found : (n : ℕ) → IsInData (laid_at laid n) → (z : LaidStatement) → laid_at laid n ≡ Some z → z.located.home.executable ≡ false
   aside_found n h z e = (subst IsInData e h).0
 
-  of_assignment : (a : Option Assignment) → ((b : Assignment) → a ≡ Some b → StandsInData sites b) → (d : Definition) → defined_by a ≡ Some d → AddsInData d
+  of_assignment : (a : Option Assignment) → ((b : Assignment) → a ≡ Some b → StandsInData laid b) → (d : Definition) → defined_by a ≡ Some d → AddsInData d
   of_assignment None h d e = absurd (cc)
   of_assignment (Some a) h d e = go (is_location a) refl e
     where
@@ -71,23 +71,23 @@ module _ (t : Tables) (sites : List Site) (places : AllByRecursion (StandsInData
       ever = assigned_ever t.assignments name
 
       second : (l : Option Labelled) → labelled_definition l (defined_by ever) ≡ Some d → AddsInData d
-      second None e = of_assignment ever (λ a k. all_found (StandsInData sites) (λ s. bytes_eq s.name name) t.assignments places a k) d e
+      second None e = of_assignment ever (λ a k. all_found (StandsInData laid) (λ s. bytes_eq s.name name) t.assignments places a k) d e
       second (Some l) e = stood d l.ordinal e
 
       first : (x : Option Definition) → defined_by before ≡ x → first_definition x (labelled_definition (label_of t.labels true ordinal name) (defined_by ever)) ≡ Some d → AddsInData d
       first None k e = second (label_of t.labels true ordinal name) e
-      first (Some c) k e = of_assignment before (λ a k. all_found (StandsInData sites) (λ s. nat_lt s.ordinal ordinal && bytes_eq s.name name) t.assignments places a k) d (k ∙ e)
+      first (Some c) k e = of_assignment before (λ a k. all_found (StandsInData laid) (λ s. nat_lt s.ordinal ordinal && bytes_eq s.name name) t.assignments places a k) d (k ∙ e)
 
-module _ (t : Tables) (sites : List Site) (places : AllByRecursion (StandsInData sites) t.assignments) (bounds : AllByRecursion IsBound sites)
-    (moves : ℕ → List Move) (still : AllByRecursion (λ z. z.located.home.executable ≡ false → moves z.located.section ≡ []) sites)
-    (mv : Site → Site) (stays : (z : Site) → (mv z).located ≡ z.located) (goes : (z : Site) → (mv z).offset ≡ new_offset (moves z.located.section) z.offset)
+module _ (t : Tables) (laid : List LaidStatement) (places : AllByRecursion (StandsInData laid) t.assignments) (bounds : AllByRecursion IsBound laid)
+    (moves : ℕ → List Move) (still : AllByRecursion (λ z. z.located.home.executable ≡ false → moves z.located.section ≡ []) laid)
+    (mv : LaidStatement → LaidStatement) (stays : (z : LaidStatement) → (mv z).located ≡ z.located) (goes : (z : LaidStatement) → (mv z).offset ≡ new_offset (moves z.located.section) z.offset)
     (def : Defined → Defined) (undefined : def Undefined ≡ Undefined) (absolute : (n : ℕ) → def (Absolute n) ≡ Absolute n) (skipped : (n : ℕ) → def (Skipped n) ≡ Skipped n)
     (placed : (section offset : ℕ) → def (InSection section offset) ≡ InSection section (new_offset (moves section) offset)) where
   abbrev moved_symbol : Symbol → Symbol
   moved_symbol x = record { name = x.name; binding = x.binding; definition = def x.definition }
 
-  abbrev sites' : List Site
-  sites' = map mv sites
+  abbrev laid' : List LaidStatement
+  laid' = map mv laid
 
   -- ---- exported symbols are exported
 
@@ -114,25 +114,25 @@ module _ (t : Tables) (sites : List Site) (places : AllByRecursion (StandsInData
 
   -- ---- statements
 
-  pub site_same : (n : ℕ) → site_at sites' n ≡ option_map mv (site_at sites n)
-  site_same n = go sites
+  pub statement_same : (n : ℕ) → laid_at laid' n ≡ option_map mv (laid_at laid n)
+  statement_same n = go laid
     where
-      go : (zs : List Site) → site_at (map mv zs) n ≡ option_map mv (site_at zs n)
+      go : (zs : List LaidStatement) → laid_at (map mv zs) n ≡ option_map mv (laid_at zs n)
       go [] = refl
-      go (z ∷ zs) = ap (λ l. if l.ordinal == n then Some (mv z) else site_at (map mv zs) n) (stays z) ∙ by (z.located.ordinal == n) (go zs)
+      go (z ∷ zs) = ap (λ l. if l.ordinal == n then Some (mv z) else laid_at (map mv zs) n) (stays z) ∙ by (z.located.ordinal == n) (go zs)
         where
-          by : (b : Bool) → site_at (map mv zs) n ≡ option_map mv (site_at zs n) → (if b then Some (mv z) else site_at (map mv zs) n) ≡ option_map mv (if b then Some z else site_at zs n)
+          by : (b : Bool) → laid_at (map mv zs) n ≡ option_map mv (laid_at zs n) → (if b then Some (mv z) else laid_at (map mv zs) n) ≡ option_map mv (if b then Some z else laid_at zs n)
           by true ih = refl
           by false ih = ih
 
-  still_at : (n : ℕ) (z : Site) → site_at sites n ≡ Some z → z.located.home.executable ≡ false → moves z.located.section ≡ []
-  still_at n z e = all_found (λ z. z.located.home.executable ≡ false → moves z.located.section ≡ []) (λ z. z.located.ordinal == n) sites still z e
+  still_at : (n : ℕ) (z : LaidStatement) → laid_at laid n ≡ Some z → z.located.home.executable ≡ false → moves z.located.section ≡ []
+  still_at n z e = all_found (λ z. z.located.home.executable ≡ false → moves z.located.section ≡ []) (λ z. z.located.ordinal == n) laid still z e
 
-  bound_at : (n : ℕ) (z : Site) → site_at sites n ≡ Some z → IsBound z
-  bound_at n z e = all_found IsBound (λ z. z.located.ordinal == n) sites bounds z e
+  bound_at : (n : ℕ) (z : LaidStatement) → laid_at laid n ≡ Some z → IsBound z
+  bound_at n z e = all_found IsBound (λ z. z.located.ordinal == n) laid bounds z e
 
   -- a place after a statement moves with the statement
-  place_moves : (z : Site) (plus : ℕ) → (z.located.home.executable ≡ false → moves z.located.section ≡ []) → IsBound z → (plus ≡ 0) ⊎ (z.located.home.executable ≡ false)
+  place_moves : (z : LaidStatement) (plus : ℕ) → (z.located.home.executable ≡ false → moves z.located.section ≡ []) → IsBound z → (plus ≡ 0) ⊎ (z.located.home.executable ≡ false)
       → new_offset (moves z.located.section) (add z.offset plus) ≡ add (new_offset (moves z.located.section) z.offset) plus
   place_moves z plus none bound h = go z.located.home.executable refl h
     where
@@ -157,7 +157,7 @@ module _ (t : Tables) (sites : List Site) (places : AllByRecursion (StandsInData
       go true e (inl k) = here e k
       go true e (inr k) = aside k
 
-  after_moves : (z : Site) (plus : ℕ) → (z.located.home.executable ≡ false → moves z.located.section ≡ []) → IsBound z → (plus ≡ 0) ⊎ (z.located.home.executable ≡ false)
+  after_moves : (z : LaidStatement) (plus : ℕ) → (z.located.home.executable ≡ false → moves z.located.section ≡ []) → IsBound z → (plus ≡ 0) ⊎ (z.located.home.executable ≡ false)
       → def (InSection z.located.section (add z.offset plus)) ≡ InSection (mv z).located.section (add (mv z).offset plus)
   after_moves z plus none bound h =
       placed z.located.section (add z.offset plus) ∙ ap (InSection z.located.section) (place_moves z plus none bound h ∙ ap (λ n. add n plus) (sym (goes z)))
@@ -165,15 +165,15 @@ module _ (t : Tables) (sites : List Site) (places : AllByRecursion (StandsInData
 
   -- ---- symbols
 
-  own_moves : (d : Definition) (x : Symbol) → AddsInData t sites places d → IsOwn sites d x → IsOwn sites' d (moved_symbol x)
+  own_moves : (d : Definition) (x : Symbol) → AddsInData t laid places d → IsOwn laid d x → IsOwn laid' d (moved_symbol x)
   own_moves d x h (z, found, is_placed, at) = (
     mv z,
-    site_same d.ordinal ∙ ap (option_map mv) found,
+    statement_same d.ordinal ∙ ap (option_map mv) found,
     ap (λ l. l.placed) (stays z) ∙ is_placed,
     ap def at ∙ after_moves z d.plus (still_at d.ordinal z found) (bound_at d.ordinal z found) (go h),
   )
     where
-      go : AddsInData t sites places d → (d.plus ≡ 0) ⊎ (z.located.home.executable ≡ false)
+      go : AddsInData t laid places d → (d.plus ≡ 0) ⊎ (z.located.home.executable ≡ false)
       go (inl e) = inl e
       go (inr k) = inr (k z found)
 
@@ -189,52 +189,52 @@ module _ (t : Tables) (sites : List Site) (places : AllByRecursion (StandsInData
   outer_same Here x h = h
   outer_same (Reference digits forward) x h = h
 
-  defined_same : (q : Primary) (d : Option Definition) (x : Symbol) → ((c : Definition) → d ≡ Some c → AddsInData t sites places c) → IsDefinedBy sites q d x → IsDefinedBy sites' q d (moved_symbol x)
+  defined_same : (q : Primary) (d : Option Definition) (x : Symbol) → ((c : Definition) → d ≡ Some c → AddsInData t laid places c) → IsDefinedBy laid q d x → IsDefinedBy laid' q d (moved_symbol x)
   defined_same q (Some d) x h k = own_moves d x (h d refl) k
   defined_same q None x h k = outer_same q x k
 
-  stands_same : (ordinal : ℕ) (q : Primary) (x : Option Symbol) → StandsFor t sites ordinal q x → StandsFor t sites' ordinal q (option_map moved_symbol x)
+  stands_same : (ordinal : ℕ) (q : Primary) (x : Option Symbol) → StandsFor t laid ordinal q x → StandsFor t laid' ordinal q (option_map moved_symbol x)
   stands_same ordinal q None h = h
-  stands_same ordinal q (Some x) (named, weak, h) = (named_same q x named, weak, defined_same q (definition t ordinal q) x (adds t sites places ordinal q) h)
+  stands_same ordinal q (Some x) (named, weak, h) = (named_same q x named, weak, defined_same q (definition t ordinal q) x (adds t laid places ordinal q) h)
 
   pub uses_same : (number : Numbering) (symbols : List Symbol) (p : Part)
-      → AllByRecursion (IsNumbered t sites number symbols) (references_in p) → AllByRecursion (IsNumbered t sites' number (map moved_symbol symbols)) (references_in p)
-  uses_same number symbols p h = all_map (IsNumbered t sites number symbols) (IsNumbered t sites' number (map moved_symbol symbols)) (references_in p) use_same h
+      → AllByRecursion (IsNumbered t laid number symbols) (references_in p) → AllByRecursion (IsNumbered t laid' number (map moved_symbol symbols)) (references_in p)
+  uses_same number symbols p h = all_map (IsNumbered t laid number symbols) (IsNumbered t laid' number (map moved_symbol symbols)) (references_in p) use_same h
     where
-      use_same : (r : SymbolUse) → IsNumbered t sites number symbols r → IsNumbered t sites' number (map moved_symbol symbols) r
+      use_same : (r : SymbolUse) → IsNumbered t laid number symbols r → IsNumbered t laid' number (map moved_symbol symbols) r
       use_same r h =
           let n = number r.ordinal r.symbol in
-          subst (λ x. StandsFor t sites' r.ordinal r.symbol x) (sym (slice_map moved_symbol symbols n)) (stands_same r.ordinal r.symbol (slice_get symbols n) h)
+          subst (λ x. StandsFor t laid' r.ordinal r.symbol x) (sym (slice_map moved_symbol symbols n)) (stands_same r.ordinal r.symbol (slice_get symbols n) h)
 
   -- ---- exported symbols
 
-  found_moves : (a : Assignment) → StandsInData sites a → is_location a ≡ true → def (after_found (site_at sites a.ordinal) a.plus) ≡ after_found (site_at sites' a.ordinal) a.plus
-  found_moves a h l = go (site_at sites a.ordinal) refl (h l) ∙ ap (λ y. after_found y a.plus) (sym (site_same a.ordinal))
+  found_moves : (a : Assignment) → StandsInData laid a → is_location a ≡ true → def (after_found (laid_at laid a.ordinal) a.plus) ≡ after_found (laid_at laid' a.ordinal) a.plus
+  found_moves a h l = go (laid_at laid a.ordinal) refl (h l) ∙ ap (λ y. after_found y a.plus) (sym (statement_same a.ordinal))
     where
-      go : (y : Option Site) → site_at sites a.ordinal ≡ y → IsInData y → def (after_found y a.plus) ≡ after_found (option_map mv y) a.plus
+      go : (y : Option LaidStatement) → laid_at laid a.ordinal ≡ y → IsInData y → def (after_found y a.plus) ≡ after_found (option_map mv y) a.plus
       go None e k = skipped 0
       go (Some z) e k = after_moves z a.plus (still_at a.ordinal z e) (bound_at a.ordinal z e) (inr k.0)
 
-  assigned_moves : (a : Option Assignment) → ((b : Assignment) → a ≡ Some b → StandsInData sites b) → def (assigned_definition sites a) ≡ assigned_definition sites' a
+  assigned_moves : (a : Option Assignment) → ((b : Assignment) → a ≡ Some b → StandsInData laid b) → def (assigned_definition laid a) ≡ assigned_definition laid' a
   assigned_moves None h = skipped 0
   assigned_moves (Some a) h = go a.meaning (h a refl)
     where
-      go : (m : Meaning) → StandsInData sites (record a { meaning = m })
-          → def (assigned_definition sites (Some (record a { meaning = m }))) ≡ assigned_definition sites' (Some (record a { meaning = m }))
+      go : (m : Meaning) → StandsInData laid (record a { meaning = m })
+          → def (assigned_definition laid (Some (record a { meaning = m }))) ≡ assigned_definition laid' (Some (record a { meaning = m }))
       go (Known n) k = absolute n
       go (InData section offset) k = found_moves (record a { meaning = InData section offset }) k refl
       go OpenAddress k = skipped 0
       go (Refused code) k = skipped 0
 
-  here_moves : (z : Site) → def (InSection z.located.section z.offset) ≡ InSection (mv z).located.section (mv z).offset
+  here_moves : (z : LaidStatement) → def (InSection z.located.section z.offset) ≡ InSection (mv z).located.section (mv z).offset
   here_moves z = placed z.located.section z.offset ∙ ap (InSection z.located.section) (sym (goes z)) ∙ ap (λ l. InSection l.section (mv z).offset) (sym (stays z))
 
-  definition_moves : (z : Site) (kind : StatementKind) → def (site_definition t sites z kind) ≡ site_definition t sites' (mv z) kind
+  definition_moves : (z : LaidStatement) (kind : StatementKind) → def (statement_definition t laid z kind) ≡ statement_definition t laid' (mv z) kind
   definition_moves z (Label name) = here_moves z
   definition_moves z (Numbered number) = here_moves z
   definition_moves z (Instruction m os) = here_moves z
   definition_moves z (Directs (Sets name e)) =
-      assigned_moves (assigned_ever t.assignments name) (λ a k. all_found (StandsInData sites) (λ s. bytes_eq s.name name) t.assignments places a k)
+      assigned_moves (assigned_ever t.assignments name) (λ a k. all_found (StandsInData laid) (λ s. bytes_eq s.name name) t.assignments places a k)
   definition_moves z (Directs (Enters section)) = here_moves z
   definition_moves z (Directs _) = here_moves z
 
@@ -243,24 +243,24 @@ module _ (t : Tables) (sites : List Site) (places : AllByRecursion (StandsInData
   named_moves d d' e (name ∷ names) =
       ap (λ x. shared_symbol t name x ∷ map moved_symbol (map (λ name. shared_symbol t name d) names)) e ∙ ap (λ (l : List Symbol). shared_symbol t name d' ∷ l) (named_moves d d' e names)
 
-  pub exports_move : (zs : List Site) → map moved_symbol (flat_map (exports_of t sites) zs) ≡ flat_map (exports_of t sites') (map mv zs)
+  pub exports_move : (zs : List LaidStatement) → map moved_symbol (flat_map (exports_of t laid) zs) ≡ flat_map (exports_of t laid') (map mv zs)
   exports_move [] = refl
   exports_move (z ∷ zs) =
-      map-append moved_symbol (exports_of t sites z) (flat_map (exports_of t sites) zs)
-      ∙ ap (λ l. l ++ map moved_symbol (flat_map (exports_of t sites) zs))
-      (named_moves (site_definition t sites z z.located.kind) (site_definition t sites' (mv z) z.located.kind) (definition_moves z z.located.kind) (names_where is_shared_name t z.located))
-      ∙ ap (λ l. map (λ name. shared_symbol t name (site_definition t sites' (mv z) l.kind)) (names_where is_shared_name t l) ++ map moved_symbol (flat_map (exports_of t sites) zs)) (sym (stays z))
-      ∙ ap (λ l. exports_of t sites' (mv z) ++ l) (exports_move zs)
+      map-append moved_symbol (exports_of t laid z) (flat_map (exports_of t laid) zs)
+      ∙ ap (λ l. l ++ map moved_symbol (flat_map (exports_of t laid) zs))
+      (named_moves (statement_definition t laid z z.located.kind) (statement_definition t laid' (mv z) z.located.kind) (definition_moves z z.located.kind) (names_where is_shared_name t z.located))
+      ∙ ap (λ l. map (λ name. shared_symbol t name (statement_definition t laid' (mv z) l.kind)) (names_where is_shared_name t l) ++ map moved_symbol (flat_map (exports_of t laid) zs)) (sym (stays z))
+      ∙ ap (λ l. exports_of t laid' (mv z) ++ l) (exports_move zs)
 
   -- ---- the whole
 
-  pub located_same : (zs : List Site) → map (λ (z : Site). z.located) (map mv zs) ≡ map (λ (z : Site). z.located) zs
+  pub located_same : (zs : List LaidStatement) → map (λ (z : LaidStatement). z.located) (map mv zs) ≡ map (λ (z : LaidStatement). z.located) zs
   located_same [] = refl
-  located_same (z ∷ zs) = ap (λ l. l ∷ map (λ (z : Site). z.located) (map mv zs)) (stays z) ∙ ap (λ l. z.located ∷ l) (located_same zs)
+  located_same (z ∷ zs) = ap (λ l. l ∷ map (λ (z : LaidStatement). z.located) (map mv zs)) (stays z) ∙ ap (λ l. z.located ∷ l) (located_same zs)
 
-  pub places_same : (as' : List Assignment) → AllByRecursion (StandsInData sites) as' → AllByRecursion (StandsInData sites') as'
-  places_same as' h = all_map (StandsInData sites) (StandsInData sites') as' (λ a k l. subst IsInData (sym (site_same a.ordinal)) (go (site_at sites a.ordinal) (k l))) h
+  pub places_same : (as' : List Assignment) → AllByRecursion (StandsInData laid) as' → AllByRecursion (StandsInData laid') as'
+  places_same as' h = all_map (StandsInData laid) (StandsInData laid') as' (λ a k l. subst IsInData (sym (statement_same a.ordinal)) (go (laid_at laid a.ordinal) (k l))) h
     where
-      go : (y : Option Site) → IsInData y → IsInData (option_map mv y)
+      go : (y : Option LaidStatement) → IsInData y → IsInData (option_map mv y)
       go None k = tt
       go (Some z) k = subst (λ l. (l.home.executable ≡ false) × (l.placed ≡ true)) (sym (stays z)) k

@@ -17,16 +17,16 @@ use Rattle.rv_object.specs.Object.{size_of}
 use Rattle.rv_object_laws.specs.CallSites.{start_padding, base_in}
 use Rattle.rv_object_laws.specs.Inputs.{Starts, InputSection, begins_at}
 use Rattle.rv_object_laws.specs.Shortened.{Sizes}
-use Rattle.rv_assemble_laws.specs.Sites.{Site, form, sites_in, end_of}
+use Rattle.rv_assemble_laws.specs.LaidStatements.{LaidStatement, form, laid_in, end_of}
 use Rattle.rv_sources_link_laws.proofs.sections.AssembledLemmas.{Tile}
 use Rattle.rv_sources_link_laws.proofs.calls.FinalsLemmas.{IsFinal}
 use Rattle.rv_sources_link_laws.proofs.sections.SectionsLemmas.{join}
-use Rattle.rv_sources_link_laws.proofs.statements.SettledLemmas.{IsSiteIn}
+use Rattle.rv_sources_link_laws.proofs.statements.SettledLemmas.{IsLaidIn}
 use Rattle.rv_sources_link_laws.proofs.statements.StatementsLemmas.{renumbered, mapped_at, mapped_from}
 
-module _ (p : Program) (starts : Starts) (at : ℕ → List Site) (sizes : ℕ → ℕ → Sizes) where
-  abbrev pub own : InputSection → List Site
-  own i = sites_in i.index (at i.file)
+module _ (p : Program) (starts : Starts) (at : ℕ → List LaidStatement) (sizes : ℕ → ℕ → Sizes) where
+  abbrev pub own : InputSection → List LaidStatement
+  own i = laid_in i.index (at i.file)
 
   -- a section of text of an object, and that of its source
   pub record IsPiece (i : InputSection) (b : source.InputSection) : Type 0 where
@@ -34,13 +34,13 @@ module _ (p : Program) (starts : Starts) (at : ℕ → List Site) (sizes : ℕ �
     pub tables : tables_in p i.file ≡ t
     pub s : SourceSection
     pub text : source_text s ≡ true
-    pub final : Site → Site
-    pub stays : (z : Site) → (final z).located ≡ z.located
+    pub final : LaidStatement → LaidStatement
+    pub stays : (z : LaidStatement) → (final z).located ≡ z.located
     pub alignment : begins_at i.section ≡ b.alignment
     pub mapped : b.mapped ≡ mapped_from starts i.file (map final (own i))
     pub tile : Tile t 0 (own i)
     pub size : size_of i.section.contents ≡ end_of 0 (own i)
-    pub inside : AllByRecursion (IsSiteIn i.index s) (own i)
+    pub inside : AllByRecursion (IsLaidIn i.index s) (own i)
     pub finals : AllByRecursion (λ z. IsFinal t (sizes i.file) z (final z)) (own i)
 
   abbrev pub ArePieces : List InputSection → List source.InputSection → Type 0
@@ -57,33 +57,33 @@ module _ (p : Program) (starts : Starts) (at : ℕ → List Site) (sizes : ℕ �
 
   -- ---- its statements in the line
 
-  module _ (file : ℕ) (t : Tables) (same : tables_in p file ≡ t) (final : Site → Site) (stays : (z : Site) → (final z).located ≡ z.located) where
-    abbrev pub placed_at : ℕ → Site → Placed
+  module _ (file : ℕ) (t : Tables) (same : tables_in p file ≡ t) (final : LaidStatement → LaidStatement) (stays : (z : LaidStatement) → (final z).located ≡ z.located) where
+    abbrev pub placed_at : ℕ → LaidStatement → Placed
     placed_at first z = record { site = mapped_at starts file (final z); offset = first + z.offset }
 
-    abbrev pub line_of : ℕ → List Site → List Placed
+    abbrev pub line_of : ℕ → List LaidStatement → List Placed
     line_of first [] = []
     line_of first (z ∷ zs) = if has_row z.located then placed_at first z ∷ line_of first zs else line_of first zs
 
     -- the rows of those that have one
-    abbrev mapped_rows : List Site → List Mapped
+    abbrev mapped_rows : List LaidStatement → List Mapped
     mapped_rows [] = []
     mapped_rows (z ∷ zs) = if has_row z.located then mapped_at starts file (final z) ∷ mapped_rows zs else mapped_rows zs
 
-    rows_stay : (zs : List Site) → mapped_from starts file (map final zs) ≡ mapped_rows zs
+    rows_stay : (zs : List LaidStatement) → mapped_from starts file (map final zs) ≡ mapped_rows zs
     rows_stay [] = refl
     rows_stay (z ∷ zs) =
         ap (λ (l : Located). if has_row l then mapped_at starts file (final z) ∷ mapped_from starts file (map final zs) else mapped_from starts file (map final zs)) (stays z)
         ∙ ap (λ l. if has_row z.located then mapped_at starts file (final z) ∷ l else l) (rows_stay zs)
 
     module _ (index : ℕ) (s : SourceSection) (text : source_text s ≡ true) (its : ℕ → Sizes) where
-      full_is : (z : Site) → IsFinal t its z (final z) → has_row z.located ≡ true → full_size p (mapped_at starts file (final z)) ≡ z.bytes
+      full_is : (z : LaidStatement) → IsFinal t its z (final z) → has_row z.located ≡ true → full_size p (mapped_at starts file (final z)) ≡ z.bytes
       full_is z h e =
           ap (λ (l : Located). statement_size l.home.executable (λ x. program_form p (renumbered file l) x) l.kind (final z).bytes) (stays z)
           ∙ ap (λ u. statement_size z.located.home.executable (λ x. form u z.located x) z.located.kind (final z).bytes) same
           ∙ sym (h.placed (and_parts z.located.placed z.located.home.loaded e).0)
 
-      none_is : (z : Site) → IsFinal t its z (final z) → z.located.home ≡ s → has_row z.located ≡ false → z.bytes ≡ 0
+      none_is : (z : LaidStatement) → IsFinal t its z (final z) → z.located.home ≡ s → has_row z.located ≡ false → z.bytes ≡ 0
       none_is z h home e = go z.located.placed refl
         where
           loaded : s.loaded ≡ true
@@ -94,11 +94,11 @@ module _ (p : Program) (starts : Starts) (at : ℕ → List Site) (sizes : ℕ �
           go true f =
               let g : true ≡ false = sym loaded ∙ ap (λ y. y.loaded) (sym home) ∙ ap (λ b. b && z.located.home.loaded) (sym f) ∙ e in absurd (cc)
 
-      pub placed_is : (first o : ℕ) (zs : List Site) → Tile t o zs → AllByRecursion (IsSiteIn index s) zs → AllByRecursion (λ z. IsFinal t its z (final z)) zs
+      pub placed_is : (first o : ℕ) (zs : List LaidStatement) → Tile t o zs → AllByRecursion (IsLaidIn index s) zs → AllByRecursion (λ z. IsFinal t its z (final z)) zs
           → placed_from p (first + o) (mapped_from starts file (map final zs)) ≡ line_of first zs
       placed_is first o zs tile inside h = ap (placed_from p (first + o)) (rows_stay zs) ∙ go o zs tile inside h
         where
-          go : (o : ℕ) (zs : List Site) → Tile t o zs → AllByRecursion (IsSiteIn index s) zs → AllByRecursion (λ z. IsFinal t its z (final z)) zs
+          go : (o : ℕ) (zs : List LaidStatement) → Tile t o zs → AllByRecursion (IsLaidIn index s) zs → AllByRecursion (λ z. IsFinal t its z (final z)) zs
               → placed_from p (first + o) (mapped_rows zs) ≡ line_of first zs
           go o [] tile inside h = refl
           go o (z ∷ zs) (off, bytes, tile) (i, is) (h, hs) = by (has_row z.located) refl (go (o + z.bytes) zs tile is hs)
@@ -116,11 +116,11 @@ module _ (p : Program) (starts : Starts) (at : ℕ → List Site) (sizes : ℕ �
                   let none = none_is z h i.home e in
                   ap (λ n. placed_from p n (mapped_rows zs)) (let f : first + o ≡ first + (o + z.bytes) = omega (arith, none) in f) ∙ ih
 
-      pub length_is : (o : ℕ) (zs : List Site) → Tile t o zs → AllByRecursion (IsSiteIn index s) zs → AllByRecursion (λ z. IsFinal t its z (final z)) zs
+      pub length_is : (o : ℕ) (zs : List LaidStatement) → Tile t o zs → AllByRecursion (IsLaidIn index s) zs → AllByRecursion (λ z. IsFinal t its z (final z)) zs
           → o + full_length p (mapped_from starts file (map final zs)) ≡ end_of o zs
       length_is o zs tile inside h = ap (λ l. o + full_length p l) (rows_stay zs) ∙ go o zs tile inside h
         where
-          go : (o : ℕ) (zs : List Site) → Tile t o zs → AllByRecursion (IsSiteIn index s) zs → AllByRecursion (λ z. IsFinal t its z (final z)) zs
+          go : (o : ℕ) (zs : List LaidStatement) → Tile t o zs → AllByRecursion (IsLaidIn index s) zs → AllByRecursion (λ z. IsFinal t its z (final z)) zs
               → o + full_length p (mapped_rows zs) ≡ end_of o zs
           go o [] tile inside h = omega arith
           go o (z ∷ zs) (off, bytes, tile) (i, is) (h, hs) = by (has_row z.located) refl (go (o + z.bytes) zs tile is hs)
@@ -138,7 +138,7 @@ module _ (p : Program) (starts : Starts) (at : ℕ → List Site) (sizes : ℕ �
                   (let f : o + full_length p (mapped_rows zs) ≡ o + z.bytes + full_length p (mapped_rows zs) = omega (arith, none) in f) ∙ ih
 
       -- the bytes that are left of its calls
-      pub bytes_are : (size : ℕ → ℕ) (first : ℕ) → ((n : ℕ) → its index n ≡ size (first + n)) → (zs : List Site) → AllByRecursion (IsSiteIn index s) zs
+      pub bytes_are : (size : ℕ → ℕ) (first : ℕ) → ((n : ℕ) → its index n ≡ size (first + n)) → (zs : List LaidStatement) → AllByRecursion (IsLaidIn index s) zs
           → AllByRecursion (λ z. IsFinal t its z (final z)) zs → HaveBytes size (line_of first zs)
       bytes_are size first as_size [] inside h = tt
       bytes_are size first as_size (z ∷ zs) (i, is) (h, hs) = go (has_row z.located) (bytes_are size first as_size zs is hs)

@@ -19,7 +19,7 @@ use Rattle.rv_collect_laws.specs.Graph.{is_dropped}
 use Rattle.rv_object.specs.Object.{Section, Object, size_of}
 use Rattle.rv_object_laws.specs.Inputs.{Starts, InputSection, goes_to_text, inputs_from, inputs_of, begins_at}
 use Rattle.rv_object_laws.specs.Shortened.{Sizes}
-use Rattle.rv_assemble_laws.specs.Sites.{Site, part_bytes, sites_in, end_of}
+use Rattle.rv_assemble_laws.specs.LaidStatements.{LaidStatement, part_bytes, laid_in, end_of}
 use Rattle.rv_assemble_laws.specs.IsObjectOf.{Numbering, contents_of}
 use Rattle.rv_sources_link_laws.proofs.sections.MaskedLemmas.{masked_sections, source_sections, stays}
 use Rattle.rv_sources_link_laws.proofs.statements.OrderedLemmas.{filled}
@@ -29,7 +29,7 @@ use Rattle.rv_sources_link_laws.proofs.sections.FilesLemmas.{IsFile, AreFiles}
 use Rattle.rv_sources_link_laws.proofs.calls.FinalsLemmas.{IsFinal, IsFinalFile, AreFinal}
 use Rattle.rv_sources_link_laws.proofs.moves.PiecesLemmas.{IsPiece, ArePieces, pieces_join, is_same, Apart}
 use Rattle.rv_sources_link_laws.proofs.sections.SectionsLemmas.{join}
-use Rattle.rv_sources_link_laws.proofs.statements.SettledLemmas.{settled_left, IsSiteIn, sites_are_in}
+use Rattle.rv_sources_link_laws.proofs.statements.SettledLemmas.{settled_left, IsLaidIn, laid_are_in}
 use Rattle.rv_sources_link_laws.proofs.moves.ShrinksLemmas.{tidy_at}
 use Rattle.rv_sources_link_laws.proofs.moves.ShrunkLemmas as shrunk
 use Rattle.rv_sources_link_laws.proofs.statements.StatementsLemmas.{mapped_from}
@@ -38,12 +38,12 @@ use Rattle.rv_sources_link_laws.proofs.calls.UncutLemmas.{all_uncut, sections_sa
 -- ---- the statements of a file
 
 -- of the file after so many others
-abbrev pub sites_by : (sources : List (List Statement)) (os : List Object) → AreKept sources os → ℕ → List Site
-sites_by [] [] h i = []
-sites_by [] (o ∷ os) h i = absurd h
-sites_by (ss ∷ sources) [] h i = absurd h
-sites_by (ss ∷ sources) (o ∷ os) (is, h) zero = is.sites
-sites_by (ss ∷ sources) (o ∷ os) (is, h) (suc i) = sites_by sources os h i
+abbrev pub laid_by : (sources : List (List Statement)) (os : List Object) → AreKept sources os → ℕ → List LaidStatement
+laid_by [] [] h i = []
+laid_by [] (o ∷ os) h i = absurd h
+laid_by (ss ∷ sources) [] h i = absurd h
+laid_by (ss ∷ sources) (o ∷ os) (is, h) zero = is.laid
+laid_by (ss ∷ sources) (o ∷ os) (is, h) (suc i) = laid_by sources os h i
 
 -- ---- a section
 
@@ -52,8 +52,8 @@ stored_size types.Progbits count bytes e = sym e
 stored_size types.Note count bytes e = sym e
 stored_size types.Nobits count bytes e = refl
 
-pub size_is : (t : Tables) (sites : List Site) (number : Numbering) (o : Object) (index : ℕ) (s : SourceSection) (zs : List Site) (x : Section) → IsSectionOf t sites number o.symbols index s zs x → size_of x.contents ≡ end_of 0 zs
-size_is t sites number o index s zs x h =
+pub size_is : (t : Tables) (laid : List LaidStatement) (number : Numbering) (o : Object) (index : ℕ) (s : SourceSection) (zs : List LaidStatement) (x : Section) → IsSectionOf t laid number o.symbols index s zs x → size_of x.contents ≡ end_of 0 zs
+size_is t laid number o index s zs x h =
     ap size_of h.contents
     ∙ stored_size s.section_type (end_of 0 zs) (flat_map part_bytes (parts t zs))
     (filled (parts_of t) 0 zs h.tile ∙ (let n = length (flat_map part_bytes (parts t zs)) in let e : 0 + n ≡ n = omega arith in e))
@@ -67,19 +67,19 @@ begin_of (Some x) = aligned (begins_at x) 0
 pub begins_as : (ss : List Statement) (o : Object) (is : IsKept ss o) (j : ℕ) (x : Section) → slice_get o.sections j ≡ Some x → begins_at x ≡ max (if goes_to_text x then 2 else 1) x.alignment
 begins_as ss o is j x there = (tidy_at ss o (assembled ss o is) (λ j. begin_of (slice_get o.sections j)) (λ j y at text. (0, ap begin_of at)) j x there).begins
 
-final_in : (final : Site → Site) → ((z : Site) → (final z).located ≡ z.located) → (j : ℕ) (zs : List Site) → sites_in j (map final zs) ≡ map final (sites_in j zs)
+final_in : (final : LaidStatement → LaidStatement) → ((z : LaidStatement) → (final z).located ≡ z.located) → (j : ℕ) (zs : List LaidStatement) → laid_in j (map final zs) ≡ map final (laid_in j zs)
 final_in final stays j [] = refl
 final_in final stays j (z ∷ zs) =
-    ap (λ (l : Located). if l.section == j then final z ∷ sites_in j (map final zs) else sites_in j (map final zs)) (stays z) ∙ go (z.located.section == j) (final_in final stays j zs)
+    ap (λ (l : Located). if l.section == j then final z ∷ laid_in j (map final zs) else laid_in j (map final zs)) (stays z) ∙ go (z.located.section == j) (final_in final stays j zs)
   where
-    go : (b : Bool) → sites_in j (map final zs) ≡ map final (sites_in j zs) → (if b then final z ∷ sites_in j (map final zs) else sites_in j (map final zs)) ≡ map final (if b then z ∷ sites_in j zs else sites_in j zs)
+    go : (b : Bool) → laid_in j (map final zs) ≡ map final (laid_in j zs) → (if b then final z ∷ laid_in j (map final zs) else laid_in j (map final zs)) ≡ map final (if b then z ∷ laid_in j zs else laid_in j zs)
     go true ih = ap (λ l. final z ∷ l) ih
     go false ih = ih
 
-module _ (p : Program) (starts : Starts) (at : ℕ → List Site) (sizes : ℕ → ℕ → Sizes) (drops : List SectionId) where
+module _ (p : Program) (starts : Starts) (at : ℕ → List LaidStatement) (sizes : ℕ → ℕ → Sizes) (drops : List SectionId) where
   -- ---- a file
 
-  module _ (file : ℕ) (ss : List Statement) (o : Object) (is : IsKept ss o) (mask : is.dropped ≡ is_dropped drops file) (here : at file ≡ is.sites) (ys : List Site) (c : IsFinalFile (sizes file) ss o is ys) (f : IsFile p starts file ss ys) where
+  module _ (file : ℕ) (ss : List Statement) (o : Object) (is : IsKept ss o) (mask : is.dropped ≡ is_dropped drops file) (here : at file ≡ is.laid) (ys : List LaidStatement) (c : IsFinalFile (sizes file) ss o is ys) (f : IsFile p starts file ss ys) where
     abbrev t : Tables
     t = tables ss
 
@@ -89,7 +89,7 @@ module _ (p : Program) (starts : Starts) (at : ℕ → List Site) (sizes : ℕ �
     abbrev input : ℕ → Section → InputSection
     input index x = record { file = file; object = o; index = index; section = x }
 
-    piece_one : (index : ℕ) (s : SourceSection) (x : Section) → IsSectionOf t is.sites is.number o.symbols index s (sites_in index is.sites) x → slice_get sections index ≡ Some s → slice_get o.sections index ≡ Some x
+    piece_one : (index : ℕ) (s : SourceSection) (x : Section) → IsSectionOf t is.laid is.number o.symbols index s (laid_in index is.laid) x → slice_get sections index ≡ Some s → slice_get o.sections index ≡ Some x
         → source_text s ≡ true → IsPiece p starts at sizes (input index x) (source.input_section t s p.mapped file index)
     piece_one index s x h at_s there text =
         let flags : goes_to_text x ≡ source_text s = ap (λ b. b && x.executable) h.loaded ∙ ap (λ b. s.loaded && b) h.executable in
@@ -101,16 +101,16 @@ module _ (p : Program) (starts : Starts) (at : ℕ → List Site) (sizes : ℕ �
           final = c.final;
           stays = c.stays;
           alignment = begins_as ss o is index x there ∙ ap (λ b. max (if b then 2 else 1) x.alignment) flags ∙ ap (λ n. max (if source_text s then 2 else 1) n) h.alignment;
-          mapped = f.mapped index ∙ ap (λ l. mapped_from starts file (sites_in index l)) c.sites ∙ ap (mapped_from starts file) (final_in c.final c.stays index is.sites)
-              ∙ ap (λ S. mapped_from starts file (map c.final (sites_in index S))) (sym here);
-          tile = subst (λ S. Tile t 0 (sites_in index S)) (sym here) h.tile;
-          size = size_is t is.sites is.number o index s (sites_in index is.sites) x h ∙ ap (λ S. end_of 0 (sites_in index S)) (sym here);
-          inside = subst (λ S. AllByRecursion (λ z. IsSiteIn index s z) (sites_in index S)) (sym here) (sites_are_in sections index s is.sites at_s (settled_left ss is.sites is.dropped is.good is.located));
-          finals = subst (λ S. AllByRecursion (λ z. IsFinal t (sizes file) z (c.final z)) (sites_in index S)) (sym here)
-              (all_filter (λ z. IsFinal t (sizes file) z (c.final z)) (λ z. z.located.section == index) is.sites c.finals);
+          mapped = f.mapped index ∙ ap (λ l. mapped_from starts file (laid_in index l)) c.laid ∙ ap (mapped_from starts file) (final_in c.final c.stays index is.laid)
+              ∙ ap (λ S. mapped_from starts file (map c.final (laid_in index S))) (sym here);
+          tile = subst (λ S. Tile t 0 (laid_in index S)) (sym here) h.tile;
+          size = size_is t is.laid is.number o index s (laid_in index is.laid) x h ∙ ap (λ S. end_of 0 (laid_in index S)) (sym here);
+          inside = subst (λ S. AllByRecursion (λ z. IsLaidIn index s z) (laid_in index S)) (sym here) (laid_are_in sections index s is.laid at_s (settled_left ss is.laid is.dropped is.good is.located));
+          finals = subst (λ S. AllByRecursion (λ z. IsFinal t (sizes file) z (c.final z)) (laid_in index S)) (sym here)
+              (all_filter (λ z. IsFinal t (sizes file) z (c.final z)) (λ z. z.located.section == index) is.laid c.finals);
         }
 
-    pieces_from : (index : ℕ) (sss : List SourceSection) (xs : List Section) → AreSectionsOf t is.sites is.number o.symbols index (masked_sections is.dropped index sss) xs
+    pieces_from : (index : ℕ) (sss : List SourceSection) (xs : List Section) → AreSectionsOf t is.laid is.number o.symbols index (masked_sections is.dropped index sss) xs
         → ((j : ℕ) → slice_get sections (index + j) ≡ slice_get (masked_sections is.dropped index sss) j) → ((j : ℕ) → slice_get o.sections (index + j) ≡ slice_get xs j)
         → ArePieces p starts at sizes (inputs_from goes_to_text file o index xs) (source.input_sections_of_file source_text drops t p.mapped file index sss)
     pieces_from index [] [] h at_s at_x = tt
@@ -152,13 +152,13 @@ module _ (p : Program) (starts : Starts) (at : ℕ → List Site) (sizes : ℕ �
 
     pub file_pieces : ArePieces p starts at sizes (inputs_from goes_to_text file o 0 o.sections) (source.input_sections_of_file source_text drops (tables ss) p.mapped file 0 (opened_of (tables ss)).sections)
     file_pieces =
-        pieces_from 0 (opened_of (tables ss)).sections o.sections (sections_same (tables ss) is.sites (all_uncut ss o is) is.number o.symbols 0 sections o.sections is.sections)
+        pieces_from 0 (opened_of (tables ss)).sections o.sections (sections_same (tables ss) is.laid (all_uncut ss o is) is.number o.symbols 0 sections o.sections is.sections)
         (λ j. ap (slice_get sections) (let e : 0 + j ≡ j = omega arith in e)) (λ j. ap (slice_get o.sections) (let e : 0 + j ≡ j = omega arith in e))
 
   -- ---- all files
 
   pub pieces : (file : ℕ) (sources : List (List Statement)) (os : List Object) (h : AreKept sources os) → AreMasked drops file sources os h → (ws : List Object) (k : shrunk.AreObjectsOf sources ws)
-      → AreFinal sizes file sources os h ws k → AreFiles p starts file sources ws k → ((i : ℕ) → at (file + i) ≡ sites_by sources os h i)
+      → AreFinal sizes file sources os h ws k → AreFiles p starts file sources ws k → ((i : ℕ) → at (file + i) ≡ laid_by sources os h i)
       → ArePieces p starts at sizes (inputs_of goes_to_text file os) (source.input_sections_of source_text drops p.mapped file sources)
   pieces file [] [] h masks ws k c f g = tt
   pieces file [] (o ∷ os) h masks ws k c f g = absurd h
@@ -167,12 +167,12 @@ module _ (p : Program) (starts : Starts) (at : ℕ → List Site) (sizes : ℕ �
   pieces file (ss ∷ sources) (o ∷ os) (is, h) (mask, masks) (w ∷ ws) (js, k) (c, cs) (f, fs) g =
       pieces_join p starts at sizes (inputs_from goes_to_text file o 0 o.sections) (inputs_of goes_to_text (suc file) os)
       (source.input_sections_of_file source_text drops (tables ss) p.mapped file 0 (opened_of (tables ss)).sections) (source.input_sections_of source_text drops p.mapped (suc file) sources)
-      (file_pieces file ss o is mask (ap at (let e : file ≡ file + 0 = omega arith in e) ∙ g 0) js.sites c f)
+      (file_pieces file ss o is mask (ap at (let e : file ≡ file + 0 = omega arith in e) ∙ g 0) js.laid c f)
       (pieces (suc file) sources os h masks ws k cs fs (λ i. ap at (let e : suc file + i ≡ file + suc i = omega arith in e) ∙ g (suc i)))
 
 -- ---- they are apart
 
-module _ (p : Program) (starts : Starts) (at : ℕ → List Site) (sizes : ℕ → ℕ → Sizes) where
+module _ (p : Program) (starts : Starts) (at : ℕ → List LaidStatement) (sizes : ℕ → ℕ → Sizes) where
   abbrev From : ℕ → List InputSection → Type 0
   From file is = AllByRecursion (λ (j : InputSection). file ≤ j.file) is
 

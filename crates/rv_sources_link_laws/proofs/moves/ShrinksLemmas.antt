@@ -20,12 +20,12 @@ use Rattle.rv_object_laws.specs.Moves.{by_place, has_padding, new_offset, plan, 
 use Rattle.rv_object_laws.specs.Inputs.{Starts, InputSection, goes_to_text, begins_at, inputs_from, inputs_of, start_of, size, Stand}
 use Rattle.rv_object_laws.specs.Names.{is_in_text, can_begin}
 use Rattle.rv_object_laws.specs.IsLinkOf.{moves_at}
-use Rattle.rv_assemble_laws.specs.Sites.{Site, Part, sites_in}
-use Rattle.rv_assemble_laws.specs.Symbols.{references_in, site_at, after_found, assigned_definition, site_definition, shared_symbol, exports_of}
+use Rattle.rv_assemble_laws.specs.LaidStatements.{LaidStatement, Part, laid_in}
+use Rattle.rv_assemble_laws.specs.Symbols.{references_in, laid_at, after_found, assigned_definition, statement_definition, shared_symbol, exports_of}
 use Rattle.rv_assemble_laws.specs.IsObjectOf.{IsNumbered, row_of, rows_at, IsInData, StandsInData}
 use Rattle.rv_sources_link_laws.proofs.sections.MaskedLemmas.{source_sections}
 use Rattle.rv_sources_link_laws.proofs.sections.AssembledLemmas.{IsSectionOf, AreSectionsOf, IsAssembled, AreAssembled}
-use Rattle.rv_sources_link_laws.proofs.statements.SettledLemmas.{IsSettled, sites_are_in, of_sections}
+use Rattle.rv_sources_link_laws.proofs.statements.SettledLemmas.{IsSettled, laid_are_in, of_sections}
 use Rattle.rv_sources_link_laws.proofs.names.ExportedLemmas.{exported}
 use Rattle.rv_sources_link_laws.proofs.names.KnownLemmas.{all_found}
 use Rattle.rv_sources_link_laws.proofs.sections.SectionsLemmas.{split, join}
@@ -38,7 +38,7 @@ use Rattle.rv_sources_link_laws.proofs.moves.ShrunkLemmas as shrunk
 use Rattle.rv_sources_link_laws.proofs.moves.ShrinkingLemmas.{shrunk_section, sections_from, moves_in, shrunk_definition, shrunk_symbol, shrunk_row, shrunk_object, shrunk_objects, section_is, exported_same}
 use Rattle.rv_sources_link_laws.proofs.moves.ShrunkLinkLemmas.{IsTidy, BeginsSame, AllBegin}
 use Rattle.rv_sources_link_laws.proofs.statements.CountedLemmas.{IsCounted}
-use Rattle.rv_sources_link_laws.proofs.moves.ShrunkSectionsLemmas.{site_with, IsLeft, left}
+use Rattle.rv_sources_link_laws.proofs.moves.ShrunkSectionsLemmas.{laid_with, IsLeft, left}
 
 -- ---- a file
 
@@ -53,21 +53,21 @@ module _ (ss : List Statement) (o : Object) (is : IsAssembled ss o) (f : ℕ →
   abbrev o' : Object
   o' = shrunk_object f o
 
-  abbrev mv : Site → Site
-  mv z = site_with (moves_in f o z.located.section) z
+  abbrev mv : LaidStatement → LaidStatement
+  mv z = laid_with (moves_in f o z.located.section) z
 
-  abbrev sites' : List Site
-  sites' = map mv is.sites
+  abbrev laid' : List LaidStatement
+  laid' = map mv is.laid
 
-  abbrev all_settled : AllByRecursion (IsSettled sections) is.sites
+  abbrev all_settled : AllByRecursion (IsSettled sections) is.laid
   all_settled = filed.all_settled ss o is
 
-  abbrev section_of : (j : ℕ) (s : SourceSection) → slice_get sections j ≡ Some s → (x : Section) × (slice_get o.sections j ≡ Some x) × IsSectionOf t is.sites is.number o.symbols j s (sites_in j is.sites) x
+  abbrev section_of : (j : ℕ) (s : SourceSection) → slice_get sections j ≡ Some s → (x : Section) × (slice_get o.sections j ≡ Some x) × IsSectionOf t is.laid is.number o.symbols j s (laid_in j is.laid) x
   section_of j s at = filed.section_of ss o is j s at
 
   -- ---- its statements
 
-  abbrev AreEven : Site → Type 0
+  abbrev AreEven : LaidStatement → Type 0
   AreEven z = source_text z.located.home ≡ true → (z.offset % 2 ≡ 0) × (new_offset (moves_in f o z.located.section) z.offset % 2 ≡ 0)
 
   -- in data nothing moves
@@ -80,7 +80,7 @@ module _ (ss : List Statement) (o : Object) (is : IsAssembled ss o) (f : ℕ →
       go true = refl
       go false = refl
 
-  text_in : (z : Site) → IsSettled sections z → is_in_text (slice_get o.sections z.located.section) ≡ source_text z.located.home
+  text_in : (z : LaidStatement) → IsSettled sections z → is_in_text (slice_get o.sections z.located.section) ≡ source_text z.located.home
   text_in z k =
       let (x, there, h) = section_of z.located.section z.located.home k.home in
       ap is_in_text there ∙ ap (λ b. b && x.executable) h.loaded ∙ ap (λ b. z.located.home.loaded && b) h.executable
@@ -92,44 +92,44 @@ module _ (ss : List Statement) (o : Object) (is : IsAssembled ss o) (f : ℕ →
       go None = refl
       go (Some x) = refl
 
-  settled_at : (n : ℕ) (z : Site) → site_at is.sites n ≡ Some z → IsSettled sections z
-  settled_at n z e = all_found (IsSettled sections) (λ z. z.located.ordinal == n) is.sites all_settled z e
+  settled_at : (n : ℕ) (z : LaidStatement) → laid_at is.laid n ≡ Some z → IsSettled sections z
+  settled_at n z e = all_found (IsSettled sections) (λ z. z.located.ordinal == n) is.laid all_settled z e
 
   -- ---- symbols
 
-  still : AllByRecursion (λ z. z.located.home.executable ≡ false → moves_in f o z.located.section ≡ []) is.sites
-  still = all_map (IsSettled sections) (λ z. z.located.home.executable ≡ false → moves_in f o z.located.section ≡ []) is.sites (λ z k aside. still_in z.located.section z.located.home k.home aside) all_settled
+  still : AllByRecursion (λ z. z.located.home.executable ≡ false → moves_in f o z.located.section ≡ []) is.laid
+  still = all_map (IsSettled sections) (λ z. z.located.home.executable ≡ false → moves_in f o z.located.section ≡ []) is.laid (λ z k aside. still_in z.located.section z.located.home k.home aside) all_settled
 
-  uses_same : (p : Part) → AllByRecursion (IsNumbered t is.sites is.number o.symbols) (references_in p) → AllByRecursion (IsNumbered t sites' is.number o'.symbols) (references_in p)
+  uses_same : (p : Part) → AllByRecursion (IsNumbered t is.laid is.number o.symbols) (references_in p) → AllByRecursion (IsNumbered t laid' is.number o'.symbols) (references_in p)
   uses_same p h =
-      moved.uses_same t is.sites is.places (filed.bounds ss o is) (moves_in f o) still mv (λ z. refl) (λ z. refl) (shrunk_definition f o) refl (λ n. refl) (λ n. refl) (λ j n. refl)
+      moved.uses_same t is.laid is.places (filed.bounds ss o is) (moves_in f o) still mv (λ z. refl) (λ z. refl) (shrunk_definition f o) refl (λ n. refl) (λ n. refl) (λ j n. refl)
       is.number o.symbols p h
 
   -- ---- sections
 
-  in_section : (j : ℕ) (x : Section) → slice_get o.sections j ≡ Some x → (zs : List Site) → sites_in j (map mv zs) ≡ map (site_with (moves (f j) x)) (sites_in j zs)
+  in_section : (j : ℕ) (x : Section) → slice_get o.sections j ≡ Some x → (zs : List LaidStatement) → laid_in j (map mv zs) ≡ map (laid_with (moves (f j) x)) (laid_in j zs)
   in_section j x there [] = refl
   in_section j x there (z ∷ zs) = go (z.located.section == j) refl (in_section j x there zs)
     where
-      go : (b : Bool) → (z.located.section == j) ≡ b → sites_in j (map mv zs) ≡ map (site_with (moves (f j) x)) (sites_in j zs)
-          → (if b then mv z ∷ sites_in j (map mv zs) else sites_in j (map mv zs)) ≡ map (site_with (moves (f j) x)) (if b then z ∷ sites_in j zs else sites_in j zs)
+      go : (b : Bool) → (z.located.section == j) ≡ b → laid_in j (map mv zs) ≡ map (laid_with (moves (f j) x)) (laid_in j zs)
+          → (if b then mv z ∷ laid_in j (map mv zs) else laid_in j (map mv zs)) ≡ map (laid_with (moves (f j) x)) (if b then z ∷ laid_in j zs else laid_in j zs)
       go true e ih =
-          ap (λ k. site_with (moves_in f o k) z ∷ sites_in j (map mv zs)) (eqb-true z.located.section j e)
-          ∙ ap (λ y. site_with (moves_at (f j) y) z ∷ sites_in j (map mv zs)) there ∙ ap (λ l. site_with (moves (f j) x) z ∷ l) ih
+          ap (λ k. laid_with (moves_in f o k) z ∷ laid_in j (map mv zs)) (eqb-true z.located.section j e)
+          ∙ ap (λ y. laid_with (moves_at (f j) y) z ∷ laid_in j (map mv zs)) there ∙ ap (λ l. laid_with (moves (f j) x) z ∷ l) ih
       go false e ih = ih
 
   module _ (j : ℕ) (s : SourceSection) (x : Section) (at : slice_get sections j ≡ Some s) (there : slice_get o.sections j ≡ Some x)
-      (h : IsSectionOf t is.sites is.number o.symbols j s (sites_in j is.sites) x) where
+      (h : IsSectionOf t is.laid is.number o.symbols j s (laid_in j is.laid) x) where
     abbrev Left : Type 0
-    Left = IsLeft t is.sites sites' is.number o.symbols o'.symbols j (f j) s x h (sites_are_in sections j s is.sites at all_settled) (begun j x there) (in_section j x there is.sites) uses_same
+    Left = IsLeft t is.laid laid' is.number o.symbols o'.symbols j (f j) s x h (laid_are_in sections j s is.laid at all_settled) (begun j x there) (in_section j x there is.laid) uses_same
 
     is_left : Left
-    is_left = left t is.sites sites' is.number o.symbols o'.symbols j (f j) s x h (sites_are_in sections j s is.sites at all_settled) (begun j x there) (in_section j x there is.sites) uses_same
+    is_left = left t is.laid laid' is.number o.symbols o'.symbols j (f j) s x h (laid_are_in sections j s is.laid at all_settled) (begun j x there) (in_section j x there is.laid) uses_same
 
-  evens : AllByRecursion AreEven is.sites
-  evens = of_sections sections AreEven is.sites all_settled by
+  evens : AllByRecursion AreEven is.laid
+  evens = of_sections sections AreEven is.laid all_settled by
     where
-      by : (j : ℕ) (s : SourceSection) → slice_get sections j ≡ Some s → AllByRecursion AreEven (sites_in j is.sites)
+      by : (j : ℕ) (s : SourceSection) → slice_get sections j ≡ Some s → AllByRecursion AreEven (laid_in j is.laid)
       by j s at =
           let (x, there, h) = section_of j s at in
           filed.with_home ss o is (λ z. source_text s ≡ true → (z.offset % 2 ≡ 0) × (new_offset (moves (f j) x) z.offset % 2 ≡ 0)) AreEven j s at
@@ -138,19 +138,19 @@ module _ (ss : List Statement) (o : Object) (is : IsAssembled ss o) (f : ℕ →
           ((is_left j s x at there h).evens)
 
   -- what its statements count
-  pub counted : AllByRecursion (λ z. IsCounted t (moves_in f o z.located.section) z) is.sites
-  counted = of_sections sections (λ z. IsCounted t (moves_in f o z.located.section) z) is.sites all_settled by
+  pub counted : AllByRecursion (λ z. IsCounted t (moves_in f o z.located.section) z) is.laid
+  counted = of_sections sections (λ z. IsCounted t (moves_in f o z.located.section) z) is.laid all_settled by
     where
-      by : (j : ℕ) (s : SourceSection) → slice_get sections j ≡ Some s → AllByRecursion (λ z. IsCounted t (moves_in f o z.located.section) z) (sites_in j is.sites)
+      by : (j : ℕ) (s : SourceSection) → slice_get sections j ≡ Some s → AllByRecursion (λ z. IsCounted t (moves_in f o z.located.section) z) (laid_in j is.laid)
       by j s at =
           let (x, there, h) = section_of j s at in
           filed.with_home ss o is (IsCounted t (moves (f j) x)) (λ z. IsCounted t (moves_in f o z.located.section) z) j s at
           (λ z stands home k. subst (λ ms. IsCounted t ms z) (sym (ap (moves_in f o) stands ∙ ap (moves_at (f j)) there)) k)
           ((is_left j s x at there h).counted)
 
-  sections_left : (index : ℕ) (sss : List SourceSection) (xs : List Section) → AreSectionsOf t is.sites is.number o.symbols index sss xs
+  sections_left : (index : ℕ) (sss : List SourceSection) (xs : List Section) → AreSectionsOf t is.laid is.number o.symbols index sss xs
       → ((j : ℕ) → slice_get sections (index + j) ≡ slice_get sss j) → ((j : ℕ) → slice_get o.sections (index + j) ≡ slice_get xs j)
-      → shrunk.AreSectionsOf t sites' is.number o'.symbols index sss (sections_from f index xs)
+      → shrunk.AreSectionsOf t laid' is.number o'.symbols index sss (sections_from f index xs)
   sections_left index [] [] h at at' = tt
   sections_left index [] (x ∷ xs) h at at' = absurd h
   sections_left index (s ∷ sss) [] h at at' = absurd h
@@ -164,7 +164,7 @@ module _ (ss : List Statement) (o : Object) (is : IsAssembled ss o) (f : ℕ →
 
   pub tidy_at : (j : ℕ) (x : Section) → slice_get o.sections j ≡ Some x → IsTidy (f j) x
   tidy_at j x there =
-      let (s, at, h) = its_source (IsSectionOf t is.sites is.number o.symbols) is.sites j sections o.sections x is.sections there in
+      let (s, at, h) = its_source (IsSectionOf t is.laid is.number o.symbols) is.laid j sections o.sections x is.sections there in
       (is_left j s x at there h).tidy
 
   -- ---- where a run begins
@@ -174,13 +174,13 @@ module _ (ss : List Statement) (o : Object) (is : IsAssembled ss o) (f : ℕ →
   never false = refl
 
   -- in data none does
-  aside_begins : (z : Site) (n m : ℕ) → IsSettled sections z → z.located.home.executable ≡ false
+  aside_begins : (z : LaidStatement) (n m : ℕ) → IsSettled sections z → z.located.home.executable ≡ false
       → can_begin o' (InSection z.located.section n) ≡ can_begin o (InSection z.located.section m)
   aside_begins z n m k aside =
       let none : is_in_text (slice_get o.sections z.located.section) ≡ false = text_in z k ∙ ap (λ b. z.located.home.loaded && b) aside ∙ never z.located.home.loaded in
       ap (λ b. b && (n % 2 == 0)) (text_same z.located.section ∙ none) ∙ ap (λ b. b && (m % 2 == 0)) (sym none)
 
-  place_begins : (z : Site) → IsSettled sections z → AreEven z
+  place_begins : (z : LaidStatement) → IsSettled sections z → AreEven z
       → can_begin o' (InSection z.located.section (new_offset (moves_in f o z.located.section) z.offset)) ≡ can_begin o (InSection z.located.section z.offset)
   place_begins z k even =
       ap (λ b. b && (new_offset (moves_in f o z.located.section) z.offset % 2 == 0)) (text_same z.located.section ∙ text_in z k)
@@ -192,33 +192,33 @@ module _ (ss : List Statement) (o : Object) (is : IsAssembled ss o) (f : ℕ →
           eq-eqb (new_offset (moves_in f o z.located.section) z.offset % 2) 0 both.1 ∙ sym (eq-eqb (z.offset % 2) 0 both.0)
       go false e = refl
 
-  found_begins : (a : Assignment) → StandsInData is.sites a → is_location a ≡ true
-      → can_begin o' (shrunk_definition f o (after_found (site_at is.sites a.ordinal) a.plus)) ≡ can_begin o (after_found (site_at is.sites a.ordinal) a.plus)
-  found_begins a h l = go (site_at is.sites a.ordinal) refl (h l)
+  found_begins : (a : Assignment) → StandsInData is.laid a → is_location a ≡ true
+      → can_begin o' (shrunk_definition f o (after_found (laid_at is.laid a.ordinal) a.plus)) ≡ can_begin o (after_found (laid_at is.laid a.ordinal) a.plus)
+  found_begins a h l = go (laid_at is.laid a.ordinal) refl (h l)
     where
-      go : (y : Option Site) → site_at is.sites a.ordinal ≡ y → IsInData y → can_begin o' (shrunk_definition f o (after_found y a.plus)) ≡ can_begin o (after_found y a.plus)
+      go : (y : Option LaidStatement) → laid_at is.laid a.ordinal ≡ y → IsInData y → can_begin o' (shrunk_definition f o (after_found y a.plus)) ≡ can_begin o (after_found y a.plus)
       go None e k = refl
       go (Some z) e k = aside_begins z (new_offset (moves_in f o z.located.section) (add z.offset a.plus)) (add z.offset a.plus) (settled_at a.ordinal z e) k.0
 
-  assigned_begins : (a : Option Assignment) → ((b : Assignment) → a ≡ Some b → StandsInData is.sites b)
-      → can_begin o' (shrunk_definition f o (assigned_definition is.sites a)) ≡ can_begin o (assigned_definition is.sites a)
+  assigned_begins : (a : Option Assignment) → ((b : Assignment) → a ≡ Some b → StandsInData is.laid b)
+      → can_begin o' (shrunk_definition f o (assigned_definition is.laid a)) ≡ can_begin o (assigned_definition is.laid a)
   assigned_begins None h = refl
   assigned_begins (Some a) h = go a.meaning (h a refl)
     where
-      go : (m : Meaning) → StandsInData is.sites (record a { meaning = m })
-          → can_begin o' (shrunk_definition f o (assigned_definition is.sites (Some (record a { meaning = m })))) ≡ can_begin o (assigned_definition is.sites (Some (record a { meaning = m })))
+      go : (m : Meaning) → StandsInData is.laid (record a { meaning = m })
+          → can_begin o' (shrunk_definition f o (assigned_definition is.laid (Some (record a { meaning = m })))) ≡ can_begin o (assigned_definition is.laid (Some (record a { meaning = m })))
       go (Known n) k = refl
       go (InData section offset) k = found_begins (record a { meaning = InData section offset }) k refl
       go OpenAddress k = refl
       go (Refused code) k = refl
 
-  definition_begins : (z : Site) (kind : StatementKind) → IsSettled sections z → AreEven z
-      → can_begin o' (shrunk_definition f o (site_definition t is.sites z kind)) ≡ can_begin o (site_definition t is.sites z kind)
+  definition_begins : (z : LaidStatement) (kind : StatementKind) → IsSettled sections z → AreEven z
+      → can_begin o' (shrunk_definition f o (statement_definition t is.laid z kind)) ≡ can_begin o (statement_definition t is.laid z kind)
   definition_begins z (Label name) k even = place_begins z k even
   definition_begins z (Numbered number) k even = place_begins z k even
   definition_begins z (Instruction m os) k even = place_begins z k even
   definition_begins z (Directs (Sets name e)) k even =
-      assigned_begins (assigned_ever t.assignments name) (λ a k. all_found (StandsInData is.sites) (λ s. bytes_eq s.name name) t.assignments is.places a k)
+      assigned_begins (assigned_ever t.assignments name) (λ a k. all_found (StandsInData is.laid) (λ s. bytes_eq s.name name) t.assignments is.places a k)
   definition_begins z (Directs (Enters section)) k even = place_begins z k even
   definition_begins z (Directs _) k even = place_begins z k even
 
@@ -226,18 +226,18 @@ module _ (ss : List Statement) (o : Object) (is : IsAssembled ss o) (f : ℕ →
   named_begins d e [] = tt
   named_begins d e (name ∷ names) = (e, named_begins d e names)
 
-  exports_begin : (zs : List Site) → AllByRecursion (IsSettled sections) zs → AllByRecursion AreEven zs → AllByRecursion (BeginsSame f o) (flat_map (exports_of t is.sites) zs)
+  exports_begin : (zs : List LaidStatement) → AllByRecursion (IsSettled sections) zs → AllByRecursion AreEven zs → AllByRecursion (BeginsSame f o) (flat_map (exports_of t is.laid) zs)
   exports_begin [] h k = tt
   exports_begin (z ∷ zs) (h, hs) (k, ks) =
-      join (BeginsSame f o) (exports_of t is.sites z) (flat_map (exports_of t is.sites) zs)
-      (named_begins (site_definition t is.sites z z.located.kind) (definition_begins z z.located.kind h k) (names_where is_shared t z.located)) (exports_begin zs hs ks)
+      join (BeginsSame f o) (exports_of t is.laid z) (flat_map (exports_of t is.laid) zs)
+      (named_begins (statement_definition t is.laid z z.located.kind) (definition_begins z z.located.kind h k) (names_where is_shared t z.located)) (exports_begin zs hs ks)
 
   pub begins_same : AllByRecursion (BeginsSame f o) (exported o)
-  begins_same = subst (λ l. AllByRecursion (BeginsSame f o) l) (sym is.exported_are) (exports_begin is.sites all_settled evens)
+  begins_same = subst (λ l. AllByRecursion (BeginsSame f o) l) (sym is.exported_are) (exports_begin is.laid all_settled evens)
 
   -- ---- the whole
 
-  rows_move : (zs : List Site) → map (shrunk_row f o) (flat_map rows_at zs) ≡ flat_map rows_at (map mv zs)
+  rows_move : (zs : List LaidStatement) → map (shrunk_row f o) (flat_map rows_at zs) ≡ flat_map rows_at (map mv zs)
   rows_move [] = refl
   rows_move (z ∷ zs) = go (has_row z.located) (rows_move zs)
     where
@@ -250,19 +250,19 @@ module _ (ss : List Statement) (o : Object) (is : IsAssembled ss o) (f : ℕ →
   shrunk_is = record {
     dropped = is.dropped;
     good = is.good;
-    sites = sites';
-    located = moved.located_same t is.sites is.places (filed.bounds ss o is) (moves_in f o) still mv (λ z. refl) (λ z. refl) (shrunk_definition f o) refl (λ n. refl) (λ n. refl) (λ j n. refl) is.sites ∙ is.located;
-    places = moved.places_same t is.sites is.places (filed.bounds ss o is) (moves_in f o) still mv (λ z. refl) (λ z. refl) (shrunk_definition f o) refl (λ n. refl) (λ n. refl) (λ j n. refl) t.assignments is.places;
+    laid = laid';
+    located = moved.located_same t is.laid is.places (filed.bounds ss o is) (moves_in f o) still mv (λ z. refl) (λ z. refl) (shrunk_definition f o) refl (λ n. refl) (λ n. refl) (λ j n. refl) is.laid ∙ is.located;
+    places = moved.places_same t is.laid is.places (filed.bounds ss o is) (moves_in f o) still mv (λ z. refl) (λ z. refl) (shrunk_definition f o) refl (λ n. refl) (λ n. refl) (λ j n. refl) t.assignments is.places;
     number = is.number;
     sections = sections_left 0 sections o.sections is.sections
         (λ j. ap (slice_get sections) (let e : 0 + j ≡ j = omega arith in e)) (λ j. ap (slice_get o.sections) (let e : 0 + j ≡ j = omega arith in e));
-    exported_are = exported_same f o ∙ ap (map (shrunk_symbol f o)) is.exported_are ∙ moved.exports_move t is.sites is.places (filed.bounds ss o is) (moves_in f o) still mv (λ z. refl) (λ z. refl) (shrunk_definition f o) refl (λ n. refl) (λ n. refl) (λ j n. refl) is.sites;
-    rows = ap (map (shrunk_row f o)) is.rows ∙ rows_move is.sites;
+    exported_are = exported_same f o ∙ ap (map (shrunk_symbol f o)) is.exported_are ∙ moved.exports_move t is.laid is.places (filed.bounds ss o is) (moves_in f o) still mv (λ z. refl) (λ z. refl) (shrunk_definition f o) refl (λ n. refl) (λ n. refl) (λ j n. refl) is.laid;
+    rows = ap (map (shrunk_row f o)) is.rows ∙ rows_move is.laid;
   }
 
-  pub shrunk_sites : shrunk_is.sites ≡ map mv is.sites
+  pub shrunk_laid : shrunk_is.laid ≡ map mv is.laid
   unfolding shrunk_is
-  shrunk_sites = refl
+  shrunk_laid = refl
 
   pub shrunk_dropped : shrunk_is.dropped ≡ is.dropped
   unfolding shrunk_is

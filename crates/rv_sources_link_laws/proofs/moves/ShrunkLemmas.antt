@@ -25,7 +25,7 @@ use Rattle.rv_collect_laws.specs.Graph.{is_dropped}
 use Rattle.rv_sources_link_laws.proofs.sections.MaskedLemmas.{source_sections}
 use Rattle.rv_sources_link_laws.proofs.statements.MarkedLemmas.{part_fields}
 use Rattle.rv_sources_link_laws.proofs.statements.OrderedLemmas.{Follow, AreInOrder}
-pub use Rattle.rv_assemble_laws.specs.Sites.{Site, Part, form, part_of, part_bytes, coded_templates, sites_in, end_of, IsMultiple}
+pub use Rattle.rv_assemble_laws.specs.LaidStatements.{LaidStatement, Part, form, part_of, part_bytes, coded_templates, laid_in, end_of, IsMultiple}
 pub use Rattle.rv_assemble_laws.specs.IsObjectOf.{Numbering, row_of, rows_at, relocation_at, relocations_from, contents_of, IsNumbered, ArePartsNumbered, IsInData, StandsInData}
 
 -- ---- templates
@@ -41,7 +41,7 @@ contribution_templates executable v (Bytes contents) bytes = contents_templates 
 contribution_templates executable v (Zero_bytes count) bytes = Fixed (zeros bytes) ∷ []
 contribution_templates executable v (Alignment form number) bytes = padding_templates executable bytes
 
-abbrev pub shrunk_templates : Tables → Site → StatementKind → List Template
+abbrev pub shrunk_templates : Tables → LaidStatement → StatementKind → List Template
 shrunk_templates t s (Label name) = []
 shrunk_templates t s (Numbered number) = []
 shrunk_templates t s (Instruction mnemonic operands) =
@@ -49,27 +49,27 @@ shrunk_templates t s (Instruction mnemonic operands) =
     coded_templates (part_fields t v s.located) (unwrap_or (code (constants v) s.located.options.rvc s.bytes mnemonic operands) []) s.coded
 shrunk_templates t s (Directs directive) = contribution_templates s.located.home.executable (form t s.located) (contribution directive) s.bytes
 
-abbrev pub parts_of : Tables → Site → List Part
+abbrev pub parts_of : Tables → LaidStatement → List Part
 parts_of t s = map (part_of s.located.ordinal) (shrunk_templates t s s.located.kind)
 
-abbrev pub parts : Tables → List Site → List Part
-parts t sites = flat_map (parts_of t) sites
+abbrev pub parts : Tables → List LaidStatement → List Part
+parts t laid = flat_map (parts_of t) laid
 
-abbrev pub Tile : Tables → ℕ → List Site → Type 0
-Tile t offset sites = Follow (parts_of t) offset sites
+abbrev pub Tile : Tables → ℕ → List LaidStatement → Type 0
+Tile t offset laid = Follow (parts_of t) offset laid
 
 -- ---- sizes
 
 -- the least padding, in code none up to 2
-abbrev pub IsPaddedIn : Bool → Site → Option ℕ → Type 0
+abbrev pub IsPaddedIn : Bool → LaidStatement → Option ℕ → Type 0
 IsPaddedIn true s alignment =
     (s.bytes ≡ (if is_low alignment then 0 else padding alignment s.offset)) × (s.bytes % 2 ≡ 0) × (s.instructions ≡ operations_in s.bytes)
 IsPaddedIn false s alignment = (s.bytes ≡ padding alignment s.offset) × (s.instructions ≡ 0)
 
-abbrev pub IsShrunkPadded : Site → ℕ → Value → Option ℕ → Type 0
+abbrev pub IsShrunkPadded : LaidStatement → ℕ → Value → Option ℕ → Type 0
 IsShrunkPadded s multiple v alignment = (is_constant v ≡ true) × IsMultiple alignment multiple × IsPaddedIn s.located.home.executable s alignment
 
-abbrev pub DirectiveSize : (Expression → Value) → Site → ℕ → Directive → Type 0
+abbrev pub DirectiveSize : (Expression → Value) → LaidStatement → ℕ → Directive → Type 0
 DirectiveSize v s multiple (Values width values) = (s.instructions ≡ 0) × (s.bytes ≡ width * length values)
 DirectiveSize v s multiple (Strings ended strings) = (s.instructions ≡ 0) × (s.bytes ≡ length (string_bytes ended strings))
 DirectiveSize v s multiple (Zeros count) = (s.instructions ≡ 0) × (v count ≡ Constant s.bytes)
@@ -77,7 +77,7 @@ DirectiveSize v s multiple (Aligns_to_power e) = IsShrunkPadded s multiple (v e)
 DirectiveSize v s multiple (Aligns_to_bytes e) = IsShrunkPadded s multiple (v e) (alignment_of v (Aligns_to_bytes e))
 DirectiveSize v s multiple _ = (s.bytes ≡ 0) × (s.instructions ≡ 0)
 
-abbrev pub HasShrunkSize : (Expression → Value) → Site → ℕ → StatementKind → Type 0
+abbrev pub HasShrunkSize : (Expression → Value) → LaidStatement → ℕ → StatementKind → Type 0
 HasShrunkSize v s multiple (Label name) = (s.bytes ≡ 0) × (s.instructions ≡ 0)
 HasShrunkSize v s multiple (Numbered number) = (s.bytes ≡ 0) × (s.instructions ≡ 0)
 HasShrunkSize v s multiple (Instruction mnemonic operands) = IsCode v s.located.options.rvc mnemonic operands s.bytes s.coded s.instructions
@@ -85,23 +85,23 @@ HasShrunkSize v s multiple (Directs directive) = DirectiveSize v s multiple dire
 
 -- ---- sections
 
-pub record IsSectionOf (t : Tables) (all : List Site) (number : Numbering) (symbols : List Symbol) (index : ℕ) (section : SourceSection) (sites : List Site) (x : Section) : Type 0 where
+pub record IsSectionOf (t : Tables) (all : List LaidStatement) (number : Numbering) (symbols : List Symbol) (index : ℕ) (section : SourceSection) (laid : List LaidStatement) (x : Section) : Type 0 where
   pub loaded : x.loaded ≡ section.loaded
   pub executable : x.executable ≡ section.executable
   pub writable : x.writable ≡ section.writable
   pub alignment : x.alignment ≡ alignment_at t index
   pub some : 1 ≤ x.alignment
-  pub tile : Tile t 0 sites
-  pub contents : x.contents ≡ contents_of section.section_type (end_of 0 sites) (flat_map part_bytes (parts t sites))
-  pub code : goes_to_text section ≡ true → is_nobits section ≡ true → flat_map part_bytes (parts t sites) ≡ []
-  pub relocations : x.relocations ≡ (if section.loaded then relocations_from number 0 (parts t sites) else [])
-  pub numbered : section.loaded ≡ true → ArePartsNumbered t all number symbols (parts t sites)
-  pub sizes : section.loaded ≡ true → AllByRecursion (λ s. s.located.placed ≡ true → HasShrunkSize (form t s.located) s x.alignment s.located.kind) sites
-  pub fields : AllByRecursion (λ p. IsTemplate p.template) (parts t sites)
+  pub tile : Tile t 0 laid
+  pub contents : x.contents ≡ contents_of section.section_type (end_of 0 laid) (flat_map part_bytes (parts t laid))
+  pub code : goes_to_text section ≡ true → is_nobits section ≡ true → flat_map part_bytes (parts t laid) ≡ []
+  pub relocations : x.relocations ≡ (if section.loaded then relocations_from number 0 (parts t laid) else [])
+  pub numbered : section.loaded ≡ true → ArePartsNumbered t all number symbols (parts t laid)
+  pub sizes : section.loaded ≡ true → AllByRecursion (λ s. s.located.placed ≡ true → HasShrunkSize (form t s.located) s x.alignment s.located.kind) laid
+  pub fields : AllByRecursion (λ p. IsTemplate p.template) (parts t laid)
   -- nothing moves any more
   pub plain : alignments_of x ≡ []
 
-abbrev pub AreSectionsOf : Tables → List Site → Numbering → List Symbol → ℕ → List SourceSection → List Section → Type 0
+abbrev pub AreSectionsOf : Tables → List LaidStatement → Numbering → List Symbol → ℕ → List SourceSection → List Section → Type 0
 AreSectionsOf t all number symbols index sections xs = AreInOrder (IsSectionOf t all number symbols) all index sections xs
 
 -- ---- the whole
@@ -110,13 +110,13 @@ pub record IsObjectOf (ss : List Statement) (o : Object) : Type 0 where
   -- the sections without an address, by their indices
   pub dropped : ℕ → Bool
   pub good : statements_fault ss ≡ None
-  pub sites : List Site
-  pub located : map (λ s. s.located) sites ≡ map (masked dropped) (located_from 1 1 (at_start ss) ss)
-  pub places : AllByRecursion (StandsInData sites) (tables ss).assignments
+  pub laid : List LaidStatement
+  pub located : map (λ s. s.located) laid ≡ map (masked dropped) (located_from 1 1 (at_start ss) ss)
+  pub places : AllByRecursion (StandsInData laid) (tables ss).assignments
   pub number : Numbering
-  pub sections : AreSectionsOf (tables ss) sites number o.symbols 0 (source_sections dropped ss) o.sections
-  pub exported_are : exported o ≡ exports (tables ss) sites
-  pub rows : o.rows ≡ flat_map rows_at sites
+  pub sections : AreSectionsOf (tables ss) laid number o.symbols 0 (source_sections dropped ss) o.sections
+  pub exported_are : exported o ≡ exports (tables ss) laid
+  pub rows : o.rows ≡ flat_map rows_at laid
 
 abbrev pub AreObjectsOf : List (List Statement) → List Object → Type 0
 AreObjectsOf [] [] = ⊤

@@ -17,13 +17,13 @@ use Rattle.rv_object_laws.specs.Moves.{Move, alignments_of, by_place, dropped, n
 use Rattle.rv_object_laws.specs.Inputs.{goes_to_text, raised, begins_at}
 use Rattle.rv_object_laws.specs.Values.{initial_bytes}
 use Rattle.rv_assemble_laws.specs.Templates.{Template, Fixed, Coded, Open, IsTemplate, padding_templates}
-use Rattle.rv_assemble_laws.specs.Sites.{Site, Part, form, part_of, part_bytes, sites_in, end_of, HasSize}
+use Rattle.rv_assemble_laws.specs.LaidStatements.{LaidStatement, Part, form, part_of, part_bytes, laid_in, end_of, HasSize}
 use Rattle.rv_assemble_laws.specs.Symbols.{references_in}
 use Rattle.rv_assemble_laws.specs.IsObjectOf.{Numbering, IsNumbered, ArePartsNumbered, contents_of, relocations_from}
 use Rattle.rv_assemble_laws.proofs.FilledLemmas.{bytes_append}
 use Rattle.rv_sources_link_laws.proofs.statements.OrderedLemmas.{filled}
 use Rattle.rv_sources_link_laws.proofs.sections.AssembledLemmas.{parts_of, parts, assembled_templates, Tile, IsSectionOf}
-use Rattle.rv_sources_link_laws.proofs.statements.SettledLemmas.{IsSiteIn}
+use Rattle.rv_sources_link_laws.proofs.statements.SettledLemmas.{IsLaidIn}
 use Rattle.rv_sources_link_laws.proofs.sections.SectionsLemmas.{split, join, multiple_from}
 use Rattle.rv_sources_link_laws.proofs.moves.ShrunkLemmas as shrunk
 use Rattle.rv_sources_link_laws.proofs.moves.ShrinkingLemmas.{shrunk_relocations, shrunk_contents, shrunk_section, none_left}
@@ -37,8 +37,8 @@ use Rattle.rv_sources_link_laws.proofs.moves.SteppedLemmas.{Steps, tiled, ended,
 -- ---- a statement
 
 -- a statement with the moves of its section made
-abbrev pub site_with : List Move → Site → Site
-site_with ms z = record {
+abbrev pub laid_with : List Move → LaidStatement → LaidStatement
+laid_with ms z = record {
   located = z.located;
   offset = new_offset ms z.offset;
   bytes = new_offset ms (z.offset + z.bytes) - new_offset ms z.offset;
@@ -46,17 +46,17 @@ site_with ms z = record {
   coded = z.coded;
 }
 
-site_stays : (z : Site) → site_with [] z ≡ z
-site_stays z =
-    let mk : ℕ → ℕ → ℕ → Site = λ a b c. record { located = z.located; offset = a; bytes = b; instructions = c; coded = z.coded } in
+laid_stays : (z : LaidStatement) → laid_with [] z ≡ z
+laid_stays z =
+    let mk : ℕ → ℕ → ℕ → LaidStatement = λ a b c. record { located = z.located; offset = a; bytes = b; instructions = c; coded = z.coded } in
     let e : z.offset - 0 ≡ z.offset = omega arith in
     let f : (z.offset + z.bytes - 0) - (z.offset - 0) ≡ z.bytes = omega arith in
     let g : z.instructions - 0 ≡ z.instructions = omega arith in
     ap (λ n. mk n ((z.offset + z.bytes - 0) - (z.offset - 0)) (z.instructions - 0)) e ∙ ap (λ n. mk z.offset n (z.instructions - 0)) f ∙ ap (mk z.offset z.bytes) g
 
-sites_stay : (zs : List Site) → map (site_with []) zs ≡ zs
-sites_stay [] = refl
-sites_stay (z ∷ zs) = ap (λ y. y ∷ map (site_with []) zs) (site_stays z) ∙ ap (λ l. z ∷ l) (sites_stay zs)
+laid_stay : (zs : List LaidStatement) → map (laid_with []) zs ≡ zs
+laid_stay [] = refl
+laid_stay (z ∷ zs) = ap (λ y. y ∷ map (laid_with []) zs) (laid_stays z) ∙ ap (λ l. z ∷ l) (laid_stay zs)
 
 -- the templates of a statement where it stays, with and without the mark of a padding
 abbrev Alike : List Template → List Template → Type 0
@@ -67,7 +67,7 @@ padding_alike true o zero = inl refl
 padding_alike true o (suc n) = inr (no_operations (suc n), (_, refl, refl))
 padding_alike false o n = inl refl
 
-alike : (t : Tables) (z : Site) (kind : StatementKind) → Alike (shrunk.shrunk_templates t z kind) (assembled_templates t z kind)
+alike : (t : Tables) (z : LaidStatement) (kind : StatementKind) → Alike (shrunk.shrunk_templates t z kind) (assembled_templates t z kind)
 alike t z (Label name) = inl refl
 alike t z (Numbered number) = inl refl
 alike t z (Instruction m os) = inl refl
@@ -94,20 +94,20 @@ parts_alike P fixed o after before (inl e) h = subst (λ l. AllByRecursion P (ma
 parts_alike P fixed o after before (inr (bytes, (fs, e, f))) h = subst (λ l. AllByRecursion P (map (part_of o) l)) (sym e) (fixed o bytes, tt)
 
 module _ (t : Tables) where
-  own_bytes : (z : Site) → flat_map part_bytes (shrunk.parts_of t z) ≡ flat_map part_bytes (parts_of t z)
+  own_bytes : (z : LaidStatement) → flat_map part_bytes (shrunk.parts_of t z) ≡ flat_map part_bytes (parts_of t z)
   own_bytes z = bytes_alike z.located.ordinal (shrunk.shrunk_templates t z z.located.kind) (assembled_templates t z z.located.kind) (alike t z z.located.kind)
 
-  all_bytes : (zs : List Site) → flat_map part_bytes (shrunk.parts t zs) ≡ flat_map part_bytes (parts t zs)
+  all_bytes : (zs : List LaidStatement) → flat_map part_bytes (shrunk.parts t zs) ≡ flat_map part_bytes (parts t zs)
   all_bytes [] = refl
   all_bytes (z ∷ zs) =
       bytes_append (shrunk.parts_of t z) (shrunk.parts t zs) ∙ ap (λ l. l ++ flat_map part_bytes (shrunk.parts t zs)) (own_bytes z)
       ∙ ap (λ l. flat_map part_bytes (parts_of t z) ++ l) (all_bytes zs) ∙ sym (bytes_append (parts_of t z) (parts t zs))
 
-  tile_stays : (o : ℕ) (zs : List Site) → Tile t o zs → shrunk.Tile t o zs
+  tile_stays : (o : ℕ) (zs : List LaidStatement) → Tile t o zs → shrunk.Tile t o zs
   tile_stays o [] tile = tt
   tile_stays o (z ∷ zs) (off, bytes, tile) = (off, bytes ∙ ap length (sym (own_bytes z)), tile_stays (o + z.bytes) zs tile)
 
-  parts_stay : (P : Part → Type 0) → ((ordinal : ℕ) (bytes : List ℕ) → P (part_of ordinal (Fixed bytes))) → (zs : List Site) → AllByRecursion P (parts t zs) → AllByRecursion P (shrunk.parts t zs)
+  parts_stay : (P : Part → Type 0) → ((ordinal : ℕ) (bytes : List ℕ) → P (part_of ordinal (Fixed bytes))) → (zs : List LaidStatement) → AllByRecursion P (parts t zs) → AllByRecursion P (shrunk.parts t zs)
   parts_stay P fixed [] h = tt
   parts_stay P fixed (z ∷ zs) h =
       let both = split P (parts_of t z) (parts t zs) h in
@@ -132,16 +132,16 @@ none_long (x ∷ xs) e = absurd (omega (arith, e))
 
 -- ---- a section
 
-module _ (t : Tables) (sites sites' : List Site) (number : Numbering) (symbols symbols' : List Symbol) (j start : ℕ) (s : SourceSection) (x : Section)
-    (h : IsSectionOf t sites number symbols j s (sites_in j sites) x) (inside : AllByRecursion (IsSiteIn j s) (sites_in j sites))
+module _ (t : Tables) (laid laid' : List LaidStatement) (number : Numbering) (symbols symbols' : List Symbol) (j start : ℕ) (s : SourceSection) (x : Section)
+    (h : IsSectionOf t laid number symbols j s (laid_in j laid) x) (inside : AllByRecursion (IsLaidIn j s) (laid_in j laid))
     (begun : goes_to_text x ≡ true → (stop : ℕ) × (start ≡ aligned (begins_at x) stop))
-    (same : sites_in j sites' ≡ map (site_with (moves start x)) (sites_in j sites))
-    (stands : (p : Part) → AllByRecursion (IsNumbered t sites number symbols) (references_in p) → AllByRecursion (IsNumbered t sites' number symbols') (references_in p)) where
-  abbrev zs : List Site
-  zs = sites_in j sites
+    (same : laid_in j laid' ≡ map (laid_with (moves start x)) (laid_in j laid))
+    (stands : (p : Part) → AllByRecursion (IsNumbered t laid number symbols) (references_in p) → AllByRecursion (IsNumbered t laid' number symbols') (references_in p)) where
+  abbrev zs : List LaidStatement
+  zs = laid_in j laid
 
-  abbrev zs' : List Site
-  zs' = map (site_with (moves start x)) zs
+  abbrev zs' : List LaidStatement
+  zs' = map (laid_with (moves start x)) zs
 
   abbrev ms : List Move
   ms = moves start x
@@ -149,10 +149,10 @@ module _ (t : Tables) (sites sites' : List Site) (number : Numbering) (symbols s
   abbrev M : ℕ
   M = max (if goes_to_text x then 2 else 1) x.alignment
 
-  abbrev Sorted : Site → Type 0
+  abbrev Sorted : LaidStatement → Type 0
   Sorted z = walk.Sorted t number s x.alignment z
 
-  sorted_from : (o : ℕ) (ys : List Site) → AllByRecursion (IsSiteIn j s) ys → Tile t o ys
+  sorted_from : (o : ℕ) (ys : List LaidStatement) → AllByRecursion (IsLaidIn j s) ys → Tile t o ys
       → AllByRecursion (λ z. z.located.placed ≡ true → HasSize (form t z.located) z x.alignment z.located.kind) ys → AllByRecursion Sorted ys
   sorted_from o [] i tile sz = tt
   sorted_from o (z ∷ ys) (i, is) (off, bytes, tile) (sz, szs) = (sort_of t s x.alignment z i.home j i bytes sz, sorted_from (o + z.bytes) ys is tile szs)
@@ -161,7 +161,7 @@ module _ (t : Tables) (sites sites' : List Site) (number : Numbering) (symbols s
   sorted = sorted_from 0 zs inside h.tile h.sizes
 
   -- without an executable section there are none
-  aside_none : s.executable ≡ false → (o : ℕ) (ys : List Site) → Tile t o ys → AllByRecursion Sorted ys → pads t number o ys ≡ []
+  aside_none : s.executable ≡ false → (o : ℕ) (ys : List LaidStatement) → Tile t o ys → AllByRecursion Sorted ys → pads t number o ys ≡ []
   aside_none e o [] tile sz = refl
   aside_none e o (z ∷ ys) (off, bytes, tile) (inl k, ks) = pads_plain t number s x.alignment o z ys bytes k ∙ aside_none e (o + z.bytes) ys tile ks
   aside_none e o (z ∷ ys) (off, bytes, tile) (inr k, ks) = let f : true ≡ false = sym k.code ∙ e in absurd (cc)
@@ -253,7 +253,7 @@ module _ (t : Tables) (sites sites' : List Site) (number : Numbering) (symbols s
         let after : new_offset ms (end_of 0 zs) ≡ 0 = end_left ∙ long_after ∙ ap length nothing.1 in
         ap zeros after ∙ sym nothing.1 ∙ sym bytes_left ∙ ap (kept 0 ms) (nothing.0 ∙ sym (ap zeros zero_end))
 
-    section_left : shrunk.IsSectionOf t sites' number symbols' j s zs' (shrunk_section start x)
+    section_left : shrunk.IsSectionOf t laid' number symbols' j s zs' (shrunk_section start x)
     section_left = record {
       loaded = h.loaded;
       executable = h.executable;
@@ -265,14 +265,14 @@ module _ (t : Tables) (sites sites' : List Site) (number : Numbering) (symbols s
       code = λ text none. (nothing_left (and_parts s.loaded s.executable text).1 none).1;
       relocations = ap (shrunk_relocations ms) (relocations_are l) ∙ relocations_kept t number s x.alignment start ms (begins l) 0 0 zs st
           ∙ ap (λ b. if b then relocations_from number 0 (shrunk.parts t zs') else []) (sym l);
-      numbered = λ k. parts_kept t number s x.alignment start ms (begins l) (λ p. AllByRecursion (IsNumbered t sites' number symbols') (references_in p)) (λ o b. tt) 0 0 zs st
+      numbered = λ k. parts_kept t number s x.alignment start ms (begins l) (λ p. AllByRecursion (IsNumbered t laid' number symbols') (references_in p)) (λ o b. tt) 0 0 zs st
           (stand_all (parts t zs) (h.numbered k));
       sizes = λ k. sizes_kept t number s x.alignment start ms (begins l) 0 0 zs st;
       fields = parts_kept t number s x.alignment start ms (begins l) (λ p. IsTemplate p.template) (λ o b. tt) 0 0 zs st h.fields;
       plain = none_left start x;
     }
       where
-        stand_all : (ps : List Part) → ArePartsNumbered t sites number symbols ps → ArePartsNumbered t sites' number symbols' ps
+        stand_all : (ps : List Part) → ArePartsNumbered t laid number symbols ps → ArePartsNumbered t laid' number symbols' ps
         stand_all [] k = tt
         stand_all (p ∷ ps) (k, ks) = (stands p k, stand_all ps ks)
 
@@ -287,11 +287,11 @@ module _ (t : Tables) (sites sites' : List Site) (number : Numbering) (symbols s
         go true e = ap (λ c. initial_bytes (shrunk_contents ms c)) h.contents ∙ initial_left e s.section_type refl ∙ ap (λ c. kept 0 ms (initial_bytes c)) (sym h.contents)
         go false e = (tidy_none ms x.contents (moves_are ∙ ap (plan start 0) (aside_none e 0 zs h.tile sorted))).1
 
-    evens_left : AllByRecursion (λ (z : Site). source_text s ≡ true → (z.offset % 2 ≡ 0) × (new_offset ms z.offset % 2 ≡ 0)) zs
+    evens_left : AllByRecursion (λ (z : LaidStatement). source_text s ≡ true → (z.offset % 2 ≡ 0) × (new_offset ms z.offset % 2 ≡ 0)) zs
     evens_left = weaker zs (evens_kept t number s x.alignment start ms (begins l) 0 0 zs st)
       where
-        weaker : (ys : List Site) → AllByRecursion (λ (z : Site). s.executable ≡ true → (z.offset % 2 ≡ 0) × (new_offset ms z.offset % 2 ≡ 0)) ys
-            → AllByRecursion (λ (z : Site). source_text s ≡ true → (z.offset % 2 ≡ 0) × (new_offset ms z.offset % 2 ≡ 0)) ys
+        weaker : (ys : List LaidStatement) → AllByRecursion (λ (z : LaidStatement). s.executable ≡ true → (z.offset % 2 ≡ 0) × (new_offset ms z.offset % 2 ≡ 0)) ys
+            → AllByRecursion (λ (z : LaidStatement). source_text s ≡ true → (z.offset % 2 ≡ 0) × (new_offset ms z.offset % 2 ≡ 0)) ys
         weaker [] k = tt
         weaker (y ∷ ys) (k, ks) = ((λ text. k (and_parts s.loaded s.executable text).1), weaker ys ks)
 
@@ -304,10 +304,10 @@ module _ (t : Tables) (sites sites' : List Site) (number : Numbering) (symbols s
     loaded_not : {A : Type 0} → s.loaded ≡ true → A
     loaded_not k = let e : true ≡ false = sym k ∙ l in absurd (cc)
 
-    same_sites : zs' ≡ zs
-    same_sites = ap (λ k. map (site_with k) zs) no_moves ∙ sites_stay zs
+    same_laid : zs' ≡ zs
+    same_laid = ap (λ k. map (laid_with k) zs) no_moves ∙ laid_stay zs
 
-    section_aside : shrunk.IsSectionOf t sites' number symbols' j s zs (shrunk_section start x)
+    section_aside : shrunk.IsSectionOf t laid' number symbols' j s zs (shrunk_section start x)
     section_aside = record {
       loaded = h.loaded;
       executable = h.executable;
@@ -329,11 +329,11 @@ module _ (t : Tables) (sites sites' : List Site) (number : Numbering) (symbols s
     tidy_aside : IsTidy start x
     tidy_aside = let both = tidy_none ms x.contents no_moves in record { begins = raised_same; size = both.0; initial = both.1 }
 
-    evens_aside : (ys : List Site) → AllByRecursion (λ (z : Site). source_text s ≡ true → (z.offset % 2 ≡ 0) × (new_offset ms z.offset % 2 ≡ 0)) ys
+    evens_aside : (ys : List LaidStatement) → AllByRecursion (λ (z : LaidStatement). source_text s ≡ true → (z.offset % 2 ≡ 0) × (new_offset ms z.offset % 2 ≡ 0)) ys
     evens_aside [] = tt
     evens_aside (y ∷ ys) = ((λ text. loaded_not (and_parts s.loaded s.executable text).0), evens_aside ys)
 
-    stay_aside : (ys : List Site) → AllByRecursion (Stays t ms) ys
+    stay_aside : (ys : List LaidStatement) → AllByRecursion (Stays t ms) ys
     stay_aside [] = tt
     stay_aside (y ∷ ys) = ((λ none. ap (λ k. bytes_with k y) no_moves ∙ (let f : (y.offset + y.bytes - 0) - (y.offset - 0) ≡ y.bytes = omega arith in f)), stay_aside ys)
 
@@ -341,9 +341,9 @@ module _ (t : Tables) (sites sites' : List Site) (number : Numbering) (symbols s
 
   -- what is left of a section
   pub record IsLeft : Type 0 where
-    pub section : shrunk.IsSectionOf t sites' number symbols' j s (sites_in j sites') (shrunk_section start x)
+    pub section : shrunk.IsSectionOf t laid' number symbols' j s (laid_in j laid') (shrunk_section start x)
     pub tidy : IsTidy start x
-    pub evens : AllByRecursion (λ (z : Site). source_text s ≡ true → (z.offset % 2 ≡ 0) × (new_offset ms z.offset % 2 ≡ 0)) zs
+    pub evens : AllByRecursion (λ (z : LaidStatement). source_text s ≡ true → (z.offset % 2 ≡ 0) × (new_offset ms z.offset % 2 ≡ 0)) zs
     pub counted : AllByRecursion (IsCounted t ms) zs
 
   pub left : IsLeft
@@ -351,13 +351,13 @@ module _ (t : Tables) (sites sites' : List Site) (number : Numbering) (symbols s
     where
       go : (b : Bool) → s.loaded ≡ b → IsLeft
       go true l = record {
-        section = subst (λ ys. shrunk.IsSectionOf t sites' number symbols' j s ys (shrunk_section start x)) (sym same) (section_left l);
+        section = subst (λ ys. shrunk.IsSectionOf t laid' number symbols' j s ys (shrunk_section start x)) (sym same) (section_left l);
         tidy = tidy_left l;
         evens = evens_left l;
         counted = counted_all t ms j s x.alignment 0 zs inside h.tile h.sizes (bytes_stay t number s x.alignment start ms (begins l) 0 0 zs (st l));
       }
       go false l = record {
-        section = subst (λ ys. shrunk.IsSectionOf t sites' number symbols' j s ys (shrunk_section start x)) (sym (same ∙ same_sites l)) (section_aside l);
+        section = subst (λ ys. shrunk.IsSectionOf t laid' number symbols' j s ys (shrunk_section start x)) (sym (same ∙ same_laid l)) (section_aside l);
         tidy = tidy_aside l;
         evens = evens_aside l zs;
         counted = counted_all t ms j s x.alignment 0 zs inside h.tile h.sizes (stay_aside l zs);

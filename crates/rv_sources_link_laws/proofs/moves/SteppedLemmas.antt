@@ -13,7 +13,7 @@ use Rattle.rv_object.specs.Padding.{no_operations}
 use Rattle.rv_object_laws.specs.Moves.{Move, new_offset, kept, has_padding, alignment_of, plan}
 use Rattle.rv_object_laws.specs.Inputs.{raised}
 use Rattle.rv_assemble_laws.specs.Templates.{Fixed, Open, template_fields}
-use Rattle.rv_assemble_laws.specs.Sites.{Site, Part, form, part_of, part_bytes, end_of}
+use Rattle.rv_assemble_laws.specs.LaidStatements.{LaidStatement, Part, form, part_of, part_bytes, end_of}
 use Rattle.rv_sources_link_laws.proofs.sections.AssembledLemmas.{parts_of, parts, assembled_templates}
 use Rattle.rv_assemble_laws.specs.IsObjectOf.{Numbering, relocation_at, relocations_from}
 use Rattle.rv_assemble_laws.proofs.FilledLemmas.{bytes_append}
@@ -100,22 +100,22 @@ module _ (number : Numbering) (ms : List Move) where
 
 module _ (t : Tables) (number : Numbering) (section : SourceSection) (multiple : ℕ) (start : ℕ) (ms : List Move)
     (begins : (m : ℕ) → 0 < m → multiple % m ≡ 0 → section.executable ≡ true → start % m ≡ 0) where
-  abbrev pub S : Site → Site
-  S z = walk.site_by t number section multiple start ms begins z
+  abbrev pub S : LaidStatement → LaidStatement
+  S z = walk.statement_by t number section multiple start ms begins z
 
-  abbrev pub Steps : ℕ → ℕ → List Site → Type 0
+  abbrev pub Steps : ℕ → ℕ → List LaidStatement → Type 0
   Steps o gone zs = walk.Steps t number section multiple start ms begins o gone zs
 
-  abbrev PlainStep : ℕ → ℕ → Site → Type 0
+  abbrev PlainStep : ℕ → ℕ → LaidStatement → Type 0
   PlainStep o gone z = walk.PlainStep t number section multiple start ms begins o gone z
 
-  abbrev PadStep : ℕ → ℕ → Site → Type 0
+  abbrev PadStep : ℕ → ℕ → LaidStatement → Type 0
   PadStep o gone z = walk.PadStep t number section multiple start ms begins o gone z
 
-  own_plain : (o gone : ℕ) (z : Site) → PlainStep o gone z → shrunk.parts_of t (S z) ≡ parts_of t z
+  own_plain : (o gone : ℕ) (z : LaidStatement) → PlainStep o gone z → shrunk.parts_of t (S z) ≡ parts_of t z
   own_plain o gone z s = ap (shrunk.parts_of t) s.plain_is ∙ ap (map (part_of z.located.ordinal)) (s.plain_kind.same (o - gone))
 
-  own_pad : (o gone : ℕ) (z : Site) (s : PadStep o gone z) → shrunk.parts_of t (S z) ≡ map (part_of z.located.ordinal) (shrunk.padding_templates true s.least)
+  own_pad : (o gone : ℕ) (z : LaidStatement) (s : PadStep o gone z) → shrunk.parts_of t (S z) ≡ map (part_of z.located.ordinal) (shrunk.padding_templates true s.least)
   own_pad o gone z s = ap (shrunk.parts_of t) s.pad_is ∙ ap (map (part_of z.located.ordinal)) (s.pad_kind.is (o - gone) s.least)
 
   next_plain : (o gone b : ℕ) → gone ≤ o → o + b - gone ≡ (o - gone) + b
@@ -125,34 +125,34 @@ module _ (t : Tables) (number : Numbering) (section : SourceSection) (multiple :
   next_pad o gone b n low fit = omega (arith, low, fit)
 
   -- they follow one another
-  pub tiled : (o gone : ℕ) (zs : List Site) → Steps o gone zs → shrunk.Tile t (o - gone) (map S zs)
+  pub tiled : (o gone : ℕ) (zs : List LaidStatement) → Steps o gone zs → shrunk.Tile t (o - gone) (map S zs)
   tiled o gone [] st = tt
   tiled o gone (z ∷ zs) (off, bytes, low, evens, inl (s, st)) =
-      let long : (S z).bytes ≡ z.bytes = ap (λ (y : Site). y.bytes) s.plain_is in (
-        ap (λ (y : Site). y.offset) s.plain_is,
+      let long : (S z).bytes ≡ z.bytes = ap (λ (y : LaidStatement). y.bytes) s.plain_is in (
+        ap (λ (y : LaidStatement). y.offset) s.plain_is,
         long ∙ bytes ∙ ap (λ l. length (flat_map part_bytes l)) (sym (own_plain o gone z s)),
         subst (λ n. shrunk.Tile t n (map S zs)) (next_plain o gone z.bytes low ∙ ap (λ n. (o - gone) + n) (sym long)) (tiled (o + z.bytes) gone zs st),
       )
   tiled o gone (z ∷ zs) (off, bytes, low, evens, inr (s, st)) =
-      let long : (S z).bytes ≡ s.least = ap (λ (y : Site). y.bytes) s.pad_is in (
-        ap (λ (y : Site). y.offset) s.pad_is,
+      let long : (S z).bytes ≡ s.least = ap (λ (y : LaidStatement). y.bytes) s.pad_is in (
+        ap (λ (y : LaidStatement). y.offset) s.pad_is,
         long ∙ padding_long z.located.ordinal s.least s.least_even ∙ ap (λ l. length (flat_map part_bytes l)) (sym (own_pad o gone z s)),
         subst (λ n. shrunk.Tile t n (map S zs)) (next_pad o gone z.bytes s.least low s.fits ∙ ap (λ n. (o - gone) + n) (sym long))
             (tiled (o + z.bytes) (gone + (z.bytes - s.least)) zs st),
       )
 
   -- their end
-  pub ended : (o gone : ℕ) (zs : List Site) → Steps o gone zs → new_offset ms (end_of o zs) ≡ end_of (o - gone) (map S zs)
+  pub ended : (o gone : ℕ) (zs : List LaidStatement) → Steps o gone zs → new_offset ms (end_of o zs) ≡ end_of (o - gone) (map S zs)
   ended o gone [] st = st
   ended o gone (z ∷ zs) (off, bytes, low, evens, inl (s, st)) =
       ended (o + z.bytes) gone zs st
-      ∙ ap (λ n. end_of n (map S zs)) (next_plain o gone z.bytes low ∙ ap (λ n. (o - gone) + n) (sym (ap (λ (y : Site). y.bytes) s.plain_is)))
+      ∙ ap (λ n. end_of n (map S zs)) (next_plain o gone z.bytes low ∙ ap (λ n. (o - gone) + n) (sym (ap (λ (y : LaidStatement). y.bytes) s.plain_is)))
   ended o gone (z ∷ zs) (off, bytes, low, evens, inr (s, st)) =
       ended (o + z.bytes) (gone + (z.bytes - s.least)) zs st
-      ∙ ap (λ n. end_of n (map S zs)) (next_pad o gone z.bytes s.least low s.fits ∙ ap (λ n. (o - gone) + n) (sym (ap (λ (y : Site). y.bytes) s.pad_is)))
+      ∙ ap (λ n. end_of n (map S zs)) (next_pad o gone z.bytes s.least low s.fits ∙ ap (λ n. (o - gone) + n) (sym (ap (λ (y : LaidStatement). y.bytes) s.pad_is)))
 
   -- what is kept of the section
-  pub bytes_kept : (o gone : ℕ) (zs : List Site) → Steps o gone zs
+  pub bytes_kept : (o gone : ℕ) (zs : List LaidStatement) → Steps o gone zs
       → kept o (plan start gone (pads t number o zs)) (flat_map part_bytes (parts t zs)) ≡ flat_map part_bytes (shrunk.parts t (map S zs))
   bytes_kept o gone [] st = refl
   bytes_kept o gone (z ∷ zs) (off, bytes, low, evens, inl (s, st)) =
@@ -189,7 +189,7 @@ module _ (t : Tables) (number : Numbering) (section : SourceSection) (multiple :
       none_taken (x ∷ l) = refl
 
   -- its relocations
-  pub relocations_kept : (o gone : ℕ) (zs : List Site) → Steps o gone zs
+  pub relocations_kept : (o gone : ℕ) (zs : List LaidStatement) → Steps o gone zs
       → shrunk_relocations ms (relocations_from number o (parts t zs)) ≡ relocations_from number (o - gone) (shrunk.parts t (map S zs))
   relocations_kept o gone [] st = refl
   relocations_kept o gone (z ∷ zs) (off, bytes, low, evens, inl (s, st)) =
@@ -234,22 +234,22 @@ module _ (t : Tables) (number : Numbering) (section : SourceSection) (multiple :
       unmarked ordinal n (suc b) later even = ap (λ m. relocations_from number (n + m) later) (sym (nops_long (suc b) even))
 
   -- sizes
-  pub sizes_kept : (o gone : ℕ) (zs : List Site) → Steps o gone zs
-      → AllByRecursion (λ (y : Site). y.located.placed ≡ true → shrunk.HasShrunkSize (form t y.located) y multiple y.located.kind) (map S zs)
+  pub sizes_kept : (o gone : ℕ) (zs : List LaidStatement) → Steps o gone zs
+      → AllByRecursion (λ (y : LaidStatement). y.located.placed ≡ true → shrunk.HasShrunkSize (form t y.located) y multiple y.located.kind) (map S zs)
   sizes_kept o gone [] st = tt
   sizes_kept o gone (z ∷ zs) (off, bytes, low, evens, inl (s, st)) = (
-    subst (λ (y : Site). y.located.placed ≡ true → shrunk.HasShrunkSize (form t y.located) y multiple y.located.kind) (sym s.plain_is)
+    subst (λ (y : LaidStatement). y.located.placed ≡ true → shrunk.HasShrunkSize (form t y.located) y multiple y.located.kind) (sym s.plain_is)
         (λ placed. s.plain_kind.sized (o - gone) s.aside placed),
     sizes_kept (o + z.bytes) gone zs st,
   )
   sizes_kept o gone (z ∷ zs) (off, bytes, low, evens, inr (s, st)) = (
-    subst (λ (y : Site). y.located.placed ≡ true → shrunk.HasShrunkSize (form t y.located) y multiple y.located.kind) (sym s.pad_is)
+    subst (λ (y : LaidStatement). y.located.placed ≡ true → shrunk.HasShrunkSize (form t y.located) y multiple y.located.kind) (sym s.pad_is)
         (λ placed. s.pad_kind.sized (o - gone) s.least s.pads_to s.least_even),
     sizes_kept (o + z.bytes) (gone + (z.bytes - s.least)) zs st,
   )
 
   -- what holds of each part and of bytes alone
-  pub parts_kept : (P : Part → Type 0) → ((ordinal : ℕ) (bytes : List ℕ) → P (part_of ordinal (Fixed bytes))) → (o gone : ℕ) (zs : List Site) → Steps o gone zs
+  pub parts_kept : (P : Part → Type 0) → ((ordinal : ℕ) (bytes : List ℕ) → P (part_of ordinal (Fixed bytes))) → (o gone : ℕ) (zs : List LaidStatement) → Steps o gone zs
       → AllByRecursion P (parts t zs) → AllByRecursion P (shrunk.parts t (map S zs))
   parts_kept P fixed o gone [] st h = tt
   parts_kept P fixed o gone (z ∷ zs) (off, bytes, low, evens, inl (s, st)) h =
@@ -265,15 +265,15 @@ module _ (t : Tables) (number : Numbering) (section : SourceSection) (multiple :
       of_padding (suc n) = (fixed z.located.ordinal (no_operations (suc n)), tt)
 
   -- even offsets
-  pub evens_kept : (o gone : ℕ) (zs : List Site) → Steps o gone zs
-      → AllByRecursion (λ (z : Site). section.executable ≡ true → (z.offset % 2 ≡ 0) × (new_offset ms z.offset % 2 ≡ 0)) zs
+  pub evens_kept : (o gone : ℕ) (zs : List LaidStatement) → Steps o gone zs
+      → AllByRecursion (λ (z : LaidStatement). section.executable ≡ true → (z.offset % 2 ≡ 0) × (new_offset ms z.offset % 2 ≡ 0)) zs
   evens_kept o gone [] st = tt
   evens_kept o gone (z ∷ zs) (off, bytes, low, evens, inl (s, st)) = (
-    (λ code. (ap (λ n. n % 2) off ∙ (evens code).0, ap (λ (y : Site). y.offset % 2) s.plain_is ∙ (evens code).1)),
+    (λ code. (ap (λ n. n % 2) off ∙ (evens code).0, ap (λ (y : LaidStatement). y.offset % 2) s.plain_is ∙ (evens code).1)),
     evens_kept (o + z.bytes) gone zs st,
   )
   evens_kept o gone (z ∷ zs) (off, bytes, low, evens, inr (s, st)) = (
-    (λ code. (ap (λ n. n % 2) off ∙ (evens code).0, ap (λ (y : Site). y.offset % 2) s.pad_is ∙ (evens code).1)),
+    (λ code. (ap (λ n. n % 2) off ∙ (evens code).0, ap (λ (y : LaidStatement). y.offset % 2) s.pad_is ∙ (evens code).1)),
     evens_kept (o + z.bytes) (gone + (z.bytes - s.least)) zs st,
   )
 
@@ -287,7 +287,7 @@ divisor a n some h = go (nat_lt n a) refl
     go true e = let same : n % a ≡ n = mod-eq_of_lt (ltb-true n a e) in absurd (omega (arith, same, h, some))
     go false e = let l = ltb-false n a e in omega (arith, l)
 
-pub raised_none : (t : Tables) (number : Numbering) (section : SourceSection) (multiple M : ℕ) → 1 ≤ multiple → multiple ≤ M → (o : ℕ) (zs : List Site) → walk.Tile t o zs
+pub raised_none : (t : Tables) (number : Numbering) (section : SourceSection) (multiple M : ℕ) → 1 ≤ multiple → multiple ≤ M → (o : ℕ) (zs : List LaidStatement) → walk.Tile t o zs
     → AllByRecursion (walk.Sorted t number section multiple) zs → raised (pads t number o zs) M ≡ M
 raised_none t number section multiple M some low o [] tile h = refl
 raised_none t number section multiple M some low o (z ∷ zs) (off, bytes, tile) (inl h, hs) =

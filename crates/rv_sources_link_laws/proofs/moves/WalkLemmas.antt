@@ -17,14 +17,14 @@ use Rattle.rv_object.specs.Padding.{no_operations, operations_in}
 use Rattle.rv_object.specs.Valid.{is_align}
 use Rattle.rv_object_laws.specs.Moves.{Move, dropped, new_offset, kept, full_padding, has_padding, alignment_of, inserted, by_place, plan, lost, lost_in}
 use Rattle.rv_assemble_laws.specs.Templates.{Template, Fixed, Datum, Coded, Open, value_fields, template_fields, absolute_kind, add_kind, subtract_kind, align_field}
-use Rattle.rv_assemble_laws.specs.Sites.{Site, Part, part_of, part_bytes}
+use Rattle.rv_assemble_laws.specs.LaidStatements.{LaidStatement, Part, part_of, part_bytes}
 use Rattle.rv_sources_link_laws.proofs.sections.AssembledLemmas.{parts_of, parts, assembled_templates}
 pub use Rattle.rv_sources_link_laws.proofs.sections.AssembledLemmas.{Tile}
 use Rattle.rv_assemble_laws.specs.IsObjectOf.{Numbering, relocation_at, relocations_from}
 use Rattle.rv_sources_link_laws.proofs.statements.FieldedLemmas.{IsPlain}
 use Rattle.rv_sources_link_laws.proofs.statements.FittingLemmas.{padding_moves}
 use Rattle.rv_sources_link_laws.proofs.statements.NopsLemmas.{nops_long}
-use Rattle.rv_sources_link_laws.proofs.statements.PadsLemmas.{IsPower, by_power, at, padded, IsPlainSite, IsPadSite}
+use Rattle.rv_sources_link_laws.proofs.statements.PadsLemmas.{IsPower, by_power, at, padded, IsPlainLaid, IsPadLaid}
 
 -- ---- fields that are no alignments
 
@@ -235,13 +235,13 @@ module _ (t : Tables) (number : Numbering) where
       go false e ih = ih
 
   -- the alignments of statements that follow one another from an offset on
-  abbrev pub pads : ℕ → List Site → List Relocation
+  abbrev pub pads : ℕ → List LaidStatement → List Relocation
   pads o zs = filter has_padding (relocations_from number o (parts t zs))
 
-  pub pads_past : (o : ℕ) (zs : List Site) → Past o (pads o zs)
+  pub pads_past : (o : ℕ) (zs : List LaidStatement) → Past o (pads o zs)
   pads_past o zs = past_filter o (relocations_from number o (parts t zs)) (parts_from o (parts t zs))
 
-  pads_split : (o : ℕ) (z : Site) (zs : List Site) → z.bytes ≡ length (flat_map part_bytes (parts_of t z))
+  pads_split : (o : ℕ) (z : LaidStatement) (zs : List LaidStatement) → z.bytes ≡ length (flat_map part_bytes (parts_of t z))
       → pads o (z ∷ zs) ≡ filter has_padding (relocations_from number o (parts_of t z)) ++ pads (o + z.bytes) zs
   pads_split o z zs bytes =
       ap (filter has_padding) (relocations_join o (parts_of t z) (parts t zs))
@@ -249,31 +249,31 @@ module _ (t : Tables) (number : Numbering) where
       ∙ ap (λ n. filter has_padding (relocations_from number o (parts_of t z)) ++ filter has_padding (relocations_from number (o + n) (parts t zs))) (sym bytes)
 
   module _ (section : SourceSection) (multiple : ℕ) where
-    abbrev pub Plain : Site → Type 0
-    Plain z = IsPlainSite t section multiple z z.located.kind
+    abbrev pub Plain : LaidStatement → Type 0
+    Plain z = IsPlainLaid t section multiple z z.located.kind
 
-    abbrev pub Pad : Site → Type 0
-    Pad z = IsPadSite t section multiple z z.located.kind
+    abbrev pub Pad : LaidStatement → Type 0
+    Pad z = IsPadLaid t section multiple z z.located.kind
 
-    abbrev pub Sorted : Site → Type 0
+    abbrev pub Sorted : LaidStatement → Type 0
     Sorted z = Plain z ⊎ Pad z
 
-    pub pads_plain : (o : ℕ) (z : Site) (zs : List Site) → z.bytes ≡ length (flat_map part_bytes (parts_of t z)) → Plain z → pads o (z ∷ zs) ≡ pads (o + z.bytes) zs
+    pub pads_plain : (o : ℕ) (z : LaidStatement) (zs : List LaidStatement) → z.bytes ≡ length (flat_map part_bytes (parts_of t z)) → Plain z → pads o (z ∷ zs) ≡ pads (o + z.bytes) zs
     pads_plain o z zs bytes h =
         pads_split o z zs bytes
         ∙ ap (λ l. l ++ pads (o + z.bytes) zs) (parts_none o (parts_of t z) (of_ordinal z.located.ordinal (assembled_templates t z z.located.kind) h.none))
 
-    pad_some : (z : Site) → Pad z → 0 < z.bytes
+    pad_some : (z : LaidStatement) → Pad z → 0 < z.bytes
     pad_some z h =
         let full = h.full in
         let some = by_power (λ a. 0 < a - 2) (omega arith) (omega arith) (omega arith) (omega arith) (omega arith) (omega arith) (omega arith) (omega arith) (omega arith) (omega arith) (omega arith) h.a h.power in
         omega (arith, full, some)
 
     -- what an alignment has in the object
-    pub pad_parts : (z : Site) → Pad z → parts_of t z ≡ part_of z.located.ordinal (Coded (no_operations z.bytes) (align_field z.located.ordinal z.bytes ∷ [])) ∷ []
+    pub pad_parts : (z : LaidStatement) → Pad z → parts_of t z ≡ part_of z.located.ordinal (Coded (no_operations z.bytes) (align_field z.located.ordinal z.bytes ∷ [])) ∷ []
     pad_parts z h = ap (map (part_of z.located.ordinal)) h.was
 
-    pub pads_pad : (o : ℕ) (z : Site) (zs : List Site) → z.bytes ≡ length (flat_map part_bytes (parts_of t z)) → Pad z → pads o (z ∷ zs) ≡ align_at o z.bytes ∷ pads (o + z.bytes) zs
+    pub pads_pad : (o : ℕ) (z : LaidStatement) (zs : List LaidStatement) → z.bytes ≡ length (flat_map part_bytes (parts_of t z)) → Pad z → pads o (z ∷ zs) ≡ align_at o z.bytes ∷ pads (o + z.bytes) zs
     pads_pad o z zs bytes h =
         pads_split o z zs bytes
         ∙ ap (λ l. filter has_padding (relocations_from number o l) ++ pads (o + z.bytes) zs) (pad_parts z h)
@@ -285,7 +285,7 @@ module _ (t : Tables) (number : Numbering) where
     in_front o full (r ∷ rs) (h, hs) =
         ap (λ b. if b then align_at o full ∷ r ∷ rs else r ∷ inserted (align_at o full) rs) (le-leb (o + full) r.place h.0)
 
-    pub in_order : (o : ℕ) (zs : List Site) → Tile t o zs → AllByRecursion Sorted zs → by_place (pads o zs) ≡ pads o zs
+    pub in_order : (o : ℕ) (zs : List LaidStatement) → Tile t o zs → AllByRecursion Sorted zs → by_place (pads o zs) ≡ pads o zs
     in_order o [] tile h = refl
     in_order o (z ∷ zs) (off, bytes, tile) (inl h, hs) = ap by_place (pads_plain o z zs bytes h) ∙ in_order (o + z.bytes) zs tile hs ∙ sym (pads_plain o z zs bytes h)
     in_order o (z ∷ zs) (off, bytes, tile) (inr h, hs) =
@@ -298,8 +298,8 @@ module _ (t : Tables) (number : Numbering) where
       abbrev N : ℕ → ℕ
       N n = new_offset ms n
 
-      abbrev pub site_by : Site → Site
-      site_by z = record {
+      abbrev pub statement_by : LaidStatement → LaidStatement
+      statement_by z = record {
         located = z.located;
         offset = new_offset ms z.offset;
         bytes = new_offset ms (z.offset + z.bytes) - new_offset ms z.offset;
@@ -307,17 +307,17 @@ module _ (t : Tables) (number : Numbering) where
         coded = z.coded;
       }
 
-      pub record PlainStep (o gone : ℕ) (z : Site) : Type 0 where
+      pub record PlainStep (o gone : ℕ) (z : LaidStatement) : Type 0 where
         pub plain_kind : Plain z
-        pub plain_is : site_by z ≡ at (o - gone) z
+        pub plain_is : statement_by z ≡ at (o - gone) z
         pub shift : (d : ℕ) → d ≤ z.bytes → N (o + d) ≡ (o - gone) + d
         pub aside : section.executable ≡ false → o - gone ≡ z.offset
 
-      pub record PadStep (o gone : ℕ) (z : Site) : Type 0 where
+      pub record PadStep (o gone : ℕ) (z : LaidStatement) : Type 0 where
         pub pad_kind : Pad z
         pub least : ℕ
         pub fits : least ≤ z.bytes
-        pub pad_is : site_by z ≡ padded (o - gone) least z
+        pub pad_is : statement_by z ≡ padded (o - gone) least z
         pub pads_to : least ≡ padding (Some pad_kind.a) (o - gone)
         pub least_even : least % 2 ≡ 0
         pub chosen : aligned (alignment_of (align_at o z.bytes)) (start + (o - gone)) - (start + (o - gone)) ≡ least
@@ -325,20 +325,20 @@ module _ (t : Tables) (number : Numbering) where
       abbrev pub Evens : ℕ → ℕ → Type 0
       Evens o gone = section.executable ≡ true → (o % 2 ≡ 0) × ((o - gone) % 2 ≡ 0)
 
-      abbrev pub Steps : ℕ → ℕ → List Site → Type 0
+      abbrev pub Steps : ℕ → ℕ → List LaidStatement → Type 0
       Steps o gone [] = N o ≡ o - gone
       Steps o gone (z ∷ zs) =
           (z.offset ≡ o) × (z.bytes ≡ length (flat_map part_bytes (parts_of t z))) × (gone ≤ o) × Evens o gone
           × ((PlainStep o gone z × Steps (o + z.bytes) gone zs) ⊎ ((s : PadStep o gone z) × Steps (o + z.bytes) (gone + (z.bytes - s.least)) zs))
 
-      site_is : (z : Site) (a b c : ℕ) → N z.offset ≡ a → N (z.offset + z.bytes) - N z.offset ≡ b → z.instructions - lost ms z.offset z.bytes ≡ c
-          → site_by z ≡ record { located = z.located; offset = a; bytes = b; instructions = c; coded = z.coded }
-      site_is z a b c e f g =
-          let mk : ℕ → ℕ → ℕ → Site = λ a b c. record { located = z.located; offset = a; bytes = b; instructions = c; coded = z.coded } in
+      laid_is : (z : LaidStatement) (a b c : ℕ) → N z.offset ≡ a → N (z.offset + z.bytes) - N z.offset ≡ b → z.instructions - lost ms z.offset z.bytes ≡ c
+          → statement_by z ≡ record { located = z.located; offset = a; bytes = b; instructions = c; coded = z.coded }
+      laid_is z a b c e f g =
+          let mk : ℕ → ℕ → ℕ → LaidStatement = λ a b c. record { located = z.located; offset = a; bytes = b; instructions = c; coded = z.coded } in
           ap (λ n. mk n (N (z.offset + z.bytes) - N z.offset) (z.instructions - lost ms z.offset z.bytes)) e
           ∙ ap (λ n. mk a n (z.instructions - lost ms z.offset z.bytes)) f ∙ ap (mk a b) g
 
-      module _ (o gone : ℕ) (z : Site) (zs : List Site) (off : z.offset ≡ o) (bytes : z.bytes ≡ length (flat_map part_bytes (parts_of t z)))
+      module _ (o gone : ℕ) (z : LaidStatement) (zs : List LaidStatement) (off : z.offset ≡ o) (bytes : z.bytes ≡ length (flat_map part_bytes (parts_of t z)))
           (low : gone ≤ o) (still : section.executable ≡ false → gone ≡ 0) (evens : Evens o gone)
           (before : (old : ℕ) → o ≤ old → dropped ms old ≡ gone + dropped (plan start gone (pads o (z ∷ zs))) old)
           (losses : (a b : ℕ) → o ≤ a → lost ms a b ≡ lost (plan start gone (pads o (z ∷ zs))) a b) where
@@ -365,7 +365,7 @@ module _ (t : Tables) (number : Numbering) where
           pub step_plain : PlainStep o gone z
           step_plain = record {
             plain_kind = h;
-            plain_is = site_is z (o - gone) z.bytes z.instructions here (ap (λ n. n - N z.offset) there ∙ ap (λ n. (o - gone) + z.bytes - n) here ∙ (let f : (o - gone) + z.bytes - (o - gone) ≡ z.bytes = omega arith in f))
+            plain_is = laid_is z (o - gone) z.bytes z.instructions here (ap (λ n. n - N z.offset) there ∙ ap (λ n. (o - gone) + z.bytes - n) here ∙ (let f : (o - gone) + z.bytes - (o - gone) ≡ z.bytes = omega arith in f))
                 (ap (λ n. z.instructions - n) none ∙ (let f : z.instructions - 0 ≡ z.instructions = omega arith in f));
             shift = shift_plain;
             aside = λ e. let f = still e in (let g : o - gone ≡ o = omega (arith, f) in g) ∙ sym off;
@@ -440,7 +440,7 @@ module _ (t : Tables) (number : Numbering) where
             pad_kind = h;
             least = L;
             fits = room.0;
-            pad_is = site_is z (o - gone) L (operations_in L) here (ap (λ n. n - N z.offset) there ∙ ap (λ n. (o - gone) + L - n) here ∙ (let f : (o - gone) + L - (o - gone) ≡ L = omega arith in f)) left;
+            pad_is = laid_is z (o - gone) L (operations_in L) here (ap (λ n. n - N z.offset) there ∙ ap (λ n. (o - gone) + L - n) here ∙ (let f : (o - gone) + L - (o - gone) ≡ L = omega arith in f)) left;
             pads_to = of_a ∙ padding_moves (Some h.a) start (o - gone) ((power_some h.a h.power).0, begin);
             least_even = room.1;
             chosen = refl;
@@ -483,7 +483,7 @@ module _ (t : Tables) (number : Numbering) where
                   monus : (a b : ℕ) → b ≤ a → a - (a - b) ≡ b
                   monus a b l = omega (arith, l)
 
-      pub steps : (o gone : ℕ) (zs : List Site) → Tile t o zs → AllByRecursion Sorted zs → gone ≤ o → (section.executable ≡ false → gone ≡ 0) → Evens o gone
+      pub steps : (o gone : ℕ) (zs : List LaidStatement) → Tile t o zs → AllByRecursion Sorted zs → gone ≤ o → (section.executable ≡ false → gone ≡ 0) → Evens o gone
           → ((old : ℕ) → o ≤ old → dropped ms old ≡ gone + dropped (plan start gone (pads o zs)) old)
           → ((a b : ℕ) → o ≤ a → lost ms a b ≡ lost (plan start gone (pads o zs)) a b) → Steps o gone zs
       unfolding step_pad

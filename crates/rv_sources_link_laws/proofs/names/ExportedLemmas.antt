@@ -17,8 +17,8 @@ use Rattle.rv_object.specs.declared.symbol.Definition.TheVariants.{Undefined, In
 use Rattle.rv_object.specs.Object.{Symbol, Object}
 use Rattle.rv_object.specs.Bindings as symbols
 use Rattle.rv_object_laws.specs.Names.{is_defined, is_export}
-use Rattle.rv_assemble_laws.specs.Sites.{Site}
-use Rattle.rv_assemble_laws.specs.Symbols.{site_at, after_found, assigned_definition, site_definition, local_symbol, outer_binding, shared_symbol, references, unnamed_symbols, named_symbols, local_symbols, exports_of, exports, undefined_symbols, distinct_from, missing_name, is_absolute, is_meant, are_together}
+use Rattle.rv_assemble_laws.specs.LaidStatements.{LaidStatement}
+use Rattle.rv_assemble_laws.specs.Symbols.{laid_at, after_found, assigned_definition, statement_definition, local_symbol, outer_binding, shared_symbol, references, unnamed_symbols, named_symbols, local_symbols, exports_of, exports, undefined_symbols, distinct_from, missing_name, is_absolute, is_meant, are_together}
 use Rattle.rv_assemble_laws.specs.IsObjectOf.{IsObjectOf}
 
 abbrev pub is_exported : Symbol → Bool
@@ -46,14 +46,14 @@ none_unnamed : (b : Bool) (section offset : ℕ) → filter is_exported (if b th
 none_unnamed true section offset = refl
 none_unnamed false section offset = refl
 
-locals_none : (t : Tables) (sites before rest : List Site) → filter is_exported (local_symbols t sites before rest) ≡ []
-locals_none t sites before [] = refl
-locals_none t sites before (s ∷ rest) =
-    none_of (unnamed_symbols t (references t sites) before s) (named_symbols t sites s ++ local_symbols t sites (before ++ s ∷ []) rest)
-    (none_unnamed (is_meant t (references t sites) s && not (list_any (λ q. are_together s q && is_meant t (references t sites) q) before)) s.located.section s.offset)
-    (none_of (named_symbols t sites s) (local_symbols t sites (before ++ s ∷ []) rest)
-    (none_local (λ name. site_definition t sites s s.located.kind) (λ x. not (is_absolute x)) (names_where (λ b. not (is_shared b)) t s.located))
-    (locals_none t sites (before ++ s ∷ []) rest))
+locals_none : (t : Tables) (laid before rest : List LaidStatement) → filter is_exported (local_symbols t laid before rest) ≡ []
+locals_none t laid before [] = refl
+locals_none t laid before (s ∷ rest) =
+    none_of (unnamed_symbols t (references t laid) before s) (named_symbols t laid s ++ local_symbols t laid (before ++ s ∷ []) rest)
+    (none_unnamed (is_meant t (references t laid) s && not (list_any (λ q. are_together s q && is_meant t (references t laid) q) before)) s.located.section s.offset)
+    (none_of (named_symbols t laid s) (local_symbols t laid (before ++ s ∷ []) rest)
+    (none_local (λ name. statement_definition t laid s s.located.kind) (λ x. not (is_absolute x)) (names_where (λ b. not (is_shared b)) t s.located))
+    (locals_none t laid (before ++ s ∷ []) rest))
 
 -- what has no definition is no other file's
 never : (b : Bool) → (b && false) ≡ false
@@ -79,44 +79,44 @@ all_kept t d e (name ∷ names) =
     ∙ ap (λ b. if b then shared_symbol t name d ∷ others else others) e
     ∙ ap (λ (l : List Symbol). shared_symbol t name d ∷ l) (all_kept t d e names)
 
-found_defined : (o : Option Site) (plus : ℕ) → is_defined (after_found o plus) ≡ true
+found_defined : (o : Option LaidStatement) (plus : ℕ) → is_defined (after_found o plus) ≡ true
 found_defined None plus = refl
 found_defined (Some s) plus = refl
 
-assigned_defined : (sites : List Site) (o : Option Assignment) → is_defined (assigned_definition sites o) ≡ true
-assigned_defined sites None = refl
-assigned_defined sites (Some a) = go a.meaning
+assigned_defined : (laid : List LaidStatement) (o : Option Assignment) → is_defined (assigned_definition laid o) ≡ true
+assigned_defined laid None = refl
+assigned_defined laid (Some a) = go a.meaning
   where
-    go : (m : Meaning) → is_defined (assigned_definition sites (Some (record a { meaning = m }))) ≡ true
+    go : (m : Meaning) → is_defined (assigned_definition laid (Some (record a { meaning = m }))) ≡ true
     go (Known n) = refl
-    go (InData section offset) = found_defined (site_at sites a.ordinal) a.plus
+    go (InData section offset) = found_defined (laid_at laid a.ordinal) a.plus
     go OpenAddress = refl
     go (Refused code) = refl
 
-pub site_defined : (t : Tables) (sites : List Site) (s : Site) (kind : StatementKind) → is_defined (site_definition t sites s kind) ≡ true
-site_defined t sites s (Directs (Sets name e)) = assigned_defined sites (assigned_ever t.assignments name)
-site_defined t sites s (Directs (Enters section)) = refl
-site_defined t sites s (Directs _) = refl
-site_defined t sites s (Label name) = refl
-site_defined t sites s (Numbered number) = refl
-site_defined t sites s (Instruction mnemonic operands) = refl
+pub laid_defined : (t : Tables) (laid : List LaidStatement) (s : LaidStatement) (kind : StatementKind) → is_defined (statement_definition t laid s kind) ≡ true
+laid_defined t laid s (Directs (Sets name e)) = assigned_defined laid (assigned_ever t.assignments name)
+laid_defined t laid s (Directs (Enters section)) = refl
+laid_defined t laid s (Directs _) = refl
+laid_defined t laid s (Label name) = refl
+laid_defined t laid s (Numbered number) = refl
+laid_defined t laid s (Instruction mnemonic operands) = refl
 
-exports_kept : (t : Tables) (sites rest : List Site) → filter is_exported (flat_map (exports_of t sites) rest) ≡ flat_map (exports_of t sites) rest
-exports_kept t sites [] = refl
-exports_kept t sites (s ∷ rest) =
-    filter-append is_exported (exports_of t sites s) (flat_map (exports_of t sites) rest)
-    ∙ ap (λ l. l ++ filter is_exported (flat_map (exports_of t sites) rest))
-    (all_kept t (site_definition t sites s s.located.kind) (site_defined t sites s s.located.kind) (names_where is_shared t s.located))
-    ∙ ap (λ l. exports_of t sites s ++ l) (exports_kept t sites rest)
+exports_kept : (t : Tables) (laid rest : List LaidStatement) → filter is_exported (flat_map (exports_of t laid) rest) ≡ flat_map (exports_of t laid) rest
+exports_kept t laid [] = refl
+exports_kept t laid (s ∷ rest) =
+    filter-append is_exported (exports_of t laid s) (flat_map (exports_of t laid) rest)
+    ∙ ap (λ l. l ++ filter is_exported (flat_map (exports_of t laid) rest))
+    (all_kept t (statement_definition t laid s s.located.kind) (laid_defined t laid s s.located.kind) (names_where is_shared t s.located))
+    ∙ ap (λ l. exports_of t laid s ++ l) (exports_kept t laid rest)
 
-pub exported_are : (ss : List Statement) (o : Object) (is : IsObjectOf ss o) → exported o ≡ exports (tables ss) is.sites
+pub exported_are : (ss : List Statement) (o : Object) (is : IsObjectOf ss o) → exported o ≡ exports (tables ss) is.laid
 exported_are ss o is =
     let t = tables ss in
-    let own = exports t is.sites in
+    let own = exports t is.laid in
     ap (filter is_exported) is.symbols
-    ∙ filter-append is_exported (local_symbols t is.sites [] is.sites) (own ++ undefined_symbols t is.sites)
-    ∙ ap (λ l. l ++ filter is_exported (own ++ undefined_symbols t is.sites)) (locals_none t is.sites [] is.sites)
-    ∙ filter-append is_exported own (undefined_symbols t is.sites)
-    ∙ ap (λ l. l ++ filter is_exported (undefined_symbols t is.sites)) (exports_kept t is.sites is.sites)
-    ∙ ap (λ l. own ++ l) (undefined_none t (distinct_from [] (flat_map (λ r. missing_name t r.ordinal r.symbol) (references t is.sites))))
+    ∙ filter-append is_exported (local_symbols t is.laid [] is.laid) (own ++ undefined_symbols t is.laid)
+    ∙ ap (λ l. l ++ filter is_exported (own ++ undefined_symbols t is.laid)) (locals_none t is.laid [] is.laid)
+    ∙ filter-append is_exported own (undefined_symbols t is.laid)
+    ∙ ap (λ l. l ++ filter is_exported (undefined_symbols t is.laid)) (exports_kept t is.laid is.laid)
+    ∙ ap (λ l. own ++ l) (undefined_none t (distinct_from [] (flat_map (λ r. missing_name t r.ordinal r.symbol) (references t is.laid))))
     ∙ append-nil own

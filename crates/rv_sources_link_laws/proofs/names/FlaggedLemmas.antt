@@ -13,14 +13,14 @@ use Rattle.rv_object.specs.Object.{Object}
 use Rattle.rv_object_laws.specs.CallSites.{is_short_text}
 use Rattle.rv_object_laws.specs.Shortened.{Sizes, sizes_by, shortened_from, IsRelaxed, Relaxes}
 use Rattle.rv_object_laws.specs.Without.{without, without_from}
-use Rattle.rv_assemble_laws.specs.Sites.{Site}
+use Rattle.rv_assemble_laws.specs.LaidStatements.{LaidStatement}
 use Rattle.rv_sources_link_laws.specs.Joins.{AreObjectsOf}
 use Rattle.rv_sources_link_laws.proofs.statements.StatementsLemmas.{renumbered, renumbers}
 
 -- the number of a statement's file changes nothing
-own : (file : ℕ) (sites : List Site)
-    → list_any is_compressed_code (map (renumbered file) (map (λ s. s.located) sites))
-    ≡ list_any (λ s. is_compressed_code s.located) sites
+own : (file : ℕ) (laid : List LaidStatement)
+    → list_any is_compressed_code (map (renumbered file) (map (λ s. s.located) laid))
+    ≡ list_any (λ s. is_compressed_code s.located) laid
 own file [] = refl
 own file (s ∷ ss) = ap (λ b. is_compressed_code s.located || b) (own file ss)
 
@@ -33,10 +33,10 @@ flagged file (ss ∷ sources) [] h = absurd h
 flagged file (ss ∷ sources) (o ∷ os) (is, h) =
     let others = located_of (suc file) sources in
     let here : located_from file 1 (at_start ss) ss
-    ≡ map (renumbered file) (map (λ s. s.located) is.sites) =
+    ≡ map (renumbered file) (map (λ s. s.located) is.laid) =
     renumbers file 1 (at_start ss) ss ∙ ap (map (renumbered file)) (sym is.located) in
     ap (λ b. b || list_any (λ o. o.rvc) os)
-    (is.rvc ∙ sym (own file is.sites) ∙ ap (list_any is_compressed_code) (sym here))
+    (is.rvc ∙ sym (own file is.laid) ∙ ap (list_any is_compressed_code) (sym here))
     ∙ ap (λ b. list_any is_compressed_code (located_from file 1 (at_start ss) ss) || b)
     (flagged (suc file) sources os h)
     ∙ sym (list_any-append is_compressed_code (located_from file 1 (at_start ss) ss) others)

@@ -19,8 +19,8 @@ use Rattle.rv_object.specs.Object.{Object}
 use Rattle.rv_object_laws.specs.Inputs.{Starts}
 use Rattle.rv_object_laws.specs.Names as objects
 use Rattle.rv_object_laws.specs.Names.{defined_address, offset_address}
-use Rattle.rv_assemble_laws.specs.Sites.{Site}
-use Rattle.rv_assemble_laws.specs.Symbols.{site_at, after_found, assigned_definition, site_definition}
+use Rattle.rv_assemble_laws.specs.LaidStatements.{LaidStatement}
+use Rattle.rv_assemble_laws.specs.Symbols.{laid_at, after_found, assigned_definition, statement_definition}
 use Rattle.rv_assemble_laws.specs.IsObjectOf.{IsInData, StandsInData}
 use Rattle.rv_sources_link_laws.proofs.sections.MaskedLemmas.{source_sections}
 use Rattle.rv_sources_link_laws.proofs.statements.StatementsLemmas.{row_in, rows_from, statement_at, row_address}
@@ -36,10 +36,10 @@ abbrev pub AddressAlike : Program → Starts → source.Export → objects.Expor
 AddressAlike p starts x e = (x.name ≡ e.symbol.name) × (export_address p x ≡ objects.export_address starts e)
 
 -- an address in the map is a number below 2 ^ 64
-abbrev pub IsLow : Starts → ℕ → Site → Type 0
+abbrev pub IsLow : Starts → ℕ → LaidStatement → Type 0
 IsLow starts file s = has_row s.located ≡ true → starts file s.located.section + s.offset < 2 ^ 64
 
-pub low_rows : (starts : Starts) (file : ℕ) (sites : List Site) → AllByRecursion IsRow (rows_from starts file sites) → AllByRecursion (IsLow starts file) sites
+pub low_rows : (starts : Starts) (file : ℕ) (laid : List LaidStatement) → AllByRecursion IsRow (rows_from starts file laid) → AllByRecursion (IsLow starts file) laid
 low_rows starts file [] h = tt
 low_rows starts file (s ∷ ss) h = (first (has_row s.located) h, low_rows starts file ss (rest (has_row s.located) h))
   where
@@ -53,22 +53,22 @@ low_rows starts file (s ∷ ss) h = (first (has_row s.located) h, low_rows start
 
 -- ---- a file
 
-module _ (p : Program) (starts : Starts) (file : ℕ) (ss : List Statement) (o : Object) (is : IsObjectOf ss o) (f : IsFile p starts file ss is.sites) where
+module _ (p : Program) (starts : Starts) (file : ℕ) (ss : List Statement) (o : Object) (is : IsObjectOf ss o) (f : IsFile p starts file ss is.laid) where
   abbrev t : Tables
   t = tables ss
 
   abbrev sections : List SourceSection
   sections = source_sections is.dropped ss
 
-  all_settled : AllByRecursion (IsSettled sections) is.sites
-  all_settled = settled_left ss is.sites is.dropped is.good is.located
+  all_settled : AllByRecursion (IsSettled sections) is.laid
+  all_settled = settled_left ss is.laid is.dropped is.good is.located
 
   -- a label
-  pub label_address : (s : Site) → IsSettled sections s → s.located.placed ≡ true → IsLow starts file s
+  pub label_address : (s : LaidStatement) → IsSettled sections s → s.located.placed ≡ true → IsLow starts file s
       → defined_address (starts file) o (InSection s.located.section s.offset) ≡ address_of (statement_at starts file s)
   label_address s here placed low =
       let start = starts file s.located.section in
-      let found = its_section (IsSectionOf t is.sites is.number o.symbols) is.sites s.located.section sections o.sections s.located.home is.sections here.home in
+      let found = its_section (IsSectionOf t is.laid is.number o.symbols) is.laid s.located.section sections o.sections s.located.home is.sections here.home in
       let x = found.0 in
       ap (offset_address start s.offset) found.1
       ∙ ap (λ n. if x.loaded then Some ((start + n) % 2 ^ 64) else None) (still x (plain_of ss o is s.located.section x found.1) start s.offset)
@@ -82,35 +82,35 @@ module _ (p : Program) (starts : Starts) (file : ℕ) (ss : List Statement) (o :
       go false h = refl
 
   -- what `.set` gives
-  found_address : (a : Assignment) (found : Option Site) → site_at is.sites a.ordinal ≡ found → IsInData found
+  found_address : (a : Assignment) (found : Option LaidStatement) → laid_at is.laid a.ordinal ≡ found → IsInData found
       → defined_address (starts file) o (after_found found a.plus) ≡ home_address p.statements file (record { ordinal = a.ordinal; plus = a.plus })
   found_address a None e h = ap (option_map (λ n. add n a.plus)) (sym (f.address a.ordinal ∙ ap (option_and_then (row_address starts file)) e))
   found_address a (Some s) e (aside, placed) =
-      own_agrees p.statements starts file t is.sites is.number o sections is.sections all_settled (plain_of ss o is) f.address s
+      own_agrees p.statements starts file t is.laid is.number o sections is.sections all_settled (plain_of ss o is) f.address s
       (record { ordinal = a.ordinal; plus = a.plus }) e placed
 
-  assigned_address : (a : Assignment) → StandsInData is.sites a → defined_address (starts file) o (assigned_definition is.sites (Some a)) ≡ set_address p.statements file (Some a)
+  assigned_address : (a : Assignment) → StandsInData is.laid a → defined_address (starts file) o (assigned_definition is.laid (Some a)) ≡ set_address p.statements file (Some a)
   assigned_address a h = go a.meaning h
     where
-      go : (m : Meaning) → (is_location (record a { meaning = m }) ≡ true → IsInData (site_at is.sites a.ordinal))
-          → defined_address (starts file) o (assigned_definition is.sites (Some (record a { meaning = m }))) ≡ set_address p.statements file (Some (record a { meaning = m }))
+      go : (m : Meaning) → (is_location (record a { meaning = m }) ≡ true → IsInData (laid_at is.laid a.ordinal))
+          → defined_address (starts file) o (assigned_definition is.laid (Some (record a { meaning = m }))) ≡ set_address p.statements file (Some (record a { meaning = m }))
       go (Known n) h = refl
-      go (InData section offset) h = found_address a (site_at is.sites a.ordinal) refl (h refl)
+      go (InData section offset) h = found_address a (laid_at is.laid a.ordinal) refl (h refl)
       go OpenAddress h = refl
       go (Refused code) h = refl
 
-  last_address : (name : List ℕ) → defined_address (starts file) o (assigned_definition is.sites (assigned_ever t.assignments name)) ≡ set_address p.statements file (assigned_ever t.assignments name)
+  last_address : (name : List ℕ) → defined_address (starts file) o (assigned_definition is.laid (assigned_ever t.assignments name)) ≡ set_address p.statements file (assigned_ever t.assignments name)
   last_address name = go (assigned_ever t.assignments name) refl
     where
-      go : (a : Option Assignment) → assigned_ever t.assignments name ≡ a → defined_address (starts file) o (assigned_definition is.sites a) ≡ set_address p.statements file a
+      go : (a : Option Assignment) → assigned_ever t.assignments name ≡ a → defined_address (starts file) o (assigned_definition is.laid a) ≡ set_address p.statements file a
       go None e = refl
-      go (Some a) e = assigned_address a (all_found (StandsInData is.sites) (λ s. bytes_eq s.name name) t.assignments is.places a e)
+      go (Some a) e = assigned_address a (all_found (StandsInData is.laid) (λ s. bytes_eq s.name name) t.assignments is.places a e)
 
   -- ---- a statement
 
-  kind_address : (s : Site) (kind : StatementKind) (name : List ℕ) → IsSettled sections s → IsLow starts file s → ((n : List ℕ) → kind ≡ Label n → s.located.placed ≡ true)
+  kind_address : (s : LaidStatement) (kind : StatementKind) (name : List ℕ) → IsSettled sections s → IsLow starts file s → ((n : List ℕ) → kind ≡ Label n → s.located.placed ≡ true)
       → defined_name t s.located.ordinal kind ≡ name ∷ []
-      → resolves.defined_address (tables_in p file) p.statements (statement_at starts file s) kind ≡ defined_address (starts file) o (site_definition t is.sites s kind)
+      → resolves.defined_address (tables_in p file) p.statements (statement_at starts file s) kind ≡ defined_address (starts file) o (statement_definition t is.laid s kind)
   kind_address s (Label n) name here low placed e = sym (label_address s here (placed n refl) low)
   kind_address s (Directs (Sets n x)) name here low placed e =
       ap (λ (u : Tables). set_address p.statements file (assigned_ever u.assignments n)) f.tables ∙ sym (last_address n)
@@ -119,12 +119,12 @@ module _ (p : Program) (starts : Starts) (file : ℕ) (ss : List Statement) (o :
   kind_address s (Numbered number) name here low placed e = absurd (cc)
   kind_address s (Instruction mnemonic operands) name here low placed e = absurd (cc)
 
-  abbrev Alike : Site → Type 0
-  Alike s = IsPair (AddressAlike p starts) t is.sites (statement_at starts file) file o s
+  abbrev Alike : LaidStatement → Type 0
+  Alike s = IsPair (AddressAlike p starts) t is.laid (statement_at starts file) file o s
 
-  alike_from : (rest : List Site) → AllByRecursion (IsSettled sections) rest → AllByRecursion (IsLow starts file) rest → AllByRecursion Alike rest
+  alike_from : (rest : List LaidStatement) → AllByRecursion (IsSettled sections) rest → AllByRecursion (IsLow starts file) rest → AllByRecursion Alike rest
   alike_from [] h l = tt
   alike_from (s ∷ rest) (h, hs) (l, ls) = ((λ name index e shared. (refl, kind_address s s.located.kind name h l h.labelled e)), alike_from rest hs ls)
 
-  pub addresses_alike : AllByRecursion (IsLow starts file) is.sites → AllByRecursion Alike is.sites
-  addresses_alike low = alike_from is.sites all_settled low
+  pub addresses_alike : AllByRecursion (IsLow starts file) is.laid → AllByRecursion Alike is.laid
+  addresses_alike low = alike_from is.laid all_settled low

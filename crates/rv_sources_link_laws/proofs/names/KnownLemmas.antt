@@ -19,9 +19,9 @@ use Rattle.rv_object_laws.specs.Inputs.{Starts}
 use Rattle.rv_object_laws.specs.Names as objects
 use Rattle.rv_object_laws.specs.Names.{Outer, outer_address, is_sure, is_sure_by, symbol_address, defined_address, offset_address}
 use Rattle.rv_object_laws.specs.Values.{target}
-use Rattle.rv_assemble_laws.specs.Sites.{Site}
+use Rattle.rv_assemble_laws.specs.LaidStatements.{LaidStatement}
 use Rattle.rv_object.specs.Bindings.{is_weak}
-use Rattle.rv_assemble_laws.specs.Symbols.{site_at, after_site, IsOwn, IsOuter, IsDefinedBy, IsNamed, StandsFor}
+use Rattle.rv_assemble_laws.specs.Symbols.{laid_at, after_statement, IsOwn, IsOuter, IsDefinedBy, IsNamed, StandsFor}
 use Rattle.rv_assemble_laws.specs.IsObjectOf.{Numbering}
 use Rattle.rv_sources_link_laws.proofs.names.PairLemmas.{AreGiven}
 use Rattle.rv_sources_link_laws.proofs.statements.OrderedLemmas.{its_section}
@@ -46,17 +46,17 @@ abbrev pub outer_in : Program → List Object → Outer
 outer_in p os = outer_address os p.map.globals
 
 -- a file of the sources, with what its statements' addresses are
-module _ (statements : List MaybeMapped) (starts : Starts) (file : ℕ) (t : Tables) (sites : List Site)
+module _ (statements : List MaybeMapped) (starts : Starts) (file : ℕ) (t : Tables) (laid : List LaidStatement)
     (number : Numbering) (o : Object) (sections : List SourceSection)
-    (are : AreSectionsOf t sites number o.symbols 0 sections o.sections) (settled : AllByRecursion (IsSettled sections) sites)
+    (are : AreSectionsOf t laid number o.symbols 0 sections o.sections) (settled : AllByRecursion (IsSettled sections) laid)
     (plain : (j : ℕ) (x : Section) → slice_get o.sections j ≡ Some x → alignments_of x ≡ [])
-    (address : (n : ℕ) → address_at statements file n ≡ option_and_then (row_address starts file) (site_at sites n)) where
+    (address : (n : ℕ) → address_at statements file n ≡ option_and_then (row_address starts file) (laid_at laid n)) where
   -- a place of the file
-  pub own_agrees : (s : Site) (d : Definition) → site_at sites d.ordinal ≡ Some s → s.located.placed ≡ true
-      → defined_address (starts file) o (after_site s d.plus) ≡ home_address statements file d
+  pub own_agrees : (s : LaidStatement) (d : Definition) → laid_at laid d.ordinal ≡ Some s → s.located.placed ≡ true
+      → defined_address (starts file) o (after_statement s d.plus) ≡ home_address statements file d
   own_agrees s d found placed =
-      let here = all_found (IsSettled sections) (λ s. s.located.ordinal == d.ordinal) sites settled s found in
-      let section = its_section (IsSectionOf t sites number o.symbols) sites s.located.section sections o.sections s.located.home are here.home in
+      let here = all_found (IsSettled sections) (λ s. s.located.ordinal == d.ordinal) laid settled s found in
+      let section = its_section (IsSectionOf t laid number o.symbols) laid s.located.section sections o.sections s.located.home are here.home in
       let x = section.0 in
       let start = starts file s.located.section in
       let same : x.loaded ≡ s.located.home.loaded = section.2.loaded in
@@ -76,11 +76,11 @@ module _ (statements : List MaybeMapped) (starts : Starts) (file : ℕ) (t : Tab
       go false n plus = refl
 
 -- what the names in a file's statements mean, and the symbols that stand for them
-module _ (p : Program) (os : List Object) (given : AreGiven p os) (low : AllByRecursion IsGlobal p.map.globals) (starts : Starts) (file : ℕ) (sites : List Site)
+module _ (p : Program) (os : List Object) (given : AreGiven p os) (low : AllByRecursion IsGlobal p.map.globals) (starts : Starts) (file : ℕ) (laid : List LaidStatement)
     (number : Numbering) (o : Object) (sections : List SourceSection)
-    (are : AreSectionsOf (tables_in p file) sites number o.symbols 0 sections o.sections) (settled : AllByRecursion (IsSettled sections) sites)
+    (are : AreSectionsOf (tables_in p file) laid number o.symbols 0 sections o.sections) (settled : AllByRecursion (IsSettled sections) laid)
     (plain : (j : ℕ) (x : Section) → slice_get o.sections j ≡ Some x → alignments_of x ≡ [])
-    (address : (n : ℕ) → address_at p.statements file n ≡ option_and_then (row_address starts file) (site_at sites n)) where
+    (address : (n : ℕ) → address_at p.statements file n ≡ option_and_then (row_address starts file) (laid_at laid n)) where
   abbrev t : Tables
   t = tables_in p file
 
@@ -102,12 +102,12 @@ module _ (p : Program) (os : List Object) (given : AreGiven p os) (low : AllByRe
   unsure x e = ap (λ b. if b then defined_address (starts file) o x.definition else outer_in p os x) e
 
   -- a place of the file's own: the name's, or if that is weak what all files say
-  own_by : (q : Primary) (x : Symbol) (d : Definition) → IsNamed q x → is_weak x.binding ≡ gives_way t q → IsOwn sites d x → (b : Bool) → gives_way t q ≡ b
+  own_by : (q : Primary) (x : Symbol) (d : Definition) → IsNamed q x → is_weak x.binding ≡ gives_way t q → IsOwn laid d x → (b : Bool) → gives_way t q ≡ b
       → stands_at x ≡ address_by p file q (if b then None else Some d)
   own_by q x d named weak (s, found, placed, is) false e =
       ap (λ b. if b then defined_address (starts file) o x.definition else outer_in p os x) (ap (is_sure_by x.binding) is ∙ ap not (weak ∙ e))
       ∙ ap (defined_address (starts file) o) is
-      ∙ own_agrees p.statements starts file t sites number o sections are settled plain address s d found placed
+      ∙ own_agrees p.statements starts file t laid number o sections are settled plain address s d found placed
   own_by (Named name) x d named weak (s, found, placed, is) true e =
       unsure x (ap (is_sure_by x.binding) is ∙ ap not (weak ∙ e)) ∙ outer_agrees name x named weak
   own_by (Literal n) x d named weak is true e = absurd (cc)
@@ -124,7 +124,7 @@ module _ (p : Program) (os : List Object) (given : AreGiven p os) (low : AllByRe
   outer_by Here x named weak is = absurd is
   outer_by (Reference digits forward) x named weak is = absurd is
 
-  agrees_by : (q : Primary) (d : Option Definition) (x : Symbol) → IsNamed q x → is_weak x.binding ≡ gives_way t q → IsDefinedBy sites q d x
+  agrees_by : (q : Primary) (d : Option Definition) (x : Symbol) → IsNamed q x → is_weak x.binding ≡ gives_way t q → IsDefinedBy laid q d x
       → stands_at x ≡ address_by p file q (if gives_way t q then None else d)
   agrees_by q (Some d) x named weak is =
       own_by q x d named weak is (gives_way t q) refl
@@ -167,7 +167,7 @@ module _ (p : Program) (os : List Object) (given : AreGiven p os) (low : AllByRe
     pub worth : unwrap_or (target (outer_in p os) (starts file) o (Some (number ordinal q))) 0 ≡ at
     pub below : at < 2 ^ 64
 
-  pub meant_of : (ordinal : ℕ) (q : Primary) → StandsFor t sites ordinal q (slice_get o.symbols (number ordinal q))
+  pub meant_of : (ordinal : ℕ) (q : Primary) → StandsFor t laid ordinal q (slice_get o.symbols (number ordinal q))
       → is_some (target (outer_in p os) (starts file) o (Some (number ordinal q))) ≡ true → IsMeant ordinal q
   meant_of ordinal q stands some = go (slice_get o.symbols (number ordinal q)) refl stands some
     where
@@ -175,7 +175,7 @@ module _ (p : Program) (os : List Object) (given : AreGiven p os) (low : AllByRe
       with_address None e f g = absurd (cc)
       with_address (Some n) e f g = record { at = n; is = e; worth = ap (λ o. unwrap_or o 0) f; below = low_by q (sure_definition t ordinal q) n e }
 
-      go : (x : Option Symbol) → slice_get o.symbols (number ordinal q) ≡ x → StandsFor t sites ordinal q x → is_some (option_and_then stands_at x) ≡ true → IsMeant ordinal q
+      go : (x : Option Symbol) → slice_get o.symbols (number ordinal q) ≡ x → StandsFor t laid ordinal q x → is_some (option_and_then stands_at x) ≡ true → IsMeant ordinal q
       go None there h some = absurd h
       go (Some x) there (named, weak, is) some =
           let agrees = agrees_by q (definition t ordinal q) x named weak is in

@@ -18,8 +18,8 @@ use Rattle.rv_object.specs.Object.{Symbol, Object}
 use Rattle.rv_object.specs.Bindings as symbols
 use Rattle.rv_object_laws.specs.Names as objects
 use Rattle.rv_object_laws.specs.Names.{exports_in, exports_from}
-use Rattle.rv_assemble_laws.specs.Sites.{Site}
-use Rattle.rv_assemble_laws.specs.Symbols.{outer_binding, shared_symbol, site_definition, exports_of, exports}
+use Rattle.rv_assemble_laws.specs.LaidStatements.{LaidStatement}
+use Rattle.rv_assemble_laws.specs.Symbols.{outer_binding, shared_symbol, statement_definition, exports_of, exports}
 use Rattle.rv_sources_link_laws.proofs.names.ExportedLemmas.{is_exported}
 use Rattle.rv_sources_link_laws.proofs.names.PairLemmas.{ArePaired, Rise, IsPair, AreMade}
 use Rattle.rv_sources_link_laws.proofs.names.PairedLemmas.{AreApart}
@@ -240,14 +240,14 @@ module _ (R : source.Export → objects.Export → Type 0) (p : Program) where
         go next false h = next n i (omega (arith, l)) xs h
 
     -- the symbols of statements
-    module _ (t : Tables) (sites : List Site) (seen : Site → MaybeMapped) (tables : tables_in p file ≡ t) (located : (z : Site) → (seen z).located ≡ renumbered file z.located) where
-      at_is : (z : Site) → exports_at is_shared p (seen z) ≡ map (export (seen z)) (names_where is_shared t z.located)
+    module _ (t : Tables) (laid : List LaidStatement) (seen : LaidStatement → MaybeMapped) (tables : tables_in p file ≡ t) (located : (z : LaidStatement) → (seen z).located ≡ renumbered file z.located) where
+      at_is : (z : LaidStatement) → exports_at is_shared p (seen z) ≡ map (export (seen z)) (names_where is_shared t z.located)
       at_is z =
           ap (λ (l : Located). map (export (seen z)) (names_where is_shared (tables_in p l.file) l)) (located z)
           ∙ ap (λ t. map (export (seen z)) (names_where is_shared t (renumbered file z.located))) tables
 
-      made_of : (z : Site) (name : List ℕ) → IsPair R t sites seen file o z → defined_name t z.located.ordinal z.located.kind ≡ name ∷ [] → is_shared (t.bindings name) ≡ true
-          → IsMadeOf (export (seen z) name) (shared_symbol t name (site_definition t sites z z.located.kind))
+      made_of : (z : LaidStatement) (name : List ℕ) → IsPair R t laid seen file o z → defined_name t z.located.ordinal z.located.kind ≡ name ∷ [] → is_shared (t.bindings name) ≡ true
+          → IsMadeOf (export (seen z) name) (shared_symbol t name (statement_definition t laid z z.located.kind))
       made_of z name pair e shared = record {
         pair = λ index. pair name index e shared;
         file_is = here;
@@ -262,21 +262,21 @@ module _ (R : source.Export → objects.Export → Type 0) (p : Program) where
           bound : (tables_in p (seen z).located.file).bindings name ≡ t.bindings name
           bound = ap (λ f. (tables_in p f).bindings name) here ∙ ap (λ (t : Tables). t.bindings name) tables
 
-      by_ordinal : (n : ℕ) (zs : List Site) → Rise n zs → AllByRecursion (IsPair R t sites seen file o) zs
-          → ByOrdinal n (flat_map (exports_at is_shared p) (map seen zs)) (flat_map (exports_of t sites) zs)
+      by_ordinal : (n : ℕ) (zs : List LaidStatement) → Rise n zs → AllByRecursion (IsPair R t laid seen file o) zs
+          → ByOrdinal n (flat_map (exports_at is_shared p) (map seen zs)) (flat_map (exports_of t laid) zs)
       by_ordinal n [] r h = tt
       by_ordinal n (z ∷ zs) (r, rs) (h, hs) =
-          subst (λ l. ByOrdinal n (l ++ later) (exports_of t sites z ++ symbols)) (sym (at_is z))
+          subst (λ l. ByOrdinal n (l ++ later) (exports_of t laid z ++ symbols)) (sym (at_is z))
           (named (by_ordinal (suc z.located.ordinal) zs rs hs) (defined_name t z.located.ordinal z.located.kind) refl (one_name t z.located.ordinal z.located.kind))
         where
           later : List source.Export
           later = flat_map (exports_at is_shared p) (map seen zs)
 
           symbols : List Symbol
-          symbols = flat_map (exports_of t sites) zs
+          symbols = flat_map (exports_of t laid) zs
 
           made : List ℕ → Symbol
-          made name = shared_symbol t name (site_definition t sites z z.located.kind)
+          made name = shared_symbol t name (statement_definition t laid z z.located.kind)
 
           shares : List ℕ → Bool
           shares name = is_shared (t.bindings name)
@@ -310,12 +310,12 @@ module _ (R : source.Export → objects.Export → Type 0) (p : Program) where
   all_matched file (o ∷ os) all (own, rest, e, m, h) =
       subst (λ l. AreMatched file 0 0 l (exports_in symbols.is_shared file o 0 o.symbols ++ exports_from symbols.is_shared (suc file) os)) (sym joined)
       (by_index file o (flat_map (exports_at is_shared p) rest) (exports_from symbols.is_shared (suc file) os) (all_matched (suc file) os rest h)
-      0 0 0 (omega arith) (flat_map (exports_at is_shared p) (map m.seen m.sites)) o.symbols
-      (subst (λ ss. ByOrdinal file o 0 (flat_map (exports_at is_shared p) (map m.seen m.sites)) ss) (sym m.exported_are)
-      (sooner file o 0 1 (omega arith) (flat_map (exports_at is_shared p) (map m.seen m.sites)) (exports m.t m.sites)
-      (by_ordinal file o m.t m.sites m.seen m.tables m.located 1 m.sites m.rise m.pairs))))
+      0 0 0 (omega arith) (flat_map (exports_at is_shared p) (map m.seen m.laid)) o.symbols
+      (subst (λ ss. ByOrdinal file o 0 (flat_map (exports_at is_shared p) (map m.seen m.laid)) ss) (sym m.exported_are)
+      (sooner file o 0 1 (omega arith) (flat_map (exports_at is_shared p) (map m.seen m.laid)) (exports m.t m.laid)
+      (by_ordinal file o m.t m.laid m.seen m.tables m.located 1 m.laid m.rise m.pairs))))
     where
-      joined : flat_map (exports_at is_shared p) all ≡ flat_map (exports_at is_shared p) (map m.seen m.sites) ++ flat_map (exports_at is_shared p) rest
+      joined : flat_map (exports_at is_shared p) all ≡ flat_map (exports_at is_shared p) (map m.seen m.laid) ++ flat_map (exports_at is_shared p) rest
       joined =
           ap (flat_map (exports_at is_shared p)) e ∙ flat_map-append (exports_at is_shared p) own rest
           ∙ ap (λ l. flat_map (exports_at is_shared p) l ++ flat_map (exports_at is_shared p) rest) m.own_are

@@ -12,8 +12,8 @@ use Rattle.rv_object.specs.Object.{Object}
 use Rattle.rv_object.specs.Bindings as symbols
 use Rattle.rv_object_laws.specs.Names as objects
 use Rattle.rv_object_laws.specs.Names.{names_of}
-use Rattle.rv_assemble_laws.specs.Sites.{Site}
-use Rattle.rv_assemble_laws.specs.Symbols.{shared_symbol, site_definition, exports}
+use Rattle.rv_assemble_laws.specs.LaidStatements.{LaidStatement}
+use Rattle.rv_assemble_laws.specs.Symbols.{shared_symbol, statement_definition, exports}
 use Rattle.rv_sources_link_laws.proofs.names.ExportedLemmas.{exported}
 use Rattle.rv_sources_link_laws.proofs.statements.StatementsLemmas.{renumbered}
 
@@ -49,28 +49,28 @@ AreGiven p os = (name : List ℕ) → is_some (source.chosen p name) ≡ is_some
 -- ---- from what: the law is `chosen_alike`, from `AreMade R p 1 os p.statements`
 
 -- the ordinals of statements rise
-abbrev pub Rise : ℕ → List Site → Type 0
+abbrev pub Rise : ℕ → List LaidStatement → Type 0
 Rise n [] = ⊤
 Rise n (z ∷ zs) = (n ≤ z.located.ordinal) × Rise (suc z.located.ordinal) zs
 
 module _ (R : source.Export → objects.Export → Type 0) where
   -- a statement's name for all files and the symbol that the assembler made of it, at any index, are a pair
-  abbrev pub IsPair : (t : Tables) (sites : List Site) (seen : Site → MaybeMapped) (file : ℕ) (o : Object) → Site → Type 0
-  IsPair t sites seen file o z =
+  abbrev pub IsPair : (t : Tables) (laid : List LaidStatement) (seen : LaidStatement → MaybeMapped) (file : ℕ) (o : Object) → LaidStatement → Type 0
+  IsPair t laid seen file o z =
       (name : List ℕ) (index : ℕ) → defined_name t z.located.ordinal z.located.kind ≡ name ∷ [] → is_shared (t.bindings name) ≡ true
-      → R (export (seen z) name) (record { file = file; object = o; index = index; symbol = shared_symbol t name (site_definition t sites z z.located.kind) })
+      → R (export (seen z) name) (record { file = file; object = o; index = index; symbol = shared_symbol t name (statement_definition t laid z z.located.kind) })
 
-  -- an object, and its statements in the program: each is a site of the object as it is seen there
+  -- an object, and its statements in the program: each is a laid statement of the object as it is seen there
   pub record IsMade (p : Program) (file : ℕ) (o : Object) (own : List MaybeMapped) : Type 0 where
     pub t : Tables
-    pub sites : List Site
-    pub seen : Site → MaybeMapped
+    pub laid : List LaidStatement
+    pub seen : LaidStatement → MaybeMapped
     pub tables : tables_in p file ≡ t
-    pub own_are : own ≡ map seen sites
-    pub located : (z : Site) → (seen z).located ≡ renumbered file z.located
-    pub rise : Rise 1 sites
-    pub exported_are : exported o ≡ exports t sites
-    pub pairs : AllByRecursion (IsPair t sites seen file o) sites
+    pub own_are : own ≡ map seen laid
+    pub located : (z : LaidStatement) → (seen z).located ≡ renumbered file z.located
+    pub rise : Rise 1 laid
+    pub exported_are : exported o ≡ exports t laid
+    pub pairs : AllByRecursion (IsPair t laid seen file o) laid
 
   -- of all files from a number on
   abbrev pub AreMade : Program → ℕ → List Object → List MaybeMapped → Type 0

@@ -13,7 +13,7 @@ use Rattle.rv_unit_laws.specs.Tables.{Tables, Extent, empty_extent, Assignment, 
 use Rattle.rv_object.specs.Object.{Section, Symbol, Object, size_of}
 use Rattle.rv_object_laws.specs.CallSites.{start_padding, length_of, is_short_text}
 use Rattle.rv_object_laws.specs.Inputs.{InputSection, goes_to_text, inputs_from, inputs_of, inputs, begins_at}
-use Rattle.rv_assemble_laws.specs.Sites.{Site, sites_in, end_of}
+use Rattle.rv_assemble_laws.specs.LaidStatements.{LaidStatement, laid_in, end_of}
 use Rattle.rv_assemble_laws.specs.IsObjectOf.{Numbering}
 use Rattle.rv_sources_link_laws.proofs.sections.KeptLemmas.{IsKept, AreKept}
 use Rattle.rv_sources_link_laws.proofs.sections.MaskedLemmas.{source_sections, masked_length}
@@ -138,11 +138,11 @@ alignment_small (e ∷ es) (suc j) (h, hs) = alignment_small es j hs
 
 -- ---- the sections of an object
 
-same_length : (t : Tables) (sites : List Site) (number : Numbering) (symbols : List Symbol) (index : ℕ) (sss : List SourceSection) (xs : List Section) → AreSectionsOf t sites number symbols index sss xs → length xs ≡ length sss
-same_length t sites number symbols index [] [] h = refl
-same_length t sites number symbols index [] (x ∷ xs) h = absurd h
-same_length t sites number symbols index (s ∷ sss) [] h = absurd h
-same_length t sites number symbols index (s ∷ sss) (x ∷ xs) (h, hs) = ap suc (same_length t sites number symbols (suc index) sss xs hs)
+same_length : (t : Tables) (laid : List LaidStatement) (number : Numbering) (symbols : List Symbol) (index : ℕ) (sss : List SourceSection) (xs : List Section) → AreSectionsOf t laid number symbols index sss xs → length xs ≡ length sss
+same_length t laid number symbols index [] [] h = refl
+same_length t laid number symbols index [] (x ∷ xs) h = absurd h
+same_length t laid number symbols index (s ∷ sss) [] h = absurd h
+same_length t laid number symbols index (s ∷ sss) (x ∷ xs) (h, hs) = ap suc (same_length t laid number symbols (suc index) sss xs hs)
 
 map_long : (es : List Extent) → length (map (λ (e : Extent). e.section) es) ≡ length es
 map_long [] = refl
@@ -159,24 +159,24 @@ length_join (i ∷ is) js =
     ap (λ n. a + b + n) ih ∙ (let e : a + b + (c + d) ≡ a + b + c + d = omega arith in e)
 
 module _ (ss : List Statement) (o : Object) (is : IsKept ss o) (file : ℕ) where
-  section_low : (j : ℕ) (s : SourceSection) (x : Section) → IsSectionOf (tables ss) is.sites is.number o.symbols j s (sites_in j is.sites) x → slice_get o.sections j ≡ Some x → goes_to_text x ≡ true
+  section_low : (j : ℕ) (s : SourceSection) (x : Section) → IsSectionOf (tables ss) is.laid is.number o.symbols j s (laid_in j is.laid) x → slice_get o.sections j ≡ Some x → goes_to_text x ≡ true
       → start_padding x + size_of x.contents ≤ 536870912
   section_low j s x h there text =
       let code : s.executable ≡ true = sym h.executable ∙ (and_parts x.loaded x.executable text).1 in
-      let bytes : size_of x.contents ≡ end_of 0 (sites_in j is.sites) = size_is (tables ss) is.sites is.number o j s (sites_in j is.sites) x h in
-      let short : end_of 0 (sites_in j is.sites) ≤ 268435456 = h.short code in
+      let bytes : size_of x.contents ≡ end_of 0 (laid_in j is.laid) = size_is (tables ss) is.laid is.number o j s (laid_in j is.laid) x h in
+      let short : end_of 0 (laid_in j is.laid) ≤ 268435456 = h.short code in
       let begins : begins_at x ≡ max (if goes_to_text x then 2 else 1) x.alignment = begins_as ss o is j x there in
       let begins' : begins_at x ≡ max 2 x.alignment = begins ∙ ap (λ b. max (if b then 2 else 1) x.alignment) text in
       let low : x.alignment ≤ 4096 = subst (λ n. n ≤ 4096) (sym h.alignment) (alignment_small (tables ss).extents j (source_small ss).1) in
       let n = begins_at x in
       let m = size_of x.contents in
-      let e = end_of 0 (sites_in j is.sites) in
+      let e = end_of 0 (laid_in j is.laid) in
       let bytes' : m ≡ e = bytes in
       let first : n ≤ 4096 = (let a = x.alignment in let k : n ≡ max 2 a = begins' in let l : a ≤ 4096 = low in omega (arith, k, l)) in
       let second : m ≤ 268435456 = (let q : e ≤ 268435456 = short in omega (arith, bytes', q)) in
       let g : n - 2 + m ≤ 536870912 = omega (arith, first, second) in g
 
-  from_low : (index : ℕ) (sss : List SourceSection) (xs : List Section) → AreSectionsOf (tables ss) is.sites is.number o.symbols index sss xs
+  from_low : (index : ℕ) (sss : List SourceSection) (xs : List Section) → AreSectionsOf (tables ss) is.laid is.number o.symbols index sss xs
       → ((j : ℕ) → slice_get o.sections (index + j) ≡ slice_get xs j) → length_of (inputs_from goes_to_text file o index xs) ≤ length xs * 536870912
   from_low index [] [] h at = omega arith
   from_low index [] (x ∷ xs) h at = absurd h
@@ -205,9 +205,9 @@ module _ (ss : List Statement) (o : Object) (is : IsKept ss o) (file : ℕ) wher
 
   file_low : length_of (inputs_from goes_to_text file o 0 o.sections) ≤ 17592186044416
   file_low =
-      let are = sections_same (tables ss) is.sites (all_uncut ss o is) is.number o.symbols 0 (source_sections is.dropped ss) o.sections is.sections in
+      let are = sections_same (tables ss) is.laid (all_uncut ss o is) is.number o.symbols 0 (source_sections is.dropped ss) o.sections is.sections in
       let one = from_low 0 (source_sections is.dropped ss) o.sections are (λ j. ap (slice_get o.sections) (let e : 0 + j ≡ j = omega arith in e)) in
-      let count : length o.sections ≡ length (tables ss).extents = same_length (tables ss) is.sites is.number o.symbols 0 (source_sections is.dropped ss) o.sections are ∙ masked_length is.dropped 0 (opened_of (tables ss)).sections ∙ map_long (tables ss).extents in
+      let count : length o.sections ≡ length (tables ss).extents = same_length (tables ss) is.laid is.number o.symbols 0 (source_sections is.dropped ss) o.sections are ∙ masked_length is.dropped 0 (opened_of (tables ss)).sections ∙ map_long (tables ss).extents in
       let few = (source_small ss).0 in
       let c = length_of (inputs_from goes_to_text file o 0 o.sections) in
       let n = length o.sections in

@@ -18,16 +18,16 @@ use Rattle.rv_object_laws.specs.Inputs.{Starts}
 use Rattle.rv_object_laws.specs.Rising.{Rise}
 use Rattle.rv_object_laws.proofs.OrdinalsLemmas.{rows_stay}
 use Rattle.rv_object_laws.specs.IsLinkOf.{by_ordinal, moves_at, map_row, row_in as linked_row, rows_of as linked_rows}
-use Rattle.rv_assemble_laws.specs.Sites.{Site, sites_in}
-use Rattle.rv_assemble_laws.specs.Symbols.{site_at}
+use Rattle.rv_assemble_laws.specs.LaidStatements.{LaidStatement, laid_in}
+use Rattle.rv_assemble_laws.specs.Symbols.{laid_at}
 use Rattle.rv_assemble_laws.specs.IsObjectOf.{Numbering, row_of, rows_at}
-use Rattle.rv_sources_link_laws.proofs.statements.StatementsLemmas.{AreObjectsOf, AreMasked, row_in, rows_from, mapped_from, row_address, all_statements, all_rows, statements_all, sites_by, mapped_by, address_by, Test, section_in, site_section, section_by}
+use Rattle.rv_sources_link_laws.proofs.statements.StatementsLemmas.{AreObjectsOf, AreMasked, row_in, rows_from, mapped_from, row_address, all_statements, all_rows, statements_all, laid_by, mapped_by, address_by, Test, section_in, laid_section, section_by}
 use Rattle.rv_sources_link_laws.proofs.sections.MaskedLemmas.{source_sections}
 use Rattle.rv_sources_link_laws.proofs.moves.ShrunkLemmas.{AreSectionsOf, IsObjectOf}
 
 -- ---- nothing moves
 
-plain_from : (t : Tables) (all : List Site) (number : Numbering) (symbols : List Symbol) (index : ℕ) (ss : List SourceSection) (xs : List Section)
+plain_from : (t : Tables) (all : List LaidStatement) (number : Numbering) (symbols : List Symbol) (index : ℕ) (ss : List SourceSection) (xs : List Section)
     → AreSectionsOf t all number symbols index ss xs → (j : ℕ) (x : Section) → slice_get xs j ≡ Some x → alignments_of x ≡ []
 plain_from t all number symbols index [] [] h j x e = absurd (cc)
 plain_from t all number symbols index [] (y ∷ ys) h j x e = absurd h
@@ -37,7 +37,7 @@ plain_from t all number symbols index (s ∷ ss) (y ∷ ys) (h, hs) zero x e =
 plain_from t all number symbols index (s ∷ ss) (y ∷ ys) (h, hs) (suc j) x e = plain_from t all number symbols (suc index) ss ys hs j x e
 
 pub plain_of : (ss : List Statement) (o : Object) (is : IsObjectOf ss o) → (j : ℕ) (x : Section) → slice_get o.sections j ≡ Some x → alignments_of x ≡ []
-plain_of ss o is = plain_from (tables ss) is.sites is.number o.symbols 0 (source_sections is.dropped ss) o.sections is.sections
+plain_of ss o is = plain_from (tables ss) is.laid is.number o.symbols 0 (source_sections is.dropped ss) o.sections is.sections
 
 -- ---- rows
 
@@ -49,7 +49,7 @@ module _ (starts : Starts) where
       go None e = refl
       go (Some x) e = ap (plan start 0) (plain j x e)
 
-  row_is : (file start : ℕ) (s : Site) → map_row file start [] (row_of s) ≡ record {
+  row_is : (file start : ℕ) (s : LaidStatement) → map_row file start [] (row_of s) ≡ record {
     file = file;
     line = s.located.line;
     ordinal = s.located.ordinal;
@@ -64,8 +64,8 @@ module _ (starts : Starts) where
       let g : s.instructions - 0 ≡ s.instructions = omega arith in
       ap (λ a. mk a ((s.offset + s.bytes - 0) - (s.offset - 0)) (s.instructions - 0)) e ∙ ap (λ b. mk (start + s.offset) b (s.instructions - 0)) f ∙ ap (mk (start + s.offset) s.bytes) g
 
-  rows_are : (file : ℕ) (o : Object) (sites : List Site) → ((j : ℕ) (x : Section) → slice_get o.sections j ≡ Some x → alignments_of x ≡ [])
-      → map (linked_row starts file o) (flat_map rows_at sites) ≡ rows_from starts file sites
+  rows_are : (file : ℕ) (o : Object) (laid : List LaidStatement) → ((j : ℕ) (x : Section) → slice_get o.sections j ≡ Some x → alignments_of x ≡ [])
+      → map (linked_row starts file o) (flat_map rows_at laid) ≡ rows_from starts file laid
   rows_are file o [] plain = refl
   rows_are file o (s ∷ ss) plain = go (has_row s.located) (rows_are file o ss plain)
     where
@@ -78,21 +78,21 @@ module _ (starts : Starts) where
       go false ih = ih
 
   -- the rows of a source stand by their ordinals
-  pub rise_from : (k : ℕ) (t : Tables) (ss : List Statement) (dropped : ℕ → Bool) (sites : List Site) → map (λ s. s.located) sites ≡ map (masked dropped) (located_from 1 k t ss) → (low : ℕ) → low ≤ k → Rise low (flat_map rows_at sites)
+  pub rise_from : (k : ℕ) (t : Tables) (ss : List Statement) (dropped : ℕ → Bool) (laid : List LaidStatement) → map (λ s. s.located) laid ≡ map (masked dropped) (located_from 1 k t ss) → (low : ℕ) → low ≤ k → Rise low (flat_map rows_at laid)
   rise_from k t ss dropped [] e low h = tt
-  rise_from k t [] dropped (s ∷ sites) e low h = absurd (cc)
-  rise_from k t (x ∷ ss) dropped (s ∷ sites) e low h =
-      go (has_row s.located) (rise_from (suc k) (after t k x.kind) ss dropped sites (let rest : map (λ s. s.located) sites ≡ map (masked dropped) (located_from 1 (suc k) (after t k x.kind) ss) = cc in rest))
+  rise_from k t [] dropped (s ∷ laid) e low h = absurd (cc)
+  rise_from k t (x ∷ ss) dropped (s ∷ laid) e low h =
+      go (has_row s.located) (rise_from (suc k) (after t k x.kind) ss dropped laid (let rest : map (λ s. s.located) laid ≡ map (masked dropped) (located_from 1 (suc k) (after t k x.kind) ss) = cc in rest))
     where
       own : s.located.ordinal ≡ k
       own = let now : s.located ≡ masked dropped (located_now 1 k t x) = cc in ap (λ l. l.ordinal) now
 
-      go : (b : Bool) → ((low : ℕ) → low ≤ suc k → Rise low (flat_map rows_at sites)) → Rise low ((if b then row_of s ∷ [] else []) ++ flat_map rows_at sites)
+      go : (b : Bool) → ((low : ℕ) → low ≤ suc k → Rise low (flat_map rows_at laid)) → Rise low ((if b then row_of s ∷ [] else []) ++ flat_map rows_at laid)
       go true more = (omega (arith, own, h), more s.located.ordinal (omega (arith, own)))
       go false more = more low (omega (arith, h))
 
-  by_ordinals : (ss : List Statement) (o : Object) (is : IsObjectOf ss o) → by_ordinal o.rows ≡ flat_map rows_at is.sites
-  by_ordinals ss o is = ap by_ordinal is.rows ∙ rows_stay 0 (flat_map rows_at is.sites) (rise_from 1 (at_start ss) ss is.dropped is.sites is.located 0 (omega arith))
+  by_ordinals : (ss : List Statement) (o : Object) (is : IsObjectOf ss o) → by_ordinal o.rows ≡ flat_map rows_at is.laid
+  by_ordinals ss o is = ap by_ordinal is.rows ∙ rows_stay 0 (flat_map rows_at is.laid) (rise_from 1 (at_start ss) ss is.dropped is.laid is.located 0 (omega arith))
 
   pub rows_all : (file : ℕ) (sources : List (List Statement)) (os : List Object) (h : AreObjectsOf sources os) → linked_rows starts file os ≡ all_rows starts file sources os h
   rows_all file [] [] h = refl
@@ -100,31 +100,31 @@ module _ (starts : Starts) where
   rows_all file (ss ∷ sources) [] h = absurd h
   rows_all file (ss ∷ sources) (o ∷ os) (is, h) =
       ap (λ l. map (linked_row starts file o) l ++ linked_rows starts (suc file) os) (by_ordinals ss o is)
-      ∙ ap (λ l. l ++ linked_rows starts (suc file) os) (rows_are file o is.sites (plain_of ss o is))
-      ∙ ap (λ l. rows_from starts file is.sites ++ l) (rows_all (suc file) sources os h)
+      ∙ ap (λ l. l ++ linked_rows starts (suc file) os) (rows_are file o is.laid (plain_of ss o is))
+      ∙ ap (λ l. rows_from starts file is.laid ++ l) (rows_all (suc file) sources os h)
 
 -- ---- the files
 
-pub record IsFile (p : Program) (starts : Starts) (file : ℕ) (ss : List Statement) (sites : List Site) : Type 0 where
+pub record IsFile (p : Program) (starts : Starts) (file : ℕ) (ss : List Statement) (laid : List LaidStatement) : Type 0 where
   pub tables : tables_in p file ≡ tables ss
-  pub mapped : (j : ℕ) → mapped_in p.mapped file j ≡ mapped_from starts file (sites_in j sites)
-  pub address : (n : ℕ) → address_at p.statements file n ≡ option_and_then (row_address starts file) (site_at sites n)
-  pub stands : (n : ℕ) → section_of p file n ≡ site_section starts (site_at sites n)
+  pub mapped : (j : ℕ) → mapped_in p.mapped file j ≡ mapped_from starts file (laid_in j laid)
+  pub address : (n : ℕ) → address_at p.statements file n ≡ option_and_then (row_address starts file) (laid_at laid n)
+  pub stands : (n : ℕ) → section_of p file n ≡ laid_section starts (laid_at laid n)
 
 abbrev pub AreFiles : Program → Starts → ℕ → (sources : List (List Statement)) (os : List Object) → AreObjectsOf sources os → Type 0
 AreFiles p starts file [] [] h = ⊤
 AreFiles p starts file [] (o ∷ os) h = absurd h
 AreFiles p starts file (ss ∷ sources) [] h = absurd h
-AreFiles p starts file (ss ∷ sources) (o ∷ os) (is, h) = IsFile p starts file ss is.sites × AreFiles p starts (suc file) sources os h
+AreFiles p starts file (ss ∷ sources) (o ∷ os) (is, h) = IsFile p starts file ss is.laid × AreFiles p starts (suc file) sources os h
 
 files_from : (p : Program) (starts : Starts) (file : ℕ) (sources : List (List Statement)) (os : List Object) (h : AreObjectsOf sources os)
-    → ((i : ℕ) → IsFile p starts (file + i) (slice_index_or sources i []) (sites_by starts sources os h i)) → AreFiles p starts file sources os h
+    → ((i : ℕ) → IsFile p starts (file + i) (slice_index_or sources i []) (laid_by starts sources os h i)) → AreFiles p starts file sources os h
 files_from p starts file [] [] h f = tt
 files_from p starts file [] (o ∷ os) h f = absurd h
 files_from p starts file (ss ∷ sources) [] h f = absurd h
 files_from p starts file (ss ∷ sources) (o ∷ os) (is, h) f = (
-  subst (λ n. IsFile p starts n ss is.sites) (let e : file + 0 ≡ file = omega arith in e) (f 0),
-  files_from p starts (suc file) sources os h (λ i. subst (λ n. IsFile p starts n (slice_index_or sources i []) (sites_by starts sources os h i)) (let e : file + suc i ≡ suc file + i = omega arith in e) (f (suc i))),
+  subst (λ n. IsFile p starts n ss is.laid) (let e : file + 0 ≡ file = omega arith in e) (f 0),
+  files_from p starts (suc file) sources os h (λ i. subst (λ n. IsFile p starts n (slice_index_or sources i []) (laid_by starts sources os h i)) (let e : file + suc i ≡ suc file + i = omega arith in e) (f (suc i))),
 )
 
 tables_by : (sources : List (List Statement)) (i : ℕ) → slice_index_or (map tables sources) i (at_start []) ≡ tables (slice_index_or sources i [])

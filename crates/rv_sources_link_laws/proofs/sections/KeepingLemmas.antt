@@ -26,8 +26,8 @@ use Rattle.rv_object_laws.specs.Without.{without_section, without_sections, with
 use Rattle.rv_assemble_laws.specs.CodeFields.{part_fields}
 use Rattle.rv_assemble_laws.specs.Coded.{constants}
 use Rattle.rv_assemble_laws.specs.Templates.{Open, Coded, IsTemplate, contribution_templates}
-use Rattle.rv_assemble_laws.specs.Sites.{Site, Part, form, part_of, part_bytes, coded_templates, templates, parts_of, parts, sites_in, Tile, end_of, IsPaddedIn, HasSize}
-use Rattle.rv_assemble_laws.specs.Symbols.{SymbolUse, references_in, site_at, after_found, assigned_definition, site_definition, shared_symbol, exports_of, StandsFor, IsDefinedBy}
+use Rattle.rv_assemble_laws.specs.LaidStatements.{LaidStatement, Part, form, part_of, part_bytes, coded_templates, templates, parts_of, parts, laid_in, Tile, end_of, IsPaddedIn, HasSize}
+use Rattle.rv_assemble_laws.specs.Symbols.{SymbolUse, references_in, laid_at, after_found, assigned_definition, statement_definition, shared_symbol, exports_of, StandsFor, IsDefinedBy}
 use Rattle.rv_assemble_laws.specs.IsObjectOf.{Numbering, row_of, rows_at, relocations_from, contents_of, IsNumbered, ArePartsNumbered, IsSectionOf, AreSectionsOf, IsInData, StandsInData, IsObjectOf}
 use Rattle.rv_sources_link_laws.specs.Joins.{AreObjectsOf}
 use Rattle.rv_sources_link_laws.proofs.names.ExportedLemmas.{exported_are}
@@ -39,50 +39,50 @@ use Rattle.rv_sources_link_laws.proofs.sections.KeptLemmas.{IsKept, AreKept, Are
 
 module _ (dropped : ℕ → Bool) where
   -- a statement whose section may be dropped
-  abbrev mask : Site → Site
+  abbrev mask : LaidStatement → LaidStatement
   mask z = record z { located = masked dropped z.located }
 
-  abbrev mask_all : List Site → List Site
+  abbrev mask_all : List LaidStatement → List LaidStatement
   mask_all zs = map mask zs
 
   -- ---- where a statement is found
 
   -- the same statement is found, and the same ones in a section
-  site_masked : (n : ℕ) (S : List Site) → site_at (mask_all S) n ≡ option_map mask (site_at S n)
-  site_masked n [] = refl
-  site_masked n (z ∷ S) = go (z.located.ordinal == n) (site_masked n S)
+  laid_masked : (n : ℕ) (S : List LaidStatement) → laid_at (mask_all S) n ≡ option_map mask (laid_at S n)
+  laid_masked n [] = refl
+  laid_masked n (z ∷ S) = go (z.located.ordinal == n) (laid_masked n S)
     where
-      go : (b : Bool) → site_at (mask_all S) n ≡ option_map mask (site_at S n)
-          → (if b then Some (mask z) else site_at (mask_all S) n) ≡ option_map mask (if b then Some z else site_at S n)
+      go : (b : Bool) → laid_at (mask_all S) n ≡ option_map mask (laid_at S n)
+          → (if b then Some (mask z) else laid_at (mask_all S) n) ≡ option_map mask (if b then Some z else laid_at S n)
       go true ih = refl
       go false ih = ih
 
-  in_masked : (j : ℕ) (S : List Site) → sites_in j (mask_all S) ≡ mask_all (sites_in j S)
+  in_masked : (j : ℕ) (S : List LaidStatement) → laid_in j (mask_all S) ≡ mask_all (laid_in j S)
   in_masked j [] = refl
   in_masked j (z ∷ S) = go (z.located.section == j) (in_masked j S)
     where
-      go : (b : Bool) → sites_in j (mask_all S) ≡ mask_all (sites_in j S) → (if b then mask z ∷ sites_in j (mask_all S) else sites_in j (mask_all S)) ≡ mask_all (if b then z ∷ sites_in j S else sites_in j S)
+      go : (b : Bool) → laid_in j (mask_all S) ≡ mask_all (laid_in j S) → (if b then mask z ∷ laid_in j (mask_all S) else laid_in j (mask_all S)) ≡ mask_all (if b then z ∷ laid_in j S else laid_in j S)
       go true ih = ap (λ l. mask z ∷ l) ih
       go false ih = ih
 
-  located_masked : (S : List Site) → map (λ s. s.located) (mask_all S) ≡ map (masked dropped) (map (λ s. s.located) S)
+  located_masked : (S : List LaidStatement) → map (λ s. s.located) (mask_all S) ≡ map (masked dropped) (map (λ s. s.located) S)
   located_masked [] = refl
   located_masked (z ∷ S) = ap (λ l. masked dropped z.located ∷ l) (located_masked S)
 
-  bytes_masked : (S : List Site) → map (λ s. s.bytes) (mask_all S) ≡ map (λ s. s.bytes) S
+  bytes_masked : (S : List LaidStatement) → map (λ s. s.bytes) (mask_all S) ≡ map (λ s. s.bytes) S
   bytes_masked [] = refl
   bytes_masked (z ∷ S) = ap (λ l. z.bytes ∷ l) (bytes_masked S)
 
   -- ---- what statements define
 
-  found_masked : (n plus : ℕ) (S : List Site) → after_found (site_at (mask_all S) n) plus ≡ after_found (site_at S n) plus
-  found_masked n plus S = ap (λ y. after_found y plus) (site_masked n S) ∙ go (site_at S n)
+  found_masked : (n plus : ℕ) (S : List LaidStatement) → after_found (laid_at (mask_all S) n) plus ≡ after_found (laid_at S n) plus
+  found_masked n plus S = ap (λ y. after_found y plus) (laid_masked n S) ∙ go (laid_at S n)
     where
-      go : (y : Option Site) → after_found (option_map mask y) plus ≡ after_found y plus
+      go : (y : Option LaidStatement) → after_found (option_map mask y) plus ≡ after_found y plus
       go None = refl
       go (Some z) = refl
 
-  assigned_masked : (S : List Site) (a : Option Assignment) → assigned_definition (mask_all S) a ≡ assigned_definition S a
+  assigned_masked : (S : List LaidStatement) (a : Option Assignment) → assigned_definition (mask_all S) a ≡ assigned_definition S a
   assigned_masked S None = refl
   assigned_masked S (Some a) = go a.meaning
     where
@@ -92,7 +92,7 @@ module _ (dropped : ℕ → Bool) where
       go OpenAddress = refl
       go (Refused code) = refl
 
-  definition_masked : (t : Tables) (S : List Site) (z : Site) (kind : StatementKind) → site_definition t (mask_all S) (mask z) kind ≡ site_definition t S z kind
+  definition_masked : (t : Tables) (S : List LaidStatement) (z : LaidStatement) (kind : StatementKind) → statement_definition t (mask_all S) (mask z) kind ≡ statement_definition t S z kind
   definition_masked t S z (Label name) = refl
   definition_masked t S z (Numbered number) = refl
   definition_masked t S z (Instruction m os) = refl
@@ -100,7 +100,7 @@ module _ (dropped : ℕ → Bool) where
   definition_masked t S z (Directs (Enters section)) = refl
   definition_masked t S z (Directs _) = refl
 
-  exports_masked : (t : Tables) (S zs : List Site) → flat_map (exports_of t (mask_all S)) (mask_all zs) ≡ flat_map (exports_of t S) zs
+  exports_masked : (t : Tables) (S zs : List LaidStatement) → flat_map (exports_of t (mask_all S)) (mask_all zs) ≡ flat_map (exports_of t S) zs
   exports_masked t S [] = refl
   exports_masked t S (z ∷ zs) =
       ap (λ d. map (λ name. shared_symbol t name d) (names_where is_shared t z.located) ++ flat_map (exports_of t (mask_all S)) (mask_all zs)) (definition_masked t S z z.located.kind)
@@ -109,41 +109,41 @@ module _ (dropped : ℕ → Bool) where
   -- ---- where symbols stand
 
   -- at the same statements
-  definition_stood : (S : List Site) (d : Defined) → IsStood S d → IsStood (mask_all S) d
+  definition_stood : (S : List LaidStatement) (d : Defined) → IsStood S d → IsStood (mask_all S) d
   definition_stood S Undefined h = tt
   definition_stood S (Absolute n) h = tt
   definition_stood S (Skipped n) h = tt
   definition_stood S (InSection section offset) h = record {
     n = h.n;
     z = mask h.z;
-    found = site_masked h.n S ∙ ap (option_map mask) h.found;
+    found = laid_masked h.n S ∙ ap (option_map mask) h.found;
     there = h.there;
     same = λ text. h.same (text_left (dropped h.z.located.section) h.z.located.home text);
   }
 
-  all_stood : (S : List Site) (xs : List Symbol) → AllByRecursion (λ x. IsStood S x.definition) xs → AllByRecursion (λ x. IsStood (mask_all S) x.definition) xs
+  all_stood : (S : List LaidStatement) (xs : List Symbol) → AllByRecursion (λ x. IsStood S x.definition) xs → AllByRecursion (λ x. IsStood (mask_all S) x.definition) xs
   all_stood S [] h = tt
   all_stood S (x ∷ xs) (h, hs) = (definition_stood S x.definition h, all_stood S xs hs)
 
-  place_masked : (y : Option Site) → IsInData y → IsInData (option_map mask y)
+  place_masked : (y : Option LaidStatement) → IsInData y → IsInData (option_map mask y)
   place_masked None h = tt
   place_masked (Some z) (aside, placed) = (executable_stays (dropped z.located.section) z.located.home ∙ aside, placed)
 
-  places_masked : (S : List Site) (sets : List Assignment) → AllByRecursion (StandsInData S) sets → AllByRecursion (StandsInData (mask_all S)) sets
+  places_masked : (S : List LaidStatement) (sets : List Assignment) → AllByRecursion (StandsInData S) sets → AllByRecursion (StandsInData (mask_all S)) sets
   places_masked S [] h = tt
-  places_masked S (a ∷ sets) (h, hs) = ((λ e. subst IsInData (sym (site_masked a.ordinal S)) (place_masked (site_at S a.ordinal) (h e))), places_masked S sets hs)
+  places_masked S (a ∷ sets) (h, hs) = ((λ e. subst IsInData (sym (laid_masked a.ordinal S)) (place_masked (laid_at S a.ordinal) (h e))), places_masked S sets hs)
 
   -- ---- what relocations name
 
-  defined_still : (S : List Site) (q : Primary) (x : Symbol) (d : Option Definition) → IsDefinedBy S q d x → IsDefinedBy (mask_all S) q d x
+  defined_still : (S : List LaidStatement) (q : Primary) (x : Symbol) (d : Option Definition) → IsDefinedBy S q d x → IsDefinedBy (mask_all S) q d x
   defined_still S q x None h = h
-  defined_still S q x (Some d) (z, found, placed, there) = (mask z, site_masked d.ordinal S ∙ ap (option_map mask) found, placed, there)
+  defined_still S q x (Some d) (z, found, placed, there) = (mask z, laid_masked d.ordinal S ∙ ap (option_map mask) found, placed, there)
 
-  stands_still : (t : Tables) (S : List Site) (ordinal : ℕ) (q : Primary) (x : Option Symbol) → StandsFor t S ordinal q x → StandsFor t (mask_all S) ordinal q x
+  stands_still : (t : Tables) (S : List LaidStatement) (ordinal : ℕ) (q : Primary) (x : Option Symbol) → StandsFor t S ordinal q x → StandsFor t (mask_all S) ordinal q x
   stands_still t S ordinal q None h = h
   stands_still t S ordinal q (Some x) (named, weak, d) = (named, weak, defined_still S q x (definition t ordinal q) d)
 
-  module _ (t : Tables) (S : List Site) (number : Numbering) (symbols : List Symbol) where
+  module _ (t : Tables) (S : List LaidStatement) (number : Numbering) (symbols : List Symbol) where
     uses_numbered : (us : List SymbolUse) → AllByRecursion (IsNumbered t S number symbols) us → AllByRecursion (IsNumbered t (mask_all S) number symbols) us
     uses_numbered [] h = tt
     uses_numbered (u ∷ us) (h, hs) = (stands_still t S u.ordinal u.symbol (slice_get symbols (number u.ordinal u.symbol)) h, uses_numbered us hs)
@@ -155,7 +155,7 @@ module _ (dropped : ℕ → Bool) where
   -- ---- parts and sizes
 
   module _ (t : Tables) where
-    code_same : (z : Site) (ps : List CodePart) (coded : List (List ℕ))
+    code_same : (z : LaidStatement) (ps : List CodePart) (coded : List (List ℕ))
         → coded_templates (part_fields t (form t z.located) (masked dropped z.located)) ps coded ≡ coded_templates (part_fields t (form t z.located) z.located) ps coded
     code_same z [] coded = refl
     code_same z (p ∷ ps) [] = refl
@@ -168,33 +168,33 @@ module _ (dropped : ℕ → Bool) where
         own (Open_part k i) = refl
         own (Joined k i j) = refl
 
-    templates_same : (z : Site) (kind : StatementKind) → templates t (mask z) kind ≡ templates t z kind
+    templates_same : (z : LaidStatement) (kind : StatementKind) → templates t (mask z) kind ≡ templates t z kind
     templates_same z (Label name) = refl
     templates_same z (Numbered number) = refl
     templates_same z (Instruction m os) = code_same z (unwrap_or (code (constants (form t z.located)) z.located.options.rvc z.bytes m os) []) z.coded
     templates_same z (Directs d) =
         ap (λ b. contribution_templates b z.located.ordinal (form t z.located) (contribution d) z.bytes) (executable_stays (dropped z.located.section) z.located.home)
 
-    parts_same : (z : Site) → parts_of t (mask z) ≡ parts_of t z
+    parts_same : (z : LaidStatement) → parts_of t (mask z) ≡ parts_of t z
     parts_same z = ap (map (part_of z.located.ordinal)) (templates_same z z.located.kind)
 
-    all_parts : (zs : List Site) → parts t (mask_all zs) ≡ parts t zs
+    all_parts : (zs : List LaidStatement) → parts t (mask_all zs) ≡ parts t zs
     all_parts [] = refl
     all_parts (z ∷ zs) = ap (λ l. l ++ parts t (mask_all zs)) (parts_same z) ∙ ap (λ l. parts_of t z ++ l) (all_parts zs)
 
-    all_tile : (offset : ℕ) (zs : List Site) → Tile t offset zs → Tile t offset (mask_all zs)
+    all_tile : (offset : ℕ) (zs : List LaidStatement) → Tile t offset zs → Tile t offset (mask_all zs)
     all_tile offset [] h = tt
     all_tile offset (z ∷ zs) (at, bytes, h) = (at, bytes ∙ ap (λ l. length (flat_map part_bytes l)) (sym (parts_same z)), all_tile (offset + z.bytes) zs h)
 
-    padded_same : (b : Bool) (z : Site) (a : Option ℕ) → IsPaddedIn b z a → IsPaddedIn b (mask z) a
+    padded_same : (b : Bool) (z : LaidStatement) (a : Option ℕ) → IsPaddedIn b z a → IsPaddedIn b (mask z) a
     padded_same true z a h = h
     padded_same false z a h = h
 
-    padded : (z : Site) (a : Option ℕ) → IsPaddedIn z.located.home.executable z a → IsPaddedIn (mask z).located.home.executable (mask z) a
+    padded : (z : LaidStatement) (a : Option ℕ) → IsPaddedIn z.located.home.executable z a → IsPaddedIn (mask z).located.home.executable (mask z) a
     padded z a h =
         subst (λ b. IsPaddedIn b (mask z) a) (sym (executable_stays (dropped z.located.section) z.located.home)) (padded_same z.located.home.executable z a h)
 
-    size_same : (v : Expression → Value) (z : Site) (multiple : ℕ) (kind : StatementKind) → HasSize v z multiple kind → HasSize v (mask z) multiple kind
+    size_same : (v : Expression → Value) (z : LaidStatement) (multiple : ℕ) (kind : StatementKind) → HasSize v z multiple kind → HasSize v (mask z) multiple kind
     size_same v z multiple (Label name) h = h
     size_same v z multiple (Numbered number) h = h
     size_same v z multiple (Instruction m os) h = h
@@ -206,22 +206,22 @@ module _ (dropped : ℕ → Bool) where
     size_same v z multiple (Directs (Enters section)) h = h
     size_same v z multiple (Directs _) h = h
 
-    abbrev Sized : ℕ → Site → Type 0
+    abbrev Sized : ℕ → LaidStatement → Type 0
     Sized multiple z = z.located.placed ≡ true → HasSize (form t z.located) z multiple z.located.kind
 
-    all_sized : (multiple : ℕ) (zs : List Site) → AllByRecursion (Sized multiple) zs → AllByRecursion (Sized multiple) (mask_all zs)
+    all_sized : (multiple : ℕ) (zs : List LaidStatement) → AllByRecursion (Sized multiple) zs → AllByRecursion (Sized multiple) (mask_all zs)
     all_sized multiple [] h = tt
     all_sized multiple (z ∷ zs) (h, hs) = ((λ placed. size_same (form t z.located) z multiple z.located.kind (h placed)), all_sized multiple zs hs)
 
-  end_same : (offset : ℕ) (zs : List Site) → end_of offset (mask_all zs) ≡ end_of offset zs
+  end_same : (offset : ℕ) (zs : List LaidStatement) → end_of offset (mask_all zs) ≡ end_of offset zs
   end_same offset [] = refl
   end_same offset (z ∷ zs) = end_same (offset + z.bytes) zs
 
   -- ---- sections
 
-  module _ (t : Tables) (all : List Site) (number : Numbering) (symbols : List Symbol) where
+  module _ (t : Tables) (all : List LaidStatement) (number : Numbering) (symbols : List Symbol) where
     -- one is that of the source without its address, and else stays as it is
-    section_left : (b : Bool) (j : ℕ) (s : SourceSection) (zs : List Site) (x : Section) → IsSectionOf t all number symbols j s zs x
+    section_left : (b : Bool) (j : ℕ) (s : SourceSection) (zs : List LaidStatement) (x : Section) → IsSectionOf t all number symbols j s zs x
         → IsSectionOf t (mask_all all) number symbols j (without_address b s) (mask_all zs) (without_section b x)
     section_left b j s zs x h = go b
       where
@@ -277,7 +277,7 @@ module _ (dropped : ℕ → Bool) where
     sections_kept index (s ∷ ss) [] h = absurd h
     sections_kept index (s ∷ ss) (x ∷ xs) (h, hs) = (
       subst (λ zs. IsSectionOf t (mask_all all) number symbols index (without_address (dropped index) s) zs (without_section (dropped index) x)) (sym (in_masked index all))
-          (section_left (dropped index) index s (sites_in index all) x h),
+          (section_left (dropped index) index s (laid_in index all) x h),
       sections_kept (suc index) ss xs hs,
     )
 
@@ -287,7 +287,7 @@ module _ (dropped : ℕ → Bool) where
   abbrev row_stays : Row → Bool
   row_stays r = not (dropped r.section)
 
-  rows_left : (zs : List Site) → filter row_stays (flat_map rows_at zs) ≡ flat_map rows_at (mask_all zs)
+  rows_left : (zs : List LaidStatement) → filter row_stays (flat_map rows_at zs) ≡ flat_map rows_at (mask_all zs)
   rows_left [] = refl
   rows_left (z ∷ zs) = go (dropped z.located.section) refl z.located.placed z.located.home.loaded (rows_left zs)
     where
@@ -307,7 +307,7 @@ module _ (dropped : ℕ → Bool) where
   flag_same : (b : Bool) (l : Located) → is_compressed_code (record l { home = without_address b l.home }) ≡ is_compressed_code l
   flag_same b l = ap (λ x. (l.options.rvc || names_parcel l.kind) && is_code x l.kind) (executable_stays b l.home)
 
-  flags_same : (zs : List Site) → list_any (λ s. is_compressed_code s.located) (mask_all zs) ≡ list_any (λ s. is_compressed_code s.located) zs
+  flags_same : (zs : List LaidStatement) → list_any (λ s. is_compressed_code s.located) (mask_all zs) ≡ list_any (λ s. is_compressed_code s.located) zs
   flags_same [] = refl
   flags_same (z ∷ zs) =
       ap (λ b. b || list_any (λ s. is_compressed_code s.located) (mask_all zs)) (flag_same (dropped z.located.section) z.located)
@@ -320,16 +320,16 @@ module _ (dropped : ℕ → Bool) where
   kept ss o is = record {
     dropped = dropped;
     good = is.good;
-    sites = mask_all is.sites;
-    located = located_masked is.sites ∙ ap (map (masked dropped)) is.located;
-    places = places_masked is.sites (tables ss).assignments is.places;
-    least = subst (AreLeast (tables ss) (located_from 1 1 (at_start ss) ss)) (sym (bytes_masked is.sites)) is.least;
+    laid = mask_all is.laid;
+    located = located_masked is.laid ∙ ap (map (masked dropped)) is.located;
+    places = places_masked is.laid (tables ss).assignments is.places;
+    least = subst (AreLeast (tables ss) (located_from 1 1 (at_start ss) ss)) (sym (bytes_masked is.laid)) is.least;
     number = is.number;
-    sections = sections_kept (tables ss) is.sites is.number o.symbols 0 (opened_of (tables ss)).sections o.sections is.sections;
-    exported_are = exported_are ss o is ∙ sym (exports_masked (tables ss) is.sites is.sites);
-    stood = all_stood is.sites o.symbols (stood ss o is);
-    rows = ap (filter row_stays) is.rows ∙ rows_left is.sites;
-    rvc = is.rvc ∙ sym (flags_same is.sites);
+    sections = sections_kept (tables ss) is.laid is.number o.symbols 0 (opened_of (tables ss)).sections o.sections is.sections;
+    exported_are = exported_are ss o is ∙ sym (exports_masked (tables ss) is.laid is.laid);
+    stood = all_stood is.laid o.symbols (stood ss o is);
+    rows = ap (filter row_stays) is.rows ∙ rows_left is.laid;
+    rvc = is.rvc ∙ sym (flags_same is.laid);
   }
 
   pub kept_dropped : (ss : List Statement) (o : Object) (is : IsObjectOf ss o) → (kept ss o is).dropped ≡ dropped

@@ -12,7 +12,7 @@ use Rattle.rv_source_laws.specs.Compressed.{is_compressed_code}
 use Rattle.rv_source_laws.specs.Sizes.{AreLeast}
 use Rattle.rv_object.specs.Object.{Object}
 use Rattle.rv_assemble_laws.specs.Refusals.{statements_fault}
-use Rattle.rv_assemble_laws.specs.Sites.{Site}
+use Rattle.rv_assemble_laws.specs.LaidStatements.{LaidStatement}
 use Rattle.rv_assemble_laws.specs.Symbols.{exports}
 use Rattle.rv_assemble_laws.specs.IsObjectOf.{Numbering, AreSectionsOf, rows_at, StandsInData}
 use Rattle.rv_sources_link_laws.proofs.names.ExportedLemmas.{exported}
@@ -23,18 +23,18 @@ pub record IsKept (ss : List Statement) (o : Object) : Type 0 where
   -- the sections without an address, by their indices
   pub dropped : ℕ → Bool
   pub good : statements_fault ss ≡ None
-  pub sites : List Site
-  pub located : map (λ s. s.located) sites ≡ map (masked dropped) (located_from 1 1 (at_start ss) ss)
-  pub places : AllByRecursion (StandsInData sites) (tables ss).assignments
+  pub laid : List LaidStatement
+  pub located : map (λ s. s.located) laid ≡ map (masked dropped) (located_from 1 1 (at_start ss) ss)
+  pub places : AllByRecursion (StandsInData laid) (tables ss).assignments
   -- sizes see no address
-  pub least : AreLeast (tables ss) (located_from 1 1 (at_start ss) ss) (map (λ s. s.bytes) sites)
+  pub least : AreLeast (tables ss) (located_from 1 1 (at_start ss) ss) (map (λ s. s.bytes) laid)
   pub number : Numbering
-  pub sections : AreSectionsOf (tables ss) sites number o.symbols 0 (source_sections dropped ss) o.sections
-  pub exported_are : exported o ≡ exports (tables ss) sites
+  pub sections : AreSectionsOf (tables ss) laid number o.symbols 0 (source_sections dropped ss) o.sections
+  pub exported_are : exported o ≡ exports (tables ss) laid
   -- its symbols stand at its statements
-  pub stood : AllByRecursion (λ x. IsStood sites x.definition) o.symbols
-  pub rows : o.rows ≡ flat_map rows_at sites
-  pub rvc : o.rvc ≡ list_any (λ s. is_compressed_code s.located) sites
+  pub stood : AllByRecursion (λ x. IsStood laid x.definition) o.symbols
+  pub rows : o.rows ≡ flat_map rows_at laid
+  pub rvc : o.rvc ≡ list_any (λ s. is_compressed_code s.located) laid
 
 abbrev pub AreKept : List (List Statement) → List Object → Type 0
 AreKept [] [] = ⊤

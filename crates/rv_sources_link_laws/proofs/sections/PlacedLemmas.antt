@@ -22,13 +22,13 @@ use Rattle.rv_object_laws.specs.Inputs.{Starts, InputSection}
 use Rattle.rv_object_laws.specs.Values.{initial_bytes, applied, linked_bytes, IsRelocated}
 use Rattle.rv_sources_link_laws.proofs.statements.MarkedLemmas.{part_fields}
 use Rattle.rv_assemble_laws.specs.Templates.{Template, Open, IsTemplate, template_fields}
-use Rattle.rv_assemble_laws.specs.Sites.{Site, Part, form, part_of, part_bytes, sites_in, IsMultiple}
-use Rattle.rv_assemble_laws.specs.Symbols.{site_at}
+use Rattle.rv_assemble_laws.specs.LaidStatements.{LaidStatement, Part, form, part_of, part_bytes, laid_in, IsMultiple}
+use Rattle.rv_assemble_laws.specs.Symbols.{laid_at}
 use Rattle.rv_assemble_laws.specs.IsObjectOf.{Numbering, relocations_from}
 use Rattle.rv_sources_link_laws.proofs.fields.PatchesLemmas.{written, written_from, HasRoom, all_made, makes}
 use Rattle.rv_sources_link_laws.proofs.statements.StatementsLemmas.{row_in, mapped_at, row_address}
 use Rattle.rv_sources_link_laws.proofs.names.KnownLemmas.{outer_in}
-use Rattle.rv_sources_link_laws.proofs.statements.SettledLemmas.{IsSettled, IsSiteIn, sites_are_in}
+use Rattle.rv_sources_link_laws.proofs.statements.SettledLemmas.{IsSettled, IsLaidIn, laid_are_in}
 use Rattle.rv_sources_link_laws.proofs.statements.FieldedLemmas.{roomy}
 use Rattle.rv_sources_link_laws.proofs.fields.WholesLemmas.{IsWhole}
 use Rattle.rv_sources_link_laws.proofs.statements.OperandsLemmas.{worth_at}
@@ -42,38 +42,38 @@ use Rattle.rv_sources_link_laws.proofs.statements.FittingLemmas.{IsFilled, IsFil
 use Rattle.rv_sources_link_laws.proofs.moves.ShrunkLemmas.{parts_of, parts, shrunk_templates, HasShrunkSize, IsSectionOf, AreSectionsOf}
 
 -- what the row of a statement owes to it, and its bytes, where a function gives the code of each
-pub record IsFit (p : Program) (starts : Starts) (bytes : Mapped → List ℕ) (worths : ℕ → ℕ → ℕ → Open → ℤ) (file : ℕ) (z : Site) : Type 0 where
+pub record IsFit (p : Program) (starts : Starts) (bytes : Mapped → List ℕ) (worths : ℕ → ℕ → ℕ → Open → ℤ) (file : ℕ) (z : LaidStatement) : Type 0 where
   pub sized : SizeFits p (mapped_at starts file z)
   pub coded : z.located.home.executable ≡ true → IsWritten p (mapped_at starts file z) (bytes (mapped_at starts file z))
   pub code : z.located.home.executable ≡ true → bytes (mapped_at starts file z) ≡ said p file (worths file) z
   pub figures : z.located.home.executable ≡ false → spelled p (mapped_at starts file z) ≡ said p file (worths file) z
 
-module _ (p : Program) (os : List Object) (starts : Starts) (file : ℕ) (sites : List Site) (number : Numbering) (o : Object) (sections : List SourceSection)
-    (low : AllByRecursion IsGlobal p.map.globals) (are : AreSectionsOf (tables_in p file) sites number o.symbols 0 sections o.sections)
-    (settled : AllByRecursion (IsSettled sections) sites) (bytes : Mapped → List ℕ) (all_worths : ℕ → ℕ → ℕ → Open → ℤ)
-    (whole : IsWhole p os starts file sites number o (all_worths file)) (codes : AllByRecursion (IsCodeOf starts (λ n z. said p n (all_worths n) z) bytes file) sites)
+module _ (p : Program) (os : List Object) (starts : Starts) (file : ℕ) (laid : List LaidStatement) (number : Numbering) (o : Object) (sections : List SourceSection)
+    (low : AllByRecursion IsGlobal p.map.globals) (are : AreSectionsOf (tables_in p file) laid number o.symbols 0 sections o.sections)
+    (settled : AllByRecursion (IsSettled sections) laid) (bytes : Mapped → List ℕ) (all_worths : ℕ → ℕ → ℕ → Open → ℤ)
+    (whole : IsWhole p os starts file laid number o (all_worths file)) (codes : AllByRecursion (IsCodeOf starts (λ n z. said p n (all_worths n) z) bytes file) laid)
     (plain : (j : ℕ) (x : Section) → slice_get o.sections j ≡ Some x → alignments_of x ≡ [])
-    (address : (n : ℕ) → address_at p.statements file n ≡ option_and_then (row_address starts file) (site_at sites n)) where
+    (address : (n : ℕ) → address_at p.statements file n ≡ option_and_then (row_address starts file) (laid_at laid n)) where
   abbrev t : Tables
   t = tables_in p file
 
-  module _ (index : ℕ) (section : SourceSection) (x : Section) (is : IsSectionOf t sites number o.symbols index section (sites_in index sites) x)
+  module _ (index : ℕ) (section : SourceSection) (x : Section) (is : IsSectionOf t laid number o.symbols index section (laid_in index laid) x)
       (at : slice_get sections index ≡ Some section) (there : slice_get o.sections index ≡ Some x) (none : alignments_of x ≡ []) (loaded : section.loaded ≡ true)
       (relocated : AllByRecursion (IsRelocated (outer_in p os) starts os (record { file = file; object = o; index = index; section = x })) x.relocations) where
-    abbrev own : List Site
-    own = sites_in index sites
+    abbrev own : List LaidStatement
+    own = laid_in index laid
 
     abbrev ps : List Part
     ps = parts t own
 
-    abbrev Fact : Site → Type 0
-    Fact z = Facts p os starts file sites number o sections low are settled (all_worths file) whole plain address index section x is at none loaded relocated z
+    abbrev Fact : LaidStatement → Type 0
+    Fact z = Facts p os starts file laid number o sections low are settled (all_worths file) whole plain address index section x is at none loaded relocated z
 
     abbrev KnownPart : Part → Type 0
-    KnownPart q = Known p os starts file sites number o sections low are settled (all_worths file) whole plain address index section x is at none loaded relocated q
+    KnownPart q = Known p os starts file laid number o sections low are settled (all_worths file) whole plain address index section x is at none loaded relocated q
 
     -- each field of code lies in its part
-    roomy_of : (z : Site) → IsSiteIn index section z → (z.located.placed ≡ true → HasShrunkSize (form t z.located) z x.alignment z.located.kind)
+    roomy_of : (z : LaidStatement) → IsLaidIn index section z → (z.located.placed ≡ true → HasShrunkSize (form t z.located) z x.alignment z.located.kind)
         → AllByRecursion (λ q. HasRoom q.template) (parts_of t z)
     roomy_of z here sized = of_ordinal z.located.ordinal (shrunk_templates t z z.located.kind) (roomy t z x.alignment here.bare sized)
       where
@@ -81,7 +81,7 @@ module _ (p : Program) (os : List Object) (starts : Starts) (file : ℕ) (sites 
         of_ordinal ordinal [] h = tt
         of_ordinal ordinal (q ∷ ts) (h, hs) = (h, of_ordinal ordinal ts hs)
 
-    all_roomy : (zs : List Site) → AllByRecursion (IsSiteIn index section) zs → AllByRecursion (λ z. z.located.placed ≡ true → HasShrunkSize (form t z.located) z x.alignment z.located.kind) zs
+    all_roomy : (zs : List LaidStatement) → AllByRecursion (IsLaidIn index section) zs → AllByRecursion (λ z. z.located.placed ≡ true → HasShrunkSize (form t z.located) z x.alignment z.located.kind) zs
         → AllByRecursion (λ q. HasRoom q.template) (parts t zs)
     all_roomy [] h sz = tt
     all_roomy (z ∷ zs) (h, hs) (sz, szs) = join (λ q. HasRoom q.template) (parts_of t z) (parts t zs) (roomy_of z h sz) (all_roomy zs hs szs)
@@ -98,22 +98,22 @@ module _ (p : Program) (os : List Object) (starts : Starts) (file : ℕ) (sites 
     bytes_linked holds =
         let i : InputSection = record { file = file; object = o; index = index; section = x } in
         let kept_all : kept 0 (moves (starts file index) x) (initial_bytes x.contents) ≡ initial_bytes x.contents = ap (λ rs. kept 0 (plan (starts file index) 0 rs) (initial_bytes x.contents)) none in
-        ap (λ rs. applied (new p os starts file sites number o sections low are settled (all_worths file) whole plain address index section x is at none loaded relocated) (worth p os starts file sites number o sections low are settled (all_worths file) whole plain address index section x is at none loaded relocated) rs (kept 0 (moves (starts file index) x) (initial_bytes x.contents))) (relocations_are p os starts file sites number o sections low are settled (all_worths file) whole plain address index section x is at none loaded relocated)
-        ∙ ap (λ b. applied (new p os starts file sites number o sections low are settled (all_worths file) whole plain address index section x is at none loaded relocated) (worth p os starts file sites number o sections low are settled (all_worths file) whole plain address index section x is at none loaded relocated) (relocations_from number 0 ps) b) (kept_all ∙ holds)
-        ∙ all_made (new p os starts file sites number o sections low are settled (all_worths file) whole plain address index section x is at none loaded relocated) (same p os starts file sites number o sections low are settled (all_worths file) whole plain address index section x is at none loaded relocated) (worth p os starts file sites number o sections low are settled (all_worths file) whole plain address index section x is at none loaded relocated) number (written (meant_in p file) own_worth) [] 0 ps refl
-        (makes (new p os starts file sites number o sections low are settled (all_worths file) whole plain address index section x is at none loaded relocated) (same p os starts file sites number o sections low are settled (all_worths file) whole plain address index section x is at none loaded relocated) (worth p os starts file sites number o sections low are settled (all_worths file) whole plain address index section x is at none loaded relocated) number (s p os starts file sites number o sections low are settled (all_worths file) whole plain address index section x is at none loaded relocated) (worths p os starts file sites number o sections low are settled (all_worths file) whole plain address index section x is at none loaded relocated) (meant_in p file) ps is.fields roomy_all (known p os starts file sites number o sections low are settled (all_worths file) whole plain address index section x is at none loaded relocated))
+        ap (λ rs. applied (new p os starts file laid number o sections low are settled (all_worths file) whole plain address index section x is at none loaded relocated) (worth p os starts file laid number o sections low are settled (all_worths file) whole plain address index section x is at none loaded relocated) rs (kept 0 (moves (starts file index) x) (initial_bytes x.contents))) (relocations_are p os starts file laid number o sections low are settled (all_worths file) whole plain address index section x is at none loaded relocated)
+        ∙ ap (λ b. applied (new p os starts file laid number o sections low are settled (all_worths file) whole plain address index section x is at none loaded relocated) (worth p os starts file laid number o sections low are settled (all_worths file) whole plain address index section x is at none loaded relocated) (relocations_from number 0 ps) b) (kept_all ∙ holds)
+        ∙ all_made (new p os starts file laid number o sections low are settled (all_worths file) whole plain address index section x is at none loaded relocated) (same p os starts file laid number o sections low are settled (all_worths file) whole plain address index section x is at none loaded relocated) (worth p os starts file laid number o sections low are settled (all_worths file) whole plain address index section x is at none loaded relocated) number (written (meant_in p file) own_worth) [] 0 ps refl
+        (makes (new p os starts file laid number o sections low are settled (all_worths file) whole plain address index section x is at none loaded relocated) (same p os starts file laid number o sections low are settled (all_worths file) whole plain address index section x is at none loaded relocated) (worth p os starts file laid number o sections low are settled (all_worths file) whole plain address index section x is at none loaded relocated) number (s p os starts file laid number o sections low are settled (all_worths file) whole plain address index section x is at none loaded relocated) (worths p os starts file laid number o sections low are settled (all_worths file) whole plain address index section x is at none loaded relocated) (meant_in p file) ps is.fields roomy_all (known p os starts file laid number o sections low are settled (all_worths file) whole plain address index section x is at none loaded relocated))
         ∙ ap (λ w. written_from (written (meant_in p file) w) 0 ps) worth_same
       where
         roomy_all : AllByRecursion (λ q. HasRoom q.template) ps
-        roomy_all = all_roomy own (sites_are_in sections index section sites at settled) (is.sizes loaded)
+        roomy_all = all_roomy own (laid_are_in sections index section laid at settled) (is.sizes loaded)
 
     -- ---- a statement
 
-    has_field : (ordinal : ℕ) (q : Option Primary) → K p os starts file sites number o sections low are settled (all_worths file) whole plain address index section x is at none loaded relocated ordinal q → HasAddressIn (meant_in p file ordinal) q
+    has_field : (ordinal : ℕ) (q : Option Primary) → K p os starts file laid number o sections low are settled (all_worths file) whole plain address index section x is at none loaded relocated ordinal q → HasAddressIn (meant_in p file ordinal) q
     has_field ordinal None h = tt
     has_field ordinal (Some q) h = ap is_some h.is
 
-    has_fields : (fs : List Open) → AllByRecursion (λ (f : Open). K p os starts file sites number o sections low are settled (all_worths file) whole plain address index section x is at none loaded relocated f.ordinal f.symbol) fs → AllByRecursion (HasAddress (meant_in p file)) fs
+    has_fields : (fs : List Open) → AllByRecursion (λ (f : Open). K p os starts file laid number o sections low are settled (all_worths file) whole plain address index section x is at none loaded relocated f.ordinal f.symbol) fs → AllByRecursion (HasAddress (meant_in p file)) fs
     has_fields [] h = tt
     has_fields (f ∷ fs) (h, hs) = (has_field f.ordinal f.symbol h, has_fields fs hs)
 
@@ -121,14 +121,14 @@ module _ (p : Program) (os : List Object) (starts : Starts) (file : ℕ) (sites 
     has_parts [] h = tt
     has_parts (q ∷ qs) (h, hs) = (has_fields (template_fields q.ordinal q.template) h, has_parts qs hs)
 
-    abbrev IsFilledAt : Site → StatementKind → Type 0
+    abbrev IsFilledAt : LaidStatement → StatementKind → Type 0
     IsFilledAt z kind =
         let l = z.located in
         IsFilled p file l.ordinal l.section l.offset l.line l.options l.home l.placed (row_in starts file z) z.offset (starts file l.section) z.coded
         (all_worths file l.section) (part_fields t (form t l) l) kind
 
-    -- the open fields of a site's code take what its operands stand for
-    filled_by : (z : Site) → Fact z → has_row z.located ≡ true → IsOwn p os starts file sites number o sections low are settled (all_worths file) whole plain address index section x is at none loaded relocated 0 own z → (kind : StatementKind) → z.located.kind ≡ kind → IsFilledAt z kind
+    -- the open fields of a laid statement's code take what its operands stand for
+    filled_by : (z : LaidStatement) → Fact z → has_row z.located ≡ true → IsOwn p os starts file laid number o sections low are settled (all_worths file) whole plain address index section x is at none loaded relocated 0 own z → (kind : StatementKind) → z.located.kind ≡ kind → IsFilledAt z kind
     filled_by z h shown upper (Label name) e = tt
     filled_by z h shown upper (Numbered digits) e = tt
     filled_by z h shown upper (Directs d) e = tt
@@ -138,10 +138,10 @@ module _ (p : Program) (os : List Object) (starts : Starts) (file : ℕ) (sites 
         let same_parts : c.ps ≡ qs = cc in
         subst (IsFilledCode p file z.located.ordinal z.located.section z.located.offset z.located.line z.located.options z.located.home z.located.placed (row_in starts file z) z.offset (starts file z.located.section) z.coded
         (all_worths file z.located.section) (part_fields t (form t z.located) z.located) mnemonic operands) same_parts
-        (filled_code p os starts file sites number o sections low are settled (all_worths file) whole plain address index section x is at none loaded relocated there z h shown upper (all_worths file z.located.section)
+        (filled_code p os starts file laid number o sections low are settled (all_worths file) whole plain address index section x is at none loaded relocated there z h shown upper (all_worths file z.located.section)
         (λ n f. ap (λ j. all_worths file j n f) h.inside.stands ∙ whole.worth index x there n f) mnemonic operands e c)
 
-    fit : ((m : ℕ) → 0 < m → x.alignment % m ≡ 0 → starts file index % m ≡ 0) → (z : Site) → Fact z → IsOwn p os starts file sites number o sections low are settled (all_worths file) whole plain address index section x is at none loaded relocated 0 own z
+    fit : ((m : ℕ) → 0 < m → x.alignment % m ≡ 0 → starts file index % m ≡ 0) → (z : LaidStatement) → Fact z → IsOwn p os starts file laid number o sections low are settled (all_worths file) whole plain address index section x is at none loaded relocated 0 own z
         → IsCodeOf starts (λ n z. said p n (all_worths n) z) bytes file z
         → AllByRecursion (λ q. IsTemplate q.template) (parts_of t z)
         → has_row z.located ≡ true → IsFit p starts bytes all_worths file z
@@ -181,8 +181,8 @@ module _ (p : Program) (os : List Object) (starts : Starts) (file : ℕ) (sites 
             (has_parts (map (part_of ordinal) (shrunk_templates t z (Directs (Values width es))))
             (subst (λ kind. AllByRecursion KnownPart (map (part_of ordinal) (shrunk_templates t z kind))) k h.knows))
 
-    all_fit : ((m : ℕ) → 0 < m → x.alignment % m ≡ 0 → starts file index % m ≡ 0) → (zs : List Site)
-        → AllByRecursion Fact zs → AllByRecursion (IsOwn p os starts file sites number o sections low are settled (all_worths file) whole plain address index section x is at none loaded relocated 0 own) zs
+    all_fit : ((m : ℕ) → 0 < m → x.alignment % m ≡ 0 → starts file index % m ≡ 0) → (zs : List LaidStatement)
+        → AllByRecursion Fact zs → AllByRecursion (IsOwn p os starts file laid number o sections low are settled (all_worths file) whole plain address index section x is at none loaded relocated 0 own) zs
         → AllByRecursion (IsCodeOf starts (λ n z. said p n (all_worths n) z) bytes file) zs
         → AllByRecursion (λ z. AllByRecursion (λ q. IsTemplate q.template) (parts_of t z)) zs
         → AllByRecursion (λ z. has_row z.located ≡ true → IsFit p starts bytes all_worths file z) zs
@@ -192,6 +192,6 @@ module _ (p : Program) (os : List Object) (starts : Starts) (file : ℕ) (sites 
     pub section_fits : ((m : ℕ) → 0 < m → x.alignment % m ≡ 0 → starts file index % m ≡ 0)
         → AllByRecursion (λ z. has_row z.located ≡ true → IsFit p starts bytes all_worths file z) own
     section_fits begins =
-        all_fit begins own (facts p os starts file sites number o sections low are settled (all_worths file) whole plain address index section x is at none loaded relocated) (owns p os starts file sites number o sections low are settled (all_worths file) whole plain address index section x is at none loaded relocated 0 own is.tile (facts p os starts file sites number o sections low are settled (all_worths file) whole plain address index section x is at none loaded relocated))
-        (all_filter (IsCodeOf starts (λ n z. said p n (all_worths n) z) bytes file) (λ s. s.located.section == index) sites codes)
+        all_fit begins own (facts p os starts file laid number o sections low are settled (all_worths file) whole plain address index section x is at none loaded relocated) (owns p os starts file laid number o sections low are settled (all_worths file) whole plain address index section x is at none loaded relocated 0 own is.tile (facts p os starts file laid number o sections low are settled (all_worths file) whole plain address index section x is at none loaded relocated))
+        (all_filter (IsCodeOf starts (λ n z. said p n (all_worths n) z) bytes file) (λ s. s.located.section == index) laid codes)
         (each (λ q. IsTemplate q.template) (parts_of t) own is.fields)

@@ -24,14 +24,14 @@ use Rattle.rv_object_laws.specs.Inputs.{Starts, InputSection, inputs_from, begin
 use Rattle.rv_object_laws.specs.Values.{initial_bytes, linked_bytes, IsRelocated}
 use Rattle.rv_object_laws.specs.IsLinkOf.{is_loaded}
 use Rattle.rv_assemble_laws.specs.Templates.{Open}
-use Rattle.rv_assemble_laws.specs.Sites.{Site, part_bytes, sites_in, end_of as sites_end}
-use Rattle.rv_assemble_laws.specs.Symbols.{site_at}
+use Rattle.rv_assemble_laws.specs.LaidStatements.{LaidStatement, part_bytes, laid_in, end_of as laid_end}
+use Rattle.rv_assemble_laws.specs.Symbols.{laid_at}
 use Rattle.rv_assemble_laws.specs.IsObjectOf.{Numbering, contents_of}
 use Rattle.rv_sources_link_laws.proofs.sections.MaskedLemmas.{masked_sections, stays}
 use Rattle.rv_sources_link_laws.proofs.statements.OrderedLemmas.{filled}
 use Rattle.rv_sources_link_laws.proofs.fields.PatchesLemmas.{written, written_from}
 use Rattle.rv_sources_link_laws.proofs.statements.StatementsLemmas.{mapped_at, mapped_from, row_address}
-use Rattle.rv_sources_link_laws.proofs.statements.SettledLemmas.{IsSettled, IsSiteIn, sites_are_in, follows, sized, bytes_are}
+use Rattle.rv_sources_link_laws.proofs.statements.SettledLemmas.{IsSettled, IsLaidIn, laid_are_in, follows, sized, bytes_are}
 use Rattle.rv_sources_link_laws.proofs.names.KnownLemmas.{still, outer_in}
 use Rattle.rv_sources_link_laws.proofs.fields.WholesLemmas.{IsWhole}
 use Rattle.rv_sources_link_laws.proofs.sections.SectionsLemmas.{meant_in, said, multiple_from}
@@ -102,7 +102,7 @@ module _ (p : Program) (all : List Object) (starts : Starts) (spells : Mapped �
 
   -- ---- a section
 
-  all_mapped : (file : ℕ) (zs : List Site) → AllByRecursion (λ z. has_row z.located ≡ true → P (mapped_at starts file z)) zs → AllByRecursion P (mapped_from starts file zs)
+  all_mapped : (file : ℕ) (zs : List LaidStatement) → AllByRecursion (λ z. has_row z.located ≡ true → P (mapped_at starts file z)) zs → AllByRecursion P (mapped_from starts file zs)
   all_mapped file [] h = tt
   all_mapped file (z ∷ zs) (h, hs) = go (has_row z.located) refl (all_mapped file zs hs)
     where
@@ -111,7 +111,7 @@ module _ (p : Program) (all : List Object) (starts : Starts) (spells : Mapped �
       go true e ih = (h e, ih)
       go false e ih = ih
 
-  both : (Q R S : Site → Type 0) (zs : List Site) → ((z : Site) → Q z → R z → S z) → AllByRecursion Q zs → AllByRecursion R zs → AllByRecursion S zs
+  both : (Q R S : LaidStatement → Type 0) (zs : List LaidStatement) → ((z : LaidStatement) → Q z → R z → S z) → AllByRecursion Q zs → AllByRecursion R zs → AllByRecursion S zs
   both Q R S [] f h k = tt
   both Q R S (z ∷ zs) f (h, hs) (k, ks) = (f z h k, both Q R S zs f hs ks)
 
@@ -122,38 +122,38 @@ module _ (p : Program) (all : List Object) (starts : Starts) (spells : Mapped �
 
   module _ (code : Mapped → List ℕ) (all_worths : ℕ → ℕ → ℕ → Open → ℤ) (goes : Section → Bool) (goes_source : SourceSection → Bool)
       (loads : (s : SourceSection) → goes_source s ≡ true → s.loaded ≡ true)
-      (same_by : (t : Tables) (sites : List Site) (number : Numbering) (o : Object) (index : ℕ) (s : SourceSection) (x : Section)
-      → IsSectionOf t sites number o.symbols index s (sites_in index sites) x → goes x ≡ goes_source s)
-      (holds : (t : Tables) (sites : List Site) (number : Numbering) (o : Object) (index : ℕ) (s : SourceSection) (x : Section)
-      → IsSectionOf t sites number o.symbols index s (sites_in index sites) x → goes_source s ≡ true → stores ≡ true → initial_bytes x.contents ≡ flat_map part_bytes (parts t (sites_in index sites)))
-      (spell : (file : ℕ) (s : SourceSection) (z : Site) → goes_source s ≡ true → z.located.home ≡ s → IsFit p starts code all_worths file z
+      (same_by : (t : Tables) (laid : List LaidStatement) (number : Numbering) (o : Object) (index : ℕ) (s : SourceSection) (x : Section)
+      → IsSectionOf t laid number o.symbols index s (laid_in index laid) x → goes x ≡ goes_source s)
+      (holds : (t : Tables) (laid : List LaidStatement) (number : Numbering) (o : Object) (index : ℕ) (s : SourceSection) (x : Section)
+      → IsSectionOf t laid number o.symbols index s (laid_in index laid) x → goes_source s ≡ true → stores ≡ true → initial_bytes x.contents ≡ flat_map part_bytes (parts t (laid_in index laid)))
+      (spell : (file : ℕ) (s : SourceSection) (z : LaidStatement) → goes_source s ≡ true → z.located.home ≡ s → IsFit p starts code all_worths file z
       → spells (mapped_at starts file z) ≡ said p file (all_worths file) z)
-      (fitted : (file : ℕ) (s : SourceSection) (z : Site) → goes_source s ≡ true → z.located.home ≡ s → IsFit p starts code all_worths file z → P (mapped_at starts file z)) where
-    module _ (drops : List SectionId) (file : ℕ) (sites : List Site) (number : Numbering) (o : Object) (opened sections : List SourceSection)
-        (masks : sections ≡ masked_sections (is_dropped drops file) 0 opened) (low : AllByRecursion IsGlobal p.map.globals) (are : AreSectionsOf (tables_in p file) sites number o.symbols 0 sections o.sections)
-        (settled : AllByRecursion (IsSettled sections) sites) (whole : IsWhole p all starts file sites number o (all_worths file))
-        (codes : AllByRecursion (IsCodeOf starts (λ n z. said p n (all_worths n) z) code file) sites)
+      (fitted : (file : ℕ) (s : SourceSection) (z : LaidStatement) → goes_source s ≡ true → z.located.home ≡ s → IsFit p starts code all_worths file z → P (mapped_at starts file z)) where
+    module _ (drops : List SectionId) (file : ℕ) (laid : List LaidStatement) (number : Numbering) (o : Object) (opened sections : List SourceSection)
+        (masks : sections ≡ masked_sections (is_dropped drops file) 0 opened) (low : AllByRecursion IsGlobal p.map.globals) (are : AreSectionsOf (tables_in p file) laid number o.symbols 0 sections o.sections)
+        (settled : AllByRecursion (IsSettled sections) laid) (whole : IsWhole p all starts file laid number o (all_worths file))
+        (codes : AllByRecursion (IsCodeOf starts (λ n z. said p n (all_worths n) z) code file) laid)
         (plain : (j : ℕ) (x : Section) → slice_get o.sections j ≡ Some x → alignments_of x ≡ [])
-        (address : (n : ℕ) → address_at p.statements file n ≡ option_and_then (row_address starts file) (site_at sites n)) where
+        (address : (n : ℕ) → address_at p.statements file n ≡ option_and_then (row_address starts file) (laid_at laid n)) where
       abbrev t : Tables
       t = tables_in p file
 
       abbrev Q : InputSection → Type 0
       Q i = AllByRecursion (IsRelocated (outer_in p all) starts all i) i.section.relocations
 
-      good_one : (index : ℕ) (s : SourceSection) (x : Section) → IsSectionOf t sites number o.symbols index s (sites_in index sites) x → slice_get sections index ≡ Some s → slice_get o.sections index ≡ Some x → alignments_of x ≡ []
+      good_one : (index : ℕ) (s : SourceSection) (x : Section) → IsSectionOf t laid number o.symbols index s (laid_in index laid) x → slice_get sections index ≡ Some s → slice_get o.sections index ≡ Some x → alignments_of x ≡ []
           → goes_source s ≡ true → Q (record { file = file; object = o; index = index; section = x })
           → IsGood (record { file = file; object = o; index = index; section = x }) (source.input_section t s p.mapped file index)
       good_one index s x is at there none goes_there relocated =
-          let own = sites_in index sites in
+          let own = laid_in index laid in
           let loaded = loads s goes_there in
-          let inside = sites_are_in sections index s sites at settled in
+          let inside = laid_are_in sections index s laid at settled in
           let begins_as : begins_at x ≡ max (if goes_to_text x then 2 else 1) x.alignment = ap (λ rs. raised rs (max (if goes_to_text x then 2 else 1) x.alignment)) none in
           let flags : goes_to_text x ≡ (s.loaded && s.executable) = ap (λ b. b && x.executable) is.loaded ∙ ap (λ b. s.loaded && b) is.executable in
-          let count_is : sites_end 0 own ≡ length (flat_map part_bytes (parts t own)) = filled (parts_of t) 0 own is.tile ∙ (let n = length (flat_map part_bytes (parts t own)) in let e : 0 + n ≡ n = omega arith in e) in
+          let count_is : laid_end 0 own ≡ length (flat_map part_bytes (parts t own)) = filled (parts_of t) 0 own is.tile ∙ (let n = length (flat_map part_bytes (parts t own)) in let e : 0 + n ≡ n = omega arith in e) in
           let rows_count = sized starts file t index s loaded 0 own inside is.tile in
           let fits : (stop : ℕ) → starts file index ≡ aligned (begins_at x) stop → AllByRecursion (λ z. has_row z.located ≡ true → IsFit p starts code all_worths file z) own =
-          λ stop starts_at. section_fits p all starts file sites number o sections low are settled code all_worths whole codes plain address index s x is at there none loaded relocated
+          λ stop starts_at. section_fits p all starts file laid number o sections low are settled code all_worths whole codes plain address index s x is at there none loaded relocated
           (λ m some divides.
           ap (λ n. n % m) (starts_at ∙ ap (λ n. aligned n stop) begins_as)
           ∙ multiple_from (goes_to_text x) m x.alignment stop some is.some divides) in
@@ -161,19 +161,19 @@ module _ (p : Program) (all : List Object) (starts : Starts) (spells : Mapped �
             alignment = begins_as ∙ ap (λ b. max (if b then 2 else 1) x.alignment) flags ∙ ap (λ n. max (if s.loaded && s.executable then 2 else 1) n) is.alignment;
             follow = subst (λ n. source.Follow n (source.rows_of (source.input_section t s p.mapped file index))) (let e : starts file index + 0 ≡ starts file index = omega arith in e)
                 (subst (λ l. source.Follow (starts file index + 0) (map (λ s. s.row) l)) (sym (whole.mapped index)) (follows starts file t index s loaded 0 own inside is.tile));
-            count = still x none (starts file index) (size_of x.contents) ∙ ap size_of is.contents ∙ stored_size s.section_type (sites_end 0 own) (flat_map part_bytes (parts t own)) count_is
+            count = still x none (starts file index) (size_of x.contents) ∙ ap size_of is.contents ∙ stored_size s.section_type (laid_end 0 own) (flat_map part_bytes (parts t own)) count_is
                 ∙ sym rows_count ∙ plus_zero (source.size (map (λ s. s.row) (mapped_from starts file own))) ∙ ap (λ l. source.size (map (λ s. s.row) l)) (sym (whole.mapped index));
             bytes = λ stop starts_at e.
-                bytes_linked p all starts file sites number o sections low are settled code all_worths whole codes plain address index s x is at there none loaded relocated (holds t sites number o index s x is goes_there e)
+                bytes_linked p all starts file laid number o sections low are settled code all_worths whole codes plain address index s x is at there none loaded relocated (holds t laid number o index s x is goes_there e)
                 ∙ sym (bytes_are starts file t index s loaded spells (written (meant_in p file) (all_worths file index)) 0 own inside is.tile
-                (both (λ z. has_row z.located ≡ true → IsFit p starts code all_worths file z) (IsSiteIn index s)
+                (both (λ z. has_row z.located ≡ true → IsFit p starts code all_worths file z) (IsLaidIn index s)
                 (λ z. has_row z.located ≡ true → spells (mapped_at starts file z) ≡ written_from (written (meant_in p file) (all_worths file index)) z.offset (parts_of t z)) own
                 (λ z h k row. spell file s z goes_there k.home (h row)
                 ∙ ap (λ j. written_from (written (meant_in p file) (all_worths file j)) z.offset (parts_of t z)) k.stands) (fits stop starts_at) inside))
                 ∙ ap (flat_map spells) (sym (whole.mapped index));
             each = λ stop starts_at.
                 subst (λ l. AllByRecursion P l) (sym (whole.mapped index))
-                (all_mapped file own (both (λ z. has_row z.located ≡ true → IsFit p starts code all_worths file z) (IsSiteIn index s) (λ z. has_row z.located ≡ true → P (mapped_at starts file z)) own
+                (all_mapped file own (both (λ z. has_row z.located ≡ true → IsFit p starts code all_worths file z) (IsLaidIn index s) (λ z. has_row z.located ≡ true → P (mapped_at starts file z)) own
                 (λ z h k row. fitted file s z goes_there k.home (h row)) (fits stop starts_at) inside));
           }
         where
@@ -184,7 +184,7 @@ module _ (p : Program) (all : List Object) (starts : Starts) (spells : Mapped �
       dropped = is_dropped drops file
 
       -- one that goes somewhere has its address
-      good_left : (d : Bool) (index : ℕ) (s : SourceSection) (x : Section) → IsSectionOf t sites number o.symbols index (without_address d s) (sites_in index sites) x
+      good_left : (d : Bool) (index : ℕ) (s : SourceSection) (x : Section) → IsSectionOf t laid number o.symbols index (without_address d s) (laid_in index laid) x
           → slice_get sections index ≡ Some (without_address d s) → slice_get o.sections index ≡ Some x → alignments_of x ≡ []
           → goes_source (without_address d s) ≡ true → Q (record { file = file; object = o; index = index; section = x })
           → IsGood (record { file = file; object = o; index = index; section = x }) (source.input_section t s p.mapped file index)
@@ -192,7 +192,7 @@ module _ (p : Program) (all : List Object) (starts : Starts) (spells : Mapped �
           subst (λ y. IsGood (record { file = file; object = o; index = index; section = x }) (source.input_section t y p.mapped file index)) (stays d s (loads (without_address d s) goes_there))
           (good_one index (without_address d s) x is at there none goes_there relocated)
 
-      good_from : (index : ℕ) (ss : List SourceSection) (xs : List Section) → AreSectionsOf t sites number o.symbols index (masked_sections dropped index ss) xs
+      good_from : (index : ℕ) (ss : List SourceSection) (xs : List Section) → AreSectionsOf t laid number o.symbols index (masked_sections dropped index ss) xs
           → ((j : ℕ) → slice_get sections (index + j) ≡ slice_get (masked_sections dropped index ss) j) → ((j : ℕ) → slice_get o.sections (index + j) ≡ slice_get xs j)
           → AllByRecursion Q (inputs_from is_loaded file o index xs)
           → AreGood (inputs_from goes file o index xs) (source.input_sections_of_file goes_source drops t p.mapped file index ss)
@@ -203,7 +203,7 @@ module _ (p : Program) (all : List Object) (starts : Starts) (spells : Mapped �
           let here : slice_get sections index ≡ Some kept = ap (slice_get sections) (let e : index ≡ index + 0 = omega arith in e) ∙ at 0 in
           let there : slice_get o.sections index ≡ Some x = ap (slice_get o.sections) (let e : index ≡ index + 0 = omega arith in e) ∙ at' 0 in
           let next : (j : ℕ) → suc index + j ≡ index + suc j = λ j. omega arith in
-          go (goes x) (goes_source kept) refl (same_by t sites number o index kept x is)
+          go (goes x) (goes_source kept) refl (same_by t laid number o index kept x is)
           (λ e. good_left (dropped index) index s x is here there (plain index x there) e (first x.loaded (is.loaded ∙ loads kept e) r))
           (good_from (suc index) ss xs h (λ j. ap (slice_get sections) (next j) ∙ at (suc j)) (λ j. ap (slice_get o.sections) (next j) ∙ at' (suc j)) (rest x.loaded r))
         where
@@ -236,5 +236,5 @@ module _ (p : Program) (all : List Object) (starts : Starts) (spells : Mapped �
       pub good_file : AllByRecursion Q (inputs_from is_loaded file o 0 o.sections) → AreGood (inputs_from goes file o 0 o.sections) (source.input_sections_of_file goes_source drops t p.mapped file 0 opened)
       good_file r =
           let zero_plus : (j : ℕ) → 0 + j ≡ j = λ j. omega arith in
-          good_from 0 opened o.sections (subst (λ l. AreSectionsOf t sites number o.symbols 0 l o.sections) masks are)
+          good_from 0 opened o.sections (subst (λ l. AreSectionsOf t laid number o.symbols 0 l o.sections) masks are)
           (λ j. ap (slice_get sections) (zero_plus j) ∙ ap (λ l. slice_get l j) masks) (λ j. ap (slice_get o.sections) (zero_plus j)) r

@@ -23,7 +23,7 @@ use Rattle.rv_object_laws.specs.Inputs.{Starts}
 use Rattle.rv_sources_link_laws.proofs.statements.MarkedLemmas.{part_fields}
 use Rattle.rv_assemble_laws.specs.Templates.{Datum, Open, IsTemplate, HasField, template_fields, value_fields}
 use Rattle.rv_assemble_laws.specs.Coded.{constants}
-use Rattle.rv_assemble_laws.specs.Sites.{Site, Part, form, part_of, part_bytes, coded_templates, IsMultiple}
+use Rattle.rv_assemble_laws.specs.LaidStatements.{LaidStatement, Part, form, part_of, part_bytes, coded_templates, IsMultiple}
 use Rattle.rv_assemble_laws.specs.IsObjectOf.{Numbering, relocation_at, relocations_from}
 use Rattle.rv_sources_link_laws.proofs.fields.PatchesLemmas.{written, written_from, filled_fields}
 use Rattle.rv_sources_link_laws.proofs.statements.CodingLemmas.{coded_bytes}
@@ -70,13 +70,13 @@ split_at R offset (x ∷ xs) ys (h, hs) =
     )
 
 -- those of statements that follow one another, by statement
-pub at_sites : (R : ℕ → Part → Type 0) (t : Tables) (offset : ℕ) (zs : List Site) → Tile t offset zs → AtOffsets R offset (parts t zs)
+pub at_laid : (R : ℕ → Part → Type 0) (t : Tables) (offset : ℕ) (zs : List LaidStatement) → Tile t offset zs → AtOffsets R offset (parts t zs)
     → AllByRecursion (λ z. AtOffsets R z.offset (parts_of t z)) zs
-at_sites R t offset [] tile h = tt
-at_sites R t offset (z ∷ zs) (at, size, tile) h =
+at_laid R t offset [] tile h = tt
+at_laid R t offset (z ∷ zs) (at, size, tile) h =
     let both = split_at R offset (parts_of t z) (parts t zs) h in (
       subst (λ n. AtOffsets R n (parts_of t z)) (sym at) both.0,
-      at_sites R t (offset + z.bytes) zs tile (subst (λ n. AtOffsets R (offset + n) (parts t zs)) (sym size) both.1),
+      at_laid R t (offset + z.bytes) zs tile (subst (λ n. AtOffsets R (offset + n) (parts t zs)) (sym size) both.1),
     )
 
 module _ (Q : Relocation → Type 0) (number : Numbering) where
@@ -154,12 +154,12 @@ module _ (a : ℕ → Primary → Option ℕ) where
 -- ---- a statement
 
 -- its padding
-suits_padding : (s : Site) (row : MapRow) (a : Option ℕ) → row.bytes ≡ s.bytes → row.instructions ≡ s.instructions → (t : Bool) → IsPaddedIn t s a → suits.SuitsPadding t row s.offset a
+suits_padding : (s : LaidStatement) (row : MapRow) (a : Option ℕ) → row.bytes ≡ s.bytes → row.instructions ≡ s.instructions → (t : Bool) → IsPaddedIn t s a → suits.SuitsPadding t row s.offset a
 suits_padding s row a b i true (x, y, z) = (b ∙ x, ap (λ n. n % 2) b ∙ y, i ∙ z ∙ ap operations_in (sym b))
 suits_padding s row a b i false (x, y) = (b ∙ x, i ∙ y)
 
 -- of a section that starts at an address: what the statement's size makes of its row
-pub suits_by : (s : Site) (file multiple start : ℕ) (row : MapRow) (v : Expression → Value) (valued : Bool) (kind : StatementKind)
+pub suits_by : (s : LaidStatement) (file multiple start : ℕ) (row : MapRow) (v : Expression → Value) (valued : Bool) (kind : StatementKind)
     → row.bytes ≡ s.bytes → row.instructions ≡ s.instructions → row.address ≡ start + s.offset
     → ((a : Option ℕ) → IsMultiple a multiple → suits.IsMultiple a start)
     → ((width : ℕ) (values : List Expression) → kind ≡ Directs (Values width values) → valued ≡ true)
@@ -192,12 +192,12 @@ module _ (p : Program) (file : ℕ) where
   abbrev pub meant_in : ℕ → Primary → Option ℕ
   meant_in ordinal q = address_by p file q (sure_definition (tables_in p file) ordinal q)
 
-  -- what a site of the file writes, where the fields of a section take these at an offset
-  abbrev pub said : (ℕ → ℕ → Open → ℤ) → Site → List ℕ
+  -- what a laid statement of the file writes, where the fields of a section take these at an offset
+  abbrev pub said : (ℕ → ℕ → Open → ℤ) → LaidStatement → List ℕ
   said worth z = written_from (written meant_in (worth z.located.section)) z.offset (parts_of (tables_in p file) z)
 
   module _ (worth : ℕ → ℕ → Open → ℤ) where
-    abbrev says : Site → StatementKind → List ℕ
+    abbrev says : LaidStatement → StatementKind → List ℕ
     says z kind = written_from (written meant_in (worth z.located.section)) z.offset (map (part_of z.located.ordinal) (shrunk_templates (tables_in p file) z kind))
 
     -- in data a statement's parts are what it spells
@@ -208,7 +208,7 @@ module _ (p : Program) (file : ℕ) where
         ap (λ l. little_endian width (unwrap_or (resolved (meant_in ordinal) (v e)) 0) ++ l)
         (values_spelled w (offset + length (part_bytes (part_of ordinal (Datum width (v e))))) ordinal width v es)
 
-    pub spelled_by : (starts : Starts) (s : Site) (multiple : ℕ) (kind : StatementKind) → IsHeld s.located.home kind → s.located.home.executable ≡ false
+    pub spelled_by : (starts : Starts) (s : LaidStatement) (multiple : ℕ) (kind : StatementKind) → IsHeld s.located.home kind → s.located.home.executable ≡ false
         → HasShrunkSize (form (tables_in p file) s.located) s multiple kind
         → let m : Mapped = mapped_at starts file s in
         spelled_said (number_of p m) kind s.bytes ≡ says s kind
@@ -243,7 +243,7 @@ module _ (p : Program) (file : ℕ) where
     padding_coded w offset ordinal (suc n) = sym (append-nil (no_operations (suc n)))
 
     -- in code its parts are its code
-    pub coded_by : (s : Site) (multiple : ℕ) (kind : StatementKind) → IsHeld s.located.home kind → s.located.home.executable ≡ true
+    pub coded_by : (s : LaidStatement) (multiple : ℕ) (kind : StatementKind) → IsHeld s.located.home kind → s.located.home.executable ≡ true
         → HasShrunkSize (form (tables_in p file) s.located) s multiple kind
         → suits.code_said (worth s.located.section) (part_fields (tables_in p file) (form (tables_in p file) s.located) s.located) (form (tables_in p file) s.located) s.located.options.rvc s.offset s.bytes s.coded kind
         ≡ says s kind

@@ -14,23 +14,23 @@ use Rattle.rv_source_laws.specs.Sized.{directive_size}
 use Rattle.rv_object_laws.specs.Moves.{Move, new_offset}
 use Rattle.rv_assemble_laws.specs.Templates.{Coded, align_field, padding_templates}
 use Rattle.rv_object.specs.Padding.{no_operations}
-use Rattle.rv_assemble_laws.specs.Sites.{Site, form, part_of, part_bytes, HasSize, IsPaddedIn}
+use Rattle.rv_assemble_laws.specs.LaidStatements.{LaidStatement, form, part_of, part_bytes, HasSize, IsPaddedIn}
 use Rattle.rv_sources_link_laws.proofs.sections.AssembledLemmas.{parts_of, assembled_templates, Tile}
 use Rattle.rv_assemble_laws.specs.IsObjectOf.{Numbering}
-use Rattle.rv_sources_link_laws.proofs.statements.SettledLemmas.{IsBare, IsSiteIn}
+use Rattle.rv_sources_link_laws.proofs.statements.SettledLemmas.{IsBare, IsLaidIn}
 use Rattle.rv_sources_link_laws.proofs.statements.FieldedLemmas.{IsPlain, data_each, sized_each, plain_part}
 use Rattle.rv_sources_link_laws.proofs.moves.ShrunkLemmas as shrunk
 use Rattle.rv_sources_link_laws.proofs.moves.SteppedLemmas.{Steps}
 
 -- the bytes after the moves
-abbrev pub bytes_with : List Move → Site → ℕ
+abbrev pub bytes_with : List Move → LaidStatement → ℕ
 bytes_with ms z = new_offset ms (z.offset + z.bytes) - new_offset ms z.offset
 
 -- those of a statement without an alignment stay
-abbrev pub StaysBy : Tables → List Move → Site → StatementKind → Type 0
+abbrev pub StaysBy : Tables → List Move → LaidStatement → StatementKind → Type 0
 StaysBy t ms z kind = AllByRecursion IsPlain (assembled_templates t z kind) → bytes_with ms z ≡ z.bytes
 
-abbrev pub Stays : Tables → List Move → Site → Type 0
+abbrev pub Stays : Tables → List Move → LaidStatement → Type 0
 Stays t ms z = StaysBy t ms z z.located.kind
 
 -- the size of a statement by what is left of it: an alignment in code has all its padding
@@ -39,16 +39,16 @@ size_before executable v (Directs d) bytes = directive_size executable v d (cont
 size_before executable v _ bytes = bytes
 
 -- what it counts
-abbrev pub Size : Tables → List Move → Site → StatementKind → Type 0
+abbrev pub Size : Tables → List Move → LaidStatement → StatementKind → Type 0
 Size t ms z kind = z.bytes ≡ size_before z.located.home.executable (form t z.located) kind (bytes_with ms z)
 
-pub record IsCounted (t : Tables) (ms : List Move) (z : Site) : Type 0 where
+pub record IsCounted (t : Tables) (ms : List Move) (z : LaidStatement) : Type 0 where
   pub placed : z.located.placed ≡ true → Size t ms z z.located.kind
   pub unplaced : z.located.placed ≡ false → z.bytes ≡ 0
 
 -- ---- a statement with a place
 
-module _ (t : Tables) (ms : List Move) (z : Site) (multiple : ℕ) where
+module _ (t : Tables) (ms : List Move) (z : LaidStatement) (multiple : ℕ) where
   align_by : (x : Bool) (al : Option ℕ) → IsPaddedIn x z al → (AllByRecursion IsPlain (padding_templates x z.located.ordinal z.bytes) → bytes_with ms z ≡ z.bytes)
       → z.bytes ≡ (if x then code_padding al else bytes_with ms z)
   align_by true al size stays = size.0
@@ -74,7 +74,7 @@ module _ (t : Tables) (ms : List Move) (z : Site) (multiple : ℕ) where
 -- ---- one without
 
 -- what has no templates after the moves has none before
-bare_before : (t : Tables) (z : Site) (kind : StatementKind) → ((y : Site) → shrunk.shrunk_templates t y kind ≡ []) → assembled_templates t z kind ≡ []
+bare_before : (t : Tables) (z : LaidStatement) (kind : StatementKind) → ((y : LaidStatement) → shrunk.shrunk_templates t y kind ≡ []) → assembled_templates t z kind ≡ []
 bare_before t z (Label name) h = refl
 bare_before t z (Numbered number) h = refl
 bare_before t z (Instruction m os) h = h z
@@ -94,13 +94,13 @@ bare_before t z (Directs (Aligns_to_bytes e)) h = absurd (never z.located.home.e
 bare_before t z (Directs (Sets name e)) h = refl
 bare_before t z (Directs _) h = refl
 
-none_there : (t : Tables) (z : Site) → IsBare z.located → z.bytes ≡ length (flat_map part_bytes (parts_of t z)) → z.located.placed ≡ false → z.bytes ≡ 0
+none_there : (t : Tables) (z : LaidStatement) → IsBare z.located → z.bytes ≡ length (flat_map part_bytes (parts_of t z)) → z.located.placed ≡ false → z.bytes ≡ 0
 none_there t z bare bytes e =
     bytes ∙ ap (λ l. length (flat_map part_bytes (map (part_of z.located.ordinal) l))) (bare_before t z z.located.kind (bare e t))
 
 -- ---- the statements of a section
 
-pub counted_all : (t : Tables) (ms : List Move) (j : ℕ) (s : SourceSection) (multiple o : ℕ) (zs : List Site) → AllByRecursion (IsSiteIn j s) zs → Tile t o zs
+pub counted_all : (t : Tables) (ms : List Move) (j : ℕ) (s : SourceSection) (multiple o : ℕ) (zs : List LaidStatement) → AllByRecursion (IsLaidIn j s) zs → Tile t o zs
     → AllByRecursion (λ z. z.located.placed ≡ true → HasSize (form t z.located) z multiple z.located.kind) zs → AllByRecursion (Stays t ms) zs → AllByRecursion (IsCounted t ms) zs
 counted_all t ms j s multiple o [] i tile size stays = tt
 counted_all t ms j s multiple o (z ∷ zs) (i, is) (off, bytes, tile) (size, sizes) (stays, more) = (
@@ -111,9 +111,9 @@ counted_all t ms j s multiple o (z ∷ zs) (i, is) (off, bytes, tile) (size, siz
 -- where the linker moves them
 module _ (t : Tables) (number : Numbering) (section : SourceSection) (multiple : ℕ) (start : ℕ) (ms : List Move)
     (begins : (m : ℕ) → 0 < m → multiple % m ≡ 0 → section.executable ≡ true → start % m ≡ 0) where
-  pub bytes_stay : (o gone : ℕ) (zs : List Site) → Steps t number section multiple start ms begins o gone zs → AllByRecursion (Stays t ms) zs
+  pub bytes_stay : (o gone : ℕ) (zs : List LaidStatement) → Steps t number section multiple start ms begins o gone zs → AllByRecursion (Stays t ms) zs
   bytes_stay o gone [] st = tt
-  bytes_stay o gone (z ∷ zs) (off, bytes, low, evens, inl (s, st)) = ((λ none. ap (λ (y : Site). y.bytes) s.plain_is), bytes_stay (o + z.bytes) gone zs st)
+  bytes_stay o gone (z ∷ zs) (off, bytes, low, evens, inl (s, st)) = ((λ none. ap (λ (y : LaidStatement). y.bytes) s.plain_is), bytes_stay (o + z.bytes) gone zs st)
   bytes_stay o gone (z ∷ zs) (off, bytes, low, evens, inr (s, st)) =
       ((λ none. never (subst (λ l. AllByRecursion IsPlain l) s.pad_kind.was none)), bytes_stay (o + z.bytes) (gone + (z.bytes - s.least)) zs st)
     where

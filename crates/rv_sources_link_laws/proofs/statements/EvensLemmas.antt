@@ -11,14 +11,14 @@ use Rattle.rv_unit_laws.specs.Sections.{Section as SourceSection, goes_to_text}
 use Rattle.rv_unit_laws.specs.Tables.{Tables, tables, alignment_of}
 use Rattle.rv_source_laws.proofs.HeldLemmas.{IsHeld}
 use Rattle.rv_object.specs.Object.{Object}
-use Rattle.rv_assemble_laws.specs.Sites.{Site, form, part_of, part_bytes, sites_in}
+use Rattle.rv_assemble_laws.specs.LaidStatements.{LaidStatement, form, part_of, part_bytes, laid_in}
 use Rattle.rv_sources_link_laws.proofs.sections.MaskedLemmas.{source_sections}
-use Rattle.rv_sources_link_laws.proofs.statements.SettledLemmas.{IsSettled, settled_left, of_sections, IsSiteIn, sites_are_in}
+use Rattle.rv_sources_link_laws.proofs.statements.SettledLemmas.{IsSettled, settled_left, of_sections, IsLaidIn, laid_are_in}
 use Rattle.rv_sources_link_laws.proofs.statements.OrderedLemmas.{its_section}
 use Rattle.rv_sources_link_laws.proofs.statements.CodingLemmas.{all_few}
 use Rattle.rv_sources_link_laws.proofs.moves.ShrunkLemmas.{IsPaddedIn, parts_of, Tile, HasShrunkSize, IsSectionOf, IsObjectOf}
 
-abbrev pub IsEven : Site → Type 0
+abbrev pub IsEven : LaidStatement → Type 0
 IsEven s = goes_to_text s.located.home ≡ true → s.offset % 2 ≡ 0
 
 -- ---- a statement
@@ -27,7 +27,7 @@ none_even : (n : ℕ) → n ≡ 0 → n % 2 ≡ 0
 none_even n e = ap (λ n. n % 2) e
 
 -- a statement of code with a place has an even count of bytes
-pub even_by : (s : Site) (section : SourceSection) (multiple : ℕ) (v : Expression → Value) (kind : StatementKind) → IsHeld section kind → section.executable ≡ true → s.located.home ≡ section
+pub even_by : (s : LaidStatement) (section : SourceSection) (multiple : ℕ) (v : Expression → Value) (kind : StatementKind) → IsHeld section kind → section.executable ≡ true → s.located.home ≡ section
     → HasShrunkSize v s multiple kind → s.bytes % 2 ≡ 0
 even_by s section multiple v (Label name) held code home size = none_even s.bytes size.0
 even_by s section multiple v (Numbered number) held code home size = none_even s.bytes size.0
@@ -56,10 +56,10 @@ even_by s section multiple v (Directs Ignored) held code home size = none_even s
 -- ---- a section
 
 module _ (t : Tables) (index : ℕ) (section : SourceSection) (multiple : ℕ) where
-  abbrev Sized : Site → Type 0
+  abbrev Sized : LaidStatement → Type 0
   Sized s = s.located.placed ≡ true → HasShrunkSize (form t s.located) s multiple s.located.kind
 
-  bytes_even : (s : Site) → section.executable ≡ true → IsSiteIn index section s → s.bytes ≡ length (flat_map part_bytes (parts_of t s)) → Sized s → s.bytes % 2 ≡ 0
+  bytes_even : (s : LaidStatement) → section.executable ≡ true → IsLaidIn index section s → s.bytes ≡ length (flat_map part_bytes (parts_of t s)) → Sized s → s.bytes % 2 ≡ 0
   bytes_even s code is bytes size = go s.located.placed refl
     where
       go : (b : Bool) → s.located.placed ≡ b → s.bytes % 2 ≡ 0
@@ -67,8 +67,8 @@ module _ (t : Tables) (index : ℕ) (section : SourceSection) (multiple : ℕ) w
       go false e =
           none_even s.bytes (bytes ∙ ap (λ l. length (flat_map part_bytes (map (part_of s.located.ordinal) l))) (is.bare e t s))
 
-  in_code : (offset : ℕ) (sites : List Site) → section.executable ≡ true → offset % 2 ≡ 0 → AllByRecursion (IsSiteIn index section) sites → Tile t offset sites → AllByRecursion Sized sites
-      → AllByRecursion IsEven sites
+  in_code : (offset : ℕ) (laid : List LaidStatement) → section.executable ≡ true → offset % 2 ≡ 0 → AllByRecursion (IsLaidIn index section) laid → Tile t offset laid → AllByRecursion Sized laid
+      → AllByRecursion IsEven laid
   in_code offset [] code even h tile sizes = tt
   in_code offset (s ∷ ss) code even (h, hs) (at, bytes, tile) (size, sizes) =
       let own = bytes_even s code h bytes size in (
@@ -76,7 +76,7 @@ module _ (t : Tables) (index : ℕ) (section : SourceSection) (multiple : ℕ) w
         in_code (offset + s.bytes) ss code (omega (arith, even, own)) hs tile sizes,
       )
 
-  aside : (sites : List Site) → goes_to_text section ≡ false → AllByRecursion (IsSiteIn index section) sites → AllByRecursion IsEven sites
+  aside : (laid : List LaidStatement) → goes_to_text section ≡ false → AllByRecursion (IsLaidIn index section) laid → AllByRecursion IsEven laid
   aside [] none h = tt
   aside (s ∷ ss) none (h, hs) = (
     (λ text. let e : true ≡ false = sym text ∙ ap goes_to_text h.home ∙ none in absurd (cc)),
@@ -89,20 +89,20 @@ module _ (ss : List Statement) (o : Object) (is : IsObjectOf ss o) where
   abbrev sections : List SourceSection
   sections = source_sections is.dropped ss
 
-  all_settled : AllByRecursion (IsSettled sections) is.sites
-  all_settled = settled_left ss is.sites is.dropped is.good is.located
+  all_settled : AllByRecursion (IsSettled sections) is.laid
+  all_settled = settled_left ss is.laid is.dropped is.good is.located
 
-  section_even : (index : ℕ) (section : SourceSection) → slice_get sections index ≡ Some section → AllByRecursion IsEven (sites_in index is.sites)
+  section_even : (index : ℕ) (section : SourceSection) → slice_get sections index ≡ Some section → AllByRecursion IsEven (laid_in index is.laid)
   section_even index section at = go (goes_to_text section) refl
     where
-      here : AllByRecursion (IsSiteIn index section) (sites_in index is.sites)
-      here = sites_are_in sections index section is.sites at all_settled
+      here : AllByRecursion (IsLaidIn index section) (laid_in index is.laid)
+      here = laid_are_in sections index section is.laid at all_settled
 
-      go : (b : Bool) → goes_to_text section ≡ b → AllByRecursion IsEven (sites_in index is.sites)
+      go : (b : Bool) → goes_to_text section ≡ b → AllByRecursion IsEven (laid_in index is.laid)
       go true text =
-          let (x, there, found) = its_section (IsSectionOf (tables ss) is.sites is.number o.symbols) is.sites index sections o.sections section is.sections at in
-          in_code (tables ss) index section x.alignment 0 (sites_in index is.sites) ((and_parts section.loaded section.executable text).1) refl here found.tile (found.sizes ((and_parts section.loaded section.executable text).0))
-      go false none = aside (tables ss) index section 1 (sites_in index is.sites) none here
+          let (x, there, found) = its_section (IsSectionOf (tables ss) is.laid is.number o.symbols) is.laid index sections o.sections section is.sections at in
+          in_code (tables ss) index section x.alignment 0 (laid_in index is.laid) ((and_parts section.loaded section.executable text).1) refl here found.tile (found.sizes ((and_parts section.loaded section.executable text).0))
+      go false none = aside (tables ss) index section 1 (laid_in index is.laid) none here
 
-  pub evens : AllByRecursion IsEven is.sites
-  evens = of_sections sections IsEven is.sites all_settled section_even
+  pub evens : AllByRecursion IsEven is.laid
+  evens = of_sections sections IsEven is.laid all_settled section_even

@@ -26,7 +26,7 @@ use Rattle.rv_assemble_laws.specs.CodeFields.{symbol_field, low_field_at, label_
 use Rattle.rv_sources_link_laws.proofs.statements.MarkedLemmas.{is_marked, part_fields, marked_all}
 use Rattle.rv_assemble_laws.specs.Coded.{constants, IsCodedPart, AreCodedParts}
 use Rattle.rv_assemble_laws.specs.Templates.{Template, Fixed, Datum, Coded, Open}
-use Rattle.rv_assemble_laws.specs.Sites.{Site, form, coded_templates}
+use Rattle.rv_assemble_laws.specs.LaidStatements.{LaidStatement, form, coded_templates}
 use Rattle.rv_sources_link_laws.proofs.statements.SettledLemmas.{IsBare}
 use Rattle.rv_sources_link_laws.proofs.fields.PatchesLemmas.{HasRoom}
 use Rattle.rv_sources_link_laws.proofs.statements.CodingLemmas.{encoded_long, joined_long}
@@ -128,7 +128,7 @@ module _ (P : Template → Type 0) (fixed : (bytes : List ℕ) → P (Fixed byte
   directed b v (Zero_bytes count) bytes = (fixed _, tt)
   directed b v (Alignment as_form number) bytes = padded b bytes
 
-  module _ (t : Tables) (z : Site) (multiple : ℕ)
+  module _ (t : Tables) (z : LaidStatement) (multiple : ℕ)
       (part : (named : Option Compressed) (c : Bool) (p : CodePart) (bytes : List ℕ) → IsCodedPart named c p bytes → P (Coded bytes (part_fields t (form t z.located) z.located p))) where
     abbrev fields : CodePart → List Open
     fields p = part_fields t (form t z.located) z.located p
@@ -174,7 +174,7 @@ room_part t v s named c (Joined k i j) bytes (fits, also, (first, (second, x, y,
     (by_kind (λ k. width_of k ≤ length bytes) k (field_of t v s.ordinal (operand_of s.kind) k) (omega (arith, long, low)) (field_kind t v s.ordinal (operand_of s.kind) k))
     (relaxing (λ k. width_of k ≤ length bytes) s.options.relax s.ordinal (omega arith))
 
-pub roomy : (t : Tables) (z : Site) (multiple : ℕ) → IsBare z.located → (z.located.placed ≡ true → HasShrunkSize (form t z.located) z multiple z.located.kind)
+pub roomy : (t : Tables) (z : LaidStatement) (multiple : ℕ) → IsBare z.located → (z.located.placed ≡ true → HasShrunkSize (form t z.located) z multiple z.located.kind)
     → AllByRecursion HasRoom (shrunk_templates t z z.located.kind)
 roomy t z multiple bare sized = each_template HasRoom (λ bytes. tt) (λ width v. tt) t z multiple (room_part t (form t z.located) z.located) bare sized
 

@@ -81,7 +81,7 @@ padding_moves (Some a) start offset (some, h) =
     ap (λ n. aligned a (n + offset)) (sym whole) ∙ aligned_moves a q offset some ∙ ap (λ n. n + aligned a offset) whole in
     ap (λ n. n - (start + offset)) moved ∙ (let e : start + aligned a offset - (start + offset) ≡ aligned a offset - offset = omega arith in e)
 
--- ---- a site
+-- ---- a laid statement
 
 is_true : (b : Bool) → b ≡ true → IsTrue b
 is_true b e = e

@@ -7,17 +7,17 @@ use Rattle.std.specs.List.{slice_get}
 use Rattle.rv_unit_laws.specs.Sections.{Section as SourceSection}
 use Rattle.rv_unit_laws.specs.Tables.{Tables}
 use Rattle.rv_object.specs.Object.{Section, Symbol}
-use Rattle.rv_assemble_laws.specs.Sites.{Site, Part, part_bytes, sites_in, end_of}
+use Rattle.rv_assemble_laws.specs.LaidStatements.{LaidStatement, Part, part_bytes, laid_in, end_of}
 use Rattle.rv_assemble_laws.specs.IsObjectOf.{Numbering, IsSectionOf, AreSectionsOf}
 use Rattle.rv_assemble_laws.proofs.FilledLemmas.{bytes_append}
 
 -- ---- statements
 
-abbrev pub Follow : (Site → List Part) → ℕ → List Site → Type 0
+abbrev pub Follow : (LaidStatement → List Part) → ℕ → List LaidStatement → Type 0
 Follow parts_of offset [] = ⊤
 Follow parts_of offset (s ∷ ss) = (s.offset ≡ offset) × (s.bytes ≡ length (flat_map part_bytes (parts_of s))) × Follow parts_of (offset + s.bytes) ss
 
-pub filled : (parts_of : Site → List Part) (offset : ℕ) (sites : List Site) → Follow parts_of offset sites → end_of offset sites ≡ offset + length (flat_map part_bytes (flat_map parts_of sites))
+pub filled : (parts_of : LaidStatement → List Part) (offset : ℕ) (laid : List LaidStatement) → Follow parts_of offset laid → end_of offset laid ≡ offset + length (flat_map part_bytes (flat_map parts_of laid))
 filled parts_of offset [] h = omega arith
 filled parts_of offset (s ∷ ss) (at, bytes, h) =
     let own = flat_map part_bytes (parts_of s) in
@@ -29,58 +29,58 @@ filled parts_of offset (s ∷ ss) (at, bytes, h) =
 -- ---- sections
 
 -- each section is that of the source's at its index, with the statements there of all
-abbrev pub AreInOrder : (ℕ → SourceSection → List Site → Section → Type 0) → List Site → ℕ → List SourceSection → List Section → Type 0
+abbrev pub AreInOrder : (ℕ → SourceSection → List LaidStatement → Section → Type 0) → List LaidStatement → ℕ → List SourceSection → List Section → Type 0
 AreInOrder R all index [] [] = ⊤
 AreInOrder R all index [] (x ∷ xs) = ⊥
 AreInOrder R all index (section ∷ sections) [] = ⊥
-AreInOrder R all index (section ∷ sections) (x ∷ xs) = R index section (sites_in index all) x × AreInOrder R all (suc index) sections xs
+AreInOrder R all index (section ∷ sections) (x ∷ xs) = R index section (laid_in index all) x × AreInOrder R all (suc index) sections xs
 
-module _ (R : ℕ → SourceSection → List Site → Section → Type 0) (all : List Site) where
+module _ (R : ℕ → SourceSection → List LaidStatement → Section → Type 0) (all : List LaidStatement) where
   section_from : (index j : ℕ) (sections : List SourceSection) (xs : List Section) (s : SourceSection) → AreInOrder R all index sections xs → slice_get sections j ≡ Some s
-      → (x : Section) × (slice_get xs j ≡ Some x) × R (index + j) s (sites_in (index + j) all) x
+      → (x : Section) × (slice_get xs j ≡ Some x) × R (index + j) s (laid_in (index + j) all) x
   section_from index j [] [] s h e = absurd (cc)
   section_from index j [] (x ∷ xs) s h e = absurd h
   section_from index j (y ∷ ys) [] s h e = absurd h
   section_from index zero (y ∷ ys) (x ∷ xs) s (h, hs) e =
       let same : y ≡ s = cc in
       let i : index ≡ index + 0 = omega arith in
-      (x, refl, subst (λ n. R n s (sites_in n all) x) i (subst (λ y. R index y (sites_in index all) x) same h))
+      (x, refl, subst (λ n. R n s (laid_in n all) x) i (subst (λ y. R index y (laid_in index all) x) same h))
   section_from index (suc j) (y ∷ ys) (x ∷ xs) s (h, hs) e =
       let found = section_from (suc index) j ys xs s hs e in
       let i : suc index + j ≡ index + suc j = omega arith in
-      (found.0, found.1, subst (λ n. R n s (sites_in n all) found.0) i found.2)
+      (found.0, found.1, subst (λ n. R n s (laid_in n all) found.0) i found.2)
 
   source_from : (index j : ℕ) (sections : List SourceSection) (xs : List Section) (x : Section) → AreInOrder R all index sections xs → slice_get xs j ≡ Some x
-      → (s : SourceSection) × (slice_get sections j ≡ Some s) × R (index + j) s (sites_in (index + j) all) x
+      → (s : SourceSection) × (slice_get sections j ≡ Some s) × R (index + j) s (laid_in (index + j) all) x
   source_from index j [] [] x h e = absurd (cc)
   source_from index j [] (y ∷ ys) x h e = absurd h
   source_from index j (s ∷ ss) [] x h e = absurd h
   source_from index zero (s ∷ ss) (y ∷ ys) x (h, hs) e =
       let same : y ≡ x = cc in
       let i : index ≡ index + 0 = omega arith in
-      (s, refl, subst (λ n. R n s (sites_in n all) x) i (subst (λ y. R index s (sites_in index all) y) same h))
+      (s, refl, subst (λ n. R n s (laid_in n all) x) i (subst (λ y. R index s (laid_in index all) y) same h))
   source_from index (suc j) (s ∷ ss) (y ∷ ys) x (h, hs) e =
       let found = source_from (suc index) j ss ys x hs e in
       let i : suc index + j ≡ index + suc j = omega arith in
-      (found.0, found.1, subst (λ n. R n found.0 (sites_in n all) x) i found.2)
+      (found.0, found.1, subst (λ n. R n found.0 (laid_in n all) x) i found.2)
 
   -- the section of an object at an index is that of the source's section
   pub its_section : (j : ℕ) (sections : List SourceSection) (xs : List Section) (s : SourceSection) → AreInOrder R all 0 sections xs → slice_get sections j ≡ Some s
-      → (x : Section) × (slice_get xs j ≡ Some x) × R j s (sites_in j all) x
+      → (x : Section) × (slice_get xs j ≡ Some x) × R j s (laid_in j all) x
   its_section j sections xs s h e =
       let found = section_from 0 j sections xs s h e in
       let i : 0 + j ≡ j = omega arith in
-      (found.0, found.1, subst (λ n. R n s (sites_in n all) found.0) i found.2)
+      (found.0, found.1, subst (λ n. R n s (laid_in n all) found.0) i found.2)
 
   pub its_source : (j : ℕ) (sections : List SourceSection) (xs : List Section) (x : Section) → AreInOrder R all 0 sections xs → slice_get xs j ≡ Some x
-      → (s : SourceSection) × (slice_get sections j ≡ Some s) × R j s (sites_in j all) x
+      → (s : SourceSection) × (slice_get sections j ≡ Some s) × R j s (laid_in j all) x
   its_source j sections xs x h e =
       let found = source_from 0 j sections xs x h e in
       let i : 0 + j ≡ j = omega arith in
-      (found.0, found.1, subst (λ n. R n found.0 (sites_in n all) x) i found.2)
+      (found.0, found.1, subst (λ n. R n found.0 (laid_in n all) x) i found.2)
 
 -- so do those of an object of a source
-pub in_order : (t : Tables) (all : List Site) (number : Numbering) (symbols : List Symbol) (index : ℕ) (sections : List SourceSection) (xs : List Section)
+pub in_order : (t : Tables) (all : List LaidStatement) (number : Numbering) (symbols : List Symbol) (index : ℕ) (sections : List SourceSection) (xs : List Section)
     → AreSectionsOf t all number symbols index sections xs → AreInOrder (IsSectionOf t all number symbols) all index sections xs
 in_order t all number symbols index [] [] h = tt
 in_order t all number symbols index [] (x ∷ xs) h = h

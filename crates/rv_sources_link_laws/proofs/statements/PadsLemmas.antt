@@ -14,10 +14,10 @@ use Rattle.rv_source_laws.specs.Fits.{is_low}
 use Rattle.rv_source_laws.proofs.HeldLemmas.{IsHeld}
 use Rattle.rv_object.specs.Padding.{no_operations, operations_in}
 use Rattle.rv_assemble_laws.specs.Templates.{Fixed, Coded, align_field, padding_templates}
-use Rattle.rv_assemble_laws.specs.Sites.{Site, form, part_of, part_bytes, IsMultiple, IsPaddedIn, HasSize}
+use Rattle.rv_assemble_laws.specs.LaidStatements.{LaidStatement, form, part_of, part_bytes, IsMultiple, IsPaddedIn, HasSize}
 use Rattle.rv_sources_link_laws.proofs.sections.AssembledLemmas.{assembled_templates, parts_of}
 use Rattle.rv_sources_link_laws.proofs.moves.ShrunkLemmas as shrunk
-use Rattle.rv_sources_link_laws.proofs.statements.SettledLemmas.{IsBare, IsSiteIn}
+use Rattle.rv_sources_link_laws.proofs.statements.SettledLemmas.{IsBare, IsLaidIn}
 use Rattle.rv_sources_link_laws.proofs.statements.FieldedLemmas.{IsPlain, data_each, sized_each, plain_part}
 use Rattle.rv_sources_link_laws.proofs.statements.EvensLemmas.{even_by}
 
@@ -101,20 +101,20 @@ byte_valid (Faulty c) = tt
 -- ---- the two sorts of statements
 
 -- the statement at an offset
-abbrev pub at : ℕ → Site → Site
+abbrev pub at : ℕ → LaidStatement → LaidStatement
 at n z = record { located = z.located; offset = n; bytes = z.bytes; instructions = z.instructions; coded = z.coded }
 
 -- and with so many bytes of padding
-abbrev pub padded : ℕ → ℕ → Site → Site
+abbrev pub padded : ℕ → ℕ → LaidStatement → LaidStatement
 padded n b z = record { located = z.located; offset = n; bytes = b; instructions = operations_in b; coded = z.coded }
 
-pub record IsPlainSite (t : Tables) (section : SourceSection) (multiple : ℕ) (z : Site) (kind : StatementKind) : Type 0 where
+pub record IsPlainLaid (t : Tables) (section : SourceSection) (multiple : ℕ) (z : LaidStatement) (kind : StatementKind) : Type 0 where
   pub same : (n : ℕ) → shrunk.shrunk_templates t (at n z) kind ≡ assembled_templates t z kind
   pub none : AllByRecursion IsPlain (assembled_templates t z kind)
   pub sized : (n : ℕ) → (section.executable ≡ false → n ≡ z.offset) → z.located.placed ≡ true → shrunk.HasShrunkSize (form t z.located) (at n z) multiple kind
   pub even : section.executable ≡ true → z.bytes % 2 ≡ 0
 
-pub record IsPadSite (t : Tables) (section : SourceSection) (multiple : ℕ) (z : Site) (kind : StatementKind) : Type 0 where
+pub record IsPadLaid (t : Tables) (section : SourceSection) (multiple : ℕ) (z : LaidStatement) (kind : StatementKind) : Type 0 where
   pub code : section.executable ≡ true
   pub a : ℕ
   pub power : IsPower a
@@ -134,7 +134,7 @@ high a h =
     by_power (λ a. (is_low (Some a) ≡ false) × (0 < a - 2)) (refl, omega arith) (refl, omega arith) (refl, omega arith) (refl, omega arith) (refl, omega arith) (refl, omega arith)
     (refl, omega arith) (refl, omega arith) (refl, omega arith) (refl, omega arith) (refl, omega arith) a h
 
-pub bare_before : (kind : StatementKind) → ((all : Tables) (z : Site) → shrunk.shrunk_templates all z kind ≡ []) → (all : Tables) (z : Site) → assembled_templates all z kind ≡ []
+pub bare_before : (kind : StatementKind) → ((all : Tables) (z : LaidStatement) → shrunk.shrunk_templates all z kind ≡ []) → (all : Tables) (z : LaidStatement) → assembled_templates all z kind ≡ []
 bare_before (Label name) h all z = refl
 bare_before (Numbered number) h all z = refl
 bare_before (Instruction m os) h all z = h all z
@@ -154,15 +154,15 @@ bare_before (Directs (Aligns_to_bytes e)) h all z = absurd (never z.located.home
 bare_before (Directs (Sets name e)) h all z = refl
 bare_before (Directs _) h all z = refl
 
-module _ (t : Tables) (section : SourceSection) (multiple : ℕ) (z : Site) (home : z.located.home ≡ section) where
+module _ (t : Tables) (section : SourceSection) (multiple : ℕ) (z : LaidStatement) (home : z.located.home ≡ section) where
   abbrev v : Expression → Value
   v = form t z.located
 
   abbrev Plain : StatementKind → Type 0
-  Plain kind = IsPlainSite t section multiple z kind
+  Plain kind = IsPlainLaid t section multiple z kind
 
   abbrev Pad : StatementKind → Type 0
-  Pad kind = IsPadSite t section multiple z kind
+  Pad kind = IsPadLaid t section multiple z kind
 
   no_code : {A : Type 0} → section.executable ≡ false → section.executable ≡ true → A
   no_code aside code = let e : true ≡ false = sym code ∙ aside in absurd (cc)
@@ -275,7 +275,7 @@ module _ (t : Tables) (section : SourceSection) (multiple : ℕ) (z : Site) (hom
         even = λ code. ap (λ n. n % 2) (bytes ∙ ap (λ l. length (flat_map part_bytes (map (part_of z.located.ordinal) l))) before);
       }
 
-  pub sort_of : (index : ℕ) → IsSiteIn index section z → z.bytes ≡ length (flat_map part_bytes (parts_of t z)) → (z.located.placed ≡ true → HasSize v z multiple z.located.kind)
+  pub sort_of : (index : ℕ) → IsLaidIn index section z → z.bytes ≡ length (flat_map part_bytes (parts_of t z)) → (z.located.placed ≡ true → HasSize v z multiple z.located.kind)
       → Plain z.located.kind ⊎ Pad z.located.kind
   sort_of index is bytes size = go z.located.placed refl
     where

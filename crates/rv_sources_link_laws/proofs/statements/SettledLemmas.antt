@@ -18,7 +18,7 @@ use Rattle.rv_source_laws.proofs.HomesLemmas.{IsHomeIn, homes_from}
 use Rattle.rv_source_laws.proofs.LeftLemmas.{is_held_left}
 use Rattle.rv_map.specs.declared.map.Row.{Row as MapRow}
 use Rattle.rv_assemble_laws.specs.Refusals.{statements_fault}
-use Rattle.rv_assemble_laws.specs.Sites.{Site, Part, part_bytes, sites_in, end_of}
+use Rattle.rv_assemble_laws.specs.LaidStatements.{LaidStatement, Part, part_bytes, laid_in, end_of}
 use Rattle.rv_assemble_laws.proofs.FaultlessLemmas.{no_first_fault}
 use Rattle.rv_object_laws.specs.Inputs.{Starts}
 use Rattle.rv_sources_link_laws.proofs.fields.PatchesLemmas.{written_from}
@@ -29,7 +29,7 @@ use Rattle.rv_sources_link_laws.proofs.moves.ShrunkLemmas.{shrunk_templates, par
 -- ---- a statement
 
 -- a statement without a place has no bytes
-unplaced_by : (t : Tables) (k : ℕ) (kind : StatementKind) → is_placed t k kind ≡ false → (all : Tables) (z : Site) → shrunk_templates all z kind ≡ []
+unplaced_by : (t : Tables) (k : ℕ) (kind : StatementKind) → is_placed t k kind ≡ false → (all : Tables) (z : LaidStatement) → shrunk_templates all z kind ≡ []
 unplaced_by t k (Label name) e all z = absurd (cc)
 unplaced_by t k (Numbered number) e all z = absurd (cc)
 unplaced_by t k (Instruction mnemonic operands) e all z = absurd (cc)
@@ -42,7 +42,7 @@ unplaced_by t k (Directs (Aligns_to_bytes x)) e all z = absurd (cc)
 unplaced_by t k (Directs _) e all z = refl
 
 abbrev pub IsBare : Located → Type 0
-IsBare l = l.placed ≡ false → (all : Tables) (z : Site) → shrunk_templates all z l.kind ≡ []
+IsBare l = l.placed ≡ false → (all : Tables) (z : LaidStatement) → shrunk_templates all z l.kind ≡ []
 
 bare_from : (file k : ℕ) (t : Tables) (ss : List Statement) → AllByRecursion IsBare (located_from file k t ss)
 bare_from file k t [] = tt
@@ -99,7 +99,7 @@ instructed_from file k t [] = tt
 instructed_from file k t (s ∷ ss) = (instruction_by t k s.kind, instructed_from file (suc k) (after t k s.kind) ss)
 
 -- what holds of each statement of a source without faults
-pub record IsSettled (sections : List Section) (s : Site) : Type 0 where
+pub record IsSettled (sections : List Section) (s : LaidStatement) : Type 0 where
   pub home : slice_get sections s.located.section ≡ Some s.located.home
   pub held : IsHeld s.located.home s.located.kind
   pub bare : IsBare s.located
@@ -107,41 +107,41 @@ pub record IsSettled (sections : List Section) (s : Site) : Type 0 where
   pub kind : IsKind s.located
   pub instructed : IsInstructed s.located
 
-pub of_located : (P : Located → Type 0) (sites : List Site) → AllByRecursion P (map (λ s. s.located) sites) → AllByRecursion (λ s. P s.located) sites
+pub of_located : (P : Located → Type 0) (laid : List LaidStatement) → AllByRecursion P (map (λ s. s.located) laid) → AllByRecursion (λ s. P s.located) laid
 of_located P [] h = tt
 of_located P (s ∷ ss) (h, hs) = (h, of_located P ss hs)
 
-settled_by : (sections : List Section) (sites : List Site) → AllByRecursion (λ s. IsHomeIn (λ f. sections) s.located) sites → AllByRecursion (λ s. Held s.located) sites
-    → AllByRecursion (λ s. IsBare s.located) sites → AllByRecursion (λ s. IsLabelled s.located) sites → AllByRecursion (λ s. IsKind s.located) sites
-    → AllByRecursion (λ s. IsInstructed s.located) sites → AllByRecursion (IsSettled sections) sites
+settled_by : (sections : List Section) (laid : List LaidStatement) → AllByRecursion (λ s. IsHomeIn (λ f. sections) s.located) laid → AllByRecursion (λ s. Held s.located) laid
+    → AllByRecursion (λ s. IsBare s.located) laid → AllByRecursion (λ s. IsLabelled s.located) laid → AllByRecursion (λ s. IsKind s.located) laid
+    → AllByRecursion (λ s. IsInstructed s.located) laid → AllByRecursion (IsSettled sections) laid
 settled_by sections [] h k b l q i = tt
 settled_by sections (s ∷ ss) (h, hs) (k, ks) (b, bs) (l, ls) (q, qs) (i, is) =
     (record { home = h; held = k; bare = b; labelled = l; kind = q; instructed = i }, settled_by sections ss hs ks bs ls qs is)
 
-pub settled_left : (ss : List Statement) (sites : List Site) (dropped : ℕ → Bool) → statements_fault ss ≡ None → map (λ s. s.located) sites ≡ map (masked dropped) (located_from 1 1 (at_start ss) ss)
-    → AllByRecursion (IsSettled (source_sections dropped ss)) sites
-settled_left ss sites dropped good is =
+pub settled_left : (ss : List Statement) (laid : List LaidStatement) (dropped : ℕ → Bool) → statements_fault ss ≡ None → map (λ s. s.located) laid ≡ map (masked dropped) (located_from 1 1 (at_start ss) ss)
+    → AllByRecursion (IsSettled (source_sections dropped ss)) laid
+settled_left ss laid dropped good is =
     let whole = (opened_of (tables ss)).sections in
     let sections = source_sections dropped ss in
-    let all : (P Q : Located → Type 0) → ((l : Located) → P l → Q (masked dropped l)) → AllByRecursion P (located_from 1 1 (at_start ss) ss) → AllByRecursion (λ s. Q s.located) sites =
-    λ P Q f h. of_located Q sites (subst (λ l. AllByRecursion Q l) (sym is) (all_masked P Q dropped f (located_from 1 1 (at_start ss) ss) h)) in
-    settled_by sections sites
+    let all : (P Q : Located → Type 0) → ((l : Located) → P l → Q (masked dropped l)) → AllByRecursion P (located_from 1 1 (at_start ss) ss) → AllByRecursion (λ s. Q s.located) laid =
+    λ P Q f h. of_located Q laid (subst (λ l. AllByRecursion Q l) (sym is) (all_masked P Q dropped f (located_from 1 1 (at_start ss) ss) h)) in
+    settled_by sections laid
     (all (IsHomeIn (λ f. whole)) (IsHomeIn (λ f. sections)) (λ l h. masked_at dropped l.section whole l.home h) (homes_from (λ f. whole) 1 1 (at_start ss) ss refl (text_section, refl)))
     (all Held Held (λ l h. is_held_left (dropped l.section) l.home l.kind h) (all_held ss (no_first_fault ss good)))
     (all IsBare IsBare (λ l h. h) (bare_from 1 1 (at_start ss) ss)) (all IsLabelled IsLabelled (λ l h. h) (labelled_from 1 1 (at_start ss) ss)) (all IsKind IsKind (λ l h. h) (kinds_from 1 1 (at_start ss) ss))
     (all IsInstructed IsInstructed (λ l h. h) (instructed_from 1 1 (at_start ss) ss))
 
 -- where nothing is dropped
-pub settled : (ss : List Statement) (sites : List Site) → statements_fault ss ≡ None → map (λ s. s.located) sites ≡ located_from 1 1 (at_start ss) ss
-    → AllByRecursion (IsSettled (opened_of (tables ss)).sections) sites
-settled ss sites good is =
-    subst (λ sections. AllByRecursion (IsSettled sections) sites) (no_section_masked 0 (opened_of (tables ss)).sections)
-    (settled_left ss sites (λ index. false) good (is ∙ sym (none_masked (located_from 1 1 (at_start ss) ss))))
+pub settled : (ss : List Statement) (laid : List LaidStatement) → statements_fault ss ≡ None → map (λ s. s.located) laid ≡ located_from 1 1 (at_start ss) ss
+    → AllByRecursion (IsSettled (opened_of (tables ss)).sections) laid
+settled ss laid good is =
+    subst (λ sections. AllByRecursion (IsSettled sections) laid) (no_section_masked 0 (opened_of (tables ss)).sections)
+    (settled_left ss laid (λ index. false) good (is ∙ sym (none_masked (located_from 1 1 (at_start ss) ss))))
 
 -- ---- the statements of a section
 
 -- a statement of the section of an index
-pub record IsSiteIn (index : ℕ) (section : Section) (s : Site) : Type 0 where
+pub record IsLaidIn (index : ℕ) (section : Section) (s : LaidStatement) : Type 0 where
   pub stands : s.located.section ≡ index
   pub home : s.located.home ≡ section
   pub held : IsHeld section s.located.kind
@@ -149,25 +149,25 @@ pub record IsSiteIn (index : ℕ) (section : Section) (s : Site) : Type 0 where
   pub kind : IsKind s.located
   pub instructed : IsInstructed s.located
 
-site_in : (sections : List Section) (index : ℕ) (section : Section) (s : Site) → slice_get sections index ≡ Some section → s.located.section ≡ index → IsSettled sections s → IsSiteIn index section s
-site_in sections index section s at stands h =
+statement_in : (sections : List Section) (index : ℕ) (section : Section) (s : LaidStatement) → slice_get sections index ≡ Some section → s.located.section ≡ index → IsSettled sections s → IsLaidIn index section s
+statement_in sections index section s at stands h =
     let both : Some s.located.home ≡ Some section = sym h.home ∙ ap (slice_get sections) stands ∙ at in
     let same : s.located.home ≡ section = cc in
     record { stands = stands; home = same; held = subst (λ x. IsHeld x s.located.kind) same h.held; bare = h.bare; kind = h.kind; instructed = h.instructed }
 
-pub sites_are_in : (sections : List Section) (index : ℕ) (section : Section) (sites : List Site) → slice_get sections index ≡ Some section
-    → AllByRecursion (IsSettled sections) sites → AllByRecursion (IsSiteIn index section) (sites_in index sites)
-sites_are_in sections index section [] at h = tt
-sites_are_in sections index section (s ∷ ss) at (h, hs) = go (s.located.section == index) refl (sites_are_in sections index section ss at hs)
+pub laid_are_in : (sections : List Section) (index : ℕ) (section : Section) (laid : List LaidStatement) → slice_get sections index ≡ Some section
+    → AllByRecursion (IsSettled sections) laid → AllByRecursion (IsLaidIn index section) (laid_in index laid)
+laid_are_in sections index section [] at h = tt
+laid_are_in sections index section (s ∷ ss) at (h, hs) = go (s.located.section == index) refl (laid_are_in sections index section ss at hs)
   where
-    go : (b : Bool) → (s.located.section == index) ≡ b → AllByRecursion (IsSiteIn index section) (sites_in index ss)
-        → AllByRecursion (IsSiteIn index section) (if b then s ∷ sites_in index ss else sites_in index ss)
-    go true e ih = (site_in sections index section s at (eqb-true s.located.section index e) h, ih)
+    go : (b : Bool) → (s.located.section == index) ≡ b → AllByRecursion (IsLaidIn index section) (laid_in index ss)
+        → AllByRecursion (IsLaidIn index section) (if b then s ∷ laid_in index ss else laid_in index ss)
+    go true e ih = (statement_in sections index section s at (eqb-true s.located.section index e) h, ih)
     go false e ih = ih
 
 -- ---- rows and bytes
 
-no_row : (s : Site) (section : Section) (t : Tables) → s.located.home ≡ section → section.loaded ≡ true → IsBare s.located → has_row s.located ≡ false → parts_of t s ≡ []
+no_row : (s : LaidStatement) (section : Section) (t : Tables) → s.located.home ≡ section → section.loaded ≡ true → IsBare s.located → has_row s.located ≡ false → parts_of t s ≡ []
 no_row s section t home loaded bare none = go s.located.placed refl (ap (λ x. s.located.placed && x.loaded) (sym home) ∙ none)
   where
     go : (b : Bool) → s.located.placed ≡ b → (s.located.placed && section.loaded) ≡ false → parts_of t s ≡ []
@@ -187,13 +187,13 @@ written_join w offset (x ∷ xs) ys =
     ∙ sym (append_assoc (w offset x) (written_from w next xs) (written_from w (offset + length (flat_map part_bytes (x ∷ xs))) ys))
 
 module _ (starts : Starts) (file : ℕ) (t : Tables) (index : ℕ) (section : Section) (loaded : section.loaded ≡ true) where
-  abbrev rows : List Site → List MapRow
-  rows sites = map (λ s. s.row) (mapped_from starts file sites)
+  abbrev rows : List LaidStatement → List MapRow
+  rows laid = map (λ s. s.row) (mapped_from starts file laid)
 
-  bytes_none : (s : Site) → IsSiteIn index section s → s.bytes ≡ length (flat_map part_bytes (parts_of t s)) → has_row s.located ≡ false → s.bytes ≡ 0
+  bytes_none : (s : LaidStatement) → IsLaidIn index section s → s.bytes ≡ length (flat_map part_bytes (parts_of t s)) → has_row s.located ≡ false → s.bytes ≡ 0
   bytes_none s is bytes none = bytes ∙ ap (λ l. length (flat_map part_bytes l)) (no_row s section t is.home loaded is.bare none)
 
-  pub follows : (offset : ℕ) (sites : List Site) → AllByRecursion (IsSiteIn index section) sites → Tile t offset sites → Follow (starts file index + offset) (rows sites)
+  pub follows : (offset : ℕ) (laid : List LaidStatement) → AllByRecursion (IsLaidIn index section) laid → Tile t offset laid → Follow (starts file index + offset) (rows laid)
   follows offset [] h tile = tt
   follows offset (s ∷ ss) (h, hs) (at, bytes, tile) = go (has_row s.located) refl (follows (offset + s.bytes) ss hs tile)
     where
@@ -207,7 +207,7 @@ module _ (starts : Starts) (file : ℕ) (t : Tables) (index : ℕ) (section : Se
           let none = bytes_none s h bytes e in
           subst (λ n. Follow n (rows ss)) (let f : starts file index + (offset + s.bytes) ≡ starts file index + offset = omega (arith, none) in f) ih
 
-  pub sized : (offset : ℕ) (sites : List Site) → AllByRecursion (IsSiteIn index section) sites → Tile t offset sites → offset + size (rows sites) ≡ end_of offset sites
+  pub sized : (offset : ℕ) (laid : List LaidStatement) → AllByRecursion (IsLaidIn index section) laid → Tile t offset laid → offset + size (rows laid) ≡ end_of offset laid
   sized offset [] h tile = omega arith
   sized offset (s ∷ ss) (h, hs) (at, bytes, tile) = go (has_row s.located) refl (sized (offset + s.bytes) ss hs tile)
     where
@@ -221,9 +221,9 @@ module _ (starts : Starts) (file : ℕ) (t : Tables) (index : ℕ) (section : Se
           (let f : offset + size (rows ss) ≡ offset + s.bytes + size (rows ss) = omega (arith, none) in f) ∙ ih
 
   -- the bytes of the statements that have rows are those of all statements' parts
-  pub bytes_are : (bytes : Mapped → List ℕ) (w : ℕ → Part → List ℕ) (offset : ℕ) (sites : List Site) → AllByRecursion (IsSiteIn index section) sites → Tile t offset sites
-      → AllByRecursion (λ s. has_row s.located ≡ true → bytes (mapped_at starts file s) ≡ written_from w s.offset (parts_of t s)) sites
-      → flat_map bytes (mapped_from starts file sites) ≡ written_from w offset (parts t sites)
+  pub bytes_are : (bytes : Mapped → List ℕ) (w : ℕ → Part → List ℕ) (offset : ℕ) (laid : List LaidStatement) → AllByRecursion (IsLaidIn index section) laid → Tile t offset laid
+      → AllByRecursion (λ s. has_row s.located ≡ true → bytes (mapped_at starts file s) ≡ written_from w s.offset (parts_of t s)) laid
+      → flat_map bytes (mapped_from starts file laid) ≡ written_from w offset (parts t laid)
   bytes_are bytes w offset [] h tile e = refl
   bytes_are bytes w offset (s ∷ ss) (h, hs) (at, size, tile) (e, es) = go (has_row s.located) refl (bytes_are bytes w (offset + s.bytes) ss hs tile es)
     where
@@ -247,16 +247,16 @@ module _ (starts : Starts) (file : ℕ) (t : Tables) (index : ℕ) (section : Se
 -- ---- all of a file
 
 -- what holds of the statements of each section holds of all
-pub of_sections : (sections : List Section) (P : Site → Type 0) (rest : List Site) → AllByRecursion (IsSettled sections) rest
-    → ((j : ℕ) (s : Section) → slice_get sections j ≡ Some s → AllByRecursion P (sites_in j rest)) → AllByRecursion P rest
+pub of_sections : (sections : List Section) (P : LaidStatement → Type 0) (rest : List LaidStatement) → AllByRecursion (IsSettled sections) rest
+    → ((j : ℕ) (s : Section) → slice_get sections j ≡ Some s → AllByRecursion P (laid_in j rest)) → AllByRecursion P rest
 of_sections sections P [] h each = tt
 of_sections sections P (z ∷ rest) (h, hs) each =
     (first (z.located.section == z.located.section) (eq-eqb z.located.section z.located.section refl) (each z.located.section z.located.home h.home), of_sections sections P rest hs (λ j s at. later j (z.located.section == j) (each j s at)))
   where
-    first : (b : Bool) → b ≡ true → AllByRecursion P (if b then z ∷ sites_in z.located.section rest else sites_in z.located.section rest) → P z
+    first : (b : Bool) → b ≡ true → AllByRecursion P (if b then z ∷ laid_in z.located.section rest else laid_in z.located.section rest) → P z
     first true e (one, more) = one
     first false e more = absurd (cc)
 
-    later : (j : ℕ) (b : Bool) → AllByRecursion P (if b then z ∷ sites_in j rest else sites_in j rest) → AllByRecursion P (sites_in j rest)
+    later : (j : ℕ) (b : Bool) → AllByRecursion P (if b then z ∷ laid_in j rest else laid_in j rest) → AllByRecursion P (laid_in j rest)
     later j true (one, more) = more
     later j false more = more

@@ -6,20 +6,20 @@ use Rattle.rv_text_laws.specs.Values.{Value}
 use Rattle.rv_statement.specs.Statement.{Label, Expression}
 use Rattle.rv_unit_laws.specs.Tables.{at_start, tables}
 use Rattle.rv_source_laws.specs.Located.{located_now, located_from}
-use Rattle.rv_assemble_laws.specs.Sites.{Site, form}
+use Rattle.rv_assemble_laws.specs.LaidStatements.{LaidStatement, form}
 use Rattle.rv_isa.specs.declared.instruction.Inst.TheVariants as inst
 use Rattle.rv_statement.specs.declared.mnemonic.Mnemonic.TheVariants.{Ecall}
 use Rattle.rv_pseudo_laws.specs.Code.{Closed}
 use Rattle.rv_assemble_laws.specs.Coded.{IsCode}
 use Rattle.rv_assemble_laws.specs.IsObjectOf.{IsObjectOf}
 use Rattle.rv_source_laws.proofs.SettlingLemmas.{settled_least}
-use Rattle.rv_sources_link_laws.specs.TwoFiles.{first_source, second_source, first_object, second_object, first_sites, second_sites, first_number, second_number}
+use Rattle.rv_sources_link_laws.specs.TwoFiles.{first_source, second_source, first_object, second_object, first_laid, second_laid, first_number, second_number}
 
-no_site : Site
-no_site = record { located = located_now 1 1 (at_start []) (record { line = 1; kind = Label [] }); offset = 0; bytes = 0; instructions = 0; coded = [] }
+no_laid : LaidStatement
+no_laid = record { located = located_now 1 1 (at_start []) (record { line = 1; kind = Label [] }); offset = 0; bytes = 0; instructions = 0; coded = [] }
 
-abbrev nth : List Site → ℕ → Site
-nth sites n = slice_index_or sites n no_site
+abbrev nth : List LaidStatement → ℕ → LaidStatement
+nth laid n = slice_index_or laid n no_laid
 
 -- the one instruction of each, with compressed code off
 ecall : (v : Expression → Value) → IsCode v false Ecall [] 4 ((0x73 ∷ 0 ∷ 0 ∷ 0 ∷ []) ∷ []) 1
@@ -35,10 +35,10 @@ pub first_is : IsObjectOf first_source first_object
 unfolding int_wrap
 first_is = record {
   good = refl;
-  sites = first_sites;
+  laid = first_laid;
   located = refl;
   places = tt;
-  least = settled_least (located_from 1 1 (at_start first_source) first_source) (map (λ s. s.bytes) first_sites) refl;
+  least = settled_least (located_from 1 1 (at_start first_source) first_source) (map (λ s. s.bytes) first_laid) refl;
   number = first_number;
   sections = (
     record {
@@ -53,7 +53,7 @@ first_is = record {
       contents = refl;
       relocations = refl;
       numbered = λ e. (tt, tt);
-      sizes = ((λ e. (refl, refl)), ((λ e. (refl, refl)), ((λ e. (refl, refl)), ((λ e. ecall (form (tables first_source) (nth first_sites 3).located)), tt))));
+      sizes = ((λ e. (refl, refl)), ((λ e. (refl, refl)), ((λ e. (refl, refl)), ((λ e. ecall (form (tables first_source) (nth first_laid 3).located)), tt))));
       fields = (tt, tt);
       short = λ e. omega arith;
     },
@@ -69,7 +69,7 @@ first_is = record {
         tile = (refl, refl, (refl, refl, (refl, refl, (refl, refl, (refl, refl, (refl, refl, tt))))));
         contents = refl;
         relocations = refl;
-        numbered = λ e. (((refl, refl, refl), tt), (((refl, refl, (nth first_sites 5, refl, refl, refl)), tt), (((refl, refl, refl), ((refl, refl, refl), tt)), (((refl, refl, (nth first_sites 9, refl, refl, refl)), tt), tt))));
+        numbered = λ e. (((refl, refl, refl), tt), (((refl, refl, (nth first_laid 5, refl, refl, refl)), tt), (((refl, refl, refl), ((refl, refl, refl), tt)), (((refl, refl, (nth first_laid 9, refl, refl, refl)), tt), tt))));
         sizes = ((λ e. (refl, refl)), ((λ e. (refl, refl)), ((λ e. (refl, refl)), ((λ e. (refl, refl)), ((λ e. (refl, refl)), ((λ e. (refl, refl)), tt))))));
         fields = (inl refl, (inr refl, (inr (inr (inl refl)), (inr refl, tt))));
         short = λ e. omega arith;
@@ -86,10 +86,10 @@ pub second_is : IsObjectOf second_source second_object
 unfolding int_wrap
 second_is = record {
   good = refl;
-  sites = second_sites;
+  laid = second_laid;
   located = refl;
   places = ((λ e. absurd (cc)), tt);
-  least = settled_least (located_from 1 1 (at_start second_source) second_source) (map (λ s. s.bytes) second_sites) refl;
+  least = settled_least (located_from 1 1 (at_start second_source) second_source) (map (λ s. s.bytes) second_laid) refl;
   number = second_number;
   sections = (
     record {
@@ -104,7 +104,7 @@ second_is = record {
       contents = refl;
       relocations = refl;
       numbered = λ e. (tt, (tt, tt));
-      sizes = ((λ e. (refl, refl)), ((λ e. (refl, refl)), ((λ e. (refl, refl)), ((λ e. ecall (form (tables second_source) (nth second_sites 13).located)), ((λ e. (refl, (omega arith, refl), (refl, refl))), tt)))));
+      sizes = ((λ e. (refl, refl)), ((λ e. (refl, refl)), ((λ e. (refl, refl)), ((λ e. ecall (form (tables second_source) (nth second_laid 13).located)), ((λ e. (refl, (omega arith, refl), (refl, refl))), tt)))));
       fields = (tt, (tt, tt));
       short = λ e. omega arith;
     },
@@ -120,7 +120,7 @@ second_is = record {
         tile = (refl, refl, (refl, refl, (refl, refl, (refl, refl, (refl, refl, (refl, refl, (refl, refl, (refl, refl, tt))))))));
         contents = refl;
         relocations = refl;
-        numbered = λ e. (tt, (tt, (((refl, refl, (nth second_sites 2, refl, refl, refl)), tt), tt)));
+        numbered = λ e. (tt, (tt, (((refl, refl, (nth second_laid 2, refl, refl, refl)), tt), tt)));
         sizes = ((λ e. (refl, refl)), ((λ e. (refl, refl)), ((λ e. (refl, refl)), ((λ e. (refl, refl)), ((λ e. (refl, refl)), ((λ e. (refl, refl)), ((λ e. (refl, refl)), ((λ e. (refl, refl)), tt))))))));
         fields = (tt, (tt, (inl refl, tt)));
         short = λ e. omega arith;

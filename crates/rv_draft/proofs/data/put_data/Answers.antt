@@ -9,7 +9,7 @@ use Rattle.rv_statement.specs.View.{bytes_of, statement_kind}
 use Rattle.rv_statement.specs.declared.statement.StatementKind.TheVariants as kinds
 use Rattle.rv_unit_laws.specs.Tables.{longest_section}
 use Rattle.rv_assemble_laws.specs.Templates.{value_bytes, Datum}
-use Rattle.rv_assemble_laws.specs.Sites.{part_of, part_bytes}
+use Rattle.rv_assemble_laws.specs.LaidStatements.{part_of, part_bytes}
 use Rattle.rv_instruction.specs.Scoped.{values_at}
 use Rattle.rv_draft.specs.DataParts.{data_said, fields_said}
 use Rattle.rv_draft.specs.Draft.{field_of}

@@ -1,7 +1,7 @@
 use Rattle.std.proofs.Common.{ℕ, List, ◌++◌, ◌∙◌, ap}
 use Rattle.std.specs.Prelude.{flat_map}
 use Rattle.rv_statement.specs.View.{statement_kind}
-use Rattle.rv_assemble_laws.specs.Sites.{part_bytes}
+use Rattle.rv_assemble_laws.specs.LaidStatements.{part_bytes}
 use Rattle.rv_instruction.specs.Scoped.{values_at}
 use Rattle.rv_draft.specs.DataParts.{data_said}
 use Rattle.std.proofs.lemmas.Result.{on_ok_weaker}

@@ -3,7 +3,7 @@ use Rattle.std.specs.Prelude.{flat_map}
 use Rattle.rv_text.specs.Expr.{tree_of_expr}
 use Rattle.rv_statement.specs.View.{bytes_of}
 use Rattle.rv_assemble_laws.specs.Templates.{value_bytes, Datum}
-use Rattle.rv_assemble_laws.specs.Sites.{part_of}
+use Rattle.rv_assemble_laws.specs.LaidStatements.{part_of}
 use Rattle.rv_instruction.specs.Scoped.{values_at, AtNext}
 use Rattle.rv_draft.specs.DataParts.{fields_said}
 use Rattle.rv_draft.specs.Draft.{field_of}

@@ -22,7 +22,7 @@ number-requires c =
     few_after c.args.own.now c.in_ok-indices.indices.missing.now.keys c.args.missing.now.keys c.in_ok-indices.indices.count c.in_ok-indices.ensures.indices.counted c.in_ok-indices.ensures.indices.later c.requires.few
 
 pub loop-i-preserved : goal.loop-i-preserved
-loop-i-preserved c = λ sites t h defs.
+loop-i-preserved c = λ laid t h defs.
     let i = c.loop-i.i in
     let us = c.args.uses.now in
     let ds = c.args.definitions.now in
@@ -31,17 +31,17 @@ loop-i-preserved c = λ sites t h defs.
     let r = use_of (get_or us i no_use) in
     let inside : i < length us = search rules in
     let within : i < length ds = search rules in
-    numbers_more (λ r. number_by own names sites r.symbol (definition_in t r)) (uses_of us) i r c.loop-i.numbers.items _ _ _ (use_at us i no_use inside) c.in_ok-push.ensures.items
-    (c.number.ensures sites own names (subst (λ (x : Source). IsSource x sites) (sym c.in_ok-indices.ensures.source) h) c.in_ok-indices.ensures.indices
-    ∙ ap (number_by own names sites r.symbol) (found_at t us ds defs i no_use None inside within))
-    (c.loop-i.invariant sites t h defs)
+    numbers_more (λ r. number_by own names laid r.symbol (definition_in t r)) (uses_of us) i r c.loop-i.numbers.items _ _ _ (use_at us i no_use inside) c.in_ok-push.ensures.items
+    (c.number.ensures laid own names (subst (λ (x : Source). IsSource x laid) (sym c.in_ok-indices.ensures.source) h) c.in_ok-indices.ensures.indices
+    ∙ ap (number_by own names laid r.symbol) (found_at t us ds defs i no_use None inside within))
+    (c.loop-i.invariant laid t h defs)
 
 pub returns : goal.returns
-returns c = λ sites t h defs.
+returns c = λ laid t h defs.
     let i = c.loop-i.i in
     let us = c.args.uses.now in
     let past : length us ≤ i = c.loop-i-test.false in
     let none : drop i (uses_of us) ≡ [] = at_drop_all (λ l. l) (uses_of us) i (subst (λ n. n ≤ i) (sym (length-map us use_of)) past) in
     sym (append-nil c.loop-i.numbers.items)
-    ∙ ap (λ l. c.loop-i.numbers.items ++ map (λ (r : SaidUse). number_by (map symbol_of c.args.own.now) (map now_of c.args.missing.now.keys) sites r.symbol (definition_in t r)) l) (sym none)
-    ∙ c.loop-i.invariant sites t h defs
+    ∙ ap (λ l. c.loop-i.numbers.items ++ map (λ (r : SaidUse). number_by (map symbol_of c.args.own.now) (map now_of c.args.missing.now.keys) laid r.symbol (definition_in t r)) l) (sym none)
+    ∙ c.loop-i.invariant laid t h defs

@@ -7,11 +7,11 @@ use Rattle.rv_statement.specs.Statement.{Statement}
 use Rattle.rv_unit.specs.Unit.{said}
 use Rattle.rv_assemble_laws.specs.ShownNames.{said_names, are_shown}
 use Rattle.std.proofs.lemmas.List.{length-map, map-append}
-use Rattle.rv_assemble_laws.specs.Sites.{Site}
+use Rattle.rv_assemble_laws.specs.LaidStatements.{LaidStatement}
 use Rattle.rv_assemble_laws.specs.Symbols.{references, is_meant, local_symbols, exports_of, exports}
 use Rattle.rv_symbols.specs.Source.{tables_of, place_in}
 use Rattle.rv_symbols.specs.Found.{same_place, is_seen, any_means}
-use Rattle.rv_symbols.proofs.StandsLemmas.{ordinal_is, kind_at, sites_inside, sites_past, said_at}
+use Rattle.rv_symbols.proofs.StandsLemmas.{ordinal_is, kind_at, laid_inside, laid_past, said_at}
 use Rattle.rv_symbols.proofs.NamingLemmas.{all_got, there_is, drop_next, take_next, locals_more, seen_more, two_more}
 use Rattle.rv_symbols.proofs.own.own_symbols.Goals as goal
 
@@ -41,45 +41,45 @@ loop-i-preserved c =
     record {
       few = two_more (length c.loop-i.symbols.items) (length c.put_both.new.symbols.items) i c.loop-i.invariant.few c.in_ok-put_both.ensures.few;
       few_exported = next_few (length c.loop-i.exported.items) (length c.put_both.new.exported.items) i c.loop-i.invariant.few_exported c.in_ok-put_both.ensures.few_exported;
-      exported = λ sites h.
-          let found = there_is sites i (sites_inside x sites h i inside) in
-          let s : Site = found.0 in
+      exported = λ laid h.
+          let found = there_is laid i (laid_inside x laid h i inside) in
+          let s : LaidStatement = found.0 in
           let old = map symbol_of c.loop-i.exported.items in
-          ap (λ l. l ++ flat_map (exports_of t sites) (drop (i + 1) sites)) (c.in_ok-put_both.ensures.exported sites s h found.1 (kind_at x sites h i s found.1 y inside is))
-          ∙ append_assoc old (exports_of t sites s) (flat_map (exports_of t sites) (drop (i + 1) sites))
-          ∙ ap (λ l. old ++ flat_map (exports_of t sites) l) (sym (drop_next sites i s found.1))
-          ∙ c.loop-i.invariant.exported sites h;
-      symbols = λ sites h marks.
-          let rs = references t sites in
-          let found = there_is sites i (sites_inside x sites h i inside) in
-          let s : Site = found.0 in
-          let m : get_or meant i false ≡ is_meant t rs s = marks i within ∙ ap (λ n. any_means t n rs) (sym (ordinal_is x sites h i s found.1)) in
-          ap (λ l. map symbol_of c.put_both.new.symbols.items ++ local_symbols t sites l (drop (i + 1) sites)) (take_next sites i s found.1)
-          ∙ locals_more t sites (take i sites) (drop (i + 1) sites) s rs (get_or meant i false) (contains same_place c.loop-i.seen (place_in s)) (map symbol_of c.loop-i.symbols.items) _ _
-          m (c.loop-i.invariant.seen sites h marks (place_in s)) refl (c.in_ok-put_both.ensures.symbols sites s h found.1 (kind_at x sites h i s found.1 y inside is))
-          (ap (λ l. map symbol_of c.loop-i.symbols.items ++ local_symbols t sites (take i sites) l) (sym (drop_next sites i s found.1)) ∙ c.loop-i.invariant.symbols sites h marks);
-      seen = λ sites h marks q.
-          let rs = references t sites in
-          let found = there_is sites i (sites_inside x sites h i inside) in
-          let s : Site = found.0 in
-          let m : get_or meant i false ≡ is_meant t rs s = marks i within ∙ ap (λ n. any_means t n rs) (sym (ordinal_is x sites h i s found.1)) in
-          seen_more t sites rs (take i sites) s (get_or meant i false) (contains same_place c.loop-i.seen q) (contains same_place c.put_both.new.seen q) q m (c.loop-i.invariant.seen sites h marks q)
-          (c.in_ok-put_both.ensures.seen sites s h found.1 q)
-          ∙ ap (λ l. is_seen t rs l q) (sym (take_next sites i s found.1));
+          ap (λ l. l ++ flat_map (exports_of t laid) (drop (i + 1) laid)) (c.in_ok-put_both.ensures.exported laid s h found.1 (kind_at x laid h i s found.1 y inside is))
+          ∙ append_assoc old (exports_of t laid s) (flat_map (exports_of t laid) (drop (i + 1) laid))
+          ∙ ap (λ l. old ++ flat_map (exports_of t laid) l) (sym (drop_next laid i s found.1))
+          ∙ c.loop-i.invariant.exported laid h;
+      symbols = λ laid h marks.
+          let rs = references t laid in
+          let found = there_is laid i (laid_inside x laid h i inside) in
+          let s : LaidStatement = found.0 in
+          let m : get_or meant i false ≡ is_meant t rs s = marks i within ∙ ap (λ n. any_means t n rs) (sym (ordinal_is x laid h i s found.1)) in
+          ap (λ l. map symbol_of c.put_both.new.symbols.items ++ local_symbols t laid l (drop (i + 1) laid)) (take_next laid i s found.1)
+          ∙ locals_more t laid (take i laid) (drop (i + 1) laid) s rs (get_or meant i false) (contains same_place c.loop-i.seen (place_in s)) (map symbol_of c.loop-i.symbols.items) _ _
+          m (c.loop-i.invariant.seen laid h marks (place_in s)) refl (c.in_ok-put_both.ensures.symbols laid s h found.1 (kind_at x laid h i s found.1 y inside is))
+          (ap (λ l. map symbol_of c.loop-i.symbols.items ++ local_symbols t laid (take i laid) l) (sym (drop_next laid i s found.1)) ∙ c.loop-i.invariant.symbols laid h marks);
+      seen = λ laid h marks q.
+          let rs = references t laid in
+          let found = there_is laid i (laid_inside x laid h i inside) in
+          let s : LaidStatement = found.0 in
+          let m : get_or meant i false ≡ is_meant t rs s = marks i within ∙ ap (λ n. any_means t n rs) (sym (ordinal_is x laid h i s found.1)) in
+          seen_more t laid rs (take i laid) s (get_or meant i false) (contains same_place c.loop-i.seen q) (contains same_place c.put_both.new.seen q) q m (c.loop-i.invariant.seen laid h marks q)
+          (c.in_ok-put_both.ensures.seen laid s h found.1 q)
+          ∙ ap (λ l. is_seen t rs l q) (sym (take_next laid i s found.1));
     }
 
 pub returns-clause-symbols : goal.returns-clause-symbols
-returns-clause-symbols c = λ sites h marks.
+returns-clause-symbols c = λ laid h marks.
     let i = c.loop-i.i in
     let x = c.args.source.now in
     let t = tables_of x in
     let past : length x.unit.now.statements.items ≤ i = subst (λ n. n ≤ i) (ap length c.statements-statements.ensures) c.loop-i-test.false in
-    let left = sites_past x sites h i past in
+    let left = laid_past x laid h i past in
     let locals = map symbol_of c.loop-i.symbols.items in
     let exported = map symbol_of c.loop-i.exported.items in
     ap (map symbol_of) c.in_ok-append.ensures.items
     ∙ map-append symbol_of c.loop-i.symbols.items c.loop-i.exported.items
     ∙ ap (λ l. l ++ exported)
-    (sym (append-nil locals) ∙ ap (λ l. locals ++ local_symbols t sites (take i sites) l) (sym left) ∙ c.loop-i.invariant.symbols sites h marks)
-    ∙ ap (λ l. local_symbols t sites [] sites ++ l)
-    (sym (append-nil exported) ∙ ap (λ l. exported ++ flat_map (exports_of t sites) l) (sym left) ∙ c.loop-i.invariant.exported sites h)
+    (sym (append-nil locals) ∙ ap (λ l. locals ++ local_symbols t laid (take i laid) l) (sym left) ∙ c.loop-i.invariant.symbols laid h marks)
+    ∙ ap (λ l. local_symbols t laid [] laid ++ l)
+    (sym (append-nil exported) ∙ ap (λ l. exported ++ flat_map (exports_of t laid) l) (sym left) ∙ c.loop-i.invariant.exported laid h)

@@ -10,17 +10,17 @@ use Rattle.rv_symbols.specs.Found.{same_place}
 use Rattle.rv_symbols.proofs.own.put_both.Goals as goal
 
 pub returns-clause-symbols : goal.returns-clause-symbols
-returns-clause-symbols c = λ sites s h at kind.
+returns-clause-symbols c = λ laid s h at kind.
     let x = c.args.source.now in
     let old = map symbol_of c.args.symbols.now.items in
-    let named = named_symbols (tables_of x) sites s in
+    let named = named_symbols (tables_of x) laid s in
     let one : ℕ × ℕ → List Symbol = λ p. if c.args.meant && not (contains same_place c.args.seen.now p) then local_symbol [] (InSection p.0 p.1) ∷ [] else [] in
-    c.in_ok-put_name.ensures.symbols sites s h at kind
+    c.in_ok-put_name.ensures.symbols laid s h at kind
     ∙ ap (λ l. l ++ named) c.in_ok-put_unnamed.ensures.symbols
     ∙ append_assoc old (one c.here.result) named
-    ∙ ap (λ p. old ++ (one p ++ named)) (c.here.ensures sites s h at)
+    ∙ ap (λ p. old ++ (one p ++ named)) (c.here.ensures laid s h at)
 
 pub returns-clause-seen : goal.returns-clause-seen
-returns-clause-seen c = λ sites s h at q.
+returns-clause-seen c = λ laid s h at q.
     c.in_ok-put_unnamed.ensures.seen q
-    ∙ ap (λ p. contains same_place c.args.seen.now q || c.args.meant && same_place p q) (c.here.ensures sites s h at)
+    ∙ ap (λ p. contains same_place c.args.seen.now q || c.args.meant && same_place p q) (c.here.ensures laid s h at)

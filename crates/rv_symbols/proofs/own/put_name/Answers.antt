@@ -6,7 +6,7 @@ use Rattle.rv_source_laws.specs.Exports.{defined_name}
 use Rattle.rv_object.specs.declared.symbol.Binding.{Binding}
 use Rattle.rv_object.specs.Object.{Symbol}
 use Rattle.rv_object.specs.Parts.{symbol_of}
-use Rattle.rv_assemble_laws.specs.Symbols.{local_symbol, shared_symbol, site_definition, named_symbols, exports_of}
+use Rattle.rv_assemble_laws.specs.Symbols.{local_symbol, shared_symbol, statement_definition, named_symbols, exports_of}
 use Rattle.rv_symbols.specs.Source.{name_in, tables_of}
 use Rattle.rv_symbols.specs.Found.{is_number}
 use Rattle.rv_symbols.proofs.StandsLemmas.{ordinal_is}
@@ -14,95 +14,95 @@ use Rattle.rv_symbols.proofs.NamingLemmas.{local_none, local_shared, local_numbe
 use Rattle.rv_symbols.proofs.own.put_name.Goals as goal
 
 pub returns-in_default-clause-symbols : goal.returns-in_default-clause-symbols
-returns-in_default-clause-symbols c = λ sites s h at kind.
+returns-in_default-clause-symbols c = λ laid s h at kind.
     let x = c.args.source.now in
     let t = tables_of x in
     let old = map symbol_of c.args.symbols.now.items in
     sym (append-nil old) ∙ ap (λ l. old ++ l)
-    (local_none (λ n. is_shared (t.bindings n)) (site_definition t sites s s.located.kind) (defined_name t s.located.ordinal s.located.kind)
-    (ap name_in (sym c.in_default.is) ∙ named_at t _ c.args.index s (statement_of c.args.statement.now).kind (ordinal_is x sites h c.args.index s at) kind (c.defined.ensures.name sites h)))
+    (local_none (λ n. is_shared (t.bindings n)) (statement_definition t laid s s.located.kind) (defined_name t s.located.ordinal s.located.kind)
+    (ap name_in (sym c.in_default.is) ∙ named_at t _ c.args.index s (statement_of c.args.statement.now).kind (ordinal_is x laid h c.args.index s at) kind (c.defined.ensures.name laid h)))
 
 pub returns-in_default-clause-exported : goal.returns-in_default-clause-exported
-returns-in_default-clause-exported c = λ sites s h at kind.
+returns-in_default-clause-exported c = λ laid s h at kind.
     let x = c.args.source.now in
     let t = tables_of x in
     let old = map symbol_of c.args.exported.now.items in
     sym (append-nil old) ∙ ap (λ l. old ++ l)
-    (shared_none t (λ n. is_shared (t.bindings n)) (site_definition t sites s s.located.kind) (defined_name t s.located.ordinal s.located.kind)
-    (ap name_in (sym c.in_default.is) ∙ named_at t _ c.args.index s (statement_of c.args.statement.now).kind (ordinal_is x sites h c.args.index s at) kind (c.defined.ensures.name sites h)))
+    (shared_none t (λ n. is_shared (t.bindings n)) (statement_definition t laid s s.located.kind) (defined_name t s.located.ordinal s.located.kind)
+    (ap name_in (sym c.in_default.is) ∙ named_at t _ c.args.index s (statement_of c.args.statement.now).kind (ordinal_is x laid h c.args.index s at) kind (c.defined.ensures.name laid h)))
 
 pub returns-then-is_shared-clause-symbols : goal.returns-then-is_shared-clause-symbols
-returns-then-is_shared-clause-symbols c = λ sites s h at kind.
+returns-then-is_shared-clause-symbols c = λ laid s h at kind.
     let x = c.args.source.now in
     let t = tables_of x in
     let old = map symbol_of c.args.symbols.now.items in
     sym (append-nil old) ∙ ap (λ l. old ++ l)
-    (local_shared (λ n. is_shared (t.bindings n)) (site_definition t sites s s.located.kind) (defined_name t s.located.ordinal s.located.kind) c.in-Some.name.now
-    (ap name_in (sym c.in-Some.is) ∙ named_at t _ c.args.index s (statement_of c.args.statement.now).kind (ordinal_is x sites h c.args.index s at) kind (c.defined.ensures.name sites h))
-    (sym (c.is_shared.ensures sites h) ∙ c.if-is_shared.true))
+    (local_shared (λ n. is_shared (t.bindings n)) (statement_definition t laid s s.located.kind) (defined_name t s.located.ordinal s.located.kind) c.in-Some.name.now
+    (ap name_in (sym c.in-Some.is) ∙ named_at t _ c.args.index s (statement_of c.args.statement.now).kind (ordinal_is x laid h c.args.index s at) kind (c.defined.ensures.name laid h))
+    (sym (c.is_shared.ensures laid h) ∙ c.if-is_shared.true))
 
 pub returns-then-is_shared-clause-exported : goal.returns-then-is_shared-clause-exported
-returns-then-is_shared-clause-exported c = λ sites s h at kind.
+returns-then-is_shared-clause-exported c = λ laid s h at kind.
     let x = c.args.source.now in
     let t = tables_of x in
-    let d : c.definition-definition.result ≡ site_definition t sites s s.located.kind = c.definition-definition.ensures sites s h at ∙ ap (site_definition t sites s) kind in
+    let d : c.definition-definition.result ≡ statement_definition t laid s s.located.kind = c.definition-definition.ensures laid s h at ∙ ap (statement_definition t laid s) kind in
     let n = c.in-Some.name.now in
     let old = map symbol_of c.args.exported.now.items in
     let one : Binding → List Symbol = λ b. record { name = n; binding = b; definition = c.definition-definition.result } ∷ [] in
     ap (map symbol_of) c.in_ok-push.ensures.items ∙ map-append symbol_of c.args.exported.now.items _
-    ∙ ap (λ b. old ++ one b) (c.outer_binding-binding.ensures.binding sites h)
+    ∙ ap (λ b. old ++ one b) (c.outer_binding-binding.ensures.binding laid h)
     ∙ ap (λ l. old ++ l)
-    (subst (λ e. shared_symbol t n e ∷ [] ≡ exports_of t sites s) (sym d)
-    (shared_one t (λ n. is_shared (t.bindings n)) (site_definition t sites s s.located.kind) (defined_name t s.located.ordinal s.located.kind) n
-    (ap name_in (sym c.in-Some.is) ∙ named_at t _ c.args.index s (statement_of c.args.statement.now).kind (ordinal_is x sites h c.args.index s at) kind (c.defined.ensures.name sites h))
-    (sym (c.is_shared.ensures sites h) ∙ c.if-is_shared.true)))
+    (subst (λ e. shared_symbol t n e ∷ [] ≡ exports_of t laid s) (sym d)
+    (shared_one t (λ n. is_shared (t.bindings n)) (statement_definition t laid s s.located.kind) (defined_name t s.located.ordinal s.located.kind) n
+    (ap name_in (sym c.in-Some.is) ∙ named_at t _ c.args.index s (statement_of c.args.statement.now).kind (ordinal_is x laid h c.args.index s at) kind (c.defined.ensures.name laid h))
+    (sym (c.is_shared.ensures laid h) ∙ c.if-is_shared.true)))
 
 pub returns-then-is_number-clause-symbols : goal.returns-then-is_number-clause-symbols
-returns-then-is_number-clause-symbols c = λ sites s h at kind.
+returns-then-is_number-clause-symbols c = λ laid s h at kind.
     let x = c.args.source.now in
     let t = tables_of x in
-    let d : c.definition-definition.result ≡ site_definition t sites s s.located.kind = c.definition-definition.ensures sites s h at ∙ ap (site_definition t sites s) kind in
+    let d : c.definition-definition.result ≡ statement_definition t laid s s.located.kind = c.definition-definition.ensures laid s h at ∙ ap (statement_definition t laid s) kind in
     let old = map symbol_of c.args.symbols.now.items in
     sym (append-nil old) ∙ ap (λ l. old ++ l)
-    (local_number (λ n. is_shared (t.bindings n)) (site_definition t sites s s.located.kind) (defined_name t s.located.ordinal s.located.kind) c.in-Some.name.now
-    (ap name_in (sym c.in-Some.is) ∙ named_at t _ c.args.index s (statement_of c.args.statement.now).kind (ordinal_is x sites h c.args.index s at) kind (c.defined.ensures.name sites h))
-    (sym (c.is_shared.ensures sites h) ∙ c.if-is_shared.false)
+    (local_number (λ n. is_shared (t.bindings n)) (statement_definition t laid s s.located.kind) (defined_name t s.located.ordinal s.located.kind) c.in-Some.name.now
+    (ap name_in (sym c.in-Some.is) ∙ named_at t _ c.args.index s (statement_of c.args.statement.now).kind (ordinal_is x laid h c.args.index s at) kind (c.defined.ensures.name laid h))
+    (sym (c.is_shared.ensures laid h) ∙ c.if-is_shared.false)
     (ap is_number (sym d) ∙ sym c.is_number.ensures ∙ c.if-is_number.true))
 
 pub returns-then-is_number-clause-exported : goal.returns-then-is_number-clause-exported
-returns-then-is_number-clause-exported c = λ sites s h at kind.
+returns-then-is_number-clause-exported c = λ laid s h at kind.
     let x = c.args.source.now in
     let t = tables_of x in
     let old = map symbol_of c.args.exported.now.items in
     sym (append-nil old) ∙ ap (λ l. old ++ l)
-    (shared_local t (λ n. is_shared (t.bindings n)) (site_definition t sites s s.located.kind) (defined_name t s.located.ordinal s.located.kind) c.in-Some.name.now
-    (ap name_in (sym c.in-Some.is) ∙ named_at t _ c.args.index s (statement_of c.args.statement.now).kind (ordinal_is x sites h c.args.index s at) kind (c.defined.ensures.name sites h))
-    (sym (c.is_shared.ensures sites h) ∙ c.if-is_shared.false))
+    (shared_local t (λ n. is_shared (t.bindings n)) (statement_definition t laid s s.located.kind) (defined_name t s.located.ordinal s.located.kind) c.in-Some.name.now
+    (ap name_in (sym c.in-Some.is) ∙ named_at t _ c.args.index s (statement_of c.args.statement.now).kind (ordinal_is x laid h c.args.index s at) kind (c.defined.ensures.name laid h))
+    (sym (c.is_shared.ensures laid h) ∙ c.if-is_shared.false))
 
 pub returns-clause-symbols : goal.returns-clause-symbols
-returns-clause-symbols c = λ sites s h at kind.
+returns-clause-symbols c = λ laid s h at kind.
     let x = c.args.source.now in
     let t = tables_of x in
-    let d : c.definition-definition.result ≡ site_definition t sites s s.located.kind = c.definition-definition.ensures sites s h at ∙ ap (site_definition t sites s) kind in
+    let d : c.definition-definition.result ≡ statement_definition t laid s s.located.kind = c.definition-definition.ensures laid s h at ∙ ap (statement_definition t laid s) kind in
     let n = c.in-Some.name.now in
     let old = map symbol_of c.args.symbols.now.items in
     ap (map symbol_of) c.in_ok-push-2.ensures.items ∙ map-append symbol_of c.args.symbols.now.items _
     ∙ ap (λ l. old ++ l)
-    (subst (λ e. local_symbol n e ∷ [] ≡ named_symbols t sites s) (sym d)
-    (local_one (λ n. is_shared (t.bindings n)) (site_definition t sites s s.located.kind) (defined_name t s.located.ordinal s.located.kind) n
-    (ap name_in (sym c.in-Some.is) ∙ named_at t _ c.args.index s (statement_of c.args.statement.now).kind (ordinal_is x sites h c.args.index s at) kind (c.defined.ensures.name sites h))
-    (sym (c.is_shared.ensures sites h) ∙ c.if-is_shared.false)
+    (subst (λ e. local_symbol n e ∷ [] ≡ named_symbols t laid s) (sym d)
+    (local_one (λ n. is_shared (t.bindings n)) (statement_definition t laid s s.located.kind) (defined_name t s.located.ordinal s.located.kind) n
+    (ap name_in (sym c.in-Some.is) ∙ named_at t _ c.args.index s (statement_of c.args.statement.now).kind (ordinal_is x laid h c.args.index s at) kind (c.defined.ensures.name laid h))
+    (sym (c.is_shared.ensures laid h) ∙ c.if-is_shared.false)
     (ap is_number (sym d) ∙ sym c.is_number.ensures ∙ c.if-is_number.false)))
 
 pub returns-clause-exported : goal.returns-clause-exported
-returns-clause-exported c = λ sites s h at kind.
+returns-clause-exported c = λ laid s h at kind.
     let x = c.args.source.now in
     let t = tables_of x in
     let old = map symbol_of c.args.exported.now.items in
     sym (append-nil old) ∙ ap (λ l. old ++ l)
-    (shared_local t (λ n. is_shared (t.bindings n)) (site_definition t sites s s.located.kind) (defined_name t s.located.ordinal s.located.kind) c.in-Some.name.now
-    (ap name_in (sym c.in-Some.is) ∙ named_at t _ c.args.index s (statement_of c.args.statement.now).kind (ordinal_is x sites h c.args.index s at) kind (c.defined.ensures.name sites h))
-    (sym (c.is_shared.ensures sites h) ∙ c.if-is_shared.false))
+    (shared_local t (λ n. is_shared (t.bindings n)) (statement_definition t laid s s.located.kind) (defined_name t s.located.ordinal s.located.kind) c.in-Some.name.now
+    (ap name_in (sym c.in-Some.is) ∙ named_at t _ c.args.index s (statement_of c.args.statement.now).kind (ordinal_is x laid h c.args.index s at) kind (c.defined.ensures.name laid h))
+    (sym (c.is_shared.ensures laid h) ∙ c.if-is_shared.false))
 
 pub invariant_of-local : goal.invariant_of-local
 invariant_of-local c = record { shown = name_is_string c.in-Some.name.now (c.in-Some.ensures.shown c.requires.shown) }

@@ -32,45 +32,45 @@ numbers-requires-clause-few c =
     omega (arith, marked, stand, own, defined, missing, few)
 
 pub returns : goal.returns
-returns c = λ sites w.
+returns c = λ laid w.
     let u = c.args.unit.now in
     let ss = said u in
     let t = tables ss in
     let rs = uses_of c.args.uses.now in
     let x = c.in_ok-source.source in
     let unit = c.in_ok-source.ensures.unit in
-    let h : IsSource x sites = record {
+    let h : IsSource x laid = record {
       filled = subst IsFilled (sym unit) c.requires.filled;
       firsts = subst (λ v. AreFirsts x.firsts.ordinals (tables (said v)).assignments) (sym unit) (c.in_ok-source.ensures.firsts c.requires.filled);
       located = w.located ∙ ap (λ v. located_from 1 1 (at_start (said v)) (said v)) (sym unit);
       at = w.at ∙ sym c.in_ok-source.ensures.offsets;
     } in
     let same : tables_of x ≡ t = ap (λ v. tables (said v)) unit in
-    let rises : Rises 1 (length ss) rs = subst (Rises 1 (length ss)) w.named (rises_from t 1 (length ss) (at_start ss) ss sites w.located (omega arith)) in
+    let rises : Rises 1 (length ss) rs = subst (Rises 1 (length ss)) w.named (rises_from t 1 (length ss) (at_start ss) ss laid w.located (omega arith)) in
     let defs : map (option_map definition_of) c.in_ok-definitions.definitions.items ≡ map (definition_in t) rs = c.in_ok-definitions.ensures.found c.requires.filled rises in
     let meant = c.in_ok-meant.meant.items in
     let marks : AreMarks t rs meant (length c.args.offsets.now) = c.in_ok-meant.ensures.marks t (ap (map (option_map definition_of)) c.as_slice.ensures.value ∙ defs) in
-    let marked : AreMarks t (references t sites) meant (length meant) =
-    subst (λ n. AreMarks t (references t sites) meant n) (sym c.in_ok-meant.ensures.len) (subst (λ l. AreMarks t l meant (length c.args.offsets.now)) (sym w.named) marks) in
-    let those : AreMarks (tables_of x) (references (tables_of x) sites) c.as_slice-2.result.now (length c.as_slice-2.result.now) =
-    subst (λ (v : Tables). AreMarks v (references v sites) c.as_slice-2.result.now (length c.as_slice-2.result.now)) (sym same)
-    (subst (λ l. AreMarks t (references t sites) l (length l)) (sym c.as_slice-2.ensures.value) marked) in
-    let own : map symbol_of c.in_ok-symbols.symbols.items ≡ own_symbols t sites = c.in_ok-symbols.ensures.symbols sites h those ∙ ap (λ (v : Tables). own_symbols v sites) same in
+    let marked : AreMarks t (references t laid) meant (length meant) =
+    subst (λ n. AreMarks t (references t laid) meant n) (sym c.in_ok-meant.ensures.len) (subst (λ l. AreMarks t l meant (length c.args.offsets.now)) (sym w.named) marks) in
+    let those : AreMarks (tables_of x) (references (tables_of x) laid) c.as_slice-2.result.now (length c.as_slice-2.result.now) =
+    subst (λ (v : Tables). AreMarks v (references v laid) c.as_slice-2.result.now (length c.as_slice-2.result.now)) (sym same)
+    (subst (λ l. AreMarks t (references t laid) l (length l)) (sym c.as_slice-2.ensures.value) marked) in
+    let own : map symbol_of c.in_ok-symbols.symbols.items ≡ own_symbols t laid = c.in_ok-symbols.ensures.symbols laid h those ∙ ap (λ (v : Tables). own_symbols v laid) same in
     let names : map now_of c.in_ok-missing.missing.keys ≡ missing_names t rs = c.in_ok-missing.ensures.names t (ap (map (option_map definition_of)) c.as_slice-3.ensures.value ∙ defs) in
     let undefined : Tables → List (List ℕ) → List Symbol = λ v ns. map (λ name. shared_symbol v name Undefined) ns in
     record {
       symbols =
-          c.in_ok-put_undefined.ensures sites h
+          c.in_ok-put_undefined.ensures laid h
           ∙ ap (λ (v : Tables). map symbol_of c.in_ok-symbols.symbols.items ++ undefined v (map now_of c.as_slice-6.result.now)) same
           ∙ ap (λ l. l ++ undefined t (map now_of c.as_slice-6.result.now)) own
-          ∙ ap (λ l. own_symbols t sites ++ undefined t l) (ap (map now_of) c.as_slice-6.ensures.keys ∙ names ∙ ap (missing_names t) (sym w.named))
-          ∙ append_assoc (local_symbols t sites [] sites) (exports t sites) (undefined t (missing_names t (references t sites)));
-      number = number_in t sites;
+          ∙ ap (λ l. own_symbols t laid ++ undefined t l) (ap (map now_of) c.as_slice-6.ensures.keys ∙ names ∙ ap (missing_names t) (sym w.named))
+          ∙ append_assoc (local_symbols t laid [] laid) (exports t laid) (undefined t (missing_names t (references t laid)));
+      number = number_in t laid;
       numbers =
-          sym (c.in_ok-numbers.ensures sites t h (ap (map (option_map definition_of)) c.as_slice-5.ensures.value ∙ defs)
-          ∙ ap (λ l. map (λ (r : SymbolUse). number_by l (map now_of c.in_ok-missing.missing.keys) sites r.symbol (definition_in t r)) rs) (ap (map symbol_of) c.as_slice-4.ensures.value ∙ own)
-          ∙ ap (λ l. map (λ (r : SymbolUse). number_by (own_symbols t sites) l sites r.symbol (definition_in t r)) rs) (names ∙ ap (missing_names t) (sym w.named)));
+          sym (c.in_ok-numbers.ensures laid t h (ap (map (option_map definition_of)) c.as_slice-5.ensures.value ∙ defs)
+          ∙ ap (λ l. map (λ (r : SymbolUse). number_by l (map now_of c.in_ok-missing.missing.keys) laid r.symbol (definition_in t r)) rs) (ap (map symbol_of) c.as_slice-4.ensures.value ∙ own)
+          ∙ ap (λ l. map (λ (r : SymbolUse). number_by (own_symbols t laid) l laid r.symbol (definition_in t r)) rs) (names ∙ ap (missing_names t) (sym w.named)));
       numbered =
-          subst (λ l. AllByRecursion (IsNumbered t sites (number_in t sites) (symbols_of t sites)) l) w.named
-          (numbered ss sites w.located (subst (AreMeant t) (sym w.named) c.requires.meant) c.requires.good c.requires.names (subst AreShown (sym w.named) c.requires.shown) (offset_low c.args.offsets.now sites w.at (λ i. Fits-lt-pow (c.type_inv.offsets i))));
+          subst (λ l. AllByRecursion (IsNumbered t laid (number_in t laid) (symbols_of t laid)) l) w.named
+          (numbered ss laid w.located (subst (AreMeant t) (sym w.named) c.requires.meant) c.requires.good c.requires.names (subst AreShown (sym w.named) c.requires.shown) (offset_low c.args.offsets.now laid w.at (λ i. Fits-lt-pow (c.type_inv.offsets i))));
     }

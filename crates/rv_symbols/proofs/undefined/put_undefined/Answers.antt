@@ -20,7 +20,7 @@ invariant_of-undefined c =
     record { shown = c.outer_binding.ensures.shown (all_got is_name (map now_of names) i name.now at c.requires) }
 
 pub loop-name-preserved : goal.loop-name-preserved
-loop-name-preserved c = λ sites h.
+loop-name-preserved c = λ laid h.
     let t = tables_of c.args.source.now in
     let i = c.loop-name.name-index in
     let names = c.args.names.now in
@@ -29,7 +29,7 @@ loop-name-preserved c = λ sites h.
     let rest = map (λ name. shared_symbol t name Undefined) (drop (i + 1) (map now_of names)) in
     ap (λ l. map symbol_of l ++ rest) c.in_ok-push.ensures.items
     ∙ ap (λ l. l ++ rest) (map-append symbol_of c.loop-name.symbols.items _)
-    ∙ ap (λ b. (old ++ record { name = name.now; binding = b; definition = Undefined } ∷ []) ++ rest) (c.outer_binding.ensures.binding sites h)
+    ∙ ap (λ b. (old ++ record { name = name.now; binding = b; definition = Undefined } ∷ []) ++ rest) (c.outer_binding.ensures.binding laid h)
     ∙ append_assoc old (shared_symbol t name.now Undefined ∷ []) rest
     ∙ ap (λ l. old ++ map (λ name. shared_symbol t name Undefined) l) (sym (drop_next (map now_of names) i name.now (got_map now_of names i ∙ ap (option_map now_of) (some_at names i (record { ref_ptr = (0, 0); now = [] }) c.loop-name-test.true))))
-    ∙ c.loop-name.invariant sites h
+    ∙ c.loop-name.invariant laid h

@@ -17,7 +17,7 @@ use Rattle.rv_assemble_laws.specs.Templates.{Open, Template, Coded, contribution
 
 -- a statement of a source alone, the bytes before it in its section, how many bytes it has, how
 -- many instructions these are, and the bytes of its code, part by part
-pub record Site : Type 0 where
+pub record LaidStatement : Type 0 where
   pub located : Located
   pub offset : ℕ
   pub bytes : ℕ
@@ -43,7 +43,7 @@ coded_templates fields (p ∷ ps) [] = []
 coded_templates fields (p ∷ ps) (bytes ∷ coded) =
     Coded bytes (fields p) ∷ coded_templates fields ps coded
 
-abbrev pub templates : Tables → Site → StatementKind → List Template
+abbrev pub templates : Tables → LaidStatement → StatementKind → List Template
 templates t s (Label name) = []
 templates t s (Numbered number) = []
 templates t s (Instruction mnemonic operands) =
@@ -54,7 +54,7 @@ templates t s (Directs directive) =
     contribution_templates s.located.home.executable s.located.ordinal (form t s.located)
     (contribution directive) s.bytes
 
-abbrev pub parts_of : Tables → Site → List Part
+abbrev pub parts_of : Tables → LaidStatement → List Part
 parts_of t s = map (part_of s.located.ordinal) (templates t s s.located.kind)
 
 abbrev pub part_bytes : Part → List ℕ
@@ -63,23 +63,23 @@ part_bytes p = template_bytes p.template
 -- ---- sections
 
 -- the statements of a section, by its index
-abbrev pub sites_in : ℕ → List Site → List Site
-sites_in section sites = filter (λ s. s.located.section == section) sites
+abbrev pub laid_in : ℕ → List LaidStatement → List LaidStatement
+laid_in section laid = filter (λ s. s.located.section == section) laid
 
 -- the parts of a section: those of its statements, in order
-abbrev pub parts : Tables → List Site → List Part
-parts t sites = flat_map (parts_of t) sites
+abbrev pub parts : Tables → List LaidStatement → List Part
+parts t laid = flat_map (parts_of t) laid
 
 -- each statement of a section begins where the one before ends, from an offset on, and has the
 -- bytes of its templates
-abbrev pub Tile : Tables → ℕ → List Site → Type 0
+abbrev pub Tile : Tables → ℕ → List LaidStatement → Type 0
 Tile t offset [] = ⊤
 Tile t offset (s ∷ ss) =
     (s.offset ≡ offset) × (s.bytes ≡ length (flat_map part_bytes (parts_of t s)))
     × Tile t (offset + s.bytes) ss
 
 -- the end of the last of them
-abbrev pub end_of : ℕ → List Site → ℕ
+abbrev pub end_of : ℕ → List LaidStatement → ℕ
 end_of offset [] = offset
 end_of offset (s ∷ ss) = end_of (offset + s.bytes) ss
 
@@ -92,17 +92,17 @@ IsMultiple (Some alignment) start = (0 < alignment) × (start % alignment ≡ 0)
 
 -- the padding of an alignment: in code instructions, as many bytes as it may ever need; in data up
 -- to the multiple
-abbrev pub IsPaddedIn : Bool → Site → Option ℕ → Type 0
+abbrev pub IsPaddedIn : Bool → LaidStatement → Option ℕ → Type 0
 IsPaddedIn true s alignment =
     (s.bytes ≡ code_padding alignment) × (s.instructions ≡ operations_in s.bytes)
 IsPaddedIn false s alignment = (s.bytes ≡ padding alignment s.offset) × (s.instructions ≡ 0)
 
-abbrev pub IsPadded : Site → ℕ → Value → Option ℕ → Type 0
+abbrev pub IsPadded : LaidStatement → ℕ → Value → Option ℕ → Type 0
 IsPadded s multiple v alignment =
     (is_constant v ≡ true) × IsMultiple alignment multiple
     × IsPaddedIn s.located.home.executable s alignment
 
-abbrev pub DirectiveSize : (Expression → Value) → Site → ℕ → Directive → Type 0
+abbrev pub DirectiveSize : (Expression → Value) → LaidStatement → ℕ → Directive → Type 0
 DirectiveSize v s multiple (Values width values) =
     (s.instructions ≡ 0) × (s.bytes ≡ width * length values)
 DirectiveSize v s multiple (Strings ended strings) =
@@ -116,7 +116,7 @@ DirectiveSize v s multiple _ = (s.bytes ≡ 0) × (s.instructions ≡ 0)
 
 -- the bytes of a statement of a section that begins at such a multiple, and how many instructions
 -- they are
-abbrev pub HasSize : (Expression → Value) → Site → ℕ → StatementKind → Type 0
+abbrev pub HasSize : (Expression → Value) → LaidStatement → ℕ → StatementKind → Type 0
 HasSize v s multiple (Label name) = (s.bytes ≡ 0) × (s.instructions ≡ 0)
 HasSize v s multiple (Numbered number) = (s.bytes ≡ 0) × (s.instructions ≡ 0)
 HasSize v s multiple (Instruction mnemonic operands) =
