@@ -4,7 +4,7 @@
 //! What does not is counted beside it: branches taken, stores of `sc`, calls, and the lowest stack pointer.
 
 use crate::access::{is_call, is_taken};
-use crate::sites::{Site, Sites, bits_at};
+use crate::visited::{VisitedInstruction, VisitedInstructions, bits_at};
 use rv_image::{Image, STACK_BYTES, STACK_START};
 use rv_isa::{AtomicOperation, Format, Reg};
 use rv_machine::{End, WatchFault, Watched, Watcher};
@@ -18,8 +18,8 @@ const STACK_END: u64 = STACK_START + STACK_BYTES as u64;
 /// a breakpoint, but not by an access that failed.
 #[derive(Drop)]
 pub struct Counts {
-    sites: Sites,
-    /// The site that is executed.
+    instructions: VisitedInstructions,
+    /// The instruction that is executed.
     current: Option<usize>,
     /// Whether the latest instruction was a call.
     called: bool,
@@ -33,7 +33,7 @@ impl Counts {
     /// Nothing counted yet of an image's run.
     pub fn new(alloc: Global, image: &Image) -> Result<Self, AllocError> {
         Ok(Counts {
-            sites: Sites::new(alloc, image)?,
+            instructions: VisitedInstructions::new(alloc, image)?,
             current: None,
             called: false,
             reserved: None,
@@ -54,13 +54,13 @@ impl Counts {
         let Some(index) = self.current else {
             return;
         };
-        if let Some(site) = self.sites.get_mut(index) {
-            site.count = site.count.saturating_sub(1);
+        if let Some(visited) = self.instructions.get_mut(index) {
+            visited.count = visited.count.saturating_sub(1);
         }
     }
 
-    pub(crate) fn sites(&self) -> &[Site] {
-        self.sites.all()
+    pub(crate) fn instructions(&self) -> &[VisitedInstruction] {
+        self.instructions.all()
     }
 
     /// The most bytes of the stack below its end that sp has left.
@@ -68,22 +68,22 @@ impl Counts {
         STACK_END.saturating_sub(self.lowest)
     }
 
-    /// Counts what the site's instruction is about to do.
+    /// Counts what the instruction is about to do.
     #[inline]
     fn note<M: Memory + Drop>(&mut self, index: usize, machine: &Watched<M>) {
         let called = self.called;
         self.called = false;
-        let Some(site) = self.sites.get_mut(index) else {
+        let Some(visited) = self.instructions.get_mut(index) else {
             return;
         };
-        site.count = site.count.saturating_add(1);
+        visited.count = visited.count.saturating_add(1);
         if called {
-            site.calls = site.calls.saturating_add(1);
+            visited.calls = visited.calls.saturating_add(1);
         }
-        match site.inst.format() {
+        match visited.inst.format() {
             Format::Branch(operation, x) => {
                 if is_taken(operation, machine.register(x.rs1), machine.register(x.rs2)) {
-                    site.taken = site.taken.saturating_add(1);
+                    visited.taken = visited.taken.saturating_add(1);
                 }
             }
             Format::Jal(x) => self.called = is_call(x.rd),
@@ -94,7 +94,7 @@ impl Counts {
             Format::Atomic(AtomicOperation::Sc, double, x) => {
                 let asked = (machine.register(x.rs1), if double { 8 } else { 4 });
                 if self.reserved == Some(asked) {
-                    site.taken = site.taken.saturating_add(1);
+                    visited.taken = visited.taken.saturating_add(1);
                 }
                 self.reserved = None;
             }
@@ -108,7 +108,7 @@ impl<M: Memory + Drop> Watcher<M> for Counts {
     fn before(&mut self, machine: &Watched<M>) -> Result<(), WatchFault> {
         let pc = machine.pc();
         self.current = match bits_at(machine.memory(), pc) {
-            Some(bits) => self.sites.find(pc, bits)?,
+            Some(bits) => self.instructions.find(pc, bits)?,
             None => None,
         };
         if let Some(index) = self.current {

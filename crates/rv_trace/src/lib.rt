@@ -26,9 +26,9 @@ mod lines;
 mod pattern;
 mod places;
 mod report;
-mod sites;
 mod summary;
 mod trace;
+mod visited;
 
 pub use counts::Counts;
 pub use lines::{lcov_text, lines_text};

@@ -5,7 +5,7 @@
 use crate::columns::{put, put_decimal};
 use crate::counts::Counts;
 use crate::places::Places;
-use crate::sites::Site;
+use crate::visited::VisitedInstruction;
 use rv_map::Row;
 use std::alloc::{AllocError, Global};
 
@@ -126,7 +126,7 @@ fn coverage(
     counts: &Counts,
     places: &Places<'_>,
 ) -> Result<Vec<Covered>, AllocError> {
-    let executed = by_address(alloc, counts.sites())?;
+    let executed = by_address(alloc, counts.instructions())?;
     let mut covered = Vec::new(alloc);
     for row in places.rows() {
         if row.instructions > 0 {
@@ -159,12 +159,15 @@ fn is_same_line(one: &Row, other: &Row) -> bool {
 }
 
 /// The addresses that were executed, in their order.
-fn by_address(alloc: Global, sites: &[Site]) -> Result<Vec<Executed>, AllocError> {
+fn by_address(
+    alloc: Global,
+    instructions: &[VisitedInstruction],
+) -> Result<Vec<Executed>, AllocError> {
     let mut ordered: Vec<Executed> = Vec::new(alloc);
-    for site in sites {
+    for visited in instructions {
         ordered.push(Executed {
-            address: site.pc,
-            count: site.count,
+            address: visited.pc,
+            count: visited.count,
         })?;
     }
     ordered.sort_by_key(|at| at.address)?;

@@ -1,9 +1,9 @@
-//! The line of a site, made once: what all its lines have, with blanks for the digits that differ.
+//! The line of an instruction, made once: what all its lines have, with blanks for the digits that differ.
 
 use crate::access::{Access, access_of, destination};
 use crate::columns::{fill_column, put, put_blanks, put_decimal, put_fixed, put_near};
 use crate::places::Places;
-use crate::sites::Site;
+use crate::visited::VisitedInstruction;
 use rv_disasm::{Targets, put_instruction};
 use rv_isa::{Inst, Reg};
 use std::alloc::{AllocError, Global};
@@ -23,7 +23,7 @@ const BEFORE_EFFECT: usize = COUNT + 1 + 16 + 1 + SYMBOL + 1 + BYTES + 1 + TEXT;
 /// Where the source begins.
 pub(crate) const BEFORE_SOURCE: usize = BEFORE_EFFECT + 1 + EFFECT;
 
-/// Where the line of a site stands among the texts, and what is written into it each time.
+/// Where the line of an instruction stands among the texts, and what is written into it each time.
 #[derive(Clone, Copy, Drop)]
 pub(crate) struct Pattern {
     start: usize,
@@ -49,7 +49,7 @@ pub(crate) struct Effects {
     pub stored: usize,
 }
 
-/// The patterns of sites, in the order of the sites.
+/// The patterns of instructions, in the order of the instructions.
 #[derive(Drop)]
 pub(crate) struct Patterns {
     texts: Vec<u8>,
@@ -90,39 +90,52 @@ impl Patterns {
         self.texts.get(pattern.source..pattern.end).unwrap_or(b"")
     }
 
-    /// Adds the pattern of a site.
-    pub(crate) fn add(&mut self, places: &Places<'_>, site: &Site) -> Result<(), AllocError> {
+    /// Adds the pattern of an instruction.
+    pub(crate) fn add(
+        &mut self,
+        places: &Places<'_>,
+        visited: &VisitedInstruction,
+    ) -> Result<(), AllocError> {
         let start = self.texts.len();
-        put_bare(&mut self.texts, places, site)?;
+        put_bare(&mut self.texts, places, visited)?;
         let bare = self.texts.len();
-        let effects = put_effects(&mut self.texts, start, site.inst)?;
-        let source = put_rest(&mut self.texts, start, places, site.pc)?;
+        let effects = put_effects(&mut self.texts, start, visited.inst)?;
+        let source = put_rest(&mut self.texts, start, places, visited.pc)?;
         self.patterns.push(Pattern {
             start,
             bare,
             source,
             end: self.texts.len(),
             effects,
-            is_ecall: matches!(site.inst, Inst::Ecall),
+            is_ecall: matches!(visited.inst, Inst::Ecall),
         })?;
         Ok(())
     }
 }
 
 /// Adds what a line says of its instruction alone, after blanks for its number.
-fn put_bare(text: &mut Vec<u8>, places: &Places<'_>, site: &Site) -> Result<(), AllocError> {
+fn put_bare(
+    text: &mut Vec<u8>,
+    places: &Places<'_>,
+    visited: &VisitedInstruction,
+) -> Result<(), AllocError> {
     put_blanks(text, COUNT + 1)?;
-    put_fixed(text, site.pc, 8)?;
+    put_fixed(text, visited.pc, 8)?;
     text.push(b' ')?;
     let symbol = text.len();
-    put_near(text, places.symbol_at(site.pc))?;
+    put_near(text, places.symbol_at(visited.pc))?;
     fill_column(text, symbol, SYMBOL)?;
     let bytes = text.len();
-    for byte in site.bits.to_le_bytes().iter().take(site.bytes() as usize) {
+    for byte in visited
+        .bits
+        .to_le_bytes()
+        .iter()
+        .take(visited.bytes() as usize)
+    {
         put_fixed(text, u64::from(*byte), 1)?;
     }
     fill_column(text, bytes, BYTES)?;
-    put_instruction(text, Targets::Addresses(site.pc), site.inst)
+    put_instruction(text, Targets::Addresses(visited.pc), visited.inst)
 }
 
 /// Adds the room of the effects to a line that began at an offset, as `a0 <- .. [..] <- ..`.

@@ -4,7 +4,7 @@ use crate::access::{AccessKind, access_of};
 use crate::columns::{fill_column, put, put_decimal, put_fixed, put_near};
 use crate::pattern::put_line;
 use crate::places::Places;
-use crate::sites::{bits_at, inst_of};
+use crate::visited::{bits_at, inst_of};
 use rv_disasm::{Targets, put_instruction};
 use rv_image::{Image, STACK_BYTES, STACK_START};
 use rv_isa::{Inst, Reg};

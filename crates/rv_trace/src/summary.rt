@@ -4,7 +4,7 @@ use crate::access::{AccessKind, access_of};
 use crate::columns::{fill_column, put, put_blanks, put_count, put_near, put_right, put_share};
 use crate::counts::Counts;
 use crate::places::Places;
-use crate::sites::Site;
+use crate::visited::VisitedInstruction;
 use rv_isa::{Format, Inst, mnemonic};
 use rv_map::put_hexadecimal;
 use std::alloc::{AllocError, Global};
@@ -56,18 +56,18 @@ pub fn counts_text(
     places: &Places<'_>,
 ) -> Result<Vec<u8>, AllocError> {
     let mut text = Vec::new(alloc);
-    let sums = sums_of(counts.sites());
+    let sums = sums_of(counts.instructions());
     put_sums(&mut text, &sums, counts.deepest())?;
     put(&mut text, "by kind\n")?;
     for (name, count) in KINDS.iter().zip(sums.kinds.iter()) {
         put_part(&mut text, name, *count, sums.executed)?;
     }
     put(&mut text, "by mnemonic\n")?;
-    for tally in &tallies(alloc, counts.sites())? {
+    for tally in &tallies(alloc, counts.instructions())? {
         put_part(&mut text, tally.name, tally.count, sums.executed)?;
     }
     put(&mut text, "calls\n")?;
-    for called in &calls(alloc, counts.sites())? {
+    for called in &calls(alloc, counts.instructions())? {
         put_called(&mut text, called, places)?;
     }
     Ok(text)
@@ -121,7 +121,7 @@ fn put_called(text: &mut Vec<u8>, called: &Called, places: &Places<'_>) -> Resul
     Ok(())
 }
 
-fn sums_of(sites: &[Site]) -> Sums {
+fn sums_of(instructions: &[VisitedInstruction]) -> Sums {
     let mut sums = Sums {
         executed: 0,
         compressed: 0,
@@ -133,28 +133,28 @@ fn sums_of(sites: &[Site]) -> Sums {
         untaken: 0,
         kinds: [0; 7],
     };
-    for site in sites {
-        add_site(&mut sums, site);
+    for visited in instructions {
+        add_visited(&mut sums, visited);
     }
     sums
 }
 
 /// Adds what the executions of an instruction did.
-fn add_site(sums: &mut Sums, site: &Site) {
-    let count = site.count;
+fn add_visited(sums: &mut Sums, visited: &VisitedInstruction) {
+    let count = visited.count;
     add(&mut sums.executed, count);
-    if site.bytes() == 2 {
+    if visited.bytes() == 2 {
         add(&mut sums.compressed, count);
     }
-    let kind = kind_of(site.inst);
+    let kind = kind_of(visited.inst);
     if let Some(sum) = sums.kinds.get_mut(kind) {
         add(sum, count);
     }
-    if let Format::Branch(_, _) = site.inst.format() {
-        add(&mut sums.taken, site.taken);
-        add(&mut sums.untaken, count.saturating_sub(site.taken));
+    if let Format::Branch(_, _) = visited.inst.format() {
+        add(&mut sums.taken, visited.taken);
+        add(&mut sums.untaken, count.saturating_sub(visited.taken));
     }
-    let Some(access) = access_of(site.inst) else {
+    let Some(access) = access_of(visited.inst) else {
         return;
     };
     if access.loads() {
@@ -163,7 +163,7 @@ fn add_site(sums: &mut Sums, site: &Site) {
     }
     let stores = match access.kind {
         AccessKind::Store | AccessKind::Update => count,
-        AccessKind::StoreConditional => site.taken.min(count),
+        AccessKind::StoreConditional => visited.taken.min(count),
         AccessKind::Load | AccessKind::LoadReserved => 0,
     };
     add(&mut sums.stores, stores);
@@ -191,11 +191,11 @@ fn kind_of(inst: Inst) -> usize {
 }
 
 /// The mnemonics by how often they were executed, then by name.
-fn tallies(alloc: Global, sites: &[Site]) -> Result<Vec<Tally>, AllocError> {
+fn tallies(alloc: Global, instructions: &[VisitedInstruction]) -> Result<Vec<Tally>, AllocError> {
     let mut tallies: Vec<Tally> = Vec::new(alloc);
-    for site in sites {
-        if site.count > 0 {
-            add_to(&mut tallies, mnemonic(site.inst), site.count)?;
+    for visited in instructions {
+        if visited.count > 0 {
+            add_to(&mut tallies, mnemonic(visited.inst), visited.count)?;
         }
     }
     tallies.sort_by_key(|tally| tally.name)?;
@@ -217,13 +217,13 @@ fn add_to(tallies: &mut Vec<Tally>, name: &'static str, count: u64) -> Result<()
 }
 
 /// The addresses that were called by how often they were, then by address.
-fn calls(alloc: Global, sites: &[Site]) -> Result<Vec<Called>, AllocError> {
+fn calls(alloc: Global, instructions: &[VisitedInstruction]) -> Result<Vec<Called>, AllocError> {
     let mut calls: Vec<Called> = Vec::new(alloc);
-    for site in sites {
-        if site.calls > 0 {
+    for visited in instructions {
+        if visited.calls > 0 {
             calls.push(Called {
-                address: site.pc,
-                count: site.calls,
+                address: visited.pc,
+                count: visited.calls,
             })?;
         }
     }

@@ -1,6 +1,6 @@
 //! The instructions of a run, a line each.
 //!
-//! What the lines of a site have in common is made once ([`Patterns`]), so that a line costs a copy and a few digits. Lines
+//! What the lines of an instruction have in common is made once ([`Patterns`]), so that a line costs a copy and a few digits. Lines
 //! are kept until there are many, or a call of the environment comes, so that they stand in order with what the guest
 //! writes.
 
@@ -9,7 +9,7 @@ use crate::columns::{fill_column, set_fixed, set_low_digits};
 use crate::counter::{Counter, DIGITS};
 use crate::pattern::{BEFORE_SOURCE, Patterns};
 use crate::places::Places;
-use crate::sites::{Sites, bits_at};
+use crate::visited::{VisitedInstructions, bits_at};
 use rv_image::Image;
 use rv_machine::{WatchFault, Watched, Watcher};
 use rv_memory::{Memory, Right};
@@ -22,7 +22,7 @@ const KEPT: usize = 1 << 15;
 /// The instruction that is executed and gets a line.
 #[derive(Clone, Copy, Drop)]
 struct Open {
-    site: usize,
+    visited: usize,
     /// Where it loads or stores.
     address: u64,
 }
@@ -32,7 +32,7 @@ struct Open {
 pub struct Trace<'a, L: Write> {
     places: &'a Places<'a>,
     lines: &'a mut L,
-    sites: Sites,
+    instructions: VisitedInstructions,
     patterns: Patterns,
     kept: Vec<u8>,
     open: Option<Open>,
@@ -54,7 +54,7 @@ impl<'a, L: Write> Trace<'a, L> {
         Ok(Trace {
             places,
             lines,
-            sites: Sites::new(alloc, image)?,
+            instructions: VisitedInstructions::new(alloc, image)?,
             patterns: Patterns::new(alloc),
             kept: Vec::new(alloc),
             open: None,
@@ -67,7 +67,7 @@ impl<'a, L: Write> Trace<'a, L> {
     pub fn finish(&mut self) -> Result<(), WatchFault> {
         if let Some(open) = self.open {
             self.open = None;
-            self.put_bare(open.site)?;
+            self.put_bare(open.visited)?;
         }
         self.write_kept()
     }
@@ -82,7 +82,7 @@ impl<'a, L: Write> Trace<'a, L> {
         }
     }
 
-    /// Notes the site whose instruction is executed next, and where that loads or stores.
+    /// Notes the instruction whose instruction is executed next, and where that loads or stores.
     #[inline]
     fn begin<M: Memory + Drop>(
         &mut self,
@@ -90,8 +90,8 @@ impl<'a, L: Write> Trace<'a, L> {
         machine: &Watched<M>,
     ) -> Result<(), WatchFault> {
         if index >= self.patterns.len() {
-            if let Some(site) = self.sites.all().get(index) {
-                self.patterns.add(self.places, site)?;
+            if let Some(visited) = self.instructions.all().get(index) {
+                self.patterns.add(self.places, visited)?;
             }
         }
         let Some(pattern) = self.patterns.get(index) else {
@@ -103,7 +103,7 @@ impl<'a, L: Write> Trace<'a, L> {
             None => 0,
         };
         self.open = Some(Open {
-            site: index,
+            visited: index,
             address,
         });
         if is_ecall {
@@ -113,8 +113,8 @@ impl<'a, L: Write> Trace<'a, L> {
     }
 
     /// Adds a line without effects.
-    fn put_bare(&mut self, site: usize) -> Result<(), AllocError> {
-        let Some(pattern) = self.patterns.get(site) else {
+    fn put_bare(&mut self, visited: usize) -> Result<(), AllocError> {
+        let Some(pattern) = self.patterns.get(visited) else {
             return Ok(());
         };
         let text = self.patterns.bare(pattern);
@@ -128,7 +128,7 @@ impl<'a, L: Write> Trace<'a, L> {
         open: &Open,
         machine: &Watched<M>,
     ) -> Result<(), AllocError> {
-        let Some(pattern) = self.patterns.get(open.site) else {
+        let Some(pattern) = self.patterns.get(open.visited) else {
             return Ok(());
         };
         let text = self.patterns.line(pattern);
@@ -207,7 +207,7 @@ impl<M: Memory + Drop, L: Write> Watcher<M> for Trace<'_, L> {
         let Some(bits) = bits_at(machine.memory(), pc) else {
             return Ok(());
         };
-        match self.sites.find(pc, bits)? {
+        match self.instructions.find(pc, bits)? {
             Some(index) => self.begin(index, machine),
             None => Ok(()),
         }

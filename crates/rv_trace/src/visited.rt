@@ -1,7 +1,7 @@
 //! The instructions that a run comes to, each once.
 //!
 //! An address is looked up in a table by its place in the program's code. An instruction is the bits that stand at its
-//! address: code that changes itself has a site for each, so that counts stay exact.
+//! address: code that changes itself has one for each, so that counts stay exact.
 
 use rv_compress::expand;
 use rv_encode::decode;
@@ -12,7 +12,7 @@ use std::alloc::{AllocError, Global};
 
 /// An instruction at an address.
 #[derive(Clone, Copy, Drop)]
-pub(crate) struct Site {
+pub(crate) struct VisitedInstruction {
     pub pc: u64,
     /// The bits of the word, or of the parcel.
     pub bits: u32,
@@ -25,26 +25,26 @@ pub(crate) struct Site {
     pub calls: u64,
 }
 
-impl Site {
+impl VisitedInstruction {
     /// The length of the instruction in bytes.
     pub(crate) fn bytes(&self) -> u64 {
         if self.bits % 4 == 3 { 4 } else { 2 }
     }
 }
 
-/// A piece of code, and the sites of its addresses.
+/// A piece of code, and the instructions of its addresses.
 #[derive(Drop)]
 struct Span {
     start: u64,
-    /// For each two bytes the number of the site there, from 1; 0 where there is none yet.
+    /// For each two bytes the number of the instruction there, from 1; 0 where there is none yet.
     numbers: Vec<u32>,
 }
 
-/// All sites that a run has come to.
+/// All instructions that a run has come to.
 #[derive(Drop)]
-pub(crate) struct Sites {
+pub(crate) struct VisitedInstructions {
     spans: Vec<Span>,
-    sites: Vec<Site>,
+    instructions: Vec<VisitedInstruction>,
 }
 
 /// The bits of the word or the parcel at an address; none where they may not be executed.
@@ -70,8 +70,8 @@ pub(crate) fn inst_of(bits: u32) -> Option<Inst> {
     }
 }
 
-impl Sites {
-    /// No sites yet of an image's code.
+impl VisitedInstructions {
+    /// No instructions yet of an image's code.
     pub(crate) fn new(alloc: Global, image: &Image) -> Result<Self, AllocError> {
         let mut spans = Vec::new(alloc);
         for segment in &image.segments {
@@ -83,24 +83,24 @@ impl Sites {
                 })?;
             }
         }
-        Ok(Sites {
+        Ok(VisitedInstructions {
             spans,
-            sites: Vec::new(alloc),
+            instructions: Vec::new(alloc),
         })
     }
 
-    /// All sites, in the order in which the run came to them.
-    pub(crate) fn all(&self) -> &[Site] {
-        self.sites.as_slice()
+    /// All instructions, in the order in which the run came to them.
+    pub(crate) fn all(&self) -> &[VisitedInstruction] {
+        self.instructions.as_slice()
     }
 
-    /// A site by its index.
+    /// An instruction by its index.
     #[inline]
-    pub(crate) fn get_mut(&mut self, index: usize) -> Option<&mut Site> {
-        self.sites.get_mut(index)
+    pub(crate) fn get_mut(&mut self, index: usize) -> Option<&mut VisitedInstruction> {
+        self.instructions.get_mut(index)
     }
 
-    /// The index of the site of these bits at an address, which is made where there is none; none where the bits spell no
+    /// The index of the instruction of these bits at an address, which is made where there is none; none where the bits spell no
     /// instruction.
     #[inline]
     pub(crate) fn find(&mut self, pc: u64, bits: u32) -> Result<Option<usize>, AllocError> {
@@ -111,8 +111,8 @@ impl Sites {
             let Some(index) = (number as usize).checked_sub(1) else {
                 continue;
             };
-            if let Some(site) = self.sites.get(index) {
-                if site.pc == pc && site.bits == bits {
+            if let Some(visited) = self.instructions.get(index) {
+                if visited.pc == pc && visited.bits == bits {
                     return Ok(Some(index));
                 }
             }
@@ -120,14 +120,14 @@ impl Sites {
         self.add(pc, bits)
     }
 
-    /// Adds a site, if the bits spell an instruction; its index.
+    /// Adds an instruction, if the bits spell one; its index.
     #[inline(never)]
     fn add(&mut self, pc: u64, bits: u32) -> Result<Option<usize>, AllocError> {
         let Some(inst) = inst_of(bits) else {
             return Ok(None);
         };
-        let index = self.sites.len();
-        self.sites.push(Site {
+        let index = self.instructions.len();
+        self.instructions.push(VisitedInstruction {
             pc,
             bits,
             inst,
@@ -135,7 +135,7 @@ impl Sites {
             taken: 0,
             calls: 0,
         })?;
-        let Ok(number) = u32::try_from(self.sites.len()) else {
+        let Ok(number) = u32::try_from(self.instructions.len()) else {
             return Ok(Some(index));
         };
         for span in self.spans.iter_mut() {
@@ -149,7 +149,7 @@ impl Sites {
     }
 }
 
-/// The number of the site at an address, from 1; 0 where there is none yet, none where the span has not the address.
+/// The number of the instruction at an address, from 1; 0 where there is none yet, none where the span has not the address.
 #[inline]
 fn number_in(span: &Span, pc: u64) -> Option<u32> {
     let place = usize::try_from(pc.wrapping_sub(span.start) / 2).ok()?;
