@@ -194,7 +194,8 @@ fn is_pair(templates: &[Template]) -> bool
 fn encode_each(templates: &[Template], compressed: bool) -> Code
     requires codable { laws.AreCodableEach templates.now }
     requires few { length templates.now ≤ 8 }
-    ensures parts { AreCodedParts None compressed (map part_of templates.now) (coded_by result.items) }
+    ensures parts { AreCodedParts None compressed (map part_of templates.now)
+        (coded_by result.items) }
     ensures shapes { map shape_in result.items ≡ map (λ t. shape_of (part_of t)) templates.now }
     ensures few { length result.items ≤ 8 }
 {

@@ -16,8 +16,8 @@ pub fn one_reading()
 
 /// Bytes have at most one first fault.
 pub fn one_fault()
-    ensures { (bytes : List ℕ) (fault other : SyntaxFault) → Refuses bytes fault → Refuses bytes other →
-        fault ≡ other }
+    ensures { (bytes : List ℕ) (fault other : SyntaxFault) → Refuses bytes fault →
+        Refuses bytes other → fault ≡ other }
 {}
 
 /// No bytes have both a reading and a fault.

@@ -88,11 +88,13 @@ fn put_name<'a>(
 ) -> Result<(), AllocError>
     requires inside { index < length (source.now).offsets.now }
     requires shown { are_shown (said_names (statement_of statement.now).kind) ≡ true }
-    ensures symbols { OnOk result ((laid : List LaidStatement) (s : LaidStatement) → IsSource source.now laid
+    ensures symbols { OnOk result ((laid : List LaidStatement) (s : LaidStatement)
+        → IsSource source.now laid
         → slice_get laid index ≡ Some s → (statement_of statement.now).kind ≡ s.located.kind
         → map symbol_of symbols.new.items ≡ map symbol_of symbols.old.items
         ++ named_symbols (tables_of source.now) laid s) }
-    ensures exported { OnOk result ((laid : List LaidStatement) (s : LaidStatement) → IsSource source.now laid
+    ensures exported { OnOk result ((laid : List LaidStatement) (s : LaidStatement)
+        → IsSource source.now laid
         → slice_get laid index ≡ Some s → (statement_of statement.now).kind ≡ s.located.kind
         → map symbol_of exported.new.items ≡ map symbol_of exported.old.items
         ++ exports_of (tables_of source.now) laid s) }
@@ -138,19 +140,22 @@ fn put_both<'a>(
 ) -> Result<(), AllocError>
     requires inside { index < length (source.now).offsets.now }
     requires shown { are_shown (said_names (statement_of statement.now).kind) ≡ true }
-    ensures symbols { OnOk result ((laid : List LaidStatement) (s : LaidStatement) → IsSource source.now laid
+    ensures symbols { OnOk result ((laid : List LaidStatement) (s : LaidStatement)
+        → IsSource source.now laid
         → slice_get laid index ≡ Some s → (statement_of statement.now).kind ≡ s.located.kind
         → map symbol_of symbols.new.items ≡ map symbol_of symbols.old.items
         ++ ((if meant && not (contains same_place seen.old (place_in s))
         then local_symbol [] (InSection s.located.section s.offset) ∷ [] else [])
         ++ named_symbols (tables_of source.now) laid s)) }
-    ensures exported { OnOk result ((laid : List LaidStatement) (s : LaidStatement) → IsSource source.now laid
+    ensures exported { OnOk result ((laid : List LaidStatement) (s : LaidStatement)
+        → IsSource source.now laid
         → slice_get laid index ≡ Some s → (statement_of statement.now).kind ≡ s.located.kind
         → map symbol_of exported.new.items ≡ map symbol_of exported.old.items
         ++ exports_of (tables_of source.now) laid s) }
     ensures few { OnOk result (length symbols.new.items ≤ length symbols.old.items + 2) }
     ensures few_exported { OnOk result (length exported.new.items ≤ length exported.old.items + 1) }
-    ensures seen { OnOk result ((laid : List LaidStatement) (s : LaidStatement) → IsSource source.now laid
+    ensures seen { OnOk result ((laid : List LaidStatement) (s : LaidStatement)
+        → IsSource source.now laid
         → slice_get laid index ≡ Some s → (q : ℕ × ℕ) → contains same_place seen.new q
         ≡ (contains same_place seen.old q || meant && same_place (place_in s) q)) }
 {

@@ -39,8 +39,8 @@ pub fn objects_are_not_too_long()
 
 /// Statements are refused for one fault: sizes, which are looked at last, are those of one family.
 pub fn statements_have_one_fault()
-    ensures { (statements : List Statement) (f g : StatementFault) → IsStatementsFault statements f →
-        IsStatementsFault statements g → f ≡ g }
+    ensures { (statements : List Statement) (f g : StatementFault) →
+        IsStatementsFault statements f → IsStatementsFault statements g → f ≡ g }
 {}
 
 /// The object of a source has a file: its sections have numbers of 16 bits, and its symbols and its tables of names
