@@ -5,7 +5,6 @@ use Rattle.std.specs.Prelude.{◌&&◌, not, max, min, filter, flat_map}
 use Rattle.std.specs.List.{AllByRecursion, list_all}
 use Rattle.std.proofs.lemmas.Bool.{and_parts, ltb-false}
 use Rattle.rv_isa_laws.specs.Platform.{stack_start, stack_end}
-use Rattle.rv_text_laws.specs.Codes.{limit}
 use Rattle.rv_lexer.specs.declared.fault.SourceCode.{SourceCode}
 use Rattle.rv_lexer.specs.declared.fault.SourceFault.{SourceFault}
 use Rattle.rv_lexer.specs.declared.fault.SourceFault.TheVariants.{At, OutOfMemory}
@@ -32,13 +31,12 @@ use Rattle.rv_assemble.specs.FirstFault.{IsFirstFault}
 use Rattle.rv_link.specs.declared.fault.LinkFault.{LinkFault}
 use Rattle.rv_link.specs.declared.fault.LinkFault.TheVariants as links
 use Rattle.rv_link.specs.Refusals.{IsTextStart, ArePast, HasNoProgram}
-use Rattle.rv_raw_laws.specs.Statements.{numbered, raw_statements}
 use Rattle.rv_raw_link_laws.specs.Listed.{IsShortListing, listed, HaveNoFault, HaveAProgram}
 use Rattle.rv_chain.specs.declared.fault.Fault.{Fault}
 use Rattle.rv_chain.specs.declared.fault.Fault.TheVariants.{Source, File, Link, Memory}
 use Rattle.rv_chain.specs.Fault.{IsNamed}
 use Rattle.rv_chain.specs.Objects.{AreObjectsFrom}
-use Rattle.rv_chain.specs.Refusals.{IsFirstRefused, AreUnlinked, IsRefusedFor}
+use Rattle.rv_chain.specs.Refusals.{IsFirstRefused, IsRefusedFor}
 use Rattle.rv_chain.specs.Reassembled.{IsTooLongFor, RawListingsAreAccepted}
 
 -- ---- what is loaded ends below the stack

@@ -1,23 +1,22 @@
 -- That the executable of a raw listing has the code that it lists.
 
 use Rattle.std.proofs.Common.{◌≡◌, ℕ, ◌+◌, ◌-◌, ◌<◌, Bool, true, false, cond, List, [], ◌∷◌, ◌++◌, length, length-append, map, refl, sym, ap, ◌∙◌, subst, arith}
-use Rattle.std.specs.Prelude.{◌==◌, not, filter, flat_map, replicate}
+use Rattle.std.specs.Prelude.{◌==◌, not, filter, flat_map}
 use Rattle.std.specs.List.{AllByRecursion}
 use Rattle.std.proofs.lemmas.Bool.{ne_eqb}
 use Rattle.std.proofs.lemmas.List.{append-nil}
 use Rattle.rv_image.specs.Segment.{Segment}
-use Rattle.rv_image.specs.Image.{Image}
 use Rattle.rv_image.specs.ImageOf.{ImageOf}
 use Rattle.rv_image.specs.Linked.{Linked, IsLaidOut}
 use Rattle.rv_image.specs.Executable.{Part, segment_of_part, has_memory, exe_of, linked_image}
 use Rattle.rv_image.proofs.LoadedAgainLemmas.{reload_image}
 use Rattle.rv_disasm.specs.declared.code.Code.{Code}
 use Rattle.rv_disasm.specs.declared.code.Code.TheVariants.{Word, Parcel}
-use Rattle.rv_disasm.specs.Raw.{IsRawListing, bytes_of, is_executable}
+use Rattle.rv_disasm.specs.Raw.{bytes_of, is_executable}
 use Rattle.rv_chain_laws.specs.Headline.{AllRead}
 use Rattle.rv_reassembly_laws.specs.Reassembles.{RawListingsReassemble}
 use Rattle.rv_chain.specs.Building.{IsProgramFrom}
-use Rattle.rv_chain.specs.Reassembled.{HasCode, Reassembles}
+use Rattle.rv_chain.specs.Reassembled.{Reassembles}
 
 -- ---- a listing has an instruction, and so its segment has bytes
 
