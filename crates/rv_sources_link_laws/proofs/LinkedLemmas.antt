@@ -31,7 +31,7 @@ use Rattle.rv_chain_laws.specs.Contents.{IsWritten, IsLinked, contents as source
 use Rattle.rv_chain_laws.proofs.HomesLemmas.{IsAtHome, homes, from_blocks, sections_in}
 use Rattle.rv_object.specs.Object.{Section, Object}
 use Rattle.rv_object_laws.specs.Inputs as objects
-use Rattle.rv_object_laws.specs.Inputs.{Starts, InputSection, inputs_from, inputs_of, inputs, contents, Holds, Stand}
+use Rattle.rv_object_laws.specs.Inputs.{Starts, InputSection, inputs_from, inputs_of, inputs, contents, Holds}
 use Rattle.rv_object_laws.specs.Values.{initial_bytes, linked_bytes, IsRelocated}
 use Rattle.rv_object_laws.specs.IsLinkOf.{IsLinkOf, is_loaded, outer_of}
 use Rattle.rv_assemble_laws.proofs.FaultlessLemmas.{no_first_fault}

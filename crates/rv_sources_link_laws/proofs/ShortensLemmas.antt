@@ -20,7 +20,7 @@ use Rattle.rv_source_laws.specs.Program.{MaybeMapped, Program, program}
 use Rattle.rv_source_laws.specs.Fits as source
 use Rattle.rv_image.specs.Linked.{Linked}
 use Rattle.rv_source_laws.specs.Shortened as line
-use Rattle.rv_source_laws.specs.Shortened.{Placed, calls, Shortened, HaveBytes, text_of, full_length, placed_from, sites_at, has_compressed, aim_of}
+use Rattle.rv_source_laws.specs.Shortened.{Placed, HaveBytes, text_of, full_length, placed_from, sites_at, has_compressed, aim_of}
 use Rattle.rv_source_laws.proofs.HomesLemmas.{all_filter}
 use Rattle.rv_chain_laws.specs.Contents.{IsLinked}
 use Rattle.rv_object.specs.Object.{Section, Symbol, Object, size_of, stored}
@@ -55,7 +55,7 @@ use Rattle.rv_sources_link_laws.proofs.moves.ShrunkLemmas as shrunk
 use Rattle.rv_sources_link_laws.proofs.statements.StatementsLemmas.{renumbered, statement_at, all_statements}
 use Rattle.rv_sources_link_laws.proofs.sections.StoodLemmas.{IsAside, not_entered}
 use Rattle.rv_sources_link_laws.proofs.fields.TargetsLemmas as targets
-use Rattle.rv_sources_link_laws.proofs.fields.TargetsLemmas.{section_of, all_settled}
+use Rattle.rv_sources_link_laws.proofs.fields.TargetsLemmas.{all_settled}
 use Rattle.rv_sources_link_laws.proofs.calls.UncutLemmas.{IsUncut, all_uncut, sections_same, assembled, assembled_laid, assembled_dropped}
 use Rattle.rv_sources_link_laws.proofs.fields.WholesLemmas.{IsSound, sound}
 

@@ -28,7 +28,7 @@ use Rattle.rv_object.specs.Object.{Relocation, Section, Symbol, Object, stored}
 use Rattle.rv_object.specs.Padding.{no_operations}
 use Rattle.rv_object.specs.Valid.{is_align, held}
 use Rattle.rv_object_laws.specs.CallSites as objects
-use Rattle.rv_object_laws.specs.CallSites.{word_at, are_call_words, link_register as linked_by, is_relax, has_relax, meets, is_entered, target_place, is_text_place, text_offset, constant, is_permitted, may_change, inserted_change, in_order, changes, site_of}
+use Rattle.rv_object_laws.specs.CallSites.{word_at, are_call_words, link_register as linked_by, has_relax, meets, is_entered, target_place, is_text_place, text_offset, constant, is_permitted, may_change, site_of}
 use Rattle.rv_object_laws.specs.Inputs.{Starts, InputSection}
 use Rattle.rv_object_laws.specs.Moves.{full_padding, alignment_of}
 use Rattle.rv_object_laws.specs.Names.{Place, symbol_place}
@@ -43,7 +43,7 @@ use Rattle.rv_sources_link_laws.proofs.calls.CutSectionsLemmas.{HasWords}
 use Rattle.rv_sources_link_laws.proofs.statements.FieldedLemmas.{IsPlain}
 use Rattle.rv_sources_link_laws.proofs.fields.TextPlacesLemmas.{stands_in, aim_at, offset_same, no_excess}
 use Rattle.rv_sources_link_laws.proofs.calls.LongCallsLemmas as long
-use Rattle.rv_sources_link_laws.proofs.calls.LongCallsLemmas.{IsLongCall, long_call}
+use Rattle.rv_sources_link_laws.proofs.calls.LongCallsLemmas.{IsLongCall}
 use Rattle.rv_sources_link_laws.proofs.statements.PadsLemmas.{IsPower, IsValidAlignment, by_power}
 use Rattle.rv_sources_link_laws.proofs.sections.SectionsLemmas.{join}
 use Rattle.rv_sources_link_laws.proofs.statements.StatementsLemmas.{renumbered, row_in, mapped_at}

@@ -23,7 +23,7 @@ use Rattle.rv_sources_link_laws.proofs.moves.ShrunkLemmas as shrunk
 use Rattle.rv_sources_link_laws.proofs.moves.ShrinkingLemmas.{shrunk_relocation, shrunk_relocations}
 use Rattle.rv_sources_link_laws.proofs.statements.PadsLemmas.{by_power}
 use Rattle.rv_sources_link_laws.proofs.moves.WalkLemmas as walk
-use Rattle.rv_sources_link_laws.proofs.moves.WalkLemmas.{Ahead, plan_ahead, align_at, alignment_is, power_some, kept_front, drop_past, relocations_join, parts_none, of_ordinal, pads, pads_past, pads_plain, pads_pad, pad_parts}
+use Rattle.rv_sources_link_laws.proofs.moves.WalkLemmas.{Ahead, plan_ahead, align_at, alignment_is, kept_front, relocations_join, parts_none, of_ordinal, pads, pads_past, pads_plain, pads_pad, pad_parts}
 
 -- ---- the bytes of paddings
 
