@@ -14,7 +14,7 @@ use Rattle.rv_reloc.specs.Ranges.{IsInRange, IsOdd, Takes}
 use Rattle.rv_layout_laws.specs.declared.site.Site.{Site}
 use Rattle.rv_layout_laws.specs.Offsets.{IsEven, IsImmediate, Reaches}
 use Rattle.rv_layout_laws.specs.Calls as layout
-use Rattle.rv_layout_laws.specs.Calls.{Offers, half, site_at, bytes_of, InOrder, IsText, IsFamily, IsGreatestClosed, ReachesFrom, ReachesBy, is_call as is_call_site}
+use Rattle.rv_layout_laws.specs.Calls.{Offers, half, site_at, bytes_of, InOrder, IsText, IsFamily, IsGreatestClosed, ReachesFrom, is_call as is_call_site}
 use Rattle.rv_layout_laws.proofs.ReachingLemmas.{Nearer, reaches_nearer}
 use Rattle.rv_layout_laws.proofs.ShorteningLemmas.{greatest_reaching}
 use Rattle.rv_object.specs.Object.{Relocation, Section, Object, size_of}

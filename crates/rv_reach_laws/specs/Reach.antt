@@ -3,7 +3,7 @@
 -- largest (RISC-V ELF psABI, "Linker Relaxation", function call relaxation, and "Relocations"; ISA,
 -- "Conditional Branches", "Unconditional Jumps").
 
-use Rattle.std.specs.Prelude.{◌≡◌, ◌==◌, ℕ, ◌+◌, ◌-◌, nat_le, nat_lt, Bool, true, false, not, ◌&&◌, ◌||◌, List, map, Option, Some, None, option_and_then}
+use Rattle.std.specs.Prelude.{◌≡◌, ◌==◌, ℕ, ◌+◌, ◌-◌, nat_le, nat_lt, Bool, true, false, not, ◌&&◌, ◌||◌, List, map, Some, None, option_and_then}
 use Rattle.std.specs.List.{slice_get, list_any}
 use Rattle.rv_isa.specs.declared.kind.Kind.{Kind}
 use Rattle.rv_isa.specs.declared.kind.Kind.TheVariants as kinds
