@@ -3,12 +3,10 @@
 //! A boot loader or a programmer of flash memory puts contents where the program header's physical address says; start-up
 //! code copies them to where they run, and clears what begins as zeros. So these are the addresses of all formats here.
 
-ghost use Rattle.std.specs.Prelude.{◌≡◌, ◌⊎◌, ◌+◌, ◌*◌, ◌^◌, ◌<◌, ◌≤◌, ◌++◌, false, true, not, length, map, filter, take, drop, [], ◌∷◌, IfOk, OnOk, MatchResult, ◌&&◌};
-ghost use Rattle.std.specs.List.{list_all, list_any};
-ghost use Rattle.rv_elf.specs.Fields.{number_in, e_phoff, program_header_size};
+ghost use Rattle.std.specs.Prelude.{◌≡◌, ◌⊎◌, ◌+◌, ◌^◌, ◌<◌, ◌++◌, false, true, length, map, filter, [], ◌∷◌, IfOk, OnOk, MatchResult, ◌&&◌};
+ghost use Rattle.std.specs.List.{list_any};
 ghost use Rattle.rv_elf.specs.FirstFault.{Finds};
-ghost use Rattle.rv_elf.specs.Records.{program_header_at};
-ghost use Rattle.rv_elf.specs.Sections.{program_headers, program_count, is_past};
+ghost use Rattle.rv_elf.specs.Sections.{program_headers};
 ghost use Rattle.rv_firmware.specs.declared.fault.FirmwareFault.TheVariants.{Memory};
 ghost use Rattle.rv_firmware.specs.Blocks.{block_of};
 ghost use Rattle.rv_firmware.specs.FirmwareOf.{firmware_of, firmware_in, firmware_tests, is_kept, is_cut, is_low, are_low, block_in, IsRefused};

@@ -3,7 +3,7 @@
 //! Offsets of data have 16 bits, so a record says what they count from wherever that changes. Lines begin at multiples of 16,
 //! and none passes such a change.
 
-ghost use Rattle.std.specs.Prelude.{◌≡◌, ◌+◌, ◌-◌, ◌*◌, ◌/◌, ◌%◌, ◌^◌, ◌<◌, ◌≤◌, ◌++◌, true, length, map, flat_map, sum, OnOk, IfOk};
+ghost use Rattle.std.specs.Prelude.{◌≡◌, ◌+◌, ◌-◌, ◌*◌, ◌/◌, ◌%◌, ◌<◌, ◌≤◌, ◌++◌, true, length, map, flat_map, sum, OnOk, IfOk};
 ghost use Rattle.std.specs.List.{list_all};
 ghost use Rattle.rv_firmware.specs.Blocks.{block_of, is_line};
 ghost use Rattle.rv_firmware.specs.FirmwareOf.{firmware_of};

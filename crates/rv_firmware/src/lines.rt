@@ -3,7 +3,7 @@
 ghost use Rattle.std.specs.Prelude.{◌≡◌, ◌+◌, ◌^◌, ◌<◌, ◌≤◌, ◌++◌, true, length, take, drop, map, [], ◌∷◌, IfOk, OnOk};
 ghost use Rattle.std.specs.List.{list_all};
 ghost use Rattle.rv_firmware.specs.Binary.{first_address, end_address};
-ghost use Rattle.rv_firmware.specs.Blocks.{block_of, cells_of, cells_from, is_line};
+ghost use Rattle.rv_firmware.specs.Blocks.{block_of, cells_of, is_line};
 ghost use Rattle.rv_firmware.specs.FirmwareOf.{firmware_of};
 
 use crate::block::Block;

@@ -1,6 +1,6 @@
 //! Motorola S-records, with addresses of four bytes.
 
-ghost use Rattle.std.specs.Prelude.{◌≡◌, ◌+◌, ◌%◌, ◌≤◌, ◌<◌, ◌^◌, ◌++◌, true, length, map, flat_map, OnOk, IfOk};
+ghost use Rattle.std.specs.Prelude.{◌≡◌, ◌+◌, ◌≤◌, ◌<◌, ◌++◌, true, length, map, flat_map, OnOk, IfOk};
 ghost use Rattle.std.specs.List.{list_all};
 ghost use Rattle.rv_firmware.specs.Blocks.{block_of, is_line};
 ghost use Rattle.rv_firmware.specs.FirmwareOf.{firmware_of};

@@ -1,6 +1,6 @@
 //! Raw binaries: bytes side by side, with a byte of the caller's in the gaps.
 
-ghost use Rattle.std.specs.Prelude.{◌≡◌, ◌+◌, ◌-◌, ◌≤◌, ◌<◌, ◌^◌, ◌++◌, length, map, replicate, IfOk};
+ghost use Rattle.std.specs.Prelude.{◌≡◌, ◌+◌, ◌-◌, ◌≤◌, ◌<◌, length, IfOk};
 ghost use Rattle.rv_firmware.specs.Blocks.{block_of};
 ghost use Rattle.rv_firmware.specs.Binary.{binary_of, first_address, end_address, with_block};
 ghost use Rattle.rv_firmware.specs.FirmwareOf.{firmware_of};
