@@ -1,6 +1,6 @@
 -- The line feeds of a lexeme: a line's end is one, and of the others block comments alone have any.
 
-use Rattle.std.proofs.Common.{◌≡◌, ℕ, ◌+◌, ◌<◌, Bool, true, false, cond, ◌==◌, List, [], ◌∷◌, ◌++◌, refl, sym, ◌∙◌, ap, subst, arith, ◌⊎◌, inl, inr, Some, take}
+use Rattle.std.proofs.Common.{◌≡◌, ℕ, ◌+◌, ◌<◌, Bool, true, false, cond, ◌==◌, List, [], ◌∷◌, ◌++◌, refl, sym, ◌∙◌, ap, subst, arith, ◌⊎◌, inl, inr, Option, None, Some, take}
 use Rattle.std.specs.List.{list_all}
 use Rattle.std.proofs.lemmas.Bool.{eqb-true, and_parts}
 use Rattle.rv_text_laws.specs.declared.punct.Punct.{Punct}
@@ -12,7 +12,7 @@ use Rattle.rv_text_laws.specs.Bytes.{class, spelling, is_word, in_line, is_digit
 use Rattle.rv_text_laws.specs.Strings.{Atom, Plain, Named, Octal, Hexadecimal, named, is_plain, is_character, SpellsAtom, StopsAtom}
 use Rattle.rv_text_laws.specs.Grammar.{Kind, Space, Line_comment, Block_comment, Newline, Punctuation, Name, Number, Reference, Bad_word, Text, Character, Bad_byte, Bad_token, End, Spells, IsWord}
 use Rattle.rv_text_laws.specs.Lexing.{newlines}
-use Rattle.rv_text_laws.specs.Front.{lexeme_at}
+use Rattle.rv_text_laws.specs.Front.{lexeme_at, number_in, number_kind, digits_kind}
 use Rattle.rv_lexer.specs.declared.token.TokenKind.{TokenKind}
 use Rattle.rv_lexer.specs.declared.token.TokenKind.TheVariants as code
 use Rattle.rv_lexer.specs.Token.{kind_of}
@@ -116,3 +116,12 @@ token_feeds code.End text s = absurd s
 -- the lexeme that is found is spelled so
 pub found_spelled : (bytes : List ℕ) (k : Kind) (n : ℕ) → Some (k, n) ≡ lexeme_at bytes → Spells k (take n bytes)
 found_spelled bytes k n e = (front lexemes bytes k n (sym e)).spelled
+
+-- a word that begins with a digit has no line feed
+numbers_no_feeds : (word : List ℕ) (n : Option ℕ) → has_feeds (number_kind word n) ≡ false
+numbers_no_feeds word None = refl
+numbers_no_feeds word (Some n) = refl
+
+pub digits_no_feeds : (word : List ℕ) (r : Option (List ℕ × Bool)) → has_feeds (digits_kind word r) ≡ false
+digits_no_feeds word None = numbers_no_feeds word (number_in word)
+digits_no_feeds word (Some r) = refl

@@ -1,8 +1,8 @@
 //! Lexemes: blanks, comments and tokens.
 //!
 //! The class of the first byte decides which lexeme can begin there, and a lexeme is as long as it can be: at each
-//! place at most one stands, and nothing is tried twice. Names, punctuation of one byte and line feeds are most of a
-//! source, so they are found first, without the way through all others.
+//! place at most one stands, and nothing is tried twice. Names, numbers, punctuation of one byte and line feeds are most
+//! of a source, so they are found first, without the way through all others.
 
 ghost use Rattle.std.specs.Prelude.{◌≡◌, ◌+◌, ◌≤◌, ◌<◌, ◌^◌, ◌∷◌, slice_index, true, false, MatchOption, IfSome, length, option_map, if◌then◌else◌};
 ghost use Rattle.std.specs.List.{prefix_len};
@@ -235,7 +235,8 @@ pub(crate) fn lexeme_at(bytes: &[u8]) -> Option<Lexeme<'_>>
     lexeme_by(class(bytes[0]), bytes, rest)
 }
 
-/// A name, punctuation of one byte or a line feed: the most frequent tokens, found without a way through all others.
+/// A name, a number, punctuation of one byte or a line feed: the most frequent tokens, found without a way through all
+/// others.
 #[derive(Clone, Copy, Drop)]
 pub(crate) struct Frequent<'a> {
     pub(crate) kind: TokenKind<'a>,
@@ -260,6 +261,14 @@ fn frequent_by<'a>(class: Class, bytes: &'a [u8], rest: &'a [u8]) -> Option<Freq
             let length = word_length(rest) + 1;
             Some(Frequent {
                 kind: TokenKind::Name(bytes.split_at(length).0),
+                length,
+                feeds: 0,
+            })
+        }
+        Class::Digit => {
+            let length = word_length(rest) + 1;
+            Some(Frequent {
+                kind: digits_kind(bytes.split_at(length).0),
                 length,
                 feeds: 0,
             })

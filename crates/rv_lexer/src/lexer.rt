@@ -6,7 +6,7 @@
 
 ghost use Rattle.std.specs.Prelude.{◌≡◌, slice_index, ◌+◌, ◌-◌, ◌<◌, ◌≤◌, ◌^◌, ◌∷◌, [], true, length, take, drop, if◌then◌else◌};
 ghost use Rattle.rv_text_laws.specs.Bytes.{class as class_of};
-ghost use Rattle.rv_text_laws.specs.declared.class.Class.TheVariants.{Letter};
+ghost use Rattle.rv_text_laws.specs.declared.class.Class.TheVariants.{Letter, Digit};
 ghost use Rattle.rv_text_laws.specs.Grammar.{Spells};
 ghost use Rattle.rv_text_laws.specs.Lexing.{newlines, is_last, last_kind};
 ghost use Rattle.rv_lexer.specs.Lexeme.{lexeme_kind_of};
@@ -81,6 +81,7 @@ impl<'a> Lexer<'a> {
         let first = class(self.rest[0]);
         match first {
             Class::Letter => self.put_name(token),
+            Class::Digit => self.put_number(token),
             _ => self.put_by(first, token),
         }
     }
@@ -128,6 +129,20 @@ impl<'a> Lexer<'a> {
             tokens_left self.new ≡ tokens_left self.old }
     {
         self.put_by(Class::Letter, token);
+    }
+
+    /// Puts the number at the front, or the word that begins with a digit.
+    #[inline(never)]
+    fn put_number(&mut self, token: &mut Token<'a>)
+        requires some { 0 < length self.old.rest.now }
+        requires class { Digit ≡ class_of (slice_index self.old.rest.now 0) }
+        ensures first { tokens_left self.old
+            ≡ token_of token.new ∷
+            (if is_last (token_of token.new).kind then [] else tokens_left self.new) }
+        ensures stays { is_last (token_of token.new).kind ≡ true →
+            tokens_left self.new ≡ tokens_left self.old }
+    {
+        self.put_by(Class::Digit, token);
     }
 
     /// Puts the next token, whichever it is.
