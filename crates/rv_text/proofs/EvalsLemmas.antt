@@ -118,6 +118,12 @@ pub pair_value : (m : Primary → Meaning) (p : Primary) (n : ℕ) (o : BinaryOp
 unfolding tree_of
 pair_value m p n o = refl
 
+-- two symbols under their operator
+pub two_value : (m : Primary → Meaning) (p q : Primary) (o : BinaryOperator)
+    → value_of m (tree_of (Primary_node p ∷ Primary_node q ∷ Binary_node o ∷ [])) ≡ both o (primary_value m p) (primary_value m q)
+unfolding tree_of
+two_value m p q o = refl
+
 pub pair_outcome : (m : Primary → Meaning) (p : Primary) (n : ℕ) (o : BinaryOperator) (e : Expr) (result : Result code_value.Value SourceFault) (line : ℕ) (part : Value)
     → expr_of e ≡ Primary_node p ∷ Primary_node (Literal n) ∷ Binary_node o ∷ [] → part ≡ both o (primary_value m p) (Constant n) → IsOutcome result line part
     → IsOutcome result line (value_of m (tree_of_expr e))

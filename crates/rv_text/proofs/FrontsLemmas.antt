@@ -56,3 +56,7 @@ started r c d u one e = (left c, on r c d (Wants [] []) u one e)
 pub at_start : (r : List ℕ → Bool) (ts : List lexing.Token) (items : List Frame) → stack_of items ≡ [] → Reached r (Wants (stack_of items) []) ts
 unfolding expression_at
 at_start r ts items e = (ts, ap (λ (l : List Frame). read_from r (Wants l []) ts) (sym e))
+
+-- one token further
+pub continued : (r : List ℕ → Bool) (c d : Cursor) (s u : Stage) → Reached r s (left c) → left c ≡ token_of c.next ∷ left d → step r s (kind_of c.next.kind) ≡ Goes u → Reached r u (left d)
+continued r c d s u h one e = (h.0, h.1 ∙ on r c d s u one e)

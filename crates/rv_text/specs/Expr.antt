@@ -4,12 +4,14 @@ use Rattle.std.specs.Prelude.{◌≡◌, ℕ, Bool, true, false, List, [], ◌�
 use Rattle.rv_text_laws.specs.declared.operator.Frame.{Frame}
 use Rattle.rv_text_laws.specs.declared.operator.Frame.TheVariants.{Prefix, Infix}
 use Rattle.rv_text_laws.specs.declared.operator.UnaryOperator.TheVariants.{Negate}
+use Rattle.rv_text_laws.specs.declared.operator.BinaryOperator.{BinaryOperator}
 use Rattle.rv_text_laws.specs.Expression as expression
 use Rattle.rv_text_laws.specs.ExpressionAt as reading
 use Rattle.rv_text_laws.specs.Lexing.{Token}
 use Rattle.rv_text_laws.specs.SyntaxError as syntax
 use Rattle.rv_text.specs.declared.expr.Expr.{Expr}
 use Rattle.rv_text.specs.declared.expr.Expr.TheVariants as exprs
+use Rattle.rv_text.specs.declared.node.Symbol.{Symbol}
 use Rattle.rv_text.specs.declared.pair.Pair.{Pair}
 use Rattle.rv_text.specs.declared.reading.Stage.{Stage}
 use Rattle.rv_text.specs.declared.reading.Stage.TheVariants as stages
@@ -78,6 +80,13 @@ after_pair pair =
     reading.Has (Infix pair.operator ∷ [])
     (expression.Primary_node (symbol_of pair.symbol) ∷
     expression.Primary_node (expression.Literal pair.number) ∷ [])
+
+-- the stage after a symbol, an operator and another symbol
+abbrev pub after_two : Symbol → BinaryOperator → Symbol → reading.Stage
+after_two symbol operator other =
+    reading.Has (Infix operator ∷ [])
+    (expression.Primary_node (symbol_of symbol) ∷
+    expression.Primary_node (symbol_of other) ∷ [])
 
 -- some tokens lead to this stage with these tokens left
 abbrev pub Reached : (List ℕ → Bool) → reading.Stage → List Token → Type 0

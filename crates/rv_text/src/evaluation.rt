@@ -2,8 +2,8 @@
 //!
 //! An expression is evaluated wherever its value is wanted, for faults, sizes and code, so it may not want memory: its
 //! values stand in an array, and that 200 are enough for every nesting that is read is proved. The cells of an array
-//! are written before they are used. So one operator on two operands is computed without it, and most others with a
-//! small one.
+//! are written before they are used. So one operator on two operands is computed without it, as in the distance of two
+//! labels, and most others with a small one.
 
 ghost use Rattle.std.specs.Prelude.{◌≡◌, ◌<◌, ◌≤◌, ◌+◌, ◌++◌, List, [], ◌∷◌, true, length, min, IfSome};
 ghost use Rattle.rv_text_laws.specs.Expression.{Primary, tree_of};
@@ -407,8 +407,24 @@ fn pair_value<'a, F: Fn(Symbol<'a>) -> Meaning>(pair: &Pair<'a>, names: &F) -> P
     )
 }
 
-/// The value of the nodes of an expression with operators.
-fn compound_value<'a, F: Fn(Symbol<'a>) -> Meaning>(nodes: &Nodes<'a>, names: &F) -> Part<'a>
+/// The value of two symbols under their operator.
+fn value_of_two<'a, F: Fn(Symbol<'a>) -> Meaning>(
+    operator: BinaryOperator,
+    left: Symbol<'a>,
+    right: Symbol<'a>,
+    names: &F,
+) -> Part<'a>
+    requires { F.IsAlwaysCallable names.now }
+    ensures { (m : Primary → values.Meaning) → Means (F.post names.now) m →
+        part_of result
+        ≡ values.both operator (values.primary_value m (symbol_of left.entry))
+        (values.primary_value m (symbol_of right.entry)) }
+{
+    both(operator, lone(left, names), lone(right, names))
+}
+
+/// The value of the nodes, whichever these are.
+fn value_of_all<'a, F: Fn(Symbol<'a>) -> Meaning>(nodes: &Nodes<'a>, names: &F) -> Part<'a>
     requires callable { F.IsAlwaysCallable names.now }
     requires fits { values.nodes_fit (nodes_of nodes.now) 0 ≡ true }
     ensures { (m : Primary → values.Meaning) → Means (F.post names.now) m →
@@ -417,6 +433,19 @@ fn compound_value<'a, F: Fn(Symbol<'a>) -> Meaning>(nodes: &Nodes<'a>, names: &F
     match value_of_few(nodes, names) {
         Some(part) => part,
         None => evaluate(nodes, names),
+    }
+}
+
+/// The value of the nodes of an expression with operators.
+fn compound_value<'a, F: Fn(Symbol<'a>) -> Meaning>(nodes: &Nodes<'a>, names: &F) -> Part<'a>
+    requires callable { F.IsAlwaysCallable names.now }
+    requires fits { values.nodes_fit (nodes_of nodes.now) 0 ≡ true }
+    ensures { (m : Primary → values.Meaning) → Means (F.post names.now) m →
+        part_of result ≡ values.value_of m (tree_of (nodes_of nodes.now)) }
+{
+    match nodes.two_symbols() {
+        Some((left, right, operator)) => value_of_two(operator, left, right, names),
+        None => value_of_all(nodes, names),
     }
 }
 

@@ -1,21 +1,21 @@
-//! An expression by its first tokens: most have no operator, or one that a number follows.
+//! An expression by its first tokens: most have no operator, or one that a number or a symbol follows.
 //!
-//! Most expressions have no operator, or one that a number follows. They are read here without the loop and its stack.
+//! These are read here without the loop and its stack.
 
-ghost use Rattle.std.specs.Prelude.{◌≡◌, [], ◌∷◌, IfOk};
-ghost use Rattle.rv_text_laws.specs.Expression.{Primary_node, Literal, follows};
+ghost use Rattle.std.specs.Prelude.{◌≡◌, [], ◌∷◌, ◌++◌, IfOk};
+ghost use Rattle.rv_text_laws.specs.Expression.{Primary, Primary_node, Binary_node, Literal, follows};
 ghost use Rattle.rv_text_laws.specs.ExpressionAt.{Wants};
 ghost use Rattle.rv_text_laws.specs.declared.operator.UnaryOperator.TheVariants.{Negate};
 ghost use Rattle.rv_text_laws.specs.declared.operator.Frame.TheVariants.{Prefix, Infix};
 ghost use Rattle.rv_lexer.specs.Cursor.{left};
 ghost use Rattle.rv_lexer.specs.Token.{kind_of};
 ghost use Rattle.rv_text.specs.Nodes.{symbol_of, node_of, nodes_of};
-ghost use Rattle.rv_text.specs.Expr.{stack_of, ends_operand, after_operand, after_negative, after_pair, Reached, ReadOn};
+ghost use Rattle.rv_text.specs.Expr.{stack_of, expr_of, ends_operand, after_operand, after_negative, after_pair, after_two, Reached, ReadOn};
 
 use crate::expr::Expr;
 use crate::node::{Node, Nodes, Symbol};
 use crate::pair::Pair;
-use crate::reading::{Follow, Registers, Stage, follows, read_on};
+use crate::reading::{Begin, Follow, Registers, Stage, begins, follows, read_on};
 use rv_lexer::{Cursor, ReadError, TokenKind};
 use rv_text_laws::{BinaryOperator, Frame, UnaryOperator};
 use std::alloc::{AllocError, Global};
@@ -119,6 +119,42 @@ fn after_pair<'a, R: Registers>(
     read_on::<R>(alloc, cursor, frames, Stage::Has(nodes))
 }
 
+/// Two symbols and the operator on them.
+fn of_two<'a>(
+    alloc: Global,
+    nodes: Nodes<'a>,
+    operator: BinaryOperator,
+) -> Result<Expr<'a>, AllocError>
+    requires { (p q : Primary) × (nodes_of nodes ≡ Primary_node p ∷ Primary_node q ∷ []) }
+    ensures { IfOk result
+        (λ e. expr_of e ≡ nodes_of nodes.entry ++ Binary_node operator ∷ []) }
+{
+    let mut nodes = nodes;
+    nodes.push(Node::Binary(operator))?;
+    Expr::new(alloc, nodes)
+}
+
+/// The expression that begins with a symbol, an operator and another symbol.
+fn after_two<'a, R: Registers>(
+    alloc: Global,
+    cursor: &mut Cursor<'a>,
+    symbol: Symbol<'a>,
+    operator: BinaryOperator,
+    other: Symbol<'a>,
+) -> Result<Expr<'a>, ReadError>
+    requires { Reached R.registers (after_two symbol operator other) (left cursor.old) }
+    ensures { ReadOn R.registers
+        (after_two symbol.entry operator other.entry) cursor.old cursor.new result }
+{
+    let mut nodes = one(alloc, Node::Symbol(symbol));
+    nodes.push(Node::Symbol(other))?;
+    if ends(cursor.next.kind) {
+        return Ok(of_two(alloc, nodes, operator)?);
+    }
+    let frames = waiting(alloc, Frame::Infix(operator))?;
+    read_on::<R>(alloc, cursor, frames, Stage::Has(nodes))
+}
+
 /// The expression that begins with a symbol and an operator.
 fn after_operator<'a, R: Registers>(
     alloc: Global,
@@ -132,18 +168,26 @@ fn after_operator<'a, R: Registers>(
         (Wants (Infix operator ∷ [])
         (Primary_node (symbol_of symbol.entry) ∷ [])) cursor.old cursor.new result }
 {
-    if let TokenKind::Number(_, number) = cursor.next.kind {
-        cursor.advance();
-        let pair = Pair {
-            symbol,
-            operator,
-            number,
-        };
-        return after_pair::<R>(alloc, cursor, pair);
+    match begins::<R>(cursor.next.kind) {
+        Begin::Number(number) => {
+            cursor.advance();
+            let pair = Pair {
+                symbol,
+                operator,
+                number,
+            };
+            after_pair::<R>(alloc, cursor, pair)
+        }
+        Begin::Symbol(other) => {
+            cursor.advance();
+            after_two::<R>(alloc, cursor, symbol, operator, other)
+        }
+        _ => {
+            let frames = waiting(alloc, Frame::Infix(operator))?;
+            let nodes = one(alloc, Node::Symbol(symbol));
+            read_on::<R>(alloc, cursor, frames, Stage::Wants(Some(nodes)))
+        }
     }
-    let frames = waiting(alloc, Frame::Infix(operator))?;
-    let nodes = one(alloc, Node::Symbol(symbol));
-    read_on::<R>(alloc, cursor, frames, Stage::Wants(Some(nodes)))
 }
 
 /// The expression that begins with a symbol.

@@ -133,7 +133,7 @@ fn punct_begins<'a>(punct: Punct) -> Begin<'a>
 
 /// What a token is where an operand is wanted.
 #[inline(always)]
-fn begins<R: Registers>(kind: TokenKind<'_>) -> Begin<'_>
+pub(crate) fn begins<R: Registers>(kind: TokenKind<'_>) -> Begin<'_>
     ensures { begin_of result ≡ begins R.registers (kind_of kind.entry) }
 {
     match kind {
