@@ -7,4 +7,5 @@ mod ScopedLemmas
 mod StandingLemmas
 mod InstructionsLemmas
 mod SizedLemmas
+mod PlacesLemmas
 pub mod ConstantsLemmas

@@ -7,11 +7,12 @@
 //!
 //! A weak name has no place in any of them, as another file's may stand for it.
 
-ghost use Rattle.std.specs.Prelude.{◌≡◌, ℕ, ◌+◌, ◌≤◌, ◌<◌, ◌||◌, true, false, is_some, length};
+ghost use Rattle.std.specs.Prelude.{◌≡◌, ℕ, ◌+◌, ◌≤◌, ◌<◌, ◌||◌, true, false, [], is_some, length, IfSome};
 ghost use Rattle.rv_text_laws.specs.Bytes.{value as digits_value};
+ghost use Rattle.rv_text_laws.specs.Expression.{Symbol as SymbolOf};
 ghost use Rattle.rv_text_laws.specs.Values.{Open};
 ghost use Rattle.rv_text.specs.Nodes.{symbol_of};
-ghost use Rattle.rv_text.specs.Expr.{tree_of_expr};
+ghost use Rattle.rv_text.specs.Expr.{alone, expr_of, tree_of_expr};
 ghost use Rattle.rv_text.specs.Eval.{meaning_of, IsOutcome};
 ghost use Rattle.rv_unit_laws.specs.Tables as laws;
 ghost use Rattle.rv_unit_laws.proofs.BeforeLemmas.{IsBefore};
@@ -39,7 +40,30 @@ impl<'a> Unit<'a> {
         }
     }
 
-    /// The value of an expression of that statement; a fault has this line.
+    /// No name is set, so that each has a place, or one that is not known.
+    pub(crate) fn sets_none(&self) -> bool
+        ensures { result ≡ true → (self.now).tables.assignments.items ≡ [] }
+    {
+        self.tables.assignments.is_empty()
+    }
+
+    /// The name that an expression is, where none is set: it is then no number, and has no fault.
+    fn placed_name<'e>(&self, expression: &Expr<'e>) -> Option<&'e [u8]>
+        ensures name { IfSome result
+            (λ name. expr_of expression.now ≡ alone (SymbolOf name.now)) }
+        ensures none { IfSome result (λ _. (self.now).tables.assignments.items ≡ []) }
+    {
+        if !self.sets_none() {
+            return None;
+        }
+        match expression {
+            Expr::Name(name) => Some(*name),
+            _ => None,
+        }
+    }
+
+    /// The value of an expression of that statement; a fault has this line. A name is not looked up where it is no number
+    /// in any case, as in most jumps and branches.
     pub(crate) fn value<'e>(
         &self,
         ordinal: u32,
@@ -52,6 +76,9 @@ impl<'a> Unit<'a> {
             (laws.value (laws.tables (said self.now)) true o (offset_of place)
             (tree_of_expr expression.now)) }
     {
+        if let Some(name) = self.placed_name(expression) {
+            return Ok(Value::Symbolic(Symbol::Name(name), 0));
+        }
         eval(
             expression,
             line,
