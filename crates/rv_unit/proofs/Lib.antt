@@ -8,4 +8,5 @@ mod StandingLemmas
 mod InstructionsLemmas
 mod SizedLemmas
 mod PlacesLemmas
+mod DistancesLemmas
 pub mod ConstantsLemmas

@@ -32,13 +32,13 @@ weakened_place binding Open e = refl
 weakened_place binding (Known number) e = absurd (cc)
 weakened_place binding (Refused code) e = absurd (cc)
 
-named_place : (t : Tables) (o : ℕ) (name : List ℕ) → t.assignments ≡ [] → is_place (named t true o name) ≡ true
+pub named_place : (t : Tables) (o : ℕ) (name : List ℕ) → t.assignments ≡ [] → is_place (named t true o name) ≡ true
 named_place t o name none =
     weakened_place (t.bindings name) (own_named t true o name)
     (ap (λ (gs : List Assignment). is_place (assigned_first (assigned_before gs o name) (labelled (opened_of t) (label_of t.labels true o name) (assigned_later true (assigned_ever gs name))))) none
     ∙ labelled_place (opened_of t) (label_of t.labels true o name))
 
-symbolic_place : (q : Primary) (m : Meaning) → is_place m ≡ true → (at : Meaning) × (meant q m ≡ Symbolic q at 0)
+pub symbolic_place : (q : Primary) (m : Meaning) → is_place m ≡ true → (at : Meaning) × (meant q m ≡ Symbolic q at 0)
 symbolic_place q (InSection section offset) e = (InSection section offset, refl)
 symbolic_place q Open e = (Open, refl)
 symbolic_place q (Known number) e = absurd (cc)

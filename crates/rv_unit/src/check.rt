@@ -3,7 +3,7 @@
 //! The tables of the whole source answer all but one question: names and sections by the ordinal of the statement and by
 //! where it stands. The depth of the option stack is counted on the way.
 
-ghost use Rattle.std.specs.Prelude.{◌≡◌, ℕ, ◌+◌, ◌<◌, ◌≤◌, ◌^◌, ◌-◌, List, Some, flat_map, map, true, length, option_map};
+ghost use Rattle.std.specs.Prelude.{◌≡◌, ℕ, ◌+◌, ◌<◌, ◌≤◌, ◌^◌, ◌-◌, List, [], Some, flat_map, map, true, length, option_map};
 ghost use Rattle.rv_text.specs.Expr.{tree_of_expr};
 ghost use Rattle.rv_statement.specs.Limits.{most_statements};
 ghost use Rattle.rv_statement.specs.Statement.{Operand as SpecOperand, Instruction, Label, Directs, Zeros, Aligns_to_power, Aligns_to_bytes, Values, Strings};
@@ -19,8 +19,8 @@ ghost use Rattle.rv_unit.specs.FaultsAt.{faults_at, directive_faults_at};
 ghost use Rattle.rv_unit.specs.Unit.{said, passed, fault_of, IsStatementOf, IsFilled};
 
 use crate::faults::{
-    alignment_fault, bytes_fault, choice_fault, data_fault, faulty_if, instruction_fault, lower,
-    power_fault, set_fault, value_fault, zero_fault,
+    alignment_fault, bytes_fault, choice_fault, data_fault, faulty_if, instruction_fault,
+    is_difference, lower, power_fault, set_fault, value_fault, zero_fault,
 };
 use crate::unit::Unit;
 use rv_statement::{Choice, Setting, StatementKind, Width};
@@ -138,6 +138,38 @@ impl<'a> Unit<'a> {
         )
     }
 
+    /// Whether a value of data is a difference of names that have places, as none is set: it then has no fault.
+    fn is_distance(&self, value: &Expr<'a>) -> bool
+        ensures { (width o : ℕ) (p : laws.SectionOffset) → IsFilled self.now → result ≡ true
+            → faults.value_faults width
+            (laws.value (laws.tables (said self.now)) true o p (tree_of_expr value.now)) ≡ [] }
+    {
+        if !self.sets_none() {
+            return false;
+        }
+        is_difference(value)
+    }
+
+    /// The fault of a value of data. A difference of names is looked at without them first: in most sources it has none.
+    fn fault_of_value(
+        &self,
+        ordinal: u32,
+        place: SectionOffset,
+        width: Width,
+        value: &Expr<'a>,
+    ) -> Option<SourceCode>
+        ensures { (o : ℕ) → IsFilled self.now → ordinal ≡ o
+            → IsLowest result (faults.value_faults (bytes_of width)
+            (laws.value (laws.tables (said self.now)) true o (offset_of place)
+            (tree_of_expr value.now))) }
+    {
+        if self.is_distance(value) {
+            return None;
+        }
+        let found = self.value(ordinal, place, value, 0);
+        value_fault(width_in_bytes(width), &found)
+    }
+
     /// The fault of the values of data, one by one.
     fn fault_of_each(
         &self,
@@ -154,8 +186,7 @@ impl<'a> Unit<'a> {
     {
         let mut found = None;
         for value in values {
-            let value = self.value(ordinal, place, value, 0);
-            found = lower(found, value_fault(width_in_bytes(width), &value));
+            found = lower(found, self.fault_of_value(ordinal, place, width, value));
         }
         found
     }

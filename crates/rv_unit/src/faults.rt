@@ -11,11 +11,15 @@ ghost use Rattle.rv_lexer.specs.Fault.{number_of, IsLowest};
 ghost use Rattle.rv_unit_laws.specs.Sections.{is_nobits};
 ghost use Rattle.rv_unit_laws.specs.Faults as laws;
 ghost use Rattle.rv_unit_laws.specs.Tables as tables;
-ghost use Rattle.rv_unit.specs.Faults.{ForValue};
+ghost use Rattle.rv_text_laws.specs.Values.{value_of};
+ghost use Rattle.rv_text.specs.Nodes.{symbol_of};
+ghost use Rattle.rv_text.specs.Expr.{tree_of_expr};
+ghost use Rattle.rv_text.specs.Eval.{meaning_of, IsOutcome};
+ghost use Rattle.rv_unit.specs.Faults.{ForValue, open_meaning, is_difference};
 ghost use Rattle.rv_unit_tables.specs.Sections.{section_of};
 
 use rv_statement::Choice;
-use rv_text::{SourceCode, SourceFault, Symbol, Value};
+use rv_text::{Expr, Meaning, SourceCode, SourceFault, Symbol, Value, eval};
 use rv_unit_tables::{GREATEST_ALIGNMENT, LONGEST_SECTION, Section, is_power_below, padding};
 
 /// What an expression is worth, or its fault.
@@ -104,6 +108,45 @@ pub(crate) fn value_fault(width: u64, value: &Outcome<'_>) -> Option<SourceCode>
         Err(SourceFault::At { code, .. }) => Some(*code),
         Err(SourceFault::OutOfMemory) => None,
     }
+}
+
+/// What a symbol means where each name is open.
+fn open_meaning(symbol: Symbol<'_>) -> Meaning
+    ensures { meaning_of result ≡ open_meaning (symbol_of symbol.entry) }
+{
+    match symbol {
+        Symbol::Name(_) => Meaning::Open,
+        Symbol::Here => Meaning::UndefinedLocal,
+        Symbol::Backward(_) => Meaning::UndefinedLocal,
+        Symbol::Forward(_) => Meaning::UndefinedLocal,
+    }
+}
+
+/// The value of an expression where each name is open.
+fn open_value<'e>(expression: &Expr<'e>) -> Outcome<'e>
+    ensures { IsOutcome result 0 (value_of open_meaning (tree_of_expr expression.now)) }
+{
+    eval(expression, 0, &|symbol| { open_meaning(symbol) })
+}
+
+/// Whether a value is a difference.
+fn tells_difference(value: &Outcome<'_>) -> bool
+    ensures { ForValue value.now (λ v. result ≡ is_difference v) }
+{
+    match value {
+        Ok(Value::Difference(..)) => true,
+        Ok(Value::Constant(_)) => false,
+        Ok(Value::Symbolic(..)) => false,
+        Err(SourceFault::At { .. }) => false,
+        Err(SourceFault::OutOfMemory) => false,
+    }
+}
+
+/// Whether an expression is a difference of two names, wherever these are.
+pub(crate) fn is_difference(expression: &Expr<'_>) -> bool
+    ensures { result ≡ is_difference (value_of open_meaning (tree_of_expr expression.now)) }
+{
+    tells_difference(&open_value(expression))
 }
 
 /// The fault of data at an offset.

@@ -18,11 +18,9 @@ loop-value-preserved c = λ o f at.
     let x = c.value-item.result in
     let inside : n < length xs = search rules in
     let each : Tree → List ℕ = (λ e. faults.value_faults (bytes_of c.args.width) (laws.value (laws.tables (said c.args.self.now)) true o (offset_of c.args.place) e)) in
-    let value = c.value-value.ensures o f at in
     subst (IsLowest c.lower-found.result) (sym (each_more each xs n x inside c.value-item.is))
     (c.lower-found.ensures (flat_map each (map tree_of_expr (take n xs))) (each (tree_of_expr x)) (c.loop-value.invariant o f at)
-    (subst (λ w. IsLowest c.value_fault.result (faults.value_faults w (laws.value (laws.tables (said c.args.self.now)) true o (offset_of c.args.place) (tree_of_expr x)))) c.width_in_bytes.ensures
-    (c.value_fault.ensures 0 _ value)))
+    (c.fault_of_value.ensures o f at))
 
 pub returns : goal.returns
 returns c = λ o f at.
