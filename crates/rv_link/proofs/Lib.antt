@@ -10,3 +10,4 @@ pub mod LeftLemmas
 pub mod KnownLemmas
 pub mod NumberedLemmas
 pub mod MissingLemmas
+pub mod IdleLemmas

@@ -28,7 +28,7 @@ use Rattle.rv_link.proofs.ApartLemmas.{section_follows, fields_inside}
 
 -- ---- lists
 
-get_or-map : {A B : Type 0} (f : A → B) (xs : List A) (i : ℕ) (x : A) → i < length xs → x ≡ get_or xs i x → get_or (map f xs) i (f x) ≡ f x
+pub get_or-map : {A B : Type 0} (f : A → B) (xs : List A) (i : ℕ) (x : A) → i < length xs → x ≡ get_or xs i x → get_or (map f xs) i (f x) ≡ f x
 get_or-map f [] i x h e = absurd (omega arith)
 get_or-map f (y ∷ ys) zero x h e = ap f (sym e)
 get_or-map f (y ∷ ys) (suc i) x h e = get_or-map f ys i x (omega arith) e

@@ -1,5 +1,6 @@
 pub mod Fault
 pub mod Filled
+pub mod Idle
 pub mod Untaken
 pub mod Refusals
 pub mod Made

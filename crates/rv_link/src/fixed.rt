@@ -14,6 +14,7 @@ ghost use Rattle.rv_object_laws.specs.Names.{object_at};
 ghost use Rattle.rv_shorten.specs.Sections.{short_section_of};
 ghost use Rattle.rv_relax.specs.Plan.{moves_of};
 ghost use Rattle.rv_placement.specs.Placement.{starts_of};
+ghost use Rattle.rv_link.specs.Idle.{is_idle};
 ghost use Rattle.rv_link.specs.Regions.{IsFixed};
 ghost use Rattle.rv_link.specs.Untaken.{IsUntaken, AreUntakenOf, OrMemory};
 ghost use Rattle.rv_resolve.specs.Shown.{outer_in};
@@ -29,6 +30,7 @@ ghost use Rattle.rv_link.specs.Filled.{
 
 use crate::fault::LinkFault;
 use crate::fields::apply;
+use rv_isa::Kind;
 use rv_link_values::Values;
 use rv_object::{Contents, Relocation};
 use rv_placement::{PlacedSection, Placement};
@@ -109,6 +111,9 @@ impl<'p, 'o, 'a, 'n> Fixed<'p, 'o, 'a, 'n> {
         ensures refuses { IfErr result (λ fault. AreUntakenOf self.now input.now fault) }
     {
         for relocation in &input.section.whole.relocations {
+            if is_idle(relocation.kind) {
+                continue;
+            }
             let relocation = input.section.relocation(relocation);
             let value = self.value(input, &relocation)?;
             let place = input.placed.plan.new_offset(relocation.place);
@@ -170,6 +175,13 @@ impl<'p, 'o, 'a, 'n> Fixed<'p, 'o, 'a, 'n> {
         put_zeros(out, input.placed.start - region - out.len() as u64)?;
         self.put_bytes(alloc, input, out)
     }
+}
+
+/// Whether a relocation of this kind has no field.
+fn is_idle(kind: Kind) -> bool
+    ensures { result ≡ is_idle kind }
+{
+    matches!(kind, Kind::None | Kind::Relax | Kind::Align)
 }
 
 /// Adds zeros.

@@ -1,4 +1,4 @@
-use Rattle.std.proofs.Common.{rules, ◌≡◌, pos, None, subst, ap, ◌∙◌, arith, w64, FitsSigned, to_z, of_z}
+use Rattle.std.proofs.Common.{rules, ◌≡◌, pos, None, subst, sym, ap, ◌∙◌, arith, w64, FitsSigned, to_z, of_z}
 use Rattle.std.proofs.lemmas.Int.{to_z-of_z}
 use Rattle.std.proofs.lemmas.Result.{err_from_is_err_and}
 use Rattle.rv_reloc.specs.Ranges.{Takes}
@@ -11,6 +11,7 @@ use Rattle.rv_shorten.specs.Sections.{moves_in}
 use Rattle.rv_relax.specs.Plan.{moves_of}
 use Rattle.rv_link.specs.Fault.{IsOfPatch}
 use Rattle.rv_link.specs.Filled.{objects_of, input_of}
+use Rattle.rv_link.proofs.IdleLemmas.{idle_next}
 use Rattle.rv_link.proofs.StepsLemmas.{moved_next, patched_step, patched_failed, untaken_by, inside_next}
 use Rattle.rv_link.proofs.fixed.Fixed.relocate.Goals as goal
 
@@ -25,6 +26,12 @@ apply-requires c = λ has.
     let there = moved_next (moves_in s) s.whole.now.relocations.items c.deref-relocation-items.result.now n zeroed r c.deref-relocation-items.ensures.value c.loop-relocation-test.true c.relocation-relocation.ensures in
     let fits = inside_next _ _ _ _ _ _ _ (relocation_of r) _ _ c.loop-relocation.invariant there has in
     omega (arith, fits, c.new_offset-place.ensures)
+
+pub loop-relocation-preserved-then-is_idle : goal.loop-relocation-preserved-then-is_idle
+loop-relocation-preserved-then-is_idle c =
+    let s = c.args.input.now.section.now in
+    idle_next _ _ _ _ (moves_in s) _ _ _ c.deref-relocation-items.result.now s.whole.now.relocations.items c.loop-relocation.relocation-index zeroed
+    c.deref-relocation-items.ensures.value c.loop-relocation-test.true c.loop-relocation.invariant (sym c.is_idle.ensures ∙ c.if-is_idle.true)
 
 pub loop-relocation-preserved : goal.loop-relocation-preserved
 loop-relocation-preserved c =
