@@ -11,6 +11,7 @@ mod KnownLemmas
 pub mod LinkerNamesLemmas
 mod LoadingLemmas
 mod MeantLemmas
+mod RememberedLemmas
 mod ResolvedLemmas
 mod RowsLemmas
 pub mod ShownLemmas

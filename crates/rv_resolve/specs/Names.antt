@@ -87,6 +87,13 @@ AreMeanings os m =
     map (λ (row : Vec (Option Exported)). row.items) m.files.items
     ≡ map (map (outside (definitions os))) (seen_of os)
 
+-- these are the rows of the first of these objects
+abbrev pub AreRows : List Definer → List Object → List (Vec (Option Exported)) → Type 0
+AreRows ds os rows =
+    (rest : List (List (Option Exported)))
+    × (map (λ (row : Vec (Option Exported)). row.items) rows ++ rest
+    ≡ map (map (outside ds)) (seen_of os))
+
 -- the names of objects, of which none has two global definitions
 pub record IsNames (os : List Object) (names : Names) : Type 0 where
   pub answers : Answers (definitions os) names.definitions

@@ -8,23 +8,23 @@ use Rattle.rv_resolve.proofs.RowsLemmas.{one_pushed}
 use Rattle.rv_resolve.proofs.StepsLemmas.{left}
 use Rattle.rv_resolve.proofs.meanings.file_meanings.Goals as goal
 
-pub loop-symbol-init : goal.loop-symbol-init
-loop-symbol-init c = λ ds h. ap (λ l. l ++ map (outside ds) (seen_symbols c.args.symbols.now)) c.in_ok-row.ensures.items
+pub loop-index-init : goal.loop-index-init
+loop-index-init c = λ ds h has. ap (λ l. l ++ map (outside ds) (seen_symbols c.args.symbols.now)) c.in_ok-row.ensures.items
 
-pub loop-symbol-preserved : goal.loop-symbol-preserved
-loop-symbol-preserved c = λ ds h.
-    let i = c.loop-symbol.symbol-index in
+pub loop-index-preserved : goal.loop-index-preserved
+loop-index-preserved c = λ ds h has.
+    let i = c.loop-index.index in
     let xs = c.args.symbols.now in
-    let x = c.symbol-item.result in
+    let x = c.index-symbols-index.result in
     let inside : i < length xs = search rules in
-    let items = c.loop-symbol.row.items in
+    let items = c.loop-index.row.items in
     one_pushed items c.push.new.self.items _ (map (outside ds) (seen_symbols (drop (i + 1) xs))) (map (outside ds) (seen_symbols xs)) (outside ds (seen (symbol_of x)))
-    (c.in_ok-push.ensures.items ∙ ap (λ m. items ++ m ∷ []) (c.meaning.ensures ds h)) (ap (λ l. map (outside ds) (seen_symbols l)) (left xs i x inside c.symbol-item.is)) (c.loop-symbol.invariant ds h)
+    (c.in_ok-push.ensures.items ∙ ap (λ m. items ++ m ∷ []) (c.meaning.ensures ds h has)) (ap (λ l. map (outside ds) (seen_symbols l)) (left xs i x inside c.index-symbols-index.is)) (c.loop-index.invariant ds h has)
 
 pub returns : goal.returns
-returns c = λ ds h.
-    let n = c.loop-symbol.symbol-index in
+returns c = λ ds h has.
+    let n = c.loop-index.index in
     let xs = c.args.symbols.now in
-    let items = c.loop-symbol.row.items in
+    let items = c.loop-index.row.items in
     let past : length xs ≤ n = search rules in
-    sym (append-nil items) ∙ sym (at_drop_all (λ l. items ++ map (outside ds) (seen_symbols l)) xs n past) ∙ c.loop-symbol.invariant ds h
+    sym (append-nil items) ∙ sym (at_drop_all (λ l. items ++ map (outside ds) (seen_symbols l)) xs n past) ∙ c.loop-index.invariant ds h has

@@ -27,8 +27,9 @@ loop-file-preserved c = λ h.
     let inside : i < length xs = search rules in
     let ds = definitions (map object_of xs) in
     let all : List (List Seen) → List (List (Option Exported)) = map (map (outside ds)) in
-    let symbols = c.as_slice.ensures.value ∙ ap (λ (y : DeclaredObject). y.symbols.items) (sym c.index-objects-file.is) in
-    let row = c.in_ok-row.ensures ds h ∙ ap (λ l. map (outside ds) (seen_symbols l)) symbols in
+    let symbols = c.as_slice-symbols.ensures.value ∙ ap (λ (y : DeclaredObject). y.symbols.items) (sym c.index-objects-file.is) in
+    let known = ap (λ (l : List (Vec (Option Exported))). rows_of l ++ all (seen_of (map object_of (drop i xs)))) c.as_slice.ensures.value ∙ c.loop-file.invariant h in
+    let row = c.in_ok-row.ensures ds h (all (seen_of (map object_of (drop i xs))), known) ∙ ap (λ l. map (outside ds) (seen_symbols l)) symbols in
     let rows = c.loop-file.files.items in
     one_pushed (rows_of rows) (rows_of c.push.new.self.items) _ (all (seen_of (map object_of (drop (i + 1) xs)))) (all (seen_of (map object_of xs))) (map (outside ds) (seen_symbols x.symbols.items))
     (ap rows_of c.in_ok-push.ensures.items ∙ map_push (λ (r : Vec (Option Exported)). r.items) rows c.in_ok-row.row ∙ ap (λ r. rows_of rows ++ r ∷ []) row)
