@@ -1,6 +1,6 @@
 -- Stretches in a map: those found by its order, and one more.
 
-use Rattle.std.proofs.Common.{◌≡◌, ℕ, ◌+◌, ◌-◌, ◌<◌, ◌≤◌, Bool, true, false, ◌&&◌, ◌||◌, nat_le, nat_lt, List, [], ◌∷◌, Option, Some, None, refl, ap, sym, ◌∙◌, arith}
+use Rattle.std.proofs.Common.{◌≡◌, ℕ, ◌+◌, ◌++◌, length, ◌-◌, ◌<◌, ◌≤◌, Bool, true, false, ◌&&◌, ◌||◌, nat_le, nat_lt, List, [], ◌∷◌, Option, Some, None, refl, ap, sym, ◌∙◌, arith}
 use Rattle.std.specs.Prelude.{◌==◌, if◌then◌else◌, Result, Ok, Err, OnOk, OnErr}
 use Rattle.std.proofs.lemmas.Bool.Decides.{nat_tests}
 use Rattle.std.specs.List.{list_all, list_any, filter}
@@ -9,7 +9,7 @@ use Rattle.std.specs.declared.cmp.Ordering.TheVariants.{Less, Equal, Greater}
 use Rattle.std.specs.BTreeMap.{insert_entry, is_at}
 use Rattle.std.specs.Map.{lookup}
 use Rattle.std.proofs.lemmas.Bool.{leb-true, ltb-true, le-leb, and_parts, and_from}
-use Rattle.rv_object_checks.specs.Stretches.{ends_in, starts_in, is_spread, is_short}
+use Rattle.rv_object_checks.specs.Stretches.{ends_in, starts_in, is_spread, is_short, ends_by}
 
 -- ---- numbers
 
@@ -48,6 +48,10 @@ later_apart (e ∷ es) a b end h le =
     go true true h i = absurd (cc)
     go true false h i = i
     go false y h i = i
+
+pub none_met : (es : List (ℕ × ℕ)) (a b : ℕ) → length es ≡ 0 → list_any (ends_in a b) es ≡ false
+none_met [] a b h = refl
+none_met (e ∷ es) a b h = absurd (omega (arith, h))
 
 -- the first of these stretches begins before b
 abbrev pub first_before : ℕ → List (ℕ × ℕ) → Bool
@@ -322,3 +326,59 @@ put_short (e ∷ es) k v le h =
 pub by_result : {T E : Type 0} (r : Result T E) (A B P : Type 0) → OnOk r A → OnErr r B → (A → P) → (B → P) → P
 by_result (Ok x) A B P a b f g = f a
 by_result (Err e) A B P a b f g = g b
+
+-- ---- recent fields
+
+-- one more behind others
+pub any_late : (t : ℕ × ℕ → Bool) (xs ys : List (ℕ × ℕ)) (x : ℕ × ℕ) → list_any t ((xs ++ x ∷ []) ++ ys) ≡ (t x || list_any t (xs ++ ys))
+any_late t [] ys x = refl
+any_late t (z ∷ xs) ys x = ap (λ r. t z || r) (any_late t xs ys x) ∙ swap_or (t z) (t x) (list_any t (xs ++ ys))
+
+-- one moves from the recent ones to the others
+pub any_moved : (t : ℕ × ℕ → Bool) (xs es more : List (ℕ × ℕ)) (x : ℕ × ℕ) → list_any t more ≡ (t x || list_any t es) → list_any t (xs ++ more) ≡ (t x || list_any t (xs ++ es))
+any_moved t [] es more x h = h
+any_moved t (z ∷ xs) es more x h = ap (λ r. t z || r) (any_moved t xs es more x h) ∙ swap_or (t z) (t x) (list_any t (xs ++ es))
+
+-- those that end at a or before have no byte there or later
+pub none_after : (es : List (ℕ × ℕ)) (furthest a b : ℕ) → list_all (ends_by furthest) es ≡ true → furthest ≤ a → list_any (starts_in a b) es ≡ false
+none_after [] furthest a b h le = refl
+none_after (e ∷ es) furthest a b h le =
+    let p : (nat_le e.1 furthest ≡ true) × (list_all (ends_by furthest) es ≡ true) = and_parts (nat_le e.1 furthest) (list_all (ends_by furthest) es) h in
+    go (nat_lt e.0 b) (nat_lt a e.1) (low p.0) (none_after es furthest a b p.1 le)
+  where
+    low : nat_le e.1 furthest ≡ true → nat_lt a e.1 ≡ false
+    low one = grind (arith, nat_tests, le)
+
+    go : (x y : Bool) → y ≡ false → list_any (starts_in a b) es ≡ false → (x && y || list_any (starts_in a b) es) ≡ false
+    go true true h i = absurd (cc)
+    go true false h i = i
+    go false y h i = i
+
+-- so only the others are met
+pub met_late : (t : ℕ × ℕ → Bool) (xs ys : List (ℕ × ℕ)) → list_any t xs ≡ false → list_any t (xs ++ ys) ≡ list_any t ys
+met_late t [] ys h = refl
+met_late t (x ∷ xs) ys h = go (t x) (list_any t xs) refl refl h (met_late t xs ys) where
+  go : (u v : Bool) → t x ≡ u → list_any t xs ≡ v → (u || v) ≡ false → (list_any t xs ≡ false → list_any t (xs ++ ys) ≡ list_any t ys)
+      → (t x || list_any t (xs ++ ys)) ≡ list_any t ys
+  go true v i j k more = absurd (cc)
+  go false true i j k more = absurd (cc)
+  go false false i j k more = ap (λ r. r || list_any t (xs ++ ys)) i ∙ more j
+
+pub short_late : (es : List (ℕ × ℕ)) (a b : ℕ) → list_all is_short es ≡ true → b ≤ a + 8 → list_all is_short (es ++ (a, b) ∷ []) ≡ true
+short_late [] a b h le = and_from (nat_le b (a + 8)) true (le-leb b (a + 8) le) refl
+short_late (e ∷ es) a b h le =
+    let p : (is_short e ≡ true) × (list_all is_short es ≡ true) = and_parts (is_short e) (list_all is_short es) h in
+    and_from (is_short e) (list_all is_short (es ++ (a, b) ∷ [])) p.0 (short_late es a b p.1 le)
+
+pub within_late : (es : List (ℕ × ℕ)) (furthest a b further : ℕ) → list_all (ends_by furthest) es ≡ true → furthest ≤ further → b ≤ further
+    → list_all (ends_by further) (es ++ (a, b) ∷ []) ≡ true
+within_late [] furthest a b further h le last = and_from (nat_le b further) true (le-leb b further last) refl
+within_late (e ∷ es) furthest a b further h le last =
+    let p : (nat_le e.1 furthest ≡ true) × (list_all (ends_by furthest) es ≡ true) = and_parts (nat_le e.1 furthest) (list_all (ends_by furthest) es) h in
+    and_from (nat_le e.1 further) (list_all (ends_by further) (es ++ (a, b) ∷ [])) (far p.0) (within_late es furthest a b further p.1 le last)
+  where
+    far : nat_le e.1 furthest ≡ true → nat_le e.1 further ≡ true
+    far one = grind (arith, nat_tests, le)
+
+pub first_short : (e : ℕ × ℕ) (es all : List (ℕ × ℕ)) → all ≡ e ∷ es → list_all is_short all ≡ true → (is_short e ≡ true) × (list_all is_short es ≡ true)
+first_short e es all is h = and_parts (is_short e) (list_all is_short es) (sym (ap (list_all is_short) is) ∙ h)

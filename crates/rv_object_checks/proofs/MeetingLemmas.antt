@@ -225,3 +225,11 @@ module _ (p f : List (ℕ × ℕ)) (before : List Relocation) (r : Relocation) (
     here : (a b : ℕ) → ends_in a b (r.place + n, r.place) ≡ pads_in a b r
     here a b = ap (λ m. nat_lt a (r.place + m) && nat_lt r.place b) same
         ∙ turned (is_align r.kind) (nat_lt 0 (held r)) (nat_lt a (r.place + held r) && nat_lt r.place b) align (grind (arith, nat_tests))
+
+-- other stretches that answer the same are as good
+pub held_by : (p f g : List (ℕ × ℕ)) (before : List Relocation) → AreHeld p f before
+    → ((a b : ℕ) → list_any (starts_in a b) g ≡ list_any (starts_in a b) f) → AreHeld p g before
+held_by p f g before hold same = record {
+  padded = hold.padded;
+  filled = λ a b less. same a b ∙ hold.filled a b less;
+}

@@ -21,6 +21,7 @@ use Rattle.rv_object_file_laws.specs.FirstFault.{section_tests, records_tests, r
 use Rattle.rv_object_file_laws.specs.Parts.{FileSection, is_symbol_table, is_rela, is_rows, is_loaded, relocates, relas_of, relocation_in, relocations_in}
 use Rattle.rv_object_checks.specs.declared.places.Places.{Places}
 use Rattle.rv_object_checks.specs.Found.{section_at, sections_from}
+use Rattle.rv_object_checks.specs.Held.{fields_of}
 use Rattle.rv_object_checks.specs.Stretches.{Holds, AreHeld}
 use Rattle.rv_object_checks.specs.Tests.{tests_behind, size_tests, link_tests}
 use Rattle.rv_object_checks.specs.Walk.{relocations_before, HoldsOf, HoldBefore, AreEmpty}
@@ -178,9 +179,9 @@ module _ (file : List ℕ) (before : List FileSection) (s : FileSection) (all : 
 -- a check of relocations, and what it answers of those before them
 abbrev Answers : {X : Type 0} → SectionHeader → ℕ → List ℕ → Places → Places → Result X FileFault → Type 0
 Answers target symbols bytes old new result =
-    (rs : List Relocation) → Holds target old.paddings.by_end.entries old.fields.by_start.entries rs → MatchResult result
+    (rs : List Relocation) → Holds target old.paddings.by_end.entries (fields_of old) rs → MatchResult result
     (λ _. (first_true (relocations_tests target symbols rs (relas_in bytes)) ≡ None)
-    × Holds target new.paddings.by_end.entries new.fields.by_start.entries (rs ++ relocations_in (relas_in bytes)))
+    × Holds target new.paddings.by_end.entries (fields_of new) (rs ++ relocations_in (relas_in bytes)))
     (λ fault. (fault ≡ OutOfMemory) ⊎ (first_true (relocations_tests target symbols rs (relas_in bytes)) ≡ Some fault))
 
 -- what a check of relocations answers is what one of their section does
@@ -243,7 +244,7 @@ hold_on file i h all new n at count long done =
 
 -- ---- nothing is held before the first section
 
-pub empty_more : (ps : List Places) (p : Places) → AreEmpty ps → AreHeld p.paddings.by_end.entries p.fields.by_start.entries [] → AreEmpty (ps ++ p ∷ [])
+pub empty_more : (ps : List Places) (p : Places) → AreEmpty ps → AreHeld p.paddings.by_end.entries (fields_of p) [] → AreEmpty (ps ++ p ∷ [])
 empty_more [] p all one = (one, tt)
 empty_more (q ∷ ps) p all one = (all.0, empty_more ps p all.1 one)
 

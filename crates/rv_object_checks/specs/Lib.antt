@@ -1,4 +1,5 @@
 pub mod Found
+pub mod Held
 pub mod Names
 pub mod Opening
 pub mod Rows

@@ -36,6 +36,10 @@ is_spread (e ∷ es) = nat_lt e.1 e.0 && list_all (λ x. nat_le e.0 x.1) es && i
 abbrev pub is_short : ℕ × ℕ → Bool
 is_short e = nat_le e.1 (e.0 + 8)
 
+-- a stretch, by its start and its end, does not end behind this
+abbrev pub ends_by : ℕ → ℕ × ℕ → Bool
+ends_by furthest e = nat_le e.1 furthest
+
 -- a relocation holds a byte at a or later and before b
 abbrev pub holds_in : ℕ → ℕ → Relocation → Bool
 holds_in a b r = nat_lt 0 (held r) && (nat_lt a (r.place + held r) && nat_lt r.place b)

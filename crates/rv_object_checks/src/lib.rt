@@ -26,6 +26,7 @@ mod names;
 mod paddings;
 mod places;
 mod positions;
+mod recent;
 mod relocations;
 mod rows;
 mod rows_reading;

@@ -30,6 +30,9 @@ impl Paddings {
         requires { start < end }
         ensures { result ≡ list_any (ends_in start end) self.now.by_end.entries }
     {
+        if self.by_end.is_empty() {
+            return false;
+        }
         match self.by_end.range(start + 1..).next() {
             Some((_, first)) => *first < end,
             None => false,

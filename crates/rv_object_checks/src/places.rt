@@ -4,10 +4,12 @@ ghost use Rattle.std.specs.Prelude.{◌≡◌, ◌<◌, ◌≤◌, ◌+◌, ◌^
 ghost use Rattle.std.specs.List.{list_any};
 ghost use Rattle.rv_object.specs.Object.{Relocation};
 ghost use Rattle.rv_object.specs.Valid.{held, is_align, are_apart};
+ghost use Rattle.rv_object_checks.specs.Held.{fields_of};
 ghost use Rattle.rv_object_checks.specs.Stretches.{AreHeld, placed};
 
 use crate::fields::Fields;
 use crate::paddings::Paddings;
+use crate::recent::Recent;
 use rv_elf::Rela;
 use rv_isa::Kind;
 use std::alloc::{AllocError, Global};
@@ -16,17 +18,21 @@ use std::alloc::{AllocError, Global};
 #[derive(Debug, Drop)]
 pub(crate) struct Places {
     pub(crate) paddings: Paddings,
+    /// The fields among which a padding was looked for.
     pub(crate) fields: Fields,
+    /// The others.
+    pub(crate) recent: Recent,
 }
 
 impl Places {
     /// Those of no relocation.
     pub(crate) fn new(alloc: Global) -> Places
-        ensures { AreHeld result.paddings.by_end.entries result.fields.by_start.entries [] }
+        ensures { AreHeld result.paddings.by_end.entries (fields_of result) [] }
     {
         Places {
             paddings: Paddings::new(alloc),
             fields: Fields::new(alloc),
+            recent: Recent::new(alloc),
         }
     }
 
@@ -35,10 +41,10 @@ impl Places {
         requires inside { 0 < held (placed rela.now kind)
             → rela.now.r_offset + held (placed rela.now kind) ≤ size }
         ensures { IfOk result (λ apart. (before : List Relocation)
-            → AreHeld self.old.paddings.by_end.entries self.old.fields.by_start.entries before
+            → AreHeld self.old.paddings.by_end.entries (fields_of self.old) before
             → MatchBool apart
             ((list_any (λ q. not (are_apart q (placed rela.now kind))) before ≡ false)
-            × AreHeld self.new.paddings.by_end.entries self.new.fields.by_start.entries
+            × AreHeld self.new.paddings.by_end.entries (fields_of self.new)
             (before ++ placed rela.now kind ∷ []))
             (list_any (λ q. not (are_apart q (placed rela.now kind))) before ≡ true)) }
     {
@@ -52,10 +58,11 @@ impl Places {
             return Ok(false);
         }
         if !is_align(kind) {
-            self.fields.put(start, end)?;
+            self.recent.put(start, end)?;
             return Ok(true);
         }
-        if self.fields.meet(start, end) {
+        let met = self.recent.meet(&mut self.fields, start, end)?;
+        if met {
             return Ok(false);
         }
         self.paddings.put(start, end)?;
