@@ -2,7 +2,7 @@
 //!
 //! Source: RISC-V Unprivileged ISA 20191213, sections 1.5 and 2.2.
 
-ghost use Rattle.std.specs.Prelude.{◌≡◌, ℕ, List, ◌%◌, ◌-◌, ◌≤◌};
+ghost use Rattle.std.specs.Prelude.{◌≡◌, ℕ, List, ◌%◌, ◌≤◌};
 ghost use Rattle.rv_compress.specs.Parcel.{StandsFor};
 ghost use Rattle.rv_encode.specs.Word.{Spells};
 ghost use Rattle.rv_isa_laws.specs.Effect.{apply};
@@ -58,32 +58,33 @@ fn store<M: Memory>(hart: &mut Hart, memory: &mut M, x: Store, bytes: u64) -> bo
     true
 }
 
-/// Does what an instruction of this length in bytes asks, where that neither ends the run nor is an atomic or a call;
-/// else nothing. Whether it was done.
+/// Does what an instruction of `BYTES` bytes asks, where that neither ends the run nor is an atomic or a call; else
+/// nothing. Whether it was done. A length has code of its own, which is called from one place: at a second, LLVM would
+/// not take so much code into the loop.
 #[inline(always)]
-fn goes_on<M: Memory>(action: Action, bytes: u64, hart: &mut Hart, memory: &mut M) -> bool
+fn goes_on<M: Memory, const BYTES: u64>(action: Action, hart: &mut Hart, memory: &mut M) -> bool
     requires { HasWidth action }
     ensures { (input console : List ℕ) →
         let before = hart_of hart.old input console in
-        IsDone result (apply (effect_of action bytes before) (M.mem memory.old))
+        IsDone result (apply (effect_of action BYTES before) (M.mem memory.old))
         before (M.mem memory.old)
         (hart_of hart.new input console) (M.mem memory.new) }
 {
     match action {
         Action::Set(rd, value) => {
-            access::set(hart, rd, value, bytes);
+            access::set(hart, rd, value, BYTES);
             true
         }
         Action::Jump(rd, target) => {
-            access::jump(hart, rd, target, bytes);
+            access::jump(hart, rd, target, BYTES);
             true
         }
         Action::Go(target) => {
             hart.pc = target;
             true
         }
-        Action::Load(x) => load(hart, memory, x, bytes),
-        Action::Store(x) => store(hart, memory, x, bytes),
+        Action::Load(x) => load(hart, memory, x, BYTES),
+        Action::Store(x) => store(hart, memory, x, BYTES),
         _ => false,
     }
 }
@@ -98,7 +99,7 @@ fn by_word<M: Memory>(bits: u32, hart: &mut Hart, memory: &mut M) -> bool
         (hart_of hart.new input console) (M.mem memory.new) }
 {
     match asked_by_word(bits, hart) {
-        Some(action) => goes_on(action, 4, hart, memory),
+        Some(action) => goes_on::<M, 4>(action, hart, memory),
         None => false,
     }
 }
@@ -112,7 +113,7 @@ fn by_parcel<M: Memory>(bits: u16, hart: &mut Hart, memory: &mut M) -> bool
         (hart_of hart.new input console) (M.mem memory.new) }
 {
     match asked_by_parcel(bits, hart) {
-        Some(action) => goes_on(action, 2, hart, memory),
+        Some(action) => goes_on::<M, 2>(action, hart, memory),
         None => false,
     }
 }
@@ -137,18 +138,20 @@ pub fn step<M: Memory>(hart: &mut Hart, memory: &mut M) -> bool
     }
 }
 
-/// Does such steps, at most `most`, until one is none of them; answers how many it did.
+/// Does such steps, at most `most`, until one is none of them; answers how many are left.
 #[inline(never)]
 pub fn steps<M: Memory>(hart: &mut Hart, memory: &mut M, most: u64) -> u64
     ensures bound { result ≤ most }
     ensures rest { (reader : Reader Spells StandsFor) (input console : List ℕ) →
-        run reader (most - result) (hart_of hart.new input console) (M.mem memory.new)
+        run reader result (hart_of hart.new input console) (M.mem memory.new)
         ≡ run reader most (hart_of hart.old input console) (M.mem memory.old) }
 {
-    for done in 0..most {
+    let mut left = most;
+    while left > 0 {
         if !step(hart, memory) {
-            return done;
+            return left;
         }
+        left -= 1;
     }
-    most
+    left
 }

@@ -223,7 +223,7 @@ fn run_over<R: GuestIn, W: GuestOut, M: Memory + Drop>(
             Err(fault) => return Err(fault),
         }
         left -= 1;
-        left -= quick::steps(&mut hart, &mut memory, left);
+        left = quick::steps(&mut hart, &mut memory, left);
     }
     Ok(End::Limit)
 }
