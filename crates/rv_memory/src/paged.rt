@@ -4,10 +4,9 @@
 //! number tells in which segment the bytes of an address stand: a look-up is a binary search. Where two segments share a
 //! page, or an address has none, the segments are looked at one by one.
 //!
-//! In front of the search stand three stretches: of code, of the stack and of data. One compare tells which, and one whether
-//! an access lies in it, wherever pages end. All else is out of line, so that the hot loop takes these into itself. Contracts
-//! do not see what a `Cell` holds, so the index of the latest segment found is
-//! tested like any other.
+//! In front of the search stand stretches: of code, of the stack and of data. One compare tells which, and one whether an
+//! access lies in it, wherever pages end. All else is out of line, so that the hot loop takes these into itself. Contracts
+//! do not see what a `Cell` holds, so the index of the latest segment found is tested like any other.
 
 ghost use Rattle.std.specs.Prelude.{
   ◌≡◌,
@@ -46,7 +45,7 @@ use crate::flat::Flat;
 use crate::memory::{Memory, Right};
 use crate::page::{Page, add_pages, segment_of_page};
 use crate::pieces::{Pieces, have_right, load_number, number, store_number};
-use crate::stretch::{Stretch, data_of, stretch_of};
+use crate::stretch::{Stretch, stretch_of};
 use rv_image::{Image, STACK_START, Segment};
 use std::alloc::{AllocError, Global};
 
@@ -58,15 +57,19 @@ pub struct Paged {
     pages: Vec<Page>,
     /// The stretch of the first segment, where a fetch looks first: linkers put code there.
     code: Stretch,
-    /// Where another access looks first.
+    /// Where an access at the stack's start or above looks.
     stack: Stretch,
-    /// Where it looks next: the first segment that may be read and written.
+    /// Where a load below looks: the last segment of the image, where linkers put data; constants in a program without
+    /// data.
     data: Stretch,
+    /// Where a store below looks: the same segment.
+    written: Stretch,
     ghost code_executes: { IsStretch (pieces flat) 0 code.start code.room 4 ToExecute },
     ghost stack_reads: { IsStretch (pieces flat) stack.segment stack.start stack.room 8 ToRead },
     ghost stack_writes: { IsStretch (pieces flat) stack.segment stack.start stack.room 8 ToWrite },
     ghost data_reads: { IsStretch (pieces flat) data.segment data.start data.room 8 ToRead },
-    ghost data_writes: { IsStretch (pieces flat) data.segment data.start data.room 8 ToWrite },
+    ghost written_writes: { IsStretch (pieces flat) written.segment written.start written.room 8
+        ToWrite },
 }
 
 /// The pages of segments.
@@ -90,13 +93,16 @@ impl Paged {
         let last = flat.segments.len().wrapping_sub(1);
         let code = stretch_of(&flat, 0, 4, (Right::Execute, Right::Execute));
         let stack = stretch_of(&flat, last, 8, (Right::Read, Right::Write));
-        let data = stretch_of(&flat, data_of(&flat), 8, (Right::Read, Right::Write));
+        let below = last.wrapping_sub(1);
+        let data = stretch_of(&flat, below, 8, (Right::Read, Right::Read));
+        let written = stretch_of(&flat, below, 8, (Right::Write, Right::Write));
         Ok(Paged {
             flat,
             pages,
             code,
             stack,
             data,
+            written,
         })
     }
 
@@ -114,31 +120,74 @@ impl Paged {
         self.flat.position(address)
     }
 
-    /// The stretch in which an access that is no fetch looks first.
+    /// The number of bytes that may be executed.
     #[inline(always)]
-    fn first(&self, address: u64) -> Stretch
-        ensures reads { IsStretch (pieces self.now.flat) result.segment result.start result.room 8
-            ToRead }
-        ensures writes { IsStretch (pieces self.now.flat) result.segment result.start result.room 8
-            ToWrite }
+    fn fetch(&self, address: u64, bytes: u64) -> Option<u64>
+        requires { IsWidth bytes }
+        ensures right { MatchOption result
+            (may (held_pages self.now) address bytes ToExecute ≡ false)
+            (λ _. may (held_pages self.now) address bytes ToExecute ≡ true) }
+        ensures number { IfSome result
+            (λ number. number ≡ number_at (held_pages self.now) address bytes) }
+        ensures bytes { IfSome result
+            (λ _. (k : ℕ) → k < bytes → (held_pages self.now).byte ((address + k) % 2 ^ 64) < 256) }
     {
-        if address < STACK_START {
-            return self.data;
+        if bytes <= 4 {
+            if let Some(number) = self.flat.near(0, self.code, address, bytes, Right::Execute) {
+                return Some(number);
+            }
         }
-        self.stack
+        self.fetch_elsewhere(address, bytes)
     }
 
-    /// Puts bytes where the stretch that is looked at first holds the address; whether it does.
+    /// The same, where the stretch of code does not hold them.
+    #[cold]
+    #[inline(never)]
+    fn fetch_elsewhere(&self, address: u64, bytes: u64) -> Option<u64>
+        requires { IsWidth bytes }
+        ensures right { MatchOption result
+            (may (held_pages self.now) address bytes ToExecute ≡ false)
+            (λ _. may (held_pages self.now) address bytes ToExecute ≡ true) }
+        ensures number { IfSome result
+            (λ number. number ≡ number_at (held_pages self.now) address bytes) }
+        ensures bytes { IfSome result
+            (λ _. (k : ℕ) → k < bytes → (held_pages self.now).byte ((address + k) % 2 ^ 64) < 256) }
+    {
+        self.load_elsewhere(address, bytes, Right::Execute)
+    }
+
+    /// The number of bytes that may be read, where the stretch on their side of the stack's start holds them. Each has
+    /// its own branch: a choice between two stretches by value costs more.
     #[inline(always)]
-    fn put_first(&mut self, address: u64, bytes: &[u8]) -> bool
+    fn read_near(&self, address: u64, bytes: u64) -> Option<u64>
+        requires { IsWidth bytes }
+        ensures right { IfSome result (λ _. may (held_pages self.now) address bytes ToRead ≡ true) }
+        ensures number { IfSome result
+            (λ number. number ≡ number_at (held_pages self.now) address bytes) }
+        ensures bytes { IfSome result
+            (λ _. (k : ℕ) → k < bytes → (held_pages self.now).byte ((address + k) % 2 ^ 64) < 256) }
+    {
+        if address < STACK_START {
+            return self
+                .flat
+                .near(self.data.segment, self.data, address, bytes, Right::Read);
+        }
+        self.flat.near(self.stack.segment, self.stack, address, bytes, Right::Read)
+    }
+
+    /// Puts bytes where the stretch on their side of the stack's start holds the address; whether it does.
+    #[inline(always)]
+    fn put_near(&mut self, address: u64, bytes: &[u8]) -> bool
         requires { IsWidth (length bytes.now) }
         ensures { MatchBool result
             ((may (held_pages self.old) address (length bytes.now) ToWrite ≡ true)
             × (held_pages self.new ≡ with_bytes (held_pages self.old) address bytes.now))
             (held_pages self.new ≡ held_pages self.old) }
     {
-        let stretch = self.first(address);
-        self.flat.put_near(stretch, address, bytes)
+        if address < STACK_START {
+            return self.flat.put_near(self.written, address, bytes);
+        }
+        self.flat.put_near(self.stack, address, bytes)
     }
 
     /// Puts bytes where the segment of the latest search holds them and gives the right to write; whether it does.
@@ -291,31 +340,19 @@ impl Memory for Paged {
     #[inline(always)]
     fn try_load(&self, address: u64, bytes: u64, right: Right) -> Option<u64> {
         match right {
-            Right::Execute => {
-                if bytes <= 4 {
-                    if let Some(number) = self.flat.near(0, self.code, address, bytes, right) {
-                        return Some(number);
-                    }
-                }
-            }
-            Right::Read => {
-                let stretch = self.first(address);
-                if let Some(number) = self
-                    .flat
-                    .near(stretch.segment, stretch, address, bytes, right)
-                {
-                    return Some(number);
-                }
-            }
-            Right::Write => {}
+            Right::Execute => self.fetch(address, bytes),
+            Right::Read => match self.read_near(address, bytes) {
+                Some(number) => Some(number),
+                None => self.load_elsewhere(address, bytes, right),
+            },
+            Right::Write => self.load_elsewhere(address, bytes, right),
         }
-        self.load_elsewhere(address, bytes, right)
     }
 
     #[inline(always)]
     fn try_store(&mut self, address: u64, bytes: u64, value: u64) -> bool {
         let digits = value.to_le_bytes();
-        if self.put_first(address, &digits[..bytes as usize]) {
+        if self.put_near(address, &digits[..bytes as usize]) {
             return true;
         }
         self.store_elsewhere(address, bytes, value)

@@ -46,13 +46,3 @@ pub fn stretch_of(flat: &Flat, i: usize, bytes: u64, rights: (Right, Right)) -> 
         room: 0,
     }
 }
-
-/// The index of the first segment that may be read and written.
-pub fn data_of(flat: &Flat) -> usize {
-    for (i, segment) in flat.segments.iter().enumerate() {
-        if is_given(segment, Right::Read) && is_given(segment, Right::Write) {
-            return i;
-        }
-    }
-    0
-}

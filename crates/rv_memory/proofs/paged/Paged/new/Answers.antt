@@ -8,11 +8,12 @@ pub invariant_of-result : goal.invariant_of-result
 invariant_of-result c =
     let flat = c.in_ok-flat.flat in
     let stack = c.stretch_of-stack.result in
-    let words = c.stretch_of-data.result in
+    let low = c.stretch_of-data.result in
+    let written = c.stretch_of-written.result in
     record {
       code_executes = c.stretch_of-code.ensures.first;
       stack_reads = subst (λ (i : ℕ). IsStretch (pieces flat) i stack.start stack.room 8 Read) (sym c.stretch_of-stack.ensures.index) c.stretch_of-stack.ensures.first;
       stack_writes = subst (λ (i : ℕ). IsStretch (pieces flat) i stack.start stack.room 8 Write) (sym c.stretch_of-stack.ensures.index) c.stretch_of-stack.ensures.second;
-      data_reads = subst (λ (i : ℕ). IsStretch (pieces flat) i words.start words.room 8 Read) (sym c.stretch_of-data.ensures.index) c.stretch_of-data.ensures.first;
-      data_writes = subst (λ (i : ℕ). IsStretch (pieces flat) i words.start words.room 8 Write) (sym c.stretch_of-data.ensures.index) c.stretch_of-data.ensures.second;
+      data_reads = subst (λ (i : ℕ). IsStretch (pieces flat) i low.start low.room 8 Read) (sym c.stretch_of-data.ensures.index) c.stretch_of-data.ensures.first;
+      written_writes = subst (λ (i : ℕ). IsStretch (pieces flat) i written.start written.room 8 Write) (sym c.stretch_of-written.ensures.index) c.stretch_of-written.ensures.first;
     }
