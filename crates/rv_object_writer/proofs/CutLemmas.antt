@@ -24,6 +24,18 @@ word_cut x =
     let d : x % 0x100000000 / 16777216 % 256 ≡ x / 16777216 % 256 = omega arith in
     λ k. a k ∷ b k ∷ c k ∷ d k ∷ []
 
+pub double_cut : (x : ℕ) → little_bytes 8 (x % 2 ^ 64) ≡ little_bytes 8 x
+double_cut x =
+    let a : x % 0x10000000000000000 % 256 ≡ x % 256 = omega arith in
+    let b : x % 0x10000000000000000 / 256 % 256 ≡ x / 256 % 256 = omega arith in
+    let c : x % 0x10000000000000000 / 65536 % 256 ≡ x / 65536 % 256 = omega arith in
+    let d : x % 0x10000000000000000 / 16777216 % 256 ≡ x / 16777216 % 256 = omega arith in
+    let e : x % 0x10000000000000000 / 4294967296 % 256 ≡ x / 4294967296 % 256 = omega arith in
+    let f : x % 0x10000000000000000 / 1099511627776 % 256 ≡ x / 1099511627776 % 256 = omega arith in
+    let g : x % 0x10000000000000000 / 281474976710656 % 256 ≡ x / 281474976710656 % 256 = omega arith in
+    let h : x % 0x10000000000000000 / 72057594037927936 % 256 ≡ x / 72057594037927936 % 256 = omega arith in
+    λ k. a k ∷ b k ∷ c k ∷ d k ∷ e k ∷ f k ∷ g k ∷ h k ∷ []
+
 -- the bytes of a record, with these fields cut to their widths
 
 pub symbol_cut : (s : Symbol) (name home : ℕ)
@@ -38,14 +50,14 @@ unfolding rela_bytes
 rela_cut r symbol = λ k. at.bytes_of at.r_offset r.r_offset
     ++ (at.bytes_of at.r_type r.r_type ++ (word_cut symbol k ++ at.bytes_of at.r_addend (cast_unsigned w64 r.r_addend)))
 
-pub section_cut : (h : SectionHeader) (name link info : ℕ)
-    → section_header_bytes (record h { sh_name = name % 2 ^ 32; sh_link = link % 2 ^ 32; sh_info = info % 2 ^ 32 })
-    ≡ section_header_bytes (record h { sh_name = name; sh_link = link; sh_info = info })
+pub section_cut : (h : SectionHeader) (name size link info : ℕ)
+    → section_header_bytes (record h { sh_name = name % 2 ^ 32; sh_size = size % 2 ^ 64; sh_link = link % 2 ^ 32; sh_info = info % 2 ^ 32 })
+    ≡ section_header_bytes (record h { sh_name = name; sh_size = size; sh_link = link; sh_info = info })
 unfolding section_header_bytes
-section_cut h name link info = λ k. word_cut name k
+section_cut h name size link info = λ k. word_cut name k
     ++ (at.bytes_of at.sh_type h.sh_type ++ (at.bytes_of at.sh_flags h.sh_flags
     ++ (at.bytes_of at.sh_addr h.sh_addr ++ (at.bytes_of at.sh_offset h.sh_offset
-    ++ (at.bytes_of at.sh_size h.sh_size ++ (word_cut link k ++ (word_cut info k
+    ++ (double_cut size k ++ (word_cut link k ++ (word_cut info k
     ++ (at.bytes_of at.sh_addralign h.sh_addralign ++ at.bytes_of at.sh_entsize h.sh_entsize))))))))
 
 pub header_cut : (h : FileHeader) (sections names : ℕ)

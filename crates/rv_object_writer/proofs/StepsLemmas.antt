@@ -1,6 +1,6 @@
 -- One step of each loop, and its end.
 
-use Rattle.std.proofs.Common.{◌≡◌, ℕ, suc, ◌+◌, ◌-◌, ◌<◌, ◌≤◌, Bool, true, false, not, ◌==◌, List, [], ◌∷◌, ◌++◌, length, map, drop, filter, get_or, replicate, refl, sym, ap, ◌∙◌, append_assoc, append-nil, length-append, arith, ne_eqb, if◌then◌else◌}
+use Rattle.std.proofs.Common.{◌≡◌, ℕ, suc, ◌+◌, ◌-◌, ◌*◌, ◌<◌, ◌≤◌, Bool, true, false, not, ◌==◌, List, [], ◌∷◌, ◌++◌, length, map, drop, filter, get_or, replicate, refl, sym, ap, ◌∙◌, append_assoc, append-nil, length-append, arith, ne_eqb, if◌then◌else◌}
 use Rattle.std.specs.Prelude.{flat_map}
 use Rattle.std.proofs.lemmas.List.{drop_more, drop_all, length-replicate}
 use Rattle.std.proofs.Math.Seq.{drop-append_seam}
@@ -13,7 +13,8 @@ use Rattle.rv_object.specs.Object.{Section, Symbol}
 use Rattle.rv_object.specs.Sections.{section_of}
 use Rattle.rv_layout_laws.specs.Alignment.{aligned}
 use Rattle.rv_object_writer.specs.declared.piece.Piece.{Piece as DeclaredPiece}
-use Rattle.rv_object_writer.specs.Pieces.{piece_of}
+use Rattle.rv_object_writer.specs.Pieces.{body_bytes, piece_of, rows_bytes}
+use Rattle.rv_object_file_laws.proofs.SymbolsReadLemmas.{length-rows}
 use Rattle.rv_object_file_laws.specs.Written.{Piece, zeros_at, contents_from, headers_offset, headers_from, header_of, rela_pieces, row_pieces, has_relocations, is_local, locals}
 
 -- the next of those that are left
@@ -81,9 +82,9 @@ begins_below at (p ∷ ps) =
 -- one section header later
 pub ends_on : (ps : List DeclaredPiece) (i at offset total : ℕ) (d : DeclaredPiece) → i < length ps → offset ≡ aligned 8 at
     → headers_offset at (map piece_of (drop i ps)) ≡ total
-    → headers_offset (offset + length (get_or ps i d).bytes.now) (map piece_of (drop (i + 1) ps)) ≡ total
+    → headers_offset (offset + length (body_bytes (get_or ps i d).body)) (map piece_of (drop (i + 1) ps)) ≡ total
 ends_on ps i at offset total d inside is end =
-    ap (λ n. headers_offset (n + length (get_or ps i d).bytes.now) (map piece_of (drop (i + 1) ps))) is
+    ap (λ n. headers_offset (n + length (body_bytes (get_or ps i d).body)) (map piece_of (drop (i + 1) ps))) is
     ∙ ap (λ l. headers_offset at (map piece_of l)) (sym (left ps i (get_or ps i d) d inside refl)) ∙ end
 
 -- the parts of a file, whose header is written over the zeros that keep its place
@@ -170,6 +171,9 @@ pub rows_count : (rows : List Row) → bool_byte (not (length rows == 0)) ≡ le
 rows_count [] = refl
 rows_count (r ∷ rs) = let more : (suc (length rs) == 0) ≡ false = ne_eqb (suc (length rs)) 0 (λ e. omega arith) in ap (λ b. bool_byte (not b)) more
 
+pub rows_long : (rows : List Row) → length (rows_bytes rows) ≡ 32 * length rows
+rows_long rows = length-rows rows
+
 -- ---- symbols
 
 pub locals_more : (s : Symbol) (ss : List Symbol) → is_local s ≡ true → locals (s ∷ ss) ≡ suc (locals ss)
@@ -181,8 +185,8 @@ locals_end s ss e = ap (λ b. if b then suc (locals ss) else 0) e
 pub header_put : (ns : List (List ℕ)) (ps : List DeclaredPiece) (i at offset : ℕ) (d : DeclaredPiece) (out new whole : List ℕ)
     → i < length ps → offset ≡ aligned 8 at → new ≡ out ++ section_header_bytes (header_of ns at (piece_of (get_or ps i d)))
     → out ++ flat_map section_header_bytes (headers_from ns at (map piece_of (drop i ps))) ≡ whole
-    → new ++ flat_map section_header_bytes (headers_from ns (offset + length (get_or ps i d).bytes.now) (map piece_of (drop (i + 1) ps))) ≡ whole
+    → new ++ flat_map section_header_bytes (headers_from ns (offset + length (body_bytes (get_or ps i d).body)) (map piece_of (drop (i + 1) ps))) ≡ whole
 header_put ns ps i at offset d out new whole inside is grown so_far =
-    let size : ℕ = length (get_or ps i d).bytes.now in
+    let size : ℕ = length (body_bytes (get_or ps i d).body) in
     headers_more ns at (offset + size) (piece_of (get_or ps i d)) (map piece_of (drop (i + 1) ps)) out new grown (ap (λ n. n + size) is)
     ∙ ap (λ l. out ++ flat_map section_header_bytes (headers_from ns at (map piece_of l))) (sym (left ps i (get_or ps i d) d inside refl)) ∙ so_far

@@ -10,15 +10,25 @@ use Rattle.rv_object_file_laws.specs.Known.{IsRelocation, IsSymbol, IsRow}
 use Rattle.rv_object_file_laws.specs.Rows.{row_bytes}
 use Rattle.rv_object_file_laws.specs.Written.{Piece, table_piece, rela_pieces, row_record, symtab_index, last_index, headers_offset, symbols_bytes, symbol_names, table_of}
 use Rattle.rv_object_writer.specs.declared.pieces.Tables.{Tables}
+use Rattle.rv_object.specs.declared.row.Row.{Row}
+use Rattle.rv_object_writer.specs.declared.piece.Body.{Body}
+use Rattle.rv_object_writer.specs.declared.piece.Body.TheVariants.{Bytes, Rows}
 use Rattle.rv_object_writer.specs.declared.piece.Piece.{Piece as DeclaredPiece}
 use Rattle.rv_object_writer.specs.declared.tables.RelaTable.{RelaTable}
+
+abbrev pub rows_bytes : List Row → List ℕ
+rows_bytes rows = flat_map (λ row. row_bytes (row_record row)) rows
+
+abbrev pub body_bytes : Body → List ℕ
+body_bytes (Bytes bytes) = bytes.now
+body_bytes (Rows rows) = rows_bytes rows.now
 
 abbrev pub piece_of : DeclaredPiece → Piece
 piece_of p = record {
   name = p.name.now;
   kind = p.kind;
   flags = p.flags;
-  bytes = p.bytes.now;
+  bytes = body_bytes p.body;
   size = p.size;
   link = p.link;
   info = p.info;
@@ -34,7 +44,6 @@ rela_piece symtab t = table_piece t.name.items sht_rela t.bytes.items symtab t.s
 pub record AreTables (o : Object) (t : Tables) : Type 0 where
   pub index : t.symtab ≡ symtab_index o
   pub pieces : map (rela_piece t.symtab) t.relocations.items ≡ rela_pieces t.symtab 1 o.sections
-  pub all_rows : t.rows.items ≡ flat_map (λ row. row_bytes (row_record row)) o.rows
   pub all_symbols : t.symbols.items ≡ symbols_bytes (last_index o) o
   pub all_names : t.names.items ≡ table_of (symbol_names o)
 

@@ -7,7 +7,15 @@ ghost use Rattle.rv_object.specs.Sections.{section_of};
 ghost use Rattle.rv_object_file_laws.specs.Written.{kind_of, flags_of};
 
 use rv_elf::{SHF_ALLOC, SHF_EXECINSTR, SHF_WRITE, SHT_NOBITS, SHT_NOTE, SHT_PROGBITS};
-use rv_object::{Contents, Section};
+use rv_object::{Contents, Row, Section};
+
+/// What the file has of a section.
+#[derive(Clone, Copy, Drop)]
+pub(crate) enum Body<'p> {
+    Bytes(&'p [u8]),
+    /// Rows, whose bytes are made where they are written: an object may have 4 million of them.
+    Rows(&'p [Row]),
+}
 
 /// A section of the file, but for the offset of its contents.
 #[derive(Clone, Copy, Drop)]
@@ -17,9 +25,9 @@ pub(crate) struct Piece<'p> {
     pub kind: u32,
     pub flags: u64,
     /// What the file has of it.
-    pub bytes: &'p [u8],
+    pub body: Body<'p>,
     /// Its size in memory or in the file, in bytes.
-    pub size: u64,
+    pub size: u128,
     pub link: u128,
     pub info: u128,
     pub alignment: u64,
@@ -28,7 +36,9 @@ pub(crate) struct Piece<'p> {
 
 impl<'p> Piece<'p> {
     ghost use Rattle.rv_object_file_laws.specs.Written.{section_piece, table_piece};
-    ghost use Rattle.rv_object_writer.specs.Pieces.{piece_of};
+    ghost use Rattle.rv_elf.specs.Numbers.{sht_progbits};
+    ghost use Rattle.rv_object_file_laws.specs.Rows.{rows_name};
+    ghost use Rattle.rv_object_writer.specs.Pieces.{piece_of, rows_bytes};
 
     /// A section of the object.
     pub(crate) fn of(section: &'p Section<'p>) -> Self
@@ -39,8 +49,8 @@ impl<'p> Piece<'p> {
             name: section.name,
             kind: kind(&section.contents),
             flags: flags(section),
-            bytes: section.contents.stored(),
-            size: section.contents.size(),
+            body: Body::Bytes(section.contents.stored()),
+            size: u128::from(section.contents.size()),
             link: 0,
             info: 0,
             alignment: section.alignment,
@@ -63,12 +73,31 @@ impl<'p> Piece<'p> {
             name,
             kind,
             flags: 0,
-            bytes,
-            size: bytes.len() as u64,
+            body: Body::Bytes(bytes),
+            size: bytes.len() as u128,
             link: 0,
             info: 0,
             alignment,
             entry_size,
+        }
+    }
+
+    /// The section of rows.
+    #[tactic(auto, using(crate::proofs::StepsLemmas::rows_long))]
+    pub(crate) fn rows(rows: &'p [Row]) -> Self
+        ensures { piece_of result
+            ≡ table_piece rows_name sht_progbits (rows_bytes rows.now) 0 0 1 0 }
+    {
+        Piece {
+            name: b".rv.rows",
+            kind: SHT_PROGBITS,
+            flags: 0,
+            body: Body::Rows(rows),
+            size: 32 * rows.len() as u128,
+            link: 0,
+            info: 0,
+            alignment: 1,
+            entry_size: 0,
         }
     }
 }

@@ -1,6 +1,6 @@
 //! The sections of an object's file.
 
-ghost use Rattle.std.specs.Prelude.{◌≡◌, ◌+◌, ◌++◌, ◌∷◌, [], ◌<◌, ◌^◌, map, flat_map, codes, IfOk, OnOk};
+ghost use Rattle.std.specs.Prelude.{◌≡◌, ◌+◌, ◌++◌, ◌∷◌, [], ◌<◌, ◌^◌, map, codes, IfOk, OnOk};
 ghost use Rattle.std.specs.List.{AllByRecursion};
 ghost use Rattle.rv_elf.specs.Fields.{rela_size, symbol_size};
 ghost use Rattle.rv_elf.specs.Numbers.{sht_strtab, sht_symtab};
@@ -10,21 +10,18 @@ ghost use Rattle.rv_object.specs.Sections.{section_of};
 ghost use Rattle.rv_object.specs.View.{object_of};
 ghost use Rattle.rv_object_file_laws.specs.Written.{section_piece, table_piece, row_pieces, symtab_index, last_index, first_pieces, symbol_names, symbols_bytes, rela_pieces, table_of, locals};
 ghost use Rattle.rv_object_writer.specs.Pieces.{piece_of, rela_piece, AreTables, HaveKnownNumbers};
-ghost use Rattle.rv_object_file_laws.specs.Rows.{row_bytes};
-ghost use Rattle.rv_object_file_laws.specs.Written.{row_record};
 
 use crate::names::{SECTION_NAMES, symbol_names};
-use crate::piece::Piece;
-use crate::tables::{RelaTable, locals, rela_tables, rows_table, symbols_table};
-use rv_elf::{SHT_PROGBITS, SHT_RELA, SHT_STRTAB, SHT_SYMTAB};
-use rv_object::{Object, Section};
+use crate::piece::{Body, Piece};
+use crate::tables::{RelaTable, locals, rela_tables, rows_are_known, symbols_table};
+use rv_elf::{SHT_RELA, SHT_STRTAB, SHT_SYMTAB};
+use rv_object::{Object, Row, Section};
 use std::alloc::{AllocError, Global};
 
 /// What the file has beside the contents of the object's sections.
 #[derive(Drop)]
 pub(crate) struct Tables {
     pub relocations: Vec<RelaTable>,
-    pub rows: Vec<u8>,
     pub symbols: Vec<u8>,
     /// The names of the symbols.
     pub names: Vec<u8>,
@@ -52,12 +49,11 @@ impl Tables {
     {
         let relocations = rela_tables(alloc, object.sections.as_slice())?;
         let symtab = symtab_index(object, relocations.as_slice());
-        let rows = rows_table(alloc, object.rows.as_slice())?;
+        rows_are_known(object.rows.as_slice());
         let names = symbol_names(alloc, object.symbols.as_slice())?;
         let symbols = symbols_table(alloc, &names, symtab + 2, object.symbols.as_slice())?;
         Ok(Tables {
             relocations,
-            rows,
             symbols,
             names: names.into_bytes(),
             symtab,
@@ -89,8 +85,8 @@ fn rela_section<'p>(symtab: u128, table: &'p RelaTable) -> Piece<'p>
         name: table.name.as_slice(),
         kind: SHT_RELA,
         flags: 0,
-        bytes: table.bytes.as_slice(),
-        size: table.bytes.len() as u64,
+        body: Body::Bytes(table.bytes.as_slice()),
+        size: table.bytes.len() as u128,
         link: symtab,
         info: u128::from(table.section),
         alignment: 8,
@@ -114,19 +110,14 @@ fn put_relocations<'p>(
 }
 
 /// Adds the section of rows, if there are some.
-fn put_rows<'p>(
-    pieces: &mut Vec<Piece<'p>>,
-    object: &Object<'_>,
-    rows: &'p [u8],
-) -> Result<(), AllocError>
-    requires { rows.now ≡ flat_map (λ row. row_bytes (row_record row)) (object.now).rows.items }
-    ensures { OnOk result (map piece_of pieces.new.items ≡ map piece_of pieces.old.items
-        ++ row_pieces (object_of object.now).rows) }
+fn put_rows<'p>(pieces: &mut Vec<Piece<'p>>, rows: &'p [Row]) -> Result<(), AllocError>
+    ensures { OnOk result
+        (map piece_of pieces.new.items ≡ map piece_of pieces.old.items ++ row_pieces rows.now) }
 {
-    if object.rows.is_empty() {
+    if rows.is_empty() {
         return Ok(());
     }
-    pieces.push(Piece::table(b".rv.rows", SHT_PROGBITS, rows, 1, 0))?;
+    pieces.push(Piece::rows(rows))?;
     Ok(())
 }
 
@@ -141,8 +132,8 @@ fn symbols_section<'p>(symtab: u128, locals: u128, bytes: &'p [u8]) -> Piece<'p>
         name: b".symtab",
         kind: SHT_SYMTAB,
         flags: 0,
-        bytes,
-        size: bytes.len() as u64,
+        body: Body::Bytes(bytes),
+        size: bytes.len() as u128,
         link: symtab + 1,
         info: 1 + locals,
         alignment: 8,
@@ -166,7 +157,7 @@ pub(crate) fn first_pieces<'p>(
     let mut pieces = Vec::new(alloc);
     put_sections(&mut pieces, object.sections.as_slice())?;
     put_relocations(&mut pieces, tables.symtab, tables.relocations.as_slice())?;
-    put_rows(&mut pieces, object, tables.rows.as_slice())?;
+    put_rows(&mut pieces, object.rows.as_slice())?;
     let locals = u128::from(locals(object.symbols.as_slice()));
     pieces.push(symbols_section(tables.symtab, locals, tables.symbols.as_slice()))?;
     pieces.push(Piece::table(b".strtab", SHT_STRTAB, tables.names.as_slice(), 1, 0))?;

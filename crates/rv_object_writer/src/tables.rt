@@ -1,8 +1,8 @@
 //! The tables of a file: relocations, rows and symbols.
 //!
 //! Their bytes are made before any section is written, since the headers of the file and of its sections say how large
-//! they are. The loops that write a table also show that its numbers have the widths of their fields: only a look at
-//! each part of an object can show it.
+//! they are; of rows, which are 32 bytes each, their number says it. The loops that write a table also show that its
+//! numbers have the widths of their fields: only a look at each part of an object can show it.
 
 ghost use Rattle.std.specs.Prelude.{◌≡◌, ◌+◌, ◌<◌, ◌%◌, ◌^◌, ℕ, suc, List, [], ◌∷◌, ◌++◌, map, flat_map, replicate, codes, IfOk, OnOk};
 ghost use Rattle.std.specs.List.{AllByRecursion};
@@ -15,7 +15,7 @@ ghost use Rattle.rv_object_file_laws.specs.Known.{IsRelocation, IsSymbol, IsRow}
 ghost use Rattle.rv_object_file_laws.specs.Rows.{row_bytes};
 ghost use Rattle.rv_object_file_laws.specs.Rows as fields;
 ghost use Rattle.rv_object_file_laws.specs.Written.{strings_of, symbol_number, rela_of, relocations_bytes, row_record, binding_number, section_index_of, value_of, symbol_record, is_local, locals, rela_pieces};
-ghost use Rattle.rv_object_writer.specs.Pieces.{rela_piece};
+ghost use Rattle.rv_object_writer.specs.Pieces.{rela_piece, rows_bytes};
 ghost use Rattle.rv_object_writer.specs.Strings.{IsTable};
 
 use crate::strings::StringTable;
@@ -194,24 +194,34 @@ fn put_row_extent(out: &mut ElfWriter, row: &Row) -> Result<(), AllocError>
 /// Writes a row.
 #[tactic(auto, unfolding(rv_object_file_laws::specs::Rows::row_bytes))]
 fn put_row(out: &mut ElfWriter, row: Row) -> Result<(), AllocError>
-    ensures written { OnOk result (out.new ≡ out.old ++ row_bytes (row_record row)) }
-    ensures known { IsRow row }
+    ensures { OnOk result (out.new ≡ out.old ++ row_bytes (row_record row)) }
 {
     put_row_place(out, &row)?;
     put_row_extent(out, &row)
 }
 
-/// The bytes of rows.
-pub(crate) fn rows_table(alloc: Global, rows: &[Row]) -> Result<Vec<u8>, AllocError>
-    ensures written { IfOk result (λ bytes. bytes.items
-        ≡ flat_map (λ row. row_bytes (row_record row)) rows.now) }
-    ensures known { IfOk result (λ bytes. AllByRecursion IsRow rows.now) }
+/// Writes rows.
+pub(crate) fn put_rows(out: &mut ElfWriter, rows: &[Row]) -> Result<(), AllocError>
+    ensures { OnOk result (out.new ≡ out.old ++ rows_bytes rows.now) }
 {
-    let mut out = ElfWriter::new(alloc);
     for row in rows {
-        put_row(&mut out, *row)?;
+        put_row(out, *row)?;
     }
-    Ok(out.finish())
+    Ok(())
+}
+
+/// The numbers of a row have the widths of their fields.
+fn row_is_known(row: Row)
+    ensures { IsRow row }
+{}
+
+/// The numbers of rows have the widths of their fields.
+pub(crate) fn rows_are_known(rows: &[Row])
+    ensures { AllByRecursion IsRow rows.now }
+{
+    for row in rows {
+        row_is_known(*row);
+    }
 }
 
 // ---- symbols

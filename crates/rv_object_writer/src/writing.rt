@@ -14,13 +14,14 @@ ghost use Rattle.rv_object_file_laws.specs.Known.{IsObject};
 ghost use Rattle.rv_object_file_laws.specs.ObjectOf.{ObjectOf};
 ghost use Rattle.rv_layout_laws.specs.Alignment.{aligned};
 ghost use Rattle.rv_object_file_laws.specs.Written.{zeros_at, contents_from, headers_offset, header_of, headers_from, HasFile, file_of, file_header_of, strings_of, last_index, pieces as file_pieces, section_names as file_names};
-ghost use Rattle.rv_object_writer.specs.Pieces.{piece_of, header_by, AreTables};
+ghost use Rattle.rv_object_writer.specs.Pieces.{body_bytes, piece_of, header_by, AreTables};
 ghost use Rattle.rv_object_writer.specs.Strings.{IsTable};
 
 use crate::names::section_names;
-use crate::piece::Piece;
+use crate::piece::{Body, Piece};
 use crate::pieces::{Tables, all_pieces, first_pieces};
 use crate::strings::StringTable;
+use crate::tables::put_rows;
 use rv_elf::{
     EM_RISCV, ET_REL, ElfWriter, FILE_HEADER_SIZE, FileHeader, SECTION_HEADER_SIZE, SectionHeader,
 };
@@ -146,6 +147,28 @@ fn put_zeros(out: &mut ElfWriter) -> Result<(), AllocError>
     out.zeros((8 - out.len() % 8) % 8)
 }
 
+/// Writes what the file has of a section.
+fn put_body(out: &mut ElfWriter, body: Body<'_>) -> Result<(), AllocError>
+    ensures { OnOk result (out.new ≡ out.old ++ body_bytes body.entry) }
+{
+    match body {
+        Body::Bytes(bytes) => out.raw(bytes),
+        Body::Rows(rows) => put_rows(out, rows),
+    }
+}
+
+/// How many bytes the file has of a section.
+#[tactic(auto, using(crate::proofs::StepsLemmas::rows_long))]
+fn body_length(body: Body<'_>) -> u64
+    requires { length (body_bytes body) < 2 ^ 64 }
+    ensures { result ≡ length (body_bytes body.entry) }
+{
+    match body {
+        Body::Bytes(bytes) => bytes.len() as u64,
+        Body::Rows(rows) => 32 * rows.len() as u64,
+    }
+}
+
 /// Writes the contents of sections, each at a multiple of 8.
 fn put_contents(out: &mut ElfWriter, pieces: &[Piece<'_>]) -> Result<(), AllocError>
     ensures { OnOk result
@@ -153,7 +176,7 @@ fn put_contents(out: &mut ElfWriter, pieces: &[Piece<'_>]) -> Result<(), AllocEr
 {
     for piece in pieces {
         put_zeros(out)?;
-        out.raw(piece.bytes)?;
+        put_body(out, piece.body)?;
     }
     put_zeros(out)
 }
@@ -177,7 +200,7 @@ fn put_section_header(
         sh_flags: piece.flags,
         sh_addr: 0,
         sh_offset: offset,
-        sh_size: piece.size,
+        sh_size: (piece.size % 0x1_0000_0000_0000_0000) as u64,
         sh_link: (piece.link % 0x1_0000_0000) as u32,
         sh_info: (piece.info % 0x1_0000_0000) as u32,
         sh_addralign: piece.alignment,
@@ -201,7 +224,7 @@ fn put_headers(
     for piece in pieces {
         let offset = aligned(at);
         put_section_header(out, names, offset, piece)?;
-        at = offset + piece.bytes.len() as u64;
+        at = offset + body_length(piece.body);
     }
     Ok(())
 }

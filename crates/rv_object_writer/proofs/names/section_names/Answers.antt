@@ -1,6 +1,7 @@
 use Rattle.std.proofs.Common.{◌≡◌, ◌<◌, ◌+◌, ◌++◌, ◌∙◌, [], ◌∷◌, ℕ, List, length, map, drop, get_or, refl, sym, ap, subst, append-nil, rules, codes}
 use Rattle.std.proofs.lemmas.List.{drop_all}
 use Rattle.rv_object_file_laws.specs.Written.{Piece, unseen, strings_of}
+use Rattle.rv_object_writer.specs.declared.piece.Body.TheVariants.{Bytes}
 use Rattle.rv_object_writer.specs.declared.piece.Piece.{Piece as DeclaredPiece}
 use Rattle.rv_object_writer.specs.Pieces.{piece_of}
 use Rattle.rv_object_writer.specs.Strings.{IsTable, with_string}
@@ -13,7 +14,7 @@ no_piece = record {
   name = record { ref_ptr = (0, 0); now = [] };
   kind = 0;
   flags = 0;
-  bytes = record { ref_ptr = (0, 0); now = [] };
+  body = Bytes (record { ref_ptr = (0, 0); now = [] });
   size = 0;
   link = 0;
   info = 0;

@@ -16,9 +16,9 @@ returns c = λ ns at table here.
       sh_flags = p.flags;
       sh_addr = 0;
       sh_offset = here i;
-      sh_size = p.size;
+      sh_size = p.size % 2 ^ 64;
       sh_link = p.link % 2 ^ 32;
       sh_info = p.info % 2 ^ 32;
       sh_addralign = p.alignment;
       sh_entsize = p.entry_size;
-    })) ∙ section_cut (header_of ns at p) (name_offset ns p.name) p.link p.info)
+    })) ∙ section_cut (header_of ns at p) (name_offset ns p.name) p.size p.link p.info)

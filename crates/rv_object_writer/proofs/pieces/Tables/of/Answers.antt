@@ -6,12 +6,10 @@ use Rattle.rv_object.specs.Object.{Object, Symbol}
 use Rattle.rv_object.specs.Parts.{symbol_of}
 use Rattle.rv_object.specs.Sections.{section_of}
 use Rattle.rv_object.specs.View.{object_of}
-use Rattle.rv_object.specs.declared.row.Row.{Row}
 use Rattle.rv_object.specs.declared.section.Section.{Section as DeclaredSection}
 use Rattle.rv_object.specs.declared.symbol.Symbol.{Symbol as DeclaredSymbol}
 use Rattle.rv_object_file_laws.specs.Known.{IsRelocation, IsSymbol, IsRow}
-use Rattle.rv_object_file_laws.specs.Rows.{row_bytes}
-use Rattle.rv_object_file_laws.specs.Written.{rela_pieces, row_record, symbol_names, strings_of, symbol_record, symbols_bytes, last_index}
+use Rattle.rv_object_file_laws.specs.Written.{rela_pieces, symbol_names, strings_of, symbol_record, symbols_bytes, last_index}
 use Rattle.rv_object_writer.specs.Strings.{IsTable}
 use Rattle.rv_object_writer.proofs.pieces.Tables.of.Goals as goal
 
@@ -26,7 +24,6 @@ returns-clause-tables c =
     record {
       index = c.symtab_index-symtab.ensures.at;
       pieces = c.in_ok-relocations.ensures.tables symtab ∙ ap (λ l. rela_pieces symtab 1 (map section_of l)) c.as_slice.ensures.value;
-      all_rows = c.in_ok-rows.ensures.written ∙ ap (flat_map (λ (row : Row). row_bytes (row_record row))) c.as_slice-3.ensures.value;
       all_symbols =
           c.in_ok-symbols.ensures.written (symbol_names o) table
           ∙ ap (λ l. replicate symbol_size 0 ++ flat_map (λ (s : Symbol). symbol_bytes (symbol_record (symbol_names o) (symtab + 2) s)) (map symbol_of l)) c.as_slice-5.ensures.value
@@ -39,5 +36,5 @@ returns-clause-known c = record {
   fields = subst (λ (l : List DeclaredSection). AllByRecursion (λ s. AllByRecursion IsRelocation s.relocations) (map section_of l)) c.as_slice.ensures.value
       c.in_ok-relocations.ensures.known;
   all_symbols = subst (λ (l : List DeclaredSymbol). AllByRecursion IsSymbol (map symbol_of l)) c.as_slice-5.ensures.value c.in_ok-symbols.ensures.known;
-  all_rows = subst (AllByRecursion IsRow) c.as_slice-3.ensures.value c.in_ok-rows.ensures.known;
+  all_rows = subst (AllByRecursion IsRow) c.as_slice-3.ensures.value c.rows_are_known.ensures;
 }
