@@ -32,7 +32,7 @@ fn put_row(rows: &mut Vec<Row>, ordinal: u32, item: Item) -> Result<(), AllocErr
         section: item.section,
         offset: u64::from(item.offset),
         bytes: item.bytes,
-        instructions: item.instructions,
+        instructions: u32::from(item.instructions),
     })?;
     Ok(())
 }

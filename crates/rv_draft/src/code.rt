@@ -7,6 +7,7 @@
 
 ghost use Rattle.std.specs.Prelude.{◌≡◌, ◌<◌, ◌≤◌, ℕ, ◌+◌, ◌++◌, Bool, true, List, [], length, is_some, IfOk, OnOk};
 ghost use Rattle.rv_isa_laws.specs.Bytes.{little_endian};
+ghost use Rattle.rv_object.specs.Padding.{operations_in as padding_operations};
 ghost use Rattle.rv_text_laws.specs.Values as values;
 ghost use Rattle.rv_statement.specs.Statement.{Expression};
 ghost use Rattle.rv_statement.specs.View.{statement_of};
@@ -146,6 +147,15 @@ fn instructions_in(code: &[Coded]) -> u8
     instructions
 }
 
+/// How many instructions the padding of a statement is.
+fn operations_in(padding: u32) -> u16
+    requires { padding ≤ 65535 }
+    ensures count { result ≡ padding_operations padding }
+    ensures low { result ≤ 16384 }
+{
+    operations(padding) as u16
+}
+
 /// How large the code of a statement is.
 fn code_size(padding: u32, code: &[Coded]) -> CodeSize
     requires low { padding ≤ 65535 }
@@ -154,7 +164,7 @@ fn code_size(padding: u32, code: &[Coded]) -> CodeSize
 {
     CodeSize {
         bytes: padding + u32::from(bytes_of(code)),
-        instructions: operations(padding) + u32::from(instructions_in(code)),
+        instructions: operations_in(padding) + u16::from(instructions_in(code)),
     }
 }
 
@@ -166,7 +176,7 @@ fn size_of_one(padding: u32, encoded: Encoded) -> CodeSize
 {
     CodeSize {
         bytes: padding + u32::from(width(encoded)),
-        instructions: operations(padding) + u32::from(count(encoded)),
+        instructions: operations_in(padding) + u16::from(count(encoded)),
     }
 }
 

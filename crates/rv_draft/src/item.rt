@@ -1,4 +1,6 @@
 //! The statements of a source in their sections.
+//!
+//! A source may have 4 million of them, so that a byte here is 4 MiB of memory.
 
 /// Where a statement stands in its section.
 #[derive(Clone, Copy, Debug, PartialEq, Eq, Drop)]
@@ -13,8 +15,8 @@ pub struct Item {
     pub line: u32,
     /// It has a row in the map.
     pub shown: bool,
-    /// How many instructions its bytes are.
-    pub instructions: u32,
+    /// How many instructions its bytes are: padding has at most 65535 bytes, and other code few.
+    pub instructions: u16,
 }
 
 /// How large the code of a statement is: of an instruction, and of an alignment in a section of code;
@@ -24,5 +26,5 @@ pub(crate) struct CodeSize {
     /// Its bytes.
     pub(crate) bytes: u32,
     /// How many instructions they are.
-    pub(crate) instructions: u32,
+    pub(crate) instructions: u16,
 }
