@@ -1,12 +1,13 @@
 //! The sizes of all statements.
 
 ghost use Rattle.std.specs.Prelude.{◌≡◌, ◌+◌, ◌*◌, ◌≤◌, ◌<◌, length, slice_index, IfOk};
-ghost use Rattle.rv_layout_laws.specs.Branches.{IsLeastGood, branches, smallest_sizes};
+ghost use Rattle.std.specs.List.{list_any};
+ghost use Rattle.rv_layout_laws.specs.Branches.{IsLeastGood, branches, is_branch as of_branch, smallest_sizes};
 ghost use Rattle.rv_sizes.specs.Passes.{IsInput};
 
 use crate::passes::settle;
 use crate::reach::smallest_size;
-use rv_layout_laws::Item;
+use rv_layout_laws::{Forms, Item};
 use std::alloc::{AllocError, Global};
 
 /// A size for each statement, and how long it took to find them.
@@ -14,7 +15,8 @@ use std::alloc::{AllocError, Global};
 pub struct Family {
     /// The bytes of each statement.
     pub sizes: Vec<u32>,
-    /// How many passes over the statements there were, the last of which widened nothing.
+    /// How many passes over the statements there were, the last of which widened nothing; none where no statement has
+    /// several forms.
     pub rounds: usize,
 }
 
@@ -27,6 +29,20 @@ fn smallest(alloc: Global, items: &[Item]) -> Result<Vec<u32>, AllocError>
         sizes.push(smallest_size(item.forms))?;
     }
     Ok(sizes)
+}
+
+/// Whether the forms are several.
+fn is_branch(forms: Forms) -> bool
+    ensures { result ≡ of_branch forms }
+{
+    !matches!(forms, Forms::Settled(_))
+}
+
+/// Whether a statement has several forms.
+fn has_branch(items: &[Item]) -> bool
+    ensures { result ≡ list_any (λ item. of_branch item.forms) items.now }
+{
+    items.iter().any(|item| is_branch(item.forms))
 }
 
 impl Family {
@@ -44,6 +60,10 @@ impl Family {
         ensures rounds { IfOk result (λ found. found.rounds ≤ 2 * branches items.now + 1) }
     {
         let mut sizes = smallest(alloc, items)?;
+        if !has_branch(items) {
+            // nothing asks for a distance, so that the table of where statements stand would be for nothing
+            return Ok(Family { sizes, rounds: 0 });
+        }
         let mut stands = vec![in alloc; 0; items.len()]?;
         let mut ends = vec![in alloc; 0; sections]?;
         let rounds = settle(items, &mut sizes, &mut stands, &mut ends);
