@@ -24,7 +24,7 @@ never: nop
 v: .dword 0
 #--- wanted
 instructions                           21
-compressed                              8      38.0 %
+compressed                              8      38.1 %
 loads                                   5
 bytes read                             15
 stores                                  3
@@ -33,24 +33,24 @@ branches taken                          2
 branches not taken                      2
 deepest stack                           0
 by kind
-  arithmetic                            8      38.0 %
-  load                                  3      14.2 %
-  store                                 1       4.7 %
+  arithmetic                            8      38.1 %
+  load                                  3      14.3 %
+  store                                 1       4.8 %
   atomic                                4      19.0 %
   branch                                4      19.0 %
   jump                                  0       0.0 %
-  other                                 1       4.7 %
+  other                                 1       4.8 %
 by mnemonic
   addi                                  7      33.3 %
-  bne                                   3      14.2 %
-  lbu                                   3      14.2 %
+  bne                                   3      14.3 %
+  lbu                                   3      14.3 %
   sc.w                                  2       9.5 %
-  amoadd.d                              1       4.7 %
-  auipc                                 1       4.7 %
-  beq                                   1       4.7 %
-  ecall                                 1       4.7 %
-  lr.w                                  1       4.7 %
-  sh                                    1       4.7 %
+  amoadd.d                              1       4.8 %
+  auipc                                 1       4.8 %
+  beq                                   1       4.8 %
+  ecall                                 1       4.8 %
+  lr.w                                  1       4.8 %
+  sh                                    1       4.8 %
 calls
 a.s:2 1
 a.s:3 3

@@ -111,12 +111,10 @@ pub(crate) fn put_count(
     put_right(text, count, 16)
 }
 
-/// Adds how much a count is of a whole, in percent with one digit after the point.
+/// Adds how much a count is of a whole, in percent, rounded to one digit after the point.
 pub(crate) fn put_share(text: &mut Vec<u8>, count: u64, whole: u64) -> Result<(), AllocError> {
-    let tenths = match count.saturating_mul(1000).checked_div(whole) {
-        Some(tenths) => tenths,
-        None => 0,
-    };
+    let thousands = count.saturating_mul(1000).saturating_add(whole / 2);
+    let tenths = thousands.checked_div(whole).unwrap_or(0);
     put_right(text, tenths / 10, 8)?;
     text.push(b'.')?;
     put_decimal(text, tenths % 10)?;
