@@ -32,7 +32,7 @@ a.s:4: E4 DivisionByZero
 a.s:8: E11 DuplicateLabel
     x: nop
     ^
-  x is defined before this line, and a name has one definition
+  x is defined at line 7, and a name has one definition
 a.s:2: E14 ImmediateRange
     _start: addi a0, zero, 5000
                            ^^^^

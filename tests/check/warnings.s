@@ -10,10 +10,10 @@ _start: j 1f
 nop
 nop
 1: lw a0, 6(sp)
-lh a0, 6(sp)
+used: lh a0, 6(sp)
 sd a0, -12(sp)
 lw a0, 6(a1)
-unused: used: la a1, used
+unused: la a1, used
 li a1, 0x11000
 li a1, 69632
 jal zero, used
@@ -30,7 +30,7 @@ jalr zero, 0(ra)
 #--- wanted
 text 44, rodata 0, data 4, bss 0 bytes
 a.s:9: warning: nothing in this source refers to unused
-    unused: used: la a1, used
+    unused: la a1, used
     ^^^^^^
 a.s:3: warning: nothing leads here: the line before jumps away, and there is no label
     nop

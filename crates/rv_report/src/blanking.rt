@@ -4,10 +4,11 @@
 //! of a value that cannot be is one of 0.
 
 use crate::excerpt::Place;
-use crate::names::is_assignment;
+use crate::names::{is_assignment, is_macro, is_section};
 use crate::place::FaultPlace;
-use crate::tokens::part;
+use crate::tokens::{LineToken, Sort, all_tokens, part, span, text_of, unlabelled};
 use rv_chain::SourceCode;
+use std::alloc::{AllocError, Global};
 
 /// Blanks the statement of a fault; whether that changes a byte.
 pub(crate) fn blank(draft: &mut [u8], code: SourceCode, place: &FaultPlace) -> bool {
@@ -28,7 +29,10 @@ pub(crate) fn blank(draft: &mut [u8], code: SourceCode, place: &FaultPlace) -> b
             }
             true
         }
-        None => blank_bytes(draft, cut_of(code, place)),
+        None => {
+            let cut = cut_of(draft, code, place);
+            blank_bytes(draft, cut)
+        }
     }
 }
 
@@ -58,13 +62,15 @@ fn is_fault_of_value(code: SourceCode) -> bool {
     )
 }
 
-/// What is blanked: the statement with what is wrong in it, or its labels where they are wrong.
-fn cut_of(code: SourceCode, place: &FaultPlace) -> Place {
+/// What is blanked: the statement with what is wrong in it, or a label with its colon where that is wrong.
+fn cut_of(draft: &[u8], code: SourceCode, place: &FaultPlace) -> Place {
     let in_labels = place.shown.start < place.statement.start;
     if in_labels && code == SourceCode::DuplicateLabel {
+        let rest = part(draft, place.shown.stop, draft.len());
+        let colon = rest.iter().position(|byte| *byte == b':').unwrap_or(0);
         return Place {
-            start: place.whole.start,
-            stop: place.statement.start,
+            start: place.shown.start,
+            stop: place.shown.stop.saturating_add(colon).saturating_add(1),
         };
     }
     let start = if in_labels {
@@ -92,4 +98,108 @@ fn blank_bytes(draft: &mut [u8], place: Place) -> bool {
         }
     }
     changed
+}
+
+/// Whether a statement begins a macro, and its end comes after it.
+pub(crate) fn is_of_macro(draft: &[u8], place: &FaultPlace) -> bool {
+    let rest = part(draft, place.statement.start, draft.len());
+    is_macro(first_word(rest))
+        && rest
+            .split(|byte| *byte == b'\n')
+            .any(|line| first_word(line) == b".endm".as_slice())
+}
+
+/// The first word of a line.
+fn first_word(line: &[u8]) -> &[u8] {
+    let text = line.trim_ascii_start();
+    match text.iter().position(|byte| matches!(
+        *byte,
+        b' ' | b'\t' | b'\r' | b'\n' | b',' | b'#' | b';'
+    )) {
+        Some(end) => part(text, 0, end),
+        None => text,
+    }
+}
+
+/// A source without a macro and the lines that use it.
+pub(crate) fn without_macro(
+    alloc: Global,
+    draft: &[u8],
+    place: &FaultPlace,
+) -> Result<Vec<u8>, AllocError> {
+    let rest = part(draft, place.statement.start, draft.len());
+    let words = part(rest, first_word(rest).len(), rest.len());
+    let name = first_word(words);
+    let mut out = part(draft, 0, place.statement.start).to_vec(alloc)?;
+    let mut is_inside = true;
+    for line in rest.split(|byte| *byte == b'\n') {
+        let first = first_word(line);
+        if is_inside || first == name {
+            put_blanks(&mut out, line)?;
+        } else {
+            out.extend_from_slice(line)?;
+        }
+        is_inside = is_inside && first != b".endm".as_slice();
+        out.push(b'\n')?;
+    }
+    Ok(out)
+}
+
+/// Adds a blank for each byte, and each line feed.
+fn put_blanks(out: &mut Vec<u8>, bytes: &[u8]) -> Result<(), AllocError> {
+    for byte in bytes {
+        let shown = if *byte == b'\n' { b'\n' } else { b' ' };
+        out.push(shown)?;
+    }
+    Ok(())
+}
+
+/// A source without the statements from a line on, up to the next section, that are directives or instructions as one is.
+pub(crate) fn without_sort(
+    alloc: Global,
+    draft: &[u8],
+    line: u32,
+    place: &FaultPlace,
+) -> Result<Vec<u8>, AllocError> {
+    let is_directive = part(draft, place.statement.start, draft.len()).starts_with(b".");
+    let tokens = all_tokens(alloc, draft)?;
+    let mut out = Vec::new(alloc);
+    let mut is_over = false;
+    for group in tokens.as_slice().split(|token| token.sort == Sort::End) {
+        let statement = unlabelled(group);
+        is_over = is_over || ends_sort(draft, statement, line);
+        if !is_over && is_of_sort(draft, statement, line, is_directive) {
+            put_without(&mut out, draft, statement)?;
+        }
+    }
+    let done = out.len();
+    out.extend_from_slice(part(draft, done, draft.len()))?;
+    Ok(out)
+}
+
+/// Whether a statement after a line goes to a section.
+fn ends_sort(draft: &[u8], statement: &[LineToken], line: u32) -> bool {
+    match statement.first() {
+        Some(first) => line < first.line && is_section(text_of(draft, first)),
+        None => false,
+    }
+}
+
+/// Whether a statement from a line on is a directive, or none.
+fn is_of_sort(draft: &[u8], statement: &[LineToken], line: u32, is_directive: bool) -> bool {
+    match statement.first() {
+        Some(first) => line <= first.line
+            && text_of(draft, first).starts_with(b".") == is_directive,
+        None => false,
+    }
+}
+
+/// Adds a source up to a statement, and blanks for it.
+fn put_without(out: &mut Vec<u8>, draft: &[u8], statement: &[LineToken]) -> Result<(), AllocError> {
+    let Some(place) = span(statement) else {
+        return Ok(());
+    };
+    let done = out.len();
+    out.extend_from_slice(part(draft, done, place.start))?;
+    put_blanks(out, part(draft, place.start, place.stop))
 }

@@ -7,11 +7,12 @@ ghost use Rattle.std.specs.Prelude.{map, IfOk};
 ghost use Rattle.rv_statement.specs.View.{now_of};
 ghost use Rattle.rv_report.specs.Check.{BeginsWithFaultOf, HasFirst};
 
-use crate::blanking::blank;
+use crate::blanking::{blank, is_of_macro, without_macro, without_sort};
 use crate::closing::closing_of;
 use crate::excerpt::put_excerpt;
 use crate::linking::put_link_fault;
-use crate::place::{FaultPlace, place_of};
+use crate::occurrences::section_before;
+use crate::place::{FaultPlace, is_loaded_by_li, place_of};
 use crate::report::{Finding, Report};
 use crate::sentences::put_sentence;
 use rv_assemble::assemble;
@@ -39,12 +40,18 @@ pub fn check(
             closing: closing_of(alloc, names, sources, built.map.as_slice())?,
         }),
         Err(Fault::Memory) => Err(Fault::Memory),
-        Err(fault) => refused(alloc, names, sources, fault),
+        Err(fault) => refused(alloc, names, sources, fault, options),
     }
 }
 
 /// The report of sources that have this fault first.
-fn refused(alloc: Global, names: &[&str], sources: &[&[u8]], fault: Fault) -> Result<Report, Fault>
+fn refused(
+    alloc: Global,
+    names: &[&str],
+    sources: &[&[u8]],
+    fault: Fault,
+    options: LinkOptions,
+) -> Result<Report, Fault>
     ensures { IfOk result (λ report. HasFirst report.first fault) }
 {
     let mut others = Vec::new(alloc);
@@ -54,7 +61,7 @@ fn refused(alloc: Global, names: &[&str], sources: &[&[u8]], fault: Fault) -> Re
             put_first(alloc, sources, *file, *code, *line, &mut text)?;
             put_others(alloc, sources, *file, &mut others)?;
         }
-        Fault::Link(link) => put_link_fault(alloc, names, sources, link, &mut text)?,
+        Fault::Link(link) => put_link_fault(alloc, names, sources, link, options, &mut text)?,
         _ => {}
     }
     let closing = count_text(alloc, &mut others)?;
@@ -78,7 +85,7 @@ fn put_first(
         return Ok(());
     };
     if let Some(place) = place_of(alloc, source, code, line)? {
-        put_fault(text, source, code, line, &place)?;
+        put_fault(alloc, text, source, code, line, &place)?;
     }
     Ok(())
 }
@@ -118,6 +125,7 @@ fn put_faults_of(
     others: &mut Vec<Finding>,
 ) -> Result<(), Fault> {
     let mut is_there = but_first;
+    let mut unknown = Vec::new(alloc);
     for _ in 0..=MOST_FAULTS {
         if MOST_FAULTS <= others.len() {
             return Ok(());
@@ -126,16 +134,61 @@ fn put_faults_of(
             return Ok(());
         };
         let place = place_of(alloc, draft, code, line)?;
-        if !is_there {
+        let follows = code == SourceCode::WrongSection
+            && may_follow(alloc, draft, line, unknown.as_slice())?;
+        if !is_there && !follows {
             others.push(finding(alloc, source, file, code, line, place)?)?;
         }
         is_there = false;
-        match place {
-            Some(place) if blank(draft, code, &place) => {}
-            _ => return Ok(()),
+        if code == SourceCode::UnknownDirective {
+            unknown.push(line)?;
+        }
+        let Some(place) = place else {
+            return Ok(());
+        };
+        if !leave(alloc, draft, code, line, &place, follows)? {
+            return Ok(());
         }
     }
     Ok(())
+}
+
+/// Whether a directive that is unknown may have gone to the section of a line.
+fn may_follow(alloc: Global, draft: &[u8], line: u32, unknown: &[u32]) -> Result<bool, AllocError> {
+    let section = section_before(alloc, draft, line)?;
+    Ok(unknown.iter().any(|at| section <= *at && *at < line))
+}
+
+/// Leaves out of a draft what is at fault, and what only follows from it; whether that changes a byte.
+fn leave(
+    alloc: Global,
+    draft: &mut [u8],
+    code: SourceCode,
+    line: u32,
+    place: &FaultPlace,
+    follows: bool,
+) -> Result<bool, AllocError> {
+    if follows {
+        let left = without_sort(alloc, draft, line, place)?;
+        return Ok(overwrite(draft, left.as_slice()));
+    }
+    if is_of_macro(draft, place) {
+        let left = without_macro(alloc, draft, place)?;
+        return Ok(overwrite(draft, left.as_slice()));
+    }
+    Ok(blank(draft, code, place))
+}
+
+/// Gives a draft other bytes; whether that changes one.
+fn overwrite(draft: &mut [u8], bytes: &[u8]) -> bool {
+    let mut changed = false;
+    for (old, new) in draft.iter_mut().zip(bytes) {
+        if *old != *new {
+            *old = *new;
+            changed = true;
+        }
+    }
+    changed
 }
 
 /// The first fault of a source.
@@ -158,7 +211,7 @@ fn finding(
 ) -> Result<Finding, Fault> {
     let mut text = String::new(alloc);
     if let Some(place) = place {
-        put_fault(&mut text, source, code, line, &place)?;
+        put_fault(alloc, &mut text, source, code, line, &place)?;
     }
     Ok(Finding {
         fault: Fault::Source(file, SourceFault::At { code, line }),
@@ -168,14 +221,17 @@ fn finding(
 
 /// Adds the line of a fault with carets, and its sentence.
 fn put_fault(
+    alloc: Global,
     text: &mut String,
     source: &[u8],
     code: SourceCode,
     line: u32,
     place: &FaultPlace,
-) -> Result<(), AllocError> {
+) -> Result<(), Fault> {
+    let is_loaded = code == SourceCode::ImmediateRange && is_loaded_by_li(alloc, source, place)?;
     put_excerpt(text, source, line, place.shown)?;
-    put_sentence(text, source, code, place)
+    put_sentence(alloc, text, source, code, place, is_loaded)?;
+    Ok(())
 }
 
 /// How many faults there are with the first; one that is too many to be shown is taken away.

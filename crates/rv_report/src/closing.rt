@@ -66,9 +66,22 @@ fn value_of(digit: u8) -> u8 {
     }
 }
 
-/// The global names of a map by their addresses, those of the linker aside.
+/// Where the program of a map begins and ends.
+fn bounds_of(map: &[u8]) -> [u64; 2] {
+    let mut start = u64::MAX;
+    let mut end = 0u64;
+    for line in map.split(|byte| *byte == b'\n').skip(1).take(REGIONS) {
+        let mut words = line.split(|byte| *byte == b' ').skip(1);
+        start = start.min(words.next().map_or(0, hexadecimal));
+        end = end.max(words.next().map_or(0, hexadecimal));
+    }
+    [start, end]
+}
+
+/// The global names of a map by their addresses, those of the linker and numbers aside.
 fn symbols_of(alloc: Global, map: &[u8]) -> Result<HashMap<u64, &[u8]>, AllocError> {
     let mut symbols = HashMap::new(alloc);
+    let [start, end] = bounds_of(map);
     for line in map.split(|byte| *byte == b'\n') {
         if line.starts_with(b"row ") {
             break;
@@ -81,7 +94,10 @@ fn symbols_of(alloc: Global, map: &[u8]) -> Result<HashMap<u64, &[u8]>, AllocErr
             && is_global
             && !is_linker_symbol(name)
         {
-            symbols.insert(hexadecimal(address), name)?;
+            let address = hexadecimal(address);
+            if start <= address && address < end {
+                symbols.insert(address, name)?;
+            }
         }
     }
     Ok(symbols)

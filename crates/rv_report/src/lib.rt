@@ -25,6 +25,7 @@ mod occurrences;
 mod place;
 mod report;
 mod sentences;
+mod suspects;
 mod table;
 mod tokens;
 mod warnings;

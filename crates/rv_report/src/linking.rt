@@ -1,10 +1,14 @@
 //! What is said of a fault of the link: which lines of which files it is about, where they are known.
 
 use crate::excerpt::put_excerpt;
-use crate::occurrences::{definition_of, is_made_global, lone_distance, reference_to};
-use crate::tokens::{LineToken, all_tokens, place};
-use rv_chain::{Fault, LinkFault};
+use crate::occurrences::{definition_of, is_made_global, reference_in};
+use crate::suspects::suspect_of;
+use crate::tokens::{LineToken, Sort, all_tokens, place, unlabelled};
+use rv_chain::{Fault, LinkFault, LinkOptions};
 use std::alloc::{AllocError, Global};
+
+/// The most references to a name that are shown.
+const MOST_REFERENCES: usize = 20;
 
 /// Adds what is said of a fault of the link of sources with these names.
 pub(crate) fn put_link_fault(
@@ -12,10 +16,12 @@ pub(crate) fn put_link_fault(
     names: &[&str],
     sources: &[&[u8]],
     fault: &LinkFault,
+    options: LinkOptions,
     text: &mut String,
 ) -> Result<(), Fault> {
+    let before = text.len();
     match fault {
-        LinkFault::Undefined(name) => put_references(alloc, names, sources, name.as_slice(), text)?,
+        LinkFault::Undefined(name) => put_undefined(alloc, names, sources, name.as_slice(), text)?,
         LinkFault::Duplicate(name) => put_definitions(
             alloc,
             names,
@@ -23,33 +29,90 @@ pub(crate) fn put_link_fault(
             name.as_slice(),
             text,
         )?,
-        LinkFault::Overflow => put_distance(alloc, names, sources, text)?,
-        LinkFault::OddTarget => put_distance(alloc, names, sources, text)?,
-        LinkFault::DanglingPcrel => put_references(alloc, names, sources, b"pcrel_lo", text)?,
+        LinkFault::Overflow => put_suspect(alloc, names, sources, fault, options, text)?,
+        LinkFault::OddTarget => put_suspect(alloc, names, sources, fault, options, text)?,
+        LinkFault::DanglingPcrel => put_suspect(alloc, names, sources, fault, options, text)?,
         _ => {}
     }
+    let is_placed = before < text.len();
     text.push_str("  ")?;
     text.push_str(plain_words(fault))?;
+    if !is_placed && has_line(fault) {
+        text.push_str("; which line has it is not known")?;
+    }
     text.push_str("\n")?;
     Ok(())
 }
 
-/// Adds the first reference to a name in each source that does not define it.
-fn put_references(
+/// Whether a line of a source has this fault.
+fn has_line(fault: &LinkFault) -> bool {
+    match fault {
+        LinkFault::Undefined(_) => true,
+        LinkFault::Overflow => true,
+        LinkFault::OddTarget => true,
+        LinkFault::DanglingPcrel => true,
+        _ => false,
+    }
+}
+
+/// Adds the references to a name without a meaning: those of sources that do not define it, else those of all.
+fn put_undefined(
     alloc: Global,
     names: &[&str],
     sources: &[&[u8]],
     name: &[u8],
     text: &mut String,
 ) -> Result<(), AllocError> {
+    let before = text.len();
+    put_references(alloc, names, sources, name, false, text)?;
+    if before < text.len() {
+        return Ok(());
+    }
+    put_references(alloc, names, sources, name, true, text)
+}
+
+/// Adds the references to a name in the sources that define it, or in those that do not.
+fn put_references(
+    alloc: Global,
+    names: &[&str],
+    sources: &[&[u8]],
+    name: &[u8],
+    defined: bool,
+    text: &mut String,
+) -> Result<(), AllocError> {
+    let mut left = MOST_REFERENCES;
     for (file, source) in names.iter().zip(sources) {
         let tokens = all_tokens(alloc, source)?;
-        if definition_of(source, tokens.as_slice(), name).is_none() {
-            let found = reference_to(source, tokens.as_slice(), name);
-            put_found(alloc, text, file, source, found)?;
+        let tokens = tokens.as_slice();
+        if definition_of(source, tokens, name).is_some() == defined {
+            left = put_references_of(alloc, text, file, source, tokens, name, left)?;
         }
     }
     Ok(())
+}
+
+/// Adds the statements of a source that refer to a name, so many at most; how many more there may be.
+fn put_references_of(
+    alloc: Global,
+    text: &mut String,
+    file: &str,
+    source: &[u8],
+    tokens: &[LineToken],
+    name: &[u8],
+    most: usize,
+) -> Result<usize, AllocError> {
+    let mut left = most;
+    for group in tokens.split(|token| token.sort == Sort::End) {
+        if left == 0 {
+            break;
+        }
+        let found = reference_in(source, unlabelled(group), name);
+        if found.is_some() {
+            left = left.saturating_sub(1);
+            put_found(alloc, text, file, source, found)?;
+        }
+    }
+    Ok(left)
 }
 
 /// Adds the definition of a name in each source that makes it global.
@@ -70,20 +133,20 @@ fn put_definitions(
     Ok(())
 }
 
-/// Adds the statement that goes to a name and a number, where the sources have one alone.
-fn put_distance(
+/// Adds the statement that has a fault of a value, where it can be told.
+fn put_suspect(
     alloc: Global,
     names: &[&str],
     sources: &[&[u8]],
+    fault: &LinkFault,
+    options: LinkOptions,
     text: &mut String,
-) -> Result<(), AllocError> {
-    if sources.len() != 1 {
+) -> Result<(), Fault> {
+    let Some(suspect) = suspect_of(alloc, sources, fault, options)? else {
         return Ok(());
-    }
-    for (file, source) in names.iter().zip(sources) {
-        let tokens = all_tokens(alloc, source)?;
-        let found = lone_distance(tokens.as_slice());
-        put_found(alloc, text, file, source, found)?;
+    };
+    if let (Some(file), Some(source)) = (names.get(suspect.file), sources.get(suspect.file)) {
+        put_found(alloc, text, file, source, Some(suspect.symbol))?;
     }
     Ok(())
 }

@@ -17,6 +17,8 @@ const WORD_SHIFTS: &str = "slliw srliw sraiw sllw srlw sraw";
 const UPPER: &str = "lui auipc";
 /// Directives that align.
 const ALIGNMENTS: &str = ".balign";
+/// Directives that align to a power of two by its exponent.
+const EXPONENTS: &str = ".align .p2align";
 /// Directives that count bytes.
 const SIZES: &str = ".zero .space .skip";
 /// Instructions after which the next is not executed.
@@ -69,7 +71,57 @@ pub(crate) fn is_access(mnemonic: &[u8]) -> bool {
 
 /// Whether the statement aligns.
 pub(crate) fn is_alignment(mnemonic: &[u8]) -> bool {
-    is_among(mnemonic, ALIGNMENTS)
+    is_among(mnemonic, ALIGNMENTS) || is_among(mnemonic, EXPONENTS)
+}
+
+/// Whether the statement is of values of 32 bits, which an address may pass.
+pub(crate) fn is_word(mnemonic: &[u8]) -> bool {
+    is_among(mnemonic, ".word .long .4byte")
+}
+
+/// Whether a number in a range of the instruction may be none that it takes, or the statement counts in powers of two.
+pub(crate) fn has_gaps(mnemonic: &[u8]) -> bool {
+    mnemonic.starts_with(b"c.") || is_among(mnemonic, ALIGNMENTS)
+}
+
+/// Whether the statement begins a macro.
+pub(crate) fn is_macro(mnemonic: &[u8]) -> bool {
+    is_among(mnemonic, ".macro")
+}
+
+/// Whether the instruction goes to a label and keeps no address to return to.
+pub(crate) fn is_direct_jump(mnemonic: &[u8]) -> bool {
+    is_among(mnemonic, "j c.j tail jump")
+}
+
+/// Whether the instruction jumps to an address in a register.
+pub(crate) fn is_register_jump(mnemonic: &[u8]) -> bool {
+    is_among(mnemonic, "jr jalr c.jr c.jalr")
+}
+
+/// Whether a name is that of the register of the return address.
+pub(crate) fn is_link(name: &[u8]) -> bool {
+    is_among(name, "ra x1")
+}
+
+/// Whether a name is the stack pointer's.
+pub(crate) fn is_stack(name: &[u8]) -> bool {
+    is_among(name, "sp x2")
+}
+
+/// Whether the instruction only adds a number to a register.
+pub(crate) fn is_addition(mnemonic: &[u8]) -> bool {
+    is_among(mnemonic, "addi c.addi c.addi16sp")
+}
+
+/// Whether the instruction writes no register.
+pub(crate) fn is_store(mnemonic: &[u8]) -> bool {
+    is_among(mnemonic, "sb sh sw sd c.sw c.sd")
+}
+
+/// Whether the statement neither fills its section nor moves in it.
+pub(crate) fn is_quiet(mnemonic: &[u8]) -> bool {
+    is_silent(mnemonic) || is_assignment(mnemonic)
 }
 
 /// Whether the next instruction is reached by a label alone.
@@ -107,9 +159,9 @@ pub(crate) fn is_silent(mnemonic: &[u8]) -> bool {
     is_among(mnemonic, SILENT)
 }
 
-/// Whether a name is that of a register whose multiple is known: the stack pointer, or x0.
-pub(crate) fn is_stack_or_zero(name: &[u8]) -> bool {
-    is_among(name, "sp x2 zero x0")
+/// Whether the statement gives a name's size.
+pub(crate) fn is_size(mnemonic: &[u8]) -> bool {
+    is_among(mnemonic, ".size")
 }
 
 /// The bytes that a load or a store moves, where they are more than one.
@@ -138,9 +190,45 @@ pub(crate) fn range_of(mnemonic: &[u8]) -> Option<&'static str> {
     } else if is_among(mnemonic, UPPER) {
         Some("0 to 1048575")
     } else if is_among(mnemonic, ALIGNMENTS) {
-        Some("a power of two")
+        Some("a power of two up to 4096")
+    } else if is_among(mnemonic, EXPONENTS) {
+        Some("0 to 12")
     } else if is_among(mnemonic, SIZES) {
         Some("0 or more")
+    } else {
+        compressed_range(mnemonic)
+    }
+}
+
+/// What the number of a compressed instruction may be, in words (ISA manual, "RVC Instruction Set Listings").
+fn compressed_range(mnemonic: &[u8]) -> Option<&'static str> {
+    if is_among(mnemonic, "c.li c.addiw c.andi") {
+        Some("-32 to 31")
+    } else if is_among(mnemonic, "c.addi") {
+        Some("-32 to 31 but 0")
+    } else if is_among(mnemonic, "c.slli c.srli c.srai") {
+        Some("1 to 63")
+    } else if is_among(mnemonic, "c.lui") {
+        Some("1 to 31 or 0xfffe0 to 0xfffff")
+    } else if is_among(mnemonic, "c.addi16sp") {
+        Some("a multiple of 16 from -512 to 496 but 0")
+    } else if is_among(mnemonic, "c.addi4spn") {
+        Some("a multiple of 4 from 4 to 1020")
+    } else {
+        compressed_offset(mnemonic)
+    }
+}
+
+/// What the offset of a compressed load or store may be, in words.
+fn compressed_offset(mnemonic: &[u8]) -> Option<&'static str> {
+    if is_among(mnemonic, "c.lw c.sw") {
+        Some("a multiple of 4 from 0 to 124")
+    } else if is_among(mnemonic, "c.ld c.sd") {
+        Some("a multiple of 8 from 0 to 248")
+    } else if is_among(mnemonic, "c.lwsp c.swsp") {
+        Some("a multiple of 4 from 0 to 252")
+    } else if is_among(mnemonic, "c.ldsp c.sdsp") {
+        Some("a multiple of 8 from 0 to 504")
     } else {
         None
     }

@@ -1,7 +1,8 @@
 //! Where the tokens of a source define a name, refer to it or make it global.
 
-use crate::names::{is_assignment, is_globalizer, is_silent};
-use crate::tokens::{LineToken, Sort, is_label, text_of, unlabelled};
+use crate::names::{is_assignment, is_globalizer, is_section, is_silent};
+use crate::tokens::{LineToken, Sort, all_tokens, is_label, text_of, unlabelled};
+use std::alloc::{AllocError, Global};
 
 /// The token that defines a name, as a label or by `.set`.
 pub(crate) fn definition_of(source: &[u8], tokens: &[LineToken], name: &[u8]) -> Option<LineToken> {
@@ -33,19 +34,12 @@ fn definition_in(source: &[u8], group: &[LineToken], name: &[u8]) -> Option<Line
     None
 }
 
-/// The first token of a statement that refers to a name.
-pub(crate) fn reference_to(source: &[u8], tokens: &[LineToken], name: &[u8]) -> Option<LineToken> {
-    for group in tokens.split(|token| token.sort == Sort::End) {
-        let found = reference_in(source, unlabelled(group), name);
-        if found.is_some() {
-            return found;
-        }
-    }
-    None
-}
-
 /// The token of a statement that refers to a name.
-fn reference_in(source: &[u8], statement: &[LineToken], name: &[u8]) -> Option<LineToken> {
+pub(crate) fn reference_in(
+    source: &[u8],
+    statement: &[LineToken],
+    name: &[u8],
+) -> Option<LineToken> {
     let (mnemonic, operands) = statement.split_first()?;
     if is_silent(text_of(source, mnemonic)) {
         return None;
@@ -84,26 +78,17 @@ fn makes_global(source: &[u8], statement: &[LineToken], name: &[u8]) -> bool {
     false
 }
 
-/// The name before the only sign that adds to a name or takes away from it.
-pub(crate) fn lone_distance(tokens: &[LineToken]) -> Option<LineToken> {
-    let mut found = None;
-    let mut before: Option<LineToken> = None;
-    for token in tokens {
-        match before {
-            Some(name) if is_sum(&name, token) => {
-                if found.is_some() {
-                    return None;
-                }
-                found = Some(name);
-            }
-            _ => {}
+/// The last line before another at which a source goes to a section, else 0.
+pub(crate) fn section_before(alloc: Global, source: &[u8], line: u32) -> Result<u32, AllocError> {
+    let tokens = all_tokens(alloc, source)?;
+    let mut section = 0u32;
+    for group in tokens.as_slice().split(|token| token.sort == Sort::End) {
+        if let Some(mnemonic) = unlabelled(group).first()
+            && mnemonic.line < line
+            && is_section(text_of(source, mnemonic))
+        {
+            section = mnemonic.line;
         }
-        before = Some(*token);
     }
-    found
-}
-
-/// Whether a token is a name, and the next adds to it.
-fn is_sum(name: &LineToken, next: &LineToken) -> bool {
-    name.sort == Sort::Name && (next.sort == Sort::Plus || next.sort == Sort::Minus)
+    Ok(section)
 }

@@ -5,8 +5,11 @@
 //! Later faults have no token; of these the operand is shown that alone can be at fault, else the whole statement.
 
 use crate::excerpt::Place;
-use crate::names::{is_register, is_zero};
-use crate::tokens::{LineToken, Sort, is_label, part, place, text_of, tokens_of_line, unlabelled};
+use crate::names::{is_alignment, is_assignment, is_register, is_zero};
+use crate::occurrences::definition_of;
+use crate::tokens::{
+    LineToken, Sort, all_tokens, is_label, part, place, span, text_of, tokens_of_line, unlabelled,
+};
 use rv_assemble::assemble;
 use rv_chain::{Fault, SourceCode, SourceFault};
 use rv_parse::parse;
@@ -14,6 +17,27 @@ use std::alloc::Global;
 
 /// More halvings than any line has tokens.
 const HALVINGS: usize = 64;
+/// The most tokens of a statement among which a name is sought that is defined twice.
+const MOST_NAMES: usize = 16;
+
+/// What may stand in the place of a wrong token, where it is one phrase.
+#[derive(Clone, Copy, Debug, PartialEq, Eq, Drop)]
+pub(crate) enum Expected {
+    Unknown,
+    Register,
+    OtherRegister,
+    /// A register that the short forms know.
+    ShortRegister,
+    RegisterOrNumber,
+    NumberOrName,
+    Name,
+    /// The letters of `fence`.
+    Letters,
+    /// `sp`.
+    Stack,
+    Comma,
+    Parenthesis,
+}
 
 /// Where a fault stands.
 #[derive(Clone, Copy, Debug, PartialEq, Eq, Drop)]
@@ -28,6 +52,10 @@ pub(crate) struct FaultPlace {
     pub ends: bool,
     /// What is shown is a token or an operand of the statement.
     pub known: bool,
+    /// What may stand in the place of what is shown.
+    pub expected: Expected,
+    /// The line of the first definition of a name that is shown, else 0.
+    pub first_line: u32,
 }
 
 /// The place of the first fault of a source at a line, with its code; none where the line has no token.
@@ -42,7 +70,14 @@ pub(crate) fn place_of(
     // a line that is too long has no wrong token
     if code != SourceCode::Limit {
         if let Some(wrong) = wrong_token(alloc, source, tokens)? {
-            return Ok(place_of_token(tokens, wrong));
+            let expected = expected_at(alloc, source, tokens, wrong, code)?;
+            return Ok(place_of_token(tokens, wrong, expected));
+        }
+    }
+    if code == SourceCode::DuplicateLabel {
+        let repeated = repeated_in_line(alloc, source, tokens)?;
+        if repeated.is_some() {
+            return Ok(repeated);
         }
     }
     let group = faulty_group(alloc, source, tokens, code)?;
@@ -113,7 +148,11 @@ fn is_read(
 }
 
 /// The place of a wrong token.
-fn place_of_token(tokens: &[LineToken], wrong: LineToken) -> Option<FaultPlace> {
+fn place_of_token(
+    tokens: &[LineToken],
+    wrong: LineToken,
+    expected: Expected,
+) -> Option<FaultPlace> {
     let group = group_at(tokens, wrong.start);
     let whole = span(group)?;
     let statement = span(unlabelled(group)).unwrap_or(whole);
@@ -130,16 +169,162 @@ fn place_of_token(tokens: &[LineToken], wrong: LineToken) -> Option<FaultPlace> 
         shown: Place { start, stop },
         ends,
         known: true,
+        expected,
+        first_line: 0,
     })
 }
 
-/// From the first of some tokens to the last.
-pub(crate) fn span(tokens: &[LineToken]) -> Option<Place> {
-    let first = tokens.first()?;
-    let last = tokens.last()?;
-    Some(Place {
-        start: first.start,
-        stop: last.stop,
+/// What may stand in the place of a wrong operand: what the statement so far can be read with.
+fn expected_at(
+    alloc: Global,
+    source: &[u8],
+    tokens: &[LineToken],
+    wrong: LineToken,
+    code: SourceCode,
+) -> Result<Expected, Fault> {
+    if code != SourceCode::BadOperands || wrong.sort == Sort::End {
+        return Ok(Expected::Unknown);
+    }
+    let Some(first) = tokens.first() else {
+        return Ok(Expected::Unknown);
+    };
+    let front = part(source, first.start, wrong.start);
+    if is_read_with(alloc, front, "iorw")? && !is_read_with(alloc, front, "owi")? {
+        return Ok(Expected::Letters);
+    }
+    let number = is_read_with(alloc, front, "1")?;
+    let name = is_read_with(alloc, front, "name")?;
+    if name && !number {
+        return Ok(Expected::Name);
+    }
+    if is_read_with(alloc, front, "a0")? {
+        let any = is_read_with(alloc, front, "t3")?;
+        return Ok(expected_register(any, number, is_register(text_of(source, &wrong))));
+    }
+    if number {
+        return Ok(Expected::NumberOrName);
+    }
+    expected_sign(alloc, front)
+}
+
+/// What may stand where any register may that the short forms know.
+fn expected_register(any: bool, number: bool, instead: bool) -> Expected {
+    if number {
+        Expected::RegisterOrNumber
+    } else if !any {
+        Expected::ShortRegister
+    } else if instead {
+        Expected::OtherRegister
+    } else {
+        Expected::Register
+    }
+}
+
+/// What may stand where no name, number or other register than `sp` may.
+fn expected_sign(alloc: Global, front: &[u8]) -> Result<Expected, Fault> {
+    if is_read_with(alloc, front, "sp")? {
+        return Ok(Expected::Stack);
+    }
+    if is_read_with(alloc, front, ";")? {
+        return Ok(Expected::Unknown);
+    }
+    if is_read_with(alloc, front, ",")? {
+        return Ok(Expected::Comma);
+    }
+    if is_read_with(alloc, front, "(")? {
+        return Ok(Expected::Parenthesis);
+    }
+    Ok(Expected::Unknown)
+}
+
+/// Whether a word can be read after the bytes of a line.
+fn is_read_with(alloc: Global, front: &[u8], word: &str) -> Result<bool, Fault> {
+    let mut text = front.to_vec(alloc)?;
+    text.extend_from_slice(b" ")?;
+    text.extend_from_slice(word.as_bytes())?;
+    text.extend_from_slice(b" \x01")?;
+    match parse(alloc, text.as_slice()) {
+        Ok(_) => Ok(true),
+        Err(SourceFault::At { code, .. }) => Ok(code == SourceCode::BadByte),
+        Err(SourceFault::OutOfMemory) => Err(Fault::Memory),
+    }
+}
+
+/// Whether `li` loads the number of an `addi` into its register.
+pub(crate) fn is_loaded_by_li(
+    alloc: Global,
+    source: &[u8],
+    place: &FaultPlace,
+) -> Result<bool, Fault> {
+    if !place.known {
+        return Ok(false);
+    }
+    let mut text = b"li a0, ".to_vec(alloc)?;
+    text.extend_from_slice(part(source, place.shown.start, place.shown.stop))?;
+    match assemble(alloc, text.as_slice()) {
+        Ok(_) => Ok(true),
+        Err(SourceFault::At { .. }) => Ok(false),
+        Err(SourceFault::OutOfMemory) => Err(Fault::Memory),
+    }
+}
+
+/// The place of a name that a line defines, and that is defined before.
+fn repeated_in_line(
+    alloc: Global,
+    source: &[u8],
+    tokens: &[LineToken],
+) -> Result<Option<FaultPlace>, Fault> {
+    let all = all_tokens(alloc, source)?;
+    for group in tokens.split(|token| token.sort == Sort::End) {
+        let found = repeated_in(source, all.as_slice(), group);
+        if found.is_some() {
+            return Ok(found);
+        }
+    }
+    Ok(None)
+}
+
+/// The place of a name that a statement defines, and that is defined before.
+fn repeated_in(source: &[u8], all: &[LineToken], group: &[LineToken]) -> Option<FaultPlace> {
+    let mut before: Option<LineToken> = None;
+    for token in group.iter().take(MOST_NAMES) {
+        if let Some(name) = name_defined(source, before, token)
+            && let Some(first) = definition_of(source, all, text_of(source, &name))
+            && first.start < name.start
+        {
+            return place_of_repeated(group, name, first.line);
+        }
+        before = Some(*token);
+    }
+    None
+}
+
+/// The name that two tokens define, the first of them a label or a directive.
+fn name_defined(source: &[u8], before: Option<LineToken>, token: &LineToken) -> Option<LineToken> {
+    let first = before?;
+    if first.sort != Sort::Name {
+        return None;
+    }
+    if is_label(&first, token) {
+        return Some(first);
+    }
+    if is_assignment(text_of(source, &first)) {
+        return Some(*token);
+    }
+    None
+}
+
+/// The place of a name that is defined again.
+fn place_of_repeated(group: &[LineToken], name: LineToken, first_line: u32) -> Option<FaultPlace> {
+    let whole = span(group)?;
+    Some(FaultPlace {
+        whole,
+        statement: span(unlabelled(group)).unwrap_or(whole),
+        shown: place(&name),
+        ends: false,
+        known: true,
+        expected: Expected::Unknown,
+        first_line,
     })
 }
 
@@ -221,16 +406,15 @@ fn place_in_group(source: &[u8], group: &[LineToken], code: SourceCode) -> Optio
         return Some(place_in_line(group, whole, code));
     }
     let statement = span(unlabelled(group)).unwrap_or(whole);
-    let found = match code {
-        SourceCode::DuplicateLabel => only_label(group),
-        _ => operand_at_fault(source, unlabelled(group), code),
-    };
+    let found = operand_at_fault(source, unlabelled(group), code);
     Some(FaultPlace {
         whole,
         statement,
         shown: found.unwrap_or(statement),
         ends: false,
         known: found.is_some(),
+        expected: Expected::Unknown,
+        first_line: 0,
     })
 }
 
@@ -247,19 +431,9 @@ fn place_in_line(tokens: &[LineToken], whole: Place, code: SourceCode) -> FaultP
         shown: found.unwrap_or(whole),
         ends: false,
         known: found.is_some(),
+        expected: Expected::Unknown,
+        first_line: 0,
     }
-}
-
-/// The label of a statement, where it has one alone.
-fn only_label(group: &[LineToken]) -> Option<Place> {
-    let [first, second, ..] = group else {
-        return None;
-    };
-    let rest = unlabelled(group);
-    if is_label(first, second) && rest.len().saturating_add(2) == group.len() {
-        return Some(place(first));
-    }
-    None
 }
 
 /// The token or operand of a statement that alone can be at fault.
@@ -269,11 +443,29 @@ fn operand_at_fault(source: &[u8], statement: &[LineToken], code: SourceCode) ->
         SourceCode::UnsupportedHere | SourceCode::WrongSection => Some(place(mnemonic)),
         SourceCode::DivisionByZero => only_after(operands, Sort::Divide),
         SourceCode::ShiftTooLarge => only_after(operands, Sort::Shift),
-        SourceCode::UndefinedLocal => only_of(operands, |token| token.sort == Sort::Reference),
+        SourceCode::UndefinedLocal => match name_of_high_part(source, operands) {
+            Some(name) => Some(name),
+            None => only_of(operands, |token| token.sort == Sort::Reference),
+        },
         SourceCode::ScratchRegister => only_of(operands, |token| is_zero(text_of(source, token))),
         SourceCode::NotConstant | SourceCode::ImmediateRange => only_value(source, operands),
+        SourceCode::Limit if is_alignment(text_of(source, mnemonic)) => only_value(
+            source, operands,
+        ),
         _ => None,
     }
+}
+
+/// The label in `%pcrel_lo`.
+fn name_of_high_part(source: &[u8], operands: &[LineToken]) -> Option<Place> {
+    let mut is_next = false;
+    for token in operands {
+        if is_next && token.sort != Sort::Open {
+            return Some(place(token));
+        }
+        is_next = is_next || text_of(source, token) == b"pcrel_lo".as_slice();
+    }
+    None
 }
 
 /// The only token of its sort.
@@ -311,7 +503,7 @@ fn only_value(source: &[u8], operands: &[LineToken]) -> Option<Place> {
             if found.is_some() {
                 return None;
             }
-            found = span(without_base(operand));
+            found = span(without_base(source, operand));
         }
     }
     found
@@ -327,12 +519,13 @@ fn is_value(source: &[u8], operand: &[LineToken]) -> bool {
 }
 
 /// An operand without a register in parentheses at its end.
-fn without_base(operand: &[LineToken]) -> &[LineToken] {
+fn without_base<'t>(source: &[u8], operand: &'t [LineToken]) -> &'t [LineToken] {
     match operand {
-        [first, .., open, _, close]
-            if open.sort == Sort::Open && close.sort == Sort::Close && first.sort != Sort::Open => {
-            &operand[..operand.len() - 3]
-        }
+        [first, .., open, base, close]
+            if open.sort == Sort::Open
+                && close.sort == Sort::Close
+                && first.sort != Sort::Open
+                && is_register(text_of(source, base)) => { &operand[..operand.len() - 3] }
         _ => operand,
     }
 }

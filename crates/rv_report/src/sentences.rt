@@ -1,14 +1,16 @@
 //! What is said of a fault of a source: what stands there, and what may.
 
 use crate::excerpt::put_bytes;
-use crate::names::{is_access, is_alignment, is_zero, range_of};
-use crate::place::FaultPlace;
+use crate::names::{has_gaps, is_access, is_zero, range_of};
+use crate::place::{Expected, FaultPlace};
 use crate::tokens::part;
 use rv_chain::SourceCode;
 use std::alloc::{AllocError, Global};
 
 /// Numbers of more digits may have the sign bit.
 const LONGEST_NUMBER: usize = 17;
+/// A longer operand is not shown whole.
+const LONGEST_CURE: usize = 40;
 
 /// The bytes that a sentence speaks of.
 #[derive(Clone, Copy)]
@@ -25,14 +27,22 @@ struct Subject<'a> {
     shown: &'a [u8],
     /// The carets show a label before the statement.
     is_before: bool,
+    /// `li` loads what the carets show.
+    is_loaded: bool,
+    /// What may stand there.
+    expected: Expected,
+    /// The line of the first definition of the name that the carets show, else 0.
+    first_line: u32,
 }
 
 /// Adds the sentence of a fault, as a line.
 pub(crate) fn put_sentence(
+    alloc: Global,
     text: &mut String,
     source: &[u8],
     code: SourceCode,
     place: &FaultPlace,
+    is_loaded: bool,
 ) -> Result<(), AllocError> {
     let statement = part(source, place.statement.start, place.statement.stop);
     let mnemonic = word(statement);
@@ -45,22 +55,25 @@ pub(crate) fn put_sentence(
         second,
         shown: part(source, place.shown.start, place.shown.stop),
         is_before: place.shown.start < place.statement.start,
+        is_loaded,
+        expected: place.expected,
+        first_line: place.first_line,
     };
     text.push_str("  ")?;
     if place.ends && code == SourceCode::BadOperands {
         put_bytes(text, subject.mnemonic)?;
         text.push_str(" cannot end here: an operand or a parenthesis is missing")?;
     } else {
-        put_words(text, code, place.known, &subject)?;
+        put_words(alloc, text, code, place.known, &subject)?;
     }
     text.push_str("\n")
 }
 
-/// The bytes up to a blank or a comma.
+/// The bytes up to a blank, a comma or a parenthesis.
 fn word(bytes: &[u8]) -> &[u8] {
     match bytes
         .iter()
-        .position(|byte| matches!(*byte, b' ' | b'\t' | b','))
+        .position(|byte| matches!(*byte, b' ' | b'\t' | b',' | b'(' | b')'))
     {
         Some(end) => part(bytes, 0, end),
         None => bytes,
@@ -78,6 +91,7 @@ fn after<'a>(bytes: &'a [u8], front: &[u8]) -> &'a [u8] {
 
 /// Adds what is said of a fault inside a statement.
 fn put_words(
+    alloc: Global,
     text: &mut String,
     code: SourceCode,
     known: bool,
@@ -104,17 +118,8 @@ fn put_words(
             " is the name of no directive",
         ),
         SourceCode::UnsupportedHere => put_unsupported(text, subject),
-        SourceCode::DuplicateLabel => {
-            put_shown(text, known, subject, "a name here")?;
-            text.push_str(" is defined before this line, and a name has one definition")
-        }
-        SourceCode::UndefinedLocal => {
-            if !known {
-                return text.push_str("what this refers to is no label of this source");
-            }
-            put_token(text, subject.shown)?;
-            text.push_str(" has no label: digits with b want it before, with f after this line")
-        }
+        SourceCode::DuplicateLabel => put_duplicate(alloc, text, known, subject),
+        SourceCode::UndefinedLocal => put_undefined_local(text, known, subject),
         SourceCode::ScratchRegister => {
             put_shown(text, known, subject, "x0, or a register that is stored,")?;
             text.push_str(" cannot hold the address on the way to the symbol; another register can")
@@ -125,8 +130,45 @@ fn put_words(
                 " cannot stand in this section: instructions go to .text, data to .data or .rodata",
             )
         }
+        SourceCode::Limit if known => put_range(text, known, subject),
         _ => text.push_str(plain_words(code)),
     }
+}
+
+/// Adds what is said of a name that is defined before, and where.
+fn put_duplicate(
+    alloc: Global,
+    text: &mut String,
+    known: bool,
+    subject: &Subject<'_>,
+) -> Result<(), AllocError> {
+    put_shown(text, known, subject, "a name here")?;
+    if subject.first_line == 0 {
+        text.push_str(" is defined before this line")?;
+    } else {
+        let line = subject.first_line;
+        let told = format!(in alloc; " is defined at line {line}")?;
+        text.push_str(told.as_str())?;
+    }
+    text.push_str(", and a name has one definition")
+}
+
+/// Adds what is said of a reference to a label that the source does not have.
+fn put_undefined_local(
+    text: &mut String,
+    known: bool,
+    subject: &Subject<'_>,
+) -> Result<(), AllocError> {
+    put_shown(text, known, subject, "what this refers to")?;
+    if known
+        && subject
+            .shown
+            .first()
+            .is_some_and(|byte| byte.is_ascii_digit())
+    {
+        return text.push_str(" has no label: digits with b want it before, with f after this line");
+    }
+    text.push_str(" is no label of this source")
 }
 
 /// What is said of a fault whatever stands there.
@@ -179,6 +221,10 @@ fn put_bad_token(text: &mut String, shown: &[u8]) -> Result<(), AllocError> {
         ),
         Some(b'\'') => text.push_str("the character that begins here has no end, or is none"),
         Some(b'/') => text.push_str("the comment that begins here has no end"),
+        Some(b'0') if shown.iter().all(|byte| byte.is_ascii_digit()) => {
+            put_bytes(text, shown)?;
+            text.push_str(" is no number: after 0 at its front the digits are octal, 0 to 7")
+        }
         Some(digit) if digit.is_ascii_digit() => {
             put_bytes(text, shown)?;
             text.push_str(
@@ -214,12 +260,29 @@ fn put_bad_operand(
     }
     put_bytes(text, subject.mnemonic)?;
     text.push_str(" does not take ")?;
-
     put_shown(text, known, subject, "these operands")?;
     if known {
         text.push_str(" here")?;
+        text.push_str(expected_words(subject.expected))?;
     }
     Ok(())
+}
+
+/// What may stand where a wrong operand does.
+fn expected_words(expected: Expected) -> &'static str {
+    match expected {
+        Expected::Unknown => "",
+        Expected::Register => ", but a register",
+        Expected::OtherRegister => ", but another register",
+        Expected::ShortRegister => ", but one of a0 to a5, s0, s1",
+        Expected::RegisterOrNumber => ", but a register or a number",
+        Expected::NumberOrName => ", but a number or a name",
+        Expected::Name => ", but a name",
+        Expected::Letters => ", but letters of iorw in this order",
+        Expected::Stack => ", but sp",
+        Expected::Comma => ", but a comma",
+        Expected::Parenthesis => ", but a parenthesis",
+    }
 }
 
 /// Adds what is said of a number out of its range.
@@ -256,6 +319,9 @@ fn put_load(text: &mut String, subject: &Subject<'_>) -> Result<(), AllocError> 
     if !is_zero(subject.second) {
         return text.push_str("; li loads it, and add adds it");
     }
+    if !subject.is_loaded || LONGEST_CURE < subject.shown.len() {
+        return text.push_str("; li loads it");
+    }
     text.push_str("; li ")?;
     put_bytes(text, subject.first)?;
     text.push_str(", ")?;
@@ -265,7 +331,7 @@ fn put_load(text: &mut String, subject: &Subject<'_>) -> Result<(), AllocError> 
 
 /// How a number misses its range, where it is written as one.
 fn size_in_words(subject: &Subject<'_>) -> &'static str {
-    if is_alignment(subject.mnemonic) || LONGEST_NUMBER < subject.shown.len() {
+    if has_gaps(subject.mnemonic) || LONGEST_NUMBER < subject.shown.len() {
         return " is outside";
     }
     match subject.shown {

@@ -128,6 +128,16 @@ pub(crate) fn place(token: &LineToken) -> Place {
     }
 }
 
+/// From the first of some tokens to the last.
+pub(crate) fn span(tokens: &[LineToken]) -> Option<Place> {
+    let first = tokens.first()?;
+    let last = tokens.last()?;
+    Some(Place {
+        start: first.start,
+        stop: last.stop,
+    })
+}
+
 /// Whether no token comes after one of this kind.
 pub(crate) fn is_last(kind: TokenKind<'_>) -> bool {
     match kind {

@@ -1,8 +1,9 @@
 //! What may be a mistake in a source that has no fault.
 
 use crate::names::{
-    is_globalizer, is_jump, is_jump_and_link, is_load_of_number, is_section, is_silent,
-    is_stack_or_zero, is_zero, width_of,
+    is_addition, is_assignment, is_direct_jump, is_globalizer, is_jump, is_jump_and_link, is_link,
+    is_load_of_number, is_quiet, is_register_jump, is_section, is_silent, is_size, is_stack,
+    is_store, is_zero, width_of,
 };
 use crate::tokens::{LineToken, Sort, is_label, text_of, unlabelled};
 use std::alloc::{AllocError, Global};
@@ -42,7 +43,7 @@ pub(crate) fn warnings_of(
     put_unused(alloc, source, tokens, &mut found)?;
     put_unreachable(source, tokens, &mut found)?;
     put_misaligned(source, tokens, &mut found)?;
-    put_hiding(source, tokens, symbols, &mut found)?;
+    put_hiding(alloc, source, tokens, symbols, &mut found)?;
     Ok(found)
 }
 
@@ -55,7 +56,8 @@ fn put(found: &mut Vec<Warning>, doubt: Doubt, token: LineToken) -> Result<(), A
     Ok(())
 }
 
-/// Adds the labels to which nothing refers.
+/// Adds the labels to which nothing refers, nor to another name of their place. A `.set` to a place, as compilers write
+/// it, may reach all of the section after it.
 fn put_unused(
     alloc: Global,
     source: &[u8],
@@ -63,10 +65,37 @@ fn put_unused(
     found: &mut Vec<Warning>,
 ) -> Result<(), AllocError> {
     let used = used_names(alloc, source, tokens)?;
+    let mut is_anchored = false;
+    let mut is_reached = false;
+    let mut count = found.len();
+    for group in tokens.split(|token| token.sort == Sort::End) {
+        let statement = unlabelled(group);
+        put_unused_of(source, group, &used, found)?;
+        is_anchored = is_anchored || anchors(source, statement, &used);
+        is_reached = is_reached || is_anchored || has_used_label(source, group, &used);
+        if is_reached {
+            found.truncate(count);
+        }
+        if moves(source, statement) {
+            is_anchored = is_anchored && !opens(source, statement);
+            is_reached = false;
+            count = found.len();
+        }
+    }
+    Ok(())
+}
+
+/// Adds the labels of a statement whose names are not among those that are used.
+fn put_unused_of<'a>(
+    source: &'a [u8],
+    group: &[LineToken],
+    used: &HashSet<&'a [u8]>,
+    found: &mut Vec<Warning>,
+) -> Result<(), AllocError> {
     let mut before: Option<LineToken> = None;
-    for token in tokens {
+    for token in group {
         match before {
-            Some(name) if is_unused(source, &name, token, &used) => {
+            Some(name) if is_label_and(source, &name, token, used, false) => {
                 put(found, Doubt::UnusedLabel, name)?;
             }
             _ => {}
@@ -76,14 +105,59 @@ fn put_unused(
     Ok(())
 }
 
-/// Whether two tokens are a label whose name is not among those that are used.
-fn is_unused<'a>(
+/// Whether two tokens are a label whose name is among those that are used, or is not.
+fn is_label_and<'a>(
     source: &'a [u8],
     name: &LineToken,
     next: &LineToken,
     used: &HashSet<&'a [u8]>,
+    is_used: bool,
 ) -> bool {
-    name.sort == Sort::Name && is_label(name, next) && !used.contains(&text_of(source, name))
+    name.sort == Sort::Name
+        && is_label(name, next)
+        && used.contains(&text_of(source, name)) == is_used
+}
+
+/// Whether a label of a statement is used.
+fn has_used_label<'a>(source: &'a [u8], group: &[LineToken], used: &HashSet<&'a [u8]>) -> bool {
+    let mut before: Option<LineToken> = None;
+    for token in group {
+        match before {
+            Some(name) if is_label_and(source, &name, token, used, true) => return true,
+            _ => {}
+        }
+        before = Some(*token);
+    }
+    false
+}
+
+/// Whether a statement gives a name that is used the place where it stands.
+fn anchors<'a>(source: &'a [u8], statement: &[LineToken], used: &HashSet<&'a [u8]>) -> bool {
+    match statement {
+        [set, name, _, value, ..] => text_of(source, value) == b".".as_slice()
+            && is_assignment(text_of(source, set))
+            && used.contains(&text_of(source, name)),
+        _ => false,
+    }
+}
+
+/// Whether a statement goes to a section.
+fn opens(source: &[u8], statement: &[LineToken]) -> bool {
+    match statement.first() {
+        Some(mnemonic) => {
+            let word = text_of(source, mnemonic);
+            word.starts_with(b".") && is_section(word)
+        }
+        None => false,
+    }
+}
+
+/// Whether what comes after a statement stands at another place.
+fn moves(source: &[u8], statement: &[LineToken]) -> bool {
+    match statement.first() {
+        Some(mnemonic) => !is_quiet(text_of(source, mnemonic)),
+        None => false,
+    }
 }
 
 /// The names that a source refers to or makes global.
@@ -109,41 +183,79 @@ fn put_used<'a>(
         return Ok(());
     };
     let word = text_of(source, mnemonic);
-    if word.starts_with(b".") && is_silent(word) && !is_globalizer(word) {
+    let is_directive = word.starts_with(b".");
+    if is_directive && is_silent(word) && !is_globalizer(word) && !is_size(word) {
         return Ok(());
     }
+    // what a directive gives a size or a value is no reference to it
+    let own: &[u8] = match operands.first() {
+        Some(own) if is_directive && (is_size(word) || is_assignment(word)) => {
+            text_of(source, own)
+        }
+        _ => b"",
+    };
     for token in operands {
-        if token.sort == Sort::Name {
+        if token.sort == Sort::Name && text_of(source, token) != own {
             used.insert(text_of(source, token))?;
         }
     }
     Ok(())
 }
 
-/// Adds the instructions that stand after a jump and have no label. A source that jumps by `. + 8` reaches what has none.
+/// Adds the instructions that stand after a jump and have no label. A source that jumps by `. + 8`, or to an address in
+/// a register, reaches what has none, and so does one that goes into a table of jumps.
 fn put_unreachable(
     source: &[u8],
     tokens: &[LineToken],
     found: &mut Vec<Warning>,
 ) -> Result<(), AllocError> {
-    if tokens
-        .iter()
-        .any(|token| text_of(source, token) == b".".as_slice())
-    {
+    if reaches_anything(source, tokens) {
         return Ok(());
     }
     let mut is_cut_off = false;
+    let mut is_in_table = false;
     for group in tokens.split(|token| token.sort == Sort::End) {
         let step = step_of(source, group);
         is_cut_off = is_cut_off && !step.begins;
+        is_in_table = is_in_table && !step.begins;
         if let Some(token) = step.instruction {
-            if is_cut_off {
+            let follows = is_cut_off;
+            is_in_table = follows && (is_in_table || step.is_direct);
+            if follows && !is_in_table {
                 put(found, Doubt::Unreachable, token)?;
             }
             is_cut_off = step.jumps;
         }
     }
     Ok(())
+}
+
+/// Whether a source uses the place where it is, or jumps to an address in a register other than that of the return.
+fn reaches_anything(source: &[u8], tokens: &[LineToken]) -> bool {
+    for group in tokens.split(|token| token.sort == Sort::End) {
+        if goes_anywhere(source, unlabelled(group)) {
+            return true;
+        }
+    }
+    false
+}
+
+/// Whether a statement goes to a place that it does not name.
+fn goes_anywhere(source: &[u8], statement: &[LineToken]) -> bool {
+    let Some((mnemonic, operands)) = statement.split_first() else {
+        return false;
+    };
+    let word = text_of(source, mnemonic);
+    if word.starts_with(b".") {
+        return false;
+    }
+    let is_register_jump = matches!(word, [b'j' | b'c', ..]) && is_register_jump(word);
+    if is_register_jump {
+        return !operands.iter().any(|token| is_link(text_of(source, token)));
+    }
+    operands
+        .iter()
+        .any(|token| text_of(source, token) == b".".as_slice())
 }
 
 /// What a statement is to the flow of a program.
@@ -155,6 +267,8 @@ struct Step {
     instruction: Option<LineToken>,
     /// What comes after it is not executed next.
     jumps: bool,
+    /// It goes to a label alone, as the jumps of a table.
+    is_direct: bool,
 }
 
 /// What a statement is to the flow.
@@ -166,6 +280,7 @@ fn step_of(source: &[u8], group: &[LineToken]) -> Step {
             begins: has_label,
             instruction: None,
             jumps: false,
+            is_direct: false,
         };
     };
     let word = text_of(source, mnemonic);
@@ -178,6 +293,7 @@ fn step_of(source: &[u8], group: &[LineToken]) -> Step {
             None
         },
         jumps: is_instruction && jumps(source, word, operands),
+        is_direct: is_instruction && is_direct_jump(word),
     }
 }
 
@@ -202,8 +318,9 @@ fn put_misaligned(
     tokens: &[LineToken],
     found: &mut Vec<Warning>,
 ) -> Result<(), AllocError> {
+    let is_kept = keeps_stack(source, tokens);
     for group in tokens.split(|token| token.sort == Sort::End) {
-        if let Some(token) = misaligned_in(source, unlabelled(group)) {
+        if let Some(token) = misaligned_in(source, unlabelled(group), is_kept) {
             put(found, Doubt::Misaligned, token)?;
         }
     }
@@ -211,7 +328,7 @@ fn put_misaligned(
 }
 
 /// The number of a load or a store that is no multiple of its width.
-fn misaligned_in(source: &[u8], statement: &[LineToken]) -> Option<LineToken> {
+fn misaligned_in(source: &[u8], statement: &[LineToken], is_kept: bool) -> Option<LineToken> {
     let (mnemonic, operands) = statement.split_first()?;
     let (number, base) = match operands {
         [_, _, number, open, base, _] if open.sort == Sort::Open => (number, base),
@@ -221,32 +338,102 @@ fn misaligned_in(source: &[u8], statement: &[LineToken]) -> Option<LineToken> {
     };
     let width = width_of(text_of(source, mnemonic));
     let is_off = number.sort == Sort::Number && number.value % width != 0;
-    if is_off && is_stack_or_zero(text_of(source, base)) {
+    if !is_off {
+        return None;
+    }
+    let base = text_of(source, base);
+    if is_zero(base) || (is_kept && is_stack(base)) {
         Some(*number)
     } else {
         None
     }
 }
 
-/// Adds each `li` of a hexadecimal number that is the address of a global name.
+/// Whether `sp` stays a multiple of 16 in all of a source.
+fn keeps_stack(source: &[u8], tokens: &[LineToken]) -> bool {
+    for group in tokens.split(|token| token.sort == Sort::End) {
+        if !keeps_multiple(source, unlabelled(group)) {
+            return false;
+        }
+    }
+    true
+}
+
+/// Whether a statement leaves `sp` a multiple of 16: it writes another register, or adds such a number.
+fn keeps_multiple(source: &[u8], statement: &[LineToken]) -> bool {
+    let Some((mnemonic, operands)) = statement.split_first() else {
+        return true;
+    };
+    let Some(first) = operands.first() else {
+        return true;
+    };
+    if !is_stack(text_of(source, first)) || is_store(text_of(source, mnemonic)) {
+        return true;
+    }
+    is_addition(text_of(source, mnemonic))
+        && operands.iter().all(|token| is_of_sixteens(source, token))
+}
+
+/// Whether a token is `sp`, a number that is a multiple of 16, or a sign before or between such.
+fn is_of_sixteens(source: &[u8], token: &LineToken) -> bool {
+    match token.sort {
+        Sort::Number => token.value % 16 == 0,
+        Sort::Name => is_stack(text_of(source, token)),
+        Sort::Comma => true,
+        Sort::Minus => true,
+        _ => false,
+    }
+}
+
+/// Adds each `li` of a hexadecimal number that is the address of a global name. A power of two is a size as often.
 fn put_hiding(
+    alloc: Global,
     source: &[u8],
     tokens: &[LineToken],
     symbols: &HashMap<u64, &[u8]>,
     found: &mut Vec<Warning>,
 ) -> Result<(), AllocError> {
+    let assigned = assigned_names(alloc, source, tokens)?;
     for group in tokens.split(|token| token.sort == Sort::End) {
         let [mnemonic, _, _, number] = unlabelled(group) else {
             continue;
         };
-        let text = text_of(source, number);
-        let is_address = number.sort == Sort::Number && text.starts_with(b"0x");
-        if is_address
+        let value = number.value;
+        let is_written = number.sort == Sort::Number
+            && text_of(source, number).starts_with(b"0x")
+            && value & value.wrapping_sub(1) != 0;
+        if is_written
             && is_load_of_number(text_of(source, mnemonic))
-            && symbols.contains_key(&number.value)
+            && is_address(symbols, value, &assigned)
         {
             put(found, Doubt::HidesSymbol, *number)?;
         }
     }
     Ok(())
+}
+
+/// Whether a number is the address of a global name that is no constant of a source.
+fn is_address(symbols: &HashMap<u64, &[u8]>, value: u64, assigned: &HashSet<&[u8]>) -> bool {
+    match symbols.get(&value) {
+        Some(name) => !assigned.contains(name),
+        None => false,
+    }
+}
+
+/// The names that a source gives a value.
+fn assigned_names<'a>(
+    alloc: Global,
+    source: &'a [u8],
+    tokens: &[LineToken],
+) -> Result<HashSet<&'a [u8]>, AllocError> {
+    let mut assigned = HashSet::new(alloc);
+    for group in tokens.split(|token| token.sort == Sort::End) {
+        if let [set, name, ..] = unlabelled(group)
+            && text_of(source, set).starts_with(b".")
+            && is_assignment(text_of(source, set))
+        {
+            assigned.insert(text_of(source, name))?;
+        }
+    }
+    Ok(assigned)
 }
