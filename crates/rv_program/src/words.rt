@@ -96,7 +96,7 @@ fn parse_telling<'a>(
     match name {
         "list" => parse_list(alloc, command, found),
         "check" => parse_check(alloc, command, found),
-        "explain" => parse_explain(command, found),
+        "explain" => parse_explain(alloc, command, found),
         _ => parse_completions(command, found),
     }
 }
@@ -232,6 +232,7 @@ fn parse_check<'a>(
 }
 
 fn parse_explain<'a>(
+    alloc: Global,
     command: &mut Command<'a>,
     found: &ArgMatches<'a>,
 ) -> Result<Job<'a>, CliError> {
@@ -240,11 +241,14 @@ fn parse_explain<'a>(
     };
     match explanation(code) {
         Some(entry) => Ok(Job::Explain { entry: Some(entry) }),
-        None => Err(CliError::from(command.error(
-            ErrorKind::ValueValidation,
-            "'rv explain' lists the codes that there are",
-        )?)),
+        None => Err(no_code(alloc, command, code)?),
     }
+}
+
+/// The usage fault of a code that there is not.
+fn no_code(alloc: Global, command: &mut Command<'_>, code: &str) -> Result<CliError, CliError> {
+    let said = format!(in alloc; "{code} is no code; 'rv explain' lists those that there are")?;
+    Ok(CliError::from(command.error(ErrorKind::ValueValidation, said.as_str())?))
 }
 
 fn parse_completions<'a>(
