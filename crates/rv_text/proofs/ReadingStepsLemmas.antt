@@ -11,9 +11,11 @@ use Rattle.rv_text_laws.proofs.ExpressionsLemmas.{goes, ends, fails, expression_
 use Rattle.rv_text_laws.proofs.ExpressionFoundLemmas.{expression_found}
 use Rattle.rv_text_laws.proofs.ExpressionValuesLemmas.{postfix_fits}
 use Rattle.rv_lexer.specs.declared.cursor.Cursor.{Cursor}
+use Rattle.rv_lexer.specs.declared.syntax_error.SyntaxError.{SyntaxError}
+use Rattle.rv_lexer.specs.Fault.{number_of}
 use Rattle.rv_lexer.specs.Token.{token_of, kind_of}
 use Rattle.rv_lexer.specs.Left.{tokens_left}
-use Rattle.rv_lexer.specs.Cursor.{left}
+use Rattle.rv_lexer.specs.Cursor.{left, syntax_error_of}
 
 -- a reading that goes on token by token
 pub went_on : (r : List ℕ → Bool) (so_far : syntax.Read (List Node)) (c d : Cursor) (s u : Stage) → so_far ≡ read_from r s (left c) → left c ≡ token_of c.next ∷ left d
@@ -29,6 +31,10 @@ pub failed : (r : List ℕ → Bool) (so_far : syntax.Read (List Node)) (c : Cur
     → step r s (kind_of c.next.kind) ≡ Fails code → so_far ≡ Err (wrong (token_of c.next) code)
 unfolding left
 failed r so_far c s code so e = so ∙ fails r s code (token_of c.next) (cond (lexing.is_last (kind_of c.next.kind)) [] (tokens_left c.lexer)) e
+
+-- an error's code is the one that it was made with
+pub at_next : (w : SyntaxError) (t : lexing.Token) (code : ℕ) → syntax_error_of w ≡ wrong t code → syntax_error_of w ≡ wrong t (number_of w.code)
+at_next w t code e = e ∙ ap (wrong t) (sym (ap (λ (v : syntax.SyntaxError). v.code) e))
 
 -- what is read has room for its values
 pub read_fits : (r : List ℕ → Bool) (ts : List lexing.Token) (ns : List Node) (rest : List lexing.Token) → expression_at r ts ≡ Ok (ns, rest) → nodes_fit ns 0 ≡ true

@@ -27,8 +27,10 @@ use Rattle.rv_text.specs.declared.reading.Follow.{Follow}
 use Rattle.rv_text.specs.declared.reading.Follow.TheVariants as follows
 use Rattle.rv_lexer.specs.declared.cursor.Cursor.{Cursor}
 use Rattle.rv_lexer.specs.declared.syntax_error.ReadError.{ReadError}
+use Rattle.rv_lexer.specs.declared.syntax_error.ReadError.TheVariants as errors
 use Rattle.rv_lexer.specs.Fault.{number_of}
-use Rattle.rv_lexer.specs.Cursor.{left, Answers}
+use Rattle.rv_lexer.specs.Token.{token_of}
+use Rattle.rv_lexer.specs.Cursor.{left, syntax_error_of, Answers}
 use Rattle.rv_text.specs.Nodes.{symbol_of, nodes_of, some_nodes}
 
 abbrev pub begin_of : Begin → expression.Begin
@@ -126,6 +128,11 @@ abbrev pub ReadOn : (List ℕ → Bool) → reading.Stage → Cursor → Cursor 
     Type 0
 ReadOn is_register stage old new result =
     Answers (λ e. (expr_of e, left new)) result (reading.read_from is_register stage (left old))
+
+-- the cursor stands before the token that is wrong, unless memory ran out
+abbrev pub IsAtNext : ReadError → Cursor → Type 0
+IsAtNext (errors.At w) c = syntax_error_of w ≡ syntax.wrong (token_of c.next) (number_of w.code)
+IsAtNext errors.OutOfMemory c = Unit {0}
 
 -- the expression, without parentheses
 abbrev pub tree_of_expr : Expr → expression.Tree

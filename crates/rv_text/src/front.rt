@@ -2,7 +2,7 @@
 //!
 //! These are read here without the loop and its stack.
 
-ghost use Rattle.std.specs.Prelude.{◌≡◌, [], ◌∷◌, ◌++◌, IfOk};
+ghost use Rattle.std.specs.Prelude.{◌≡◌, [], ◌∷◌, ◌++◌, IfOk, IfErr};
 ghost use Rattle.rv_text_laws.specs.Expression.{Primary, Primary_node, Binary_node, Literal, follows};
 ghost use Rattle.rv_text_laws.specs.ExpressionAt.{Wants};
 ghost use Rattle.rv_text_laws.specs.declared.operator.UnaryOperator.TheVariants.{Negate};
@@ -10,7 +10,7 @@ ghost use Rattle.rv_text_laws.specs.declared.operator.Frame.TheVariants.{Prefix,
 ghost use Rattle.rv_lexer.specs.Cursor.{left};
 ghost use Rattle.rv_lexer.specs.Token.{kind_of};
 ghost use Rattle.rv_text.specs.Nodes.{symbol_of, node_of, nodes_of};
-ghost use Rattle.rv_text.specs.Expr.{stack_of, expr_of, ends_operand, after_operand, after_negative, after_pair, after_two, Reached, ReadOn};
+ghost use Rattle.rv_text.specs.Expr.{stack_of, expr_of, ends_operand, after_operand, after_negative, after_pair, after_two, Reached, ReadOn, IsAtNext};
 
 use crate::expr::Expr;
 use crate::node::{Node, Nodes, Symbol};
@@ -57,7 +57,9 @@ pub(crate) fn after_number<'a, R: Registers>(
     number: u64,
 ) -> Result<Expr<'a>, ReadError>
     requires { Reached R.registers (after_operand (Literal number)) (left cursor.old) }
-    ensures { ReadOn R.registers (after_operand (Literal number)) cursor.old cursor.new result }
+    ensures reads { ReadOn R.registers
+        (after_operand (Literal number)) cursor.old cursor.new result }
+    ensures next { IfErr result (λ e. IsAtNext e cursor.new) }
 {
     if ends(cursor.next.kind) {
         return Ok(Expr::Number(number));
@@ -74,7 +76,8 @@ fn after_negative<'a, R: Registers>(
     number: u64,
 ) -> Result<Expr<'a>, ReadError>
     requires { Reached R.registers (after_negative number) (left cursor.old) }
-    ensures { ReadOn R.registers (after_negative number) cursor.old cursor.new result }
+    ensures reads { ReadOn R.registers (after_negative number) cursor.old cursor.new result }
+    ensures next { IfErr result (λ e. IsAtNext e cursor.new) }
 {
     if ends(cursor.next.kind) {
         return Ok(Expr::Negative(number));
@@ -90,7 +93,9 @@ pub(crate) fn after_minus<'a, R: Registers>(
     cursor: &mut Cursor<'a>,
 ) -> Result<Expr<'a>, ReadError>
     requires { Reached R.registers (Wants (Prefix Negate ∷ []) []) (left cursor.old) }
-    ensures { ReadOn R.registers (Wants (Prefix Negate ∷ []) []) cursor.old cursor.new result }
+    ensures reads { ReadOn R.registers
+        (Wants (Prefix Negate ∷ []) []) cursor.old cursor.new result }
+    ensures next { IfErr result (λ e. IsAtNext e cursor.new) }
 {
     if let TokenKind::Number(_, number) = cursor.next.kind {
         cursor.advance();
@@ -108,7 +113,8 @@ fn after_pair<'a, R: Registers>(
     pair: Pair<'a>,
 ) -> Result<Expr<'a>, ReadError>
     requires { Reached R.registers (after_pair pair) (left cursor.old) }
-    ensures { ReadOn R.registers (after_pair pair.entry) cursor.old cursor.new result }
+    ensures reads { ReadOn R.registers (after_pair pair.entry) cursor.old cursor.new result }
+    ensures next { IfErr result (λ e. IsAtNext e cursor.new) }
 {
     if ends(cursor.next.kind) {
         return Ok(Expr::of_pair(alloc, pair)?);
@@ -143,8 +149,9 @@ fn after_two<'a, R: Registers>(
     other: Symbol<'a>,
 ) -> Result<Expr<'a>, ReadError>
     requires { Reached R.registers (after_two symbol operator other) (left cursor.old) }
-    ensures { ReadOn R.registers
+    ensures reads { ReadOn R.registers
         (after_two symbol.entry operator other.entry) cursor.old cursor.new result }
+    ensures next { IfErr result (λ e. IsAtNext e cursor.new) }
 {
     let mut nodes = one(alloc, Node::Symbol(symbol));
     nodes.push(Node::Symbol(other))?;
@@ -164,9 +171,10 @@ fn after_operator<'a, R: Registers>(
 ) -> Result<Expr<'a>, ReadError>
     requires { Reached R.registers
         (Wants (Infix operator ∷ []) (Primary_node (symbol_of symbol) ∷ [])) (left cursor.old) }
-    ensures { ReadOn R.registers
+    ensures reads { ReadOn R.registers
         (Wants (Infix operator ∷ [])
         (Primary_node (symbol_of symbol.entry) ∷ [])) cursor.old cursor.new result }
+    ensures next { IfErr result (λ e. IsAtNext e cursor.new) }
 {
     match begins::<R>(cursor.next.kind) {
         Begin::Number(number) => {
@@ -199,8 +207,9 @@ pub(crate) fn after_symbol<'a, R: Registers>(
     symbol: Symbol<'a>,
 ) -> Result<Expr<'a>, ReadError>
     requires { Reached R.registers (after_operand (symbol_of symbol)) (left cursor.old) }
-    ensures { ReadOn R.registers
+    ensures reads { ReadOn R.registers
         (after_operand (symbol_of symbol.entry)) cursor.old cursor.new result }
+    ensures next { IfErr result (λ e. IsAtNext e cursor.new) }
 {
     if ends(cursor.next.kind) {
         return Ok(Expr::of_symbol(symbol));

@@ -16,7 +16,7 @@ ghost use Rattle.rv_lexer.specs.Token.{kind_of};
 ghost use Rattle.rv_lexer.specs.Left.{tokens_left};
 ghost use Rattle.rv_lexer.specs.Cursor.{left, Answers};
 ghost use Rattle.rv_text.specs.Nodes.{node_of, nodes_of, some_nodes};
-ghost use Rattle.rv_text.specs.Expr.{begin_of, follow_of, stack_of, stage_of, Steps, Reached, ReadOn, expr_of, NamesFault, NoReading};
+ghost use Rattle.rv_text.specs.Expr.{begin_of, follow_of, stack_of, stage_of, Steps, Reached, ReadOn, IsAtNext, expr_of, NamesFault, NoReading};
 
 use crate::expr::Expr;
 use crate::front::{after_minus, after_number, after_symbol};
@@ -403,7 +403,9 @@ pub(crate) fn read_on<'a, R: Registers>(
     stage: Stage<'a>,
 ) -> Result<Expr<'a>, ReadError>
     requires { Reached R.registers (stage_of frames.items stage) (left cursor.old) }
-    ensures { ReadOn R.registers (stage_of frames.items stage.entry) cursor.old cursor.new result }
+    ensures reads { ReadOn R.registers
+        (stage_of frames.items stage.entry) cursor.old cursor.new result }
+    ensures next { IfErr result (λ e. IsAtNext e cursor.new) }
 {
     let mut frames = frames;
     let mut stage = stage;
@@ -427,8 +429,9 @@ pub fn expression<'a, R: Registers>(
     alloc: Global,
     cursor: &mut Cursor<'a>,
 ) -> Result<Expr<'a>, ReadError>
-    ensures { Answers (λ e. (expr_of e, left cursor.new)) result
+    ensures reads { Answers (λ e. (expr_of e, left cursor.new)) result
         (reading.expression_at R.registers (left cursor.old)) }
+    ensures next { IfErr result (λ e. IsAtNext e cursor.new) }
 {
     match begins::<R>(cursor.next.kind) {
         Begin::Number(number) => {

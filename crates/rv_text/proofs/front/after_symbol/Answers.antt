@@ -5,7 +5,7 @@ use Rattle.rv_lexer.specs.Cursor.{left}
 use Rattle.rv_text.proofs.FrontsLemmas.{ended_at}
 use Rattle.rv_text.proofs.front.after_symbol.Goals as goal
 
-pub returns-then-ends : goal.returns-then-ends
-returns-then-ends g c =
+pub returns-then-ends-clause-reads : goal.returns-then-ends-clause-reads
+returns-then-ends-clause-reads g c =
     ended_at _ c.args.cursor.now _ _ _ (sym c.ends.ensures ∙ c.if-ends.true) refl
     ∙ ap (λ (ns : List Node). Ok (ns, left c.args.cursor.now)) (sym c.of_symbol.ensures)

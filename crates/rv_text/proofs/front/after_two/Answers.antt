@@ -9,8 +9,8 @@ use Rattle.rv_text.proofs.front.after_two.Goals as goal
 pub of_two-requires : goal.of_two-requires
 of_two-requires g c = (symbol_of c.args.symbol, symbol_of c.args.other, c.in_ok-push.ensures ∙ ap (λ ns. ns ++ Primary_node (symbol_of c.args.other) ∷ []) c.one-nodes.ensures)
 
-pub returns-then-ends : goal.returns-then-ends
-returns-then-ends g c =
+pub returns-then-ends-clause-reads : goal.returns-then-ends-clause-reads
+returns-then-ends-clause-reads g c =
     ended_at _ c.args.cursor.now _ _ _ (sym c.ends.ensures ∙ c.if-ends.true)
     (settled_infix c.args.operator (Primary_node (symbol_of c.args.symbol) ∷ Primary_node (symbol_of c.args.other) ∷ []))
     ∙ ap (λ ns. Ok (ns, left c.args.cursor.now))
