@@ -4,6 +4,7 @@ pub mod Action
 pub mod End
 pub mod Fetch
 pub mod Machine
+pub mod LastState
 pub mod Flow
 pub mod Streams
 pub mod StreamSteps

@@ -2,11 +2,13 @@
 
 use Rattle.std.specs.Prelude.{◌≡◌, ◌≢◌, ◌⊎◌, ℕ, Bool, true, false, List, [], ◌++◌, Option, Some, None, Result, Ok, Err}
 use Rattle.std.specs.Io.KnownBytes.{Consumes}
+use Rattle.rv_isa_laws.specs.Memory.{Mem}
+use Rattle.rv_isa_laws.specs.Hart as laws
 use Rattle.rv_isa_laws.specs.Effect.{Next, On, Over}
 use Rattle.rv_machine.specs.declared.end.End.{End}
 use Rattle.rv_machine.specs.declared.running.RunFault.{RunFault}
 use Rattle.rv_machine.specs.declared.running.RunFault.TheVariants.{InputFault, OutputFault, OutOfMemory}
-use Rattle.rv_machine.specs.End.{law_end}
+use Rattle.rv_machine.specs.Machine.{Comes}
 use Rattle.rv_machine.specs.Streams.{IsFront, MayFollow}
 
 -- what is known of a run's input between two steps: whether a take of the run gave nothing, the
@@ -30,16 +32,19 @@ abbrev pub Writes : Next → List ℕ → Type 0
 Writes (On h m) front = IsFront front h.console
 Writes (Over e) front = ⊥
 
--- what a step came to that read and wrote these bytes: `before` is the step of a machine with an
--- input that is left and a console, `after` the machine that goes on
-abbrev pub StepsTo : Result (Option End) RunFault → List ℕ → List ℕ → Type 0 → (List ℕ → List ℕ → Next) →
-    (List ℕ → List ℕ → Next) → Type 0
-StepsTo (Ok None) read written none_empty before after =
+-- what a step came to that read and wrote these bytes, from hart h, by the input that is left and
+-- the console, and memory m, which are h' and m' after it
+abbrev pub StepsTo : Result (Option End) RunFault → List ℕ → List ℕ → Type 0 →
+    (laws.Hart → Mem → Next) → (List ℕ → List ℕ → laws.Hart) → Mem →
+    (List ℕ → List ℕ → laws.Hart) → Mem → Type 0
+StepsTo (Ok None) read written none_empty step h m h' m' =
     (rest console : List ℕ) → MayFollow none_empty rest →
-    before (read ++ rest) console ≡ after rest (console ++ written)
-StepsTo (Ok (Some e)) read written none_empty before after =
-    (read ≡ []) × ((written ≡ []) × ((rest console : List ℕ) → before rest console ≡ Over (law_end e)))
-StepsTo (Err InputFault) read written none_empty before after = written ≡ []
-StepsTo (Err OutputFault) read written none_empty before after =
-    (read ≡ []) × ((rest console : List ℕ) → Writes (before rest console) (console ++ written))
-StepsTo (Err OutOfMemory) read written none_empty before after = ⊥
+    step (h (read ++ rest) console) m ≡ On (h' rest (console ++ written)) m'
+StepsTo (Ok (Some e)) read written none_empty step h m h' m' =
+    (read ≡ []) × ((written ≡ []) × ((rest console : List ℕ) →
+    Comes (Some e) (step (h rest console) m) (h rest console) m (h' rest console) m'))
+StepsTo (Err InputFault) read written none_empty step h m h' m' = written ≡ []
+StepsTo (Err OutputFault) read written none_empty step h m h' m' =
+    (read ≡ []) × ((rest console : List ℕ) →
+    Writes (step (h rest console) m) (console ++ written))
+StepsTo (Err OutOfMemory) read written none_empty step h m h' m' = ⊥

@@ -173,8 +173,8 @@ pub(crate) fn step<R: GuestIn, W: GuestOut, M: Memory>(
         (read written : List ℕ) × HasRead before after read
         × Appends (W.written writer.old) (W.written writer.new) written
         × ((r : Reader Spells StandsFor) → StepsTo result read written (intake.new.ended ≡ false)
-        (λ rest console. step_of r (hart_of hart.old rest console) (M.mem memory.old))
-        (λ rest console. On (hart_of hart.new rest console) (M.mem memory.new))) }
+        (step_of r) (hart_of hart.old) (M.mem memory.old)
+        (hart_of hart.new) (M.mem memory.new)) }
     ensures failed { FailsBy result (R.in_failed reader.old) (W.out_failed writer.old)
         (R.in_failed reader.new) (W.out_failed writer.new) }
     ensures memory { IsErrOf result OutOfMemory → ⊥ }

@@ -1,7 +1,8 @@
 //! Runs that are looked at between their steps.
 //!
 //! A watched run does the steps of `run_io`, each by the same function, without the quick ones that no one could look at.
-//! A watcher only looks: it cannot change hart or memory, so what it tells is of the run itself.
+//! A watcher only looks: it cannot change hart or memory, so what it tells is of the run itself. The machine is left in
+//! the run's last state.
 
 ghost use Rattle.std.specs.Prelude.{◌≡◌, ℕ, List, [], ◌++◌, Ok, false, IfOk};
 ghost use Rattle.std.specs.Io.KnownBytes.{Appends};
@@ -11,6 +12,7 @@ ghost use Rattle.rv_isa_laws.specs.Hart.{start};
 ghost use Rattle.rv_isa_laws.specs.Reader.{Reader};
 ghost use Rattle.rv_isa_laws.specs.Run.{run as run_of};
 ghost use Rattle.rv_machine.specs.Hart.{hart_of};
+ghost use Rattle.rv_machine.specs.LastState.{last_state};
 ghost use Rattle.rv_machine.specs.Registers.{value_of};
 ghost use Rattle.rv_machine.specs.Streams.{Accords, MayFollow};
 ghost use Rattle.rv_machine.specs.StreamSteps.{input_of, HasRead};
@@ -117,7 +119,7 @@ pub fn run_watched<M: Memory + Drop, R: GuestIn, W: GuestOut, T: Watcher<M>>(
     limit: u64,
 ) -> Result<End, WatchFault>
     // What was read and written, and the run from the machine's hart and memory for what was read and, unless a take
-    // gave nothing, for every input that begins with it.
+    // gave nothing, for every input that begins with it: it comes to this end, and leaves this hart and this memory.
     ensures runs { let before = input_of machine.old.intake.ended (R.ends reader.old)
         (R.left reader.old) in
         let after = input_of machine.new.intake.ended (R.ends reader.new) (R.left reader.new) in
@@ -125,8 +127,10 @@ pub fn run_watched<M: Memory + Drop, R: GuestIn, W: GuestOut, T: Watcher<M>>(
         × Appends (W.written writer.old) (W.written writer.new) written
         × ((r : Reader Spells StandsFor) (rest : List ℕ) →
         MayFollow (machine.new.intake.ended ≡ false) rest →
-        Accords (Ok e) written
-        (run_of r limit (hart_of machine.old.hart (read ++ rest) []) (M.mem machine.old.memory)))) }
+        let start = hart_of machine.old.hart (read ++ rest) [] in
+        Accords (Ok e) written (run_of r limit start (M.mem machine.old.memory))
+        × (last_state r limit start (M.mem machine.old.memory)
+        ≡ (hart_of machine.new.hart rest written, M.mem machine.new.memory)))) }
 {
     let mut left = limit;
     while left > 0 {

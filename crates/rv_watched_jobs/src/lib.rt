@@ -1,7 +1,7 @@
 //! The jobs of the program that run a guest and look at it: reports of why it ended, traces, and counts.
 //!
-//! Main functions: `run_with_report`, `trace`, `stats`. That a run that is looked at is the run is said by the clause of
-//! `run_watched`; the texts are those of `rv_trace`. It does not know the words of a command line.
+//! Main functions: `run_with_report`, `trace`, `stats`. That a run that is looked at is the run, and that the machine of a
+//! report is in its last state, is said by the clause of `run_watched`; the texts are those of `rv_trace`. It does not know the words of a command line.
 //!
 //! ```text
 //! // rv run --report a.s

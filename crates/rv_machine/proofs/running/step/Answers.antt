@@ -21,7 +21,7 @@ returns-in-Done-clause-steps g c = (
   has_read_none _,
   appends_kept _ _ (keeps_self _),
   λ r.
-      step_done c.in-Done.ended _ (λ rest console. step r (hart_of c.args.hart.now rest console) (g.M.Memory.mem c.args.memory.now)) c.args.hart.now _ (g.M.Memory.mem c.args.memory.now) _ (c.in-Done.ensures.left r),
+      step_done c.in-Done.ended _ (step r) c.args.hart.now _ (g.M.Memory.mem c.args.memory.now) _ (c.in-Done.ensures.left r),
 )
 
 pub returns-in-Ok-clause-steps : goal.returns-in-Ok-clause-steps

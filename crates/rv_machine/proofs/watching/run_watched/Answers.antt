@@ -1,15 +1,19 @@
-use Rattle.std.proofs.Common.{◌≡◌, suc, ◌-◌, ℕ, List, [], ◌++◌, refl, arith}
+use Rattle.std.proofs.Common.{◌≡◌, suc, ◌-◌, ℕ, List, [], ◌++◌, refl, sym, ap, ◌∙◌, arith}
+use Rattle.rv_isa_laws.specs.Memory.{Mem}
 use Rattle.rv_isa_laws.specs.Hart as laws
+use Rattle.rv_isa_laws.specs.Run.{run}
 use Rattle.rv_machine.specs.End.{law_end}
 use Rattle.rv_machine.specs.Hart.{hart_of}
+use Rattle.rv_machine.specs.LastState.{last_state}
 use Rattle.rv_machine.specs.StreamSteps.{Input, input_of}
 use Rattle.rv_machine.proofs.KnownLemmas.{has_read_none, has_read_more, appends_kept, appends_more, keeps_self}
-use Rattle.rv_machine.proofs.StreamLemmas.{steps_as, went_on, came_to}
+use Rattle.rv_machine.proofs.RunLemmas.{run-on, last-on}
+use Rattle.rv_machine.proofs.StreamLemmas.{steps_as, went_on, came_to, rests_at}
 use Rattle.rv_machine.proofs.watching.run_watched.Goals as goal
 
 pub loop-left-init : goal.loop-left-init
 loop-left-init g c = record {
-  so_far = ([], [], has_read_none _, appends_kept _ _ (keeps_self _), λ r rest may. refl);
+  so_far = ([], [], has_read_none _, appends_kept _ _ (keeps_self _), λ r. (λ rest may. refl, λ rest may. refl));
 }
 
 pub returns-in-Ok-Some : goal.returns-in-Ok-Some
@@ -28,9 +32,12 @@ returns-in-Ok-Some g c =
         has_read_more first before after far.0 more.0 far.2 more.2,
         appends_more _ _ _ far.1 more.1 far.3 more.3,
         λ r rest may.
-            let over = steps_as _ _ more.0 more.1 _ _ _ c.in-Ok-Some.field-0-is (more.4 r) in
-            came_to r c.args.limit (c.loop-left.left) start (g.M.Memory.mem c.args.machine.now.memory) before after c.loop-left.machine.hart (g.M.Memory.mem c.loop-left.machine.memory) far.0 more.0 far.1 more.1 more.2 (far.4 r)
-            (c.loop-left.left - 1) (law_end c.in-Ok-Some.end) is over.0 over.1.0 over.1.1 rest may,
+            let over = steps_as _ _ more.0 more.1 _ _ _ _ _ _ c.in-Ok-Some.field-0-is (more.4 r) in (
+              came_to r c.args.limit (c.loop-left.left) start (g.M.Memory.mem c.args.machine.now.memory) before after c.loop-left.machine.hart (g.M.Memory.mem c.loop-left.machine.memory) far.0 more.0 far.1 more.1 more.2 (far.4 r).0
+                  (c.loop-left.left - 1) (law_end c.in-Ok-Some.end) is over.0 over.1.0 (λ input console. (over.1.1 input console).0) rest may,
+              rests_at r c.args.limit (c.loop-left.left) start (g.M.Memory.mem c.args.machine.now.memory) before after c.loop-left.machine.hart (g.M.Memory.mem c.loop-left.machine.memory) far.0 more.0 far.1 more.1 more.2 (far.4 r).1
+                  (c.loop-left.left - 1) c.in-Ok-Some.end c.step.new.hart (g.M.Memory.mem c.step.new.memory) is over.0 over.1.0 over.1.1 rest may,
+            ),
       );
     }
 
@@ -49,8 +56,30 @@ loop-left-preserved g c =
         far.1 ++ more.1,
         has_read_more first before after far.0 more.0 far.2 more.2,
         appends_more _ _ _ far.1 more.1 far.3 more.3,
-        λ r rest may.
-            went_on r c.args.limit (c.loop-left.left) start (g.M.Memory.mem c.args.machine.now.memory) before after c.loop-left.machine.hart (g.M.Memory.mem c.loop-left.machine.memory) far.0 more.0 far.1 more.1 more.2 (far.4 r)
-            (c.loop-left.left - 1) c.step.new.hart (g.M.Memory.mem c.step.new.memory) is (steps_as _ _ more.0 more.1 _ _ _ c.in-Ok-None.field-0-is (more.4 r)) rest may,
+        λ r. (
+          went_on r (run r) (run-on r) c.args.limit (c.loop-left.left) start (g.M.Memory.mem c.args.machine.now.memory) before after c.loop-left.machine.hart (g.M.Memory.mem c.loop-left.machine.memory) far.0 more.0 far.1 more.1 more.2 (far.4 r).0
+              (c.loop-left.left - 1) c.step.new.hart (g.M.Memory.mem c.step.new.memory) is (steps_as _ _ more.0 more.1 _ _ _ _ _ _ c.in-Ok-None.field-0-is (more.4 r)),
+          went_on r (last_state r) (last-on r) c.args.limit (c.loop-left.left) start (g.M.Memory.mem c.args.machine.now.memory) before after c.loop-left.machine.hart (g.M.Memory.mem c.loop-left.machine.memory) far.0 more.0 far.1 more.1 more.2 (far.4 r).1
+              (c.loop-left.left - 1) c.step.new.hart (g.M.Memory.mem c.step.new.memory) is (steps_as _ _ more.0 more.1 _ _ _ _ _ _ c.in-Ok-None.field-0-is (more.4 r)),
+        ),
+      );
+    }
+
+pub returns : goal.returns
+returns g c =
+    let none : c.loop-left.left ≡ 0 = omega (arith, c.loop-left-test.false) in
+    let far = c.loop-left.invariant.so_far in
+    let now : List ℕ → laws.Hart = λ rest. hart_of c.loop-left.machine.hart rest far.1 in
+    let m : Mem = g.M.Memory.mem c.loop-left.machine.memory in
+    record {
+      runs = (
+        far.0,
+        far.1,
+        far.2,
+        far.3,
+        λ r rest may. (
+          sym ((far.4 r).0 rest may) ∙ ap (λ (n : ℕ). run r n (now rest) m) none,
+          sym ((far.4 r).1 rest may) ∙ ap (λ (n : ℕ). last_state r n (now rest) m) none,
+        ),
       );
     }
