@@ -171,14 +171,15 @@ fn trace_by<S: System>(
         &mut trace,
         asked.limit.min(last),
     );
-    // no line is told in part
-    if let Err(WatchFault::OutOfMemory) = watched {
-        return Err(JobError::Memory);
-    }
-    let finished = trace.finish();
+    let finished = match watched {
+        // no line is told in part
+        Err(WatchFault::OutOfMemory) => return Err(JobError::Memory),
+        _ => trace.finish(),
+    };
     let end = ended(alloc, watched, name)?;
-    if let Err(fault) = finished {
-        return Err(watch_line(alloc, fault, name)?);
+    match finished {
+        Ok(()) => {}
+        Err(fault) => return Err(watch_line(alloc, fault, name)?),
     }
     // all the lines that were asked for are written
     if matches!(end, End::Limit) && last <= asked.limit {
