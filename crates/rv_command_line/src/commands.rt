@@ -46,20 +46,34 @@ fn argument<'a>(alloc: Global, entry: &Entry) -> Result<Arg<'a>, AllocError> {
 /// The argument as it is written.
 fn written<'a>(arg: Arg<'a>, form: Form) -> Arg<'a> {
     match form {
-        Form::Flag { long } => arg.long(long).action(ArgAction::SetTrue),
-        Form::Letter { letter } => arg.short(letter).action(ArgAction::SetTrue),
-        Form::Long { long, value } => arg.long(long).value_name(value),
-        Form::Short { letter, value } => arg.short(letter).value_name(value),
-        Form::Repeated { letter, value } => arg
-            .short(letter)
-            .value_name(value)
-            .action(ArgAction::Append),
-        Form::Single { value } => arg.value_name(value),
-        Form::Several { value } => arg
-            .value_name(value)
-            .action(ArgAction::Append)
-            .num_args(1..),
+        Form::Flag { long } => flag(arg.long(long)),
+        Form::Letter { letter } => flag(arg.short(letter)),
+        Form::Long { long, value } => valued(arg.long(long), value),
+        Form::Short { letter, value } => valued(arg.short(letter), value),
+        Form::Repeated { letter, value } => repeated(arg.short(letter), value),
+        Form::Single { value } => valued(arg, value),
+        Form::Several { value } => several(arg, value),
     }
+}
+
+/// An option without a value.
+fn flag<'a>(arg: Arg<'a>) -> Arg<'a> {
+    arg.action(ArgAction::SetTrue)
+}
+
+/// An argument with a value.
+fn valued<'a>(arg: Arg<'a>, value: &'static str) -> Arg<'a> {
+    arg.value_name(value)
+}
+
+/// An argument whose values are kept, however often it is written.
+fn repeated<'a>(arg: Arg<'a>, value: &'static str) -> Arg<'a> {
+    arg.value_name(value).action(ArgAction::Append)
+}
+
+/// Words alone, one at least.
+fn several<'a>(arg: Arg<'a>, value: &'static str) -> Arg<'a> {
+    repeated(arg, value).num_args(1..)
 }
 
 /// The argument that has to be there, or may.
