@@ -1,56 +1,40 @@
--- The last digit of a number in hexadecimal, and how many it has.
+-- The digits of a number in hexadecimal, as the kit writes them, are those of `{:x}`, and ASCII.
 
-use Rattle.std.proofs.Common.{◌≡◌, ℕ, zero, suc, ◌+◌, ◌/◌, ◌%◌, ◌^◌, ◌≤◌, ◌<◌, false, cond, List, [], ◌∷◌, ◌++◌, length, refl, eqb, sym, ap, ◌∙◌, append_assoc, arith, inl, inr}
-use Rattle.std.proofs.lemmas.Bool.{cases_lt}
+use Rattle.std.proofs.Common.{◌≡◌, ℕ, zero, suc, ◌/◌, ◌%◌, ◌^◌, ◌≤◌, ◌<◌, false, cond, List, [], ◌∷◌, ◌++◌, refl, eqb, sym, ap, subst, ◌∙◌, append_assoc, append-nil, arith}
 use Rattle.std.proofs.lemmas.Bool.Decides.{nat_tests}
-use Rattle.std.proofs.lemmas.List.{length-append}
-use Rattle.std.specs.Fmt.{digits, digits_onto, digit_glyph}
-use Rattle.std.proofs.lemmas.Fmt.{hex_one_digit}
+use Rattle.std.proofs.lemmas.Str.Ascii.{IsAscii-nil, IsAscii-push}
+use Rattle.std.specs.Fmt.{digits, digits_onto}
+use Rattle.std.specs.Str.{IsAscii}
+use Rattle.io.specs.Digits.{last_digits, hex_digit_ascii, IsDigitCount}
 
-abbrev spell : ℕ → ℕ → List ℕ → List ℕ
-spell k n acc = digits_onto k 16 false n acc
+abbrev onto : ℕ → ℕ → List ℕ → List ℕ
+onto k n acc = digits_onto k 16 false n acc
 
-abbrev last : ℕ → ℕ
-last n = digit_glyph false (n % 16)
+onto_last : (k n : ℕ) (acc : List ℕ) → n < 16 → onto (suc k) n acc ≡ hex_digit_ascii (n % 16) ∷ acc
+onto_last k n acc h = let zero_left : n / 16 ≡ 0 = omega arith in rw zero_left refl
 
-spell_last : (k n : ℕ) (acc : List ℕ) → n < 16 → spell (suc k) n acc ≡ last n ∷ acc
-spell_last k n acc h = let zero_left : n / 16 ≡ 0 = omega arith in rw zero_left refl
+onto_next : (k n : ℕ) (acc : List ℕ) → 16 ≤ n → onto (suc k) n acc ≡ onto k (n / 16) (hex_digit_ascii (n % 16) ∷ acc)
+onto_next k n acc h = let more : eqb (n / 16) 0 ≡ false = grind (arith, nat_tests) in ap (λ t. cond t (hex_digit_ascii (n % 16) ∷ acc) (onto k (n / 16) (hex_digit_ascii (n % 16) ∷ acc))) more
 
-spell_next : (k n : ℕ) (acc : List ℕ) → 16 ≤ n → spell (suc k) n acc ≡ spell k (n / 16) (last n ∷ acc)
-spell_next k n acc h = let more : eqb (n / 16) 0 ≡ false = grind (arith, nat_tests) in ap (λ t. cond t (last n ∷ acc) (spell k (n / 16) (last n ∷ acc))) more
+all_onto : (k j n : ℕ) (acc : List ℕ) → k ≤ j → n < 16 ^ suc k → (0 < k → 16 ^ k ≤ n) → onto (suc j) n acc ≡ last_digits 16 (suc k) n ++ acc
+all_onto zero j n acc room small large = onto_last j n acc (omega (arith, small))
+all_onto (suc k) zero n acc room small large = absurd (omega (arith, room))
+all_onto (suc k) (suc j) n acc room small large =
+    let enough : 16 ^ suc k ≤ n = large (omega arith) in
+    onto_next (suc j) n acc (omega (arith, enough))
+    ∙ all_onto k j (n / 16) (hex_digit_ascii (n % 16) ∷ acc) (omega (arith, room)) (omega (arith, small)) (λ h. omega (arith, enough))
+    ∙ sym (append_assoc (last_digits 16 (suc k) (n / 16)) (hex_digit_ascii (n % 16) ∷ []) acc)
 
-spell-append : (k n : ℕ) (acc : List ℕ) → spell k n acc ≡ spell k n [] ++ acc
-spell-append zero n acc = refl
-spell-append (suc k) n acc = elim (cases_lt n 16) [
-  | inl l ↦ spell_last k n acc l ∙ ap (λ x. x ++ acc) (sym (spell_last k n [] l))
-  | inr l ↦ spell_next k n acc l ∙ spell-append k (n / 16) (last n ∷ acc) ∙ sym (append_assoc (spell k (n / 16) []) (last n ∷ []) acc)
-      ∙ ap (λ x. x ++ acc) (sym (spell_next k n [] l ∙ spell-append k (n / 16) (last n ∷ [])))
-]
-
--- the limit of digits does not matter once it is large enough
-spell_enough : (j k n : ℕ) (acc : List ℕ) → n < 16 ^ suc j → n < 16 ^ suc k → spell (suc j) n acc ≡ spell (suc k) n acc
-spell_enough zero k n acc p q = spell_last zero n acc (omega arith) ∙ sym (spell_last k n acc (omega arith))
-spell_enough (suc j) zero n acc p q = spell_last (suc j) n acc (omega arith) ∙ sym (spell_last zero n acc (omega arith))
-spell_enough (suc j) (suc k) n acc p q = elim (cases_lt n 16) [
-  | inl l ↦ spell_last (suc j) n acc l ∙ sym (spell_last (suc k) n acc l)
-  | inr l ↦ spell_next (suc j) n acc l ∙ spell_enough j k (n / 16) (last n ∷ acc) (omega arith) (omega arith) ∙ sym (spell_next (suc k) n acc l)
-]
-
-pub one_digit : (n : ℕ) → n < 16 → digits 16 false n ≡ digit_glyph false n ∷ []
-one_digit n h = hex_one_digit false n h
-
-pub more_digits : (n : ℕ) → 16 ≤ n → n < 2 ^ 64 → digits 16 false n ≡ digits 16 false (n / 16) ++ (digit_glyph false (n % 16) ∷ [])
+-- the fewest digits that hold a number are those that `{:x}` writes
+pub all_digits : (k n : ℕ) → IsDigitCount 16 1 n k → k ≤ 16 → last_digits 16 k n ≡ digits 16 false n
 unfolding digits
-more_digits n h small =
-    spell_next 63 n [] h ∙ spell_enough 62 63 (n / 16) (last n ∷ []) (omega arith) (omega arith) ∙ spell-append 64 (n / 16) (last n ∷ [])
+all_digits zero n count few = absurd (omega (arith, count.0))
+all_digits (suc k) n count few =
+    sym (all_onto k 63 n [] (omega (arith, few)) count.1 (λ h. subst (λ j. 16 ^ j ≤ n) (omega arith) (count.2 (omega (arith, h)))) ∙ append-nil (last_digits 16 (suc k) n))
 
--- the digit that is not yet there
-pub one_more : (n : ℕ) → 16 ≤ n → n < 2 ^ 64 → length (digits 16 false n) ≡ length (digits 16 false (n / 16)) + 1
-one_more n h small = ap length (more_digits n h small) ∙ length-append (digits 16 false (n / 16)) (digit_glyph false (n % 16) ∷ [])
+below : (d : ℕ) → d < 16 → hex_digit_ascii d < 128
+below d h = grind (arith, nat_tests)
 
-pub few_digits : (k n : ℕ) → n < 16 ^ suc k → n < 2 ^ 64 → length (digits 16 false n) ≤ suc k
-few_digits zero n fits small = let one = ap length (one_digit n (omega arith)) in omega (arith, one)
-few_digits (suc k) n fits small = elim (cases_lt n 16) [
-  | inl l ↦ let one = ap length (one_digit n l) in omega (arith, one)
-  | inr l ↦ let rest = few_digits k (n / 16) (omega arith) (omega arith) in let more = one_more n l small in omega (arith, rest, more)
-]
+pub ascii_digits : (k n : ℕ) → IsAscii (last_digits 16 k n)
+ascii_digits zero n = IsAscii-nil
+ascii_digits (suc k) n = IsAscii-push (last_digits 16 k (n / 16)) (hex_digit_ascii (n % 16)) (ascii_digits k (n / 16)) (below (n % 16) (omega arith))

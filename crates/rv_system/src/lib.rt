@@ -15,7 +15,6 @@
 //! ```
 #![tactic(auto)]
 
-mod digits;
 mod ends;
 mod error;
 mod files;

@@ -3,13 +3,16 @@
 ghost use Rattle.std.specs.Prelude.{◌≡◌, IfOk, option_map, string_bytes};
 ghost use Rattle.rv_system.specs.Messages.{Tells, end_text, fault_text, file_name, file_text, kind_in, link_text, name_in, run_text, source_text};
 
-use crate::digits::{LINE_BYTES, put_hexadecimal};
 use crate::error::JobError;
 use crate::shown::shown_name;
 use arrayvec::ArrayString;
 use rv_chain::{End, Fault, FileFault, LinkFault, SourceFault};
 use rv_machine::RunFault;
 use std::alloc::{AllocError, Global};
+use std::str::from_utf8;
+
+/// The most bytes of the line of an end: the longest name, a blank and 16 digits.
+const LINE_BYTES: usize = 33;
 
 /// The line of a fault of a call of `rv_chain`; `names` are the files in their order.
 pub fn fault_line(alloc: Global, fault: &Fault, names: &[&str]) -> Result<JobError, AllocError>
@@ -117,7 +120,12 @@ pub fn end_line(end: &End) -> ArrayString<LINE_BYTES>
         return line;
     };
     line.push_str(" ");
-    put_hexadecimal(&mut line, address);
+    let mut digits = [0; 16];
+    let count = io::hex(address, 1, &mut digits);
+    // Digits are ASCII.
+    if let Ok(digits) = from_utf8(&digits[..count]) {
+        line.push_str(digits);
+    }
     line
 }
 
