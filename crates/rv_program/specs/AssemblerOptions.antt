@@ -1,7 +1,6 @@
 -- The options of an assembler that ask for what `rv as` can do (GNU assembler manual, RISC-V options).
 
-use Rattle.std.specs.Prelude.{ℕ, Bool, List, [], ◌∷◌, codes, bytes_eq}
-use Rattle.std.specs.List.{list_any}
+use Rattle.std.specs.Prelude.{ℕ, List, [], ◌∷◌, codes}
 
 -- those that begin with `-m`, without it
 abbrev pub machine_options : List (List ℕ)
@@ -13,6 +12,3 @@ machine_options =
 -- those that begin with `-f`, without it
 abbrev pub code_options : List (List ℕ)
 code_options = codes "no-pic" ∷ codes "no-pie" ∷ []
-
-abbrev pub is_one_of : List (List ℕ) → List ℕ → Bool
-is_one_of options option = list_any (bytes_eq option) options

@@ -4,15 +4,16 @@
 //! where it compiles so. Those that ask for what `rv as` does anyway have no effect. Any other would be a lie in the
 //! object, so it is a wrong word.
 
-ghost use Rattle.std.specs.Prelude.{◌≡◌};
-ghost use Rattle.rv_program.specs.AssemblerOptions.{machine_options, code_options, is_one_of};
+ghost use Rattle.std.specs.Prelude.{◌≡◌, bytes_eq};
+ghost use Rattle.std.specs.List.{list_any};
+ghost use Rattle.rv_program.specs.AssemblerOptions.{machine_options, code_options};
 
 /// Whether `-m` and this ask for code of RV64IMAC with the ABI lp64, little-endian.
 ///
 /// An instruction set is spelled in one way, since a smaller one would forbid parcels or atomics that a source has, and
 /// a greater one allow instructions that the language does not have. All editions of the ISA agree on these extensions.
 pub(crate) fn is_machine_option(option: &str) -> bool
-    ensures { result ≡ is_one_of machine_options option.now }
+    ensures { result ≡ list_any (bytes_eq option.now) machine_options }
 {
     matches!(
         option,
@@ -30,7 +31,7 @@ pub(crate) fn is_machine_option(option: &str) -> bool
 
 /// Whether `-f` and this ask for code at fixed addresses.
 pub(crate) fn is_code_option(option: &str) -> bool
-    ensures { result ≡ is_one_of code_options option.now }
+    ensures { result ≡ list_any (bytes_eq option.now) code_options }
 {
     matches!(option, "no-pic" | "no-pie")
 }
