@@ -15,7 +15,8 @@ use Rattle.rv_statement.specs.declared.mnemonic.Mnemonic.TheVariants.{Immediate,
 use Rattle.rv_isa.specs.declared.operation.ImmediateOperation.TheVariants.{Addi}
 use Rattle.rv_statement.specs.declared.directive.Binding.TheVariants as bindings
 use Rattle.rv_statement.specs.Statement.{StatementKind, Label, Instruction, Directs, Statement, Expression, Register, Value, Binds, Chooses}
-use Rattle.rv_map.specs.Map.{Map, Global}
+use Rattle.rv_map.specs.Globals.{global}
+use Rattle.rv_map.specs.Map.{Map}
 use Rattle.rv_map.specs.declared.map.Row.{Row}
 use Rattle.rv_map.specs.declared.map.Region.{Region}
 
@@ -60,9 +61,6 @@ row file line ordinal address bytes instructions =
 
 abbrev pub region : ℕ → ℕ → Region
 region start stop = record { start = start; end = stop }
-
-abbrev pub global : List ℕ → ℕ → Global
-global name address = record { name = name; address = address }
 
 abbrev pub exit7_map : Map
 exit7_map = record {

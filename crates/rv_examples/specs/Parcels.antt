@@ -7,8 +7,9 @@ use Rattle.rv_compress.specs.declared.parcel.ParcelOperation.TheVariants.{Lw, Li
 use Rattle.rv_statement.specs.declared.mnemonic.Mnemonic.TheVariants.{Ecall, Parcel}
 use Rattle.rv_statement.specs.declared.pseudo.Function.{Function}
 use Rattle.rv_statement.specs.Statement.{StatementKind, Label, Instruction, Statement, Operand, Expression, Register, Value, Applied, Target}
+use Rattle.rv_map.specs.Globals.{global}
 use Rattle.rv_map.specs.Map.{Map}
-use Rattle.rv_examples.specs.Exit7.{said, constant, norvc, globl, load, row, region, global, exit7_map}
+use Rattle.rv_examples.specs.Exit7.{said, constant, norvc, globl, load, row, region, exit7_map}
 
 -- ---- statements
 
