@@ -56,9 +56,19 @@ def expectations(lines):
     return [(it["key"], it["value"]) for it in found if it and (it["key"].split()[0] in KEYS or it["key"] == "no map")]
 
 
+def with_pieces(text, folder):
+    """The bytes of a case, in which a line {{NAME}} stands for the file NAME beside it."""
+    return re.sub(rb"(?m)^\{\{([\w.]+)\}\}\n", lambda it: with_pieces((folder / it[1].decode()).read_bytes(), folder), text)
+
+
+def side(text, at):
+    """A text of several files as the one of this number has it: {{A => B}} stands for A in the first, for B in the next."""
+    return re.sub(rb"\{\{([^{}]* => [^{}]*)\}\}", lambda it: it[1].split(b" => ")[at], text)
+
+
 def read_source(path):
     """The one case of a file NAME.s: its name, its files and what is expected."""
-    text = path.read_bytes()
+    text = with_pieces(path.read_bytes(), path.parent)
     lines = text.decode("latin-1").split("\n")
     length = next((at for at, it in enumerate(lines) if not it.startswith("#") or it.startswith("#---")), len(lines))
     head = expectations(lines[:length])
@@ -67,6 +77,9 @@ def read_source(path):
         return [(path.name, {path.name: repeated(text)}, head)]
     files = {}
     for name, part in zip(parts[1::2], parts[2::2]):
+        if len(names := name.decode().strip().split(" => ")) > 1:
+            files.update({it: side(part, at) for at, it in enumerate(names)})
+            continue
         name, _, how = name.decode().strip().partition(" ")
         how, _, times = how.partition("* ")
         held = bytes.fromhex(part.decode()) if how == "hex" else repeated(part)

@@ -26,7 +26,7 @@ f:
 message: .asciz "hello"
 .data
 counter: .word 3
-#--- short.txt
+#--- short.txt => base.txt
 
 exe:     file format elf64-littleriscv
 
@@ -34,42 +34,20 @@ exe:     file format elf64-littleriscv
 Disassembly of section .text:
 
 0000000000010000 <_start>:
-   10000:	4505                	li	a0,1
+   10000:	4505                	{{li => c.li}}	a0,1
    10002:	00001597          	auipc	a1,0x1
-   10006:	ffe58593          	add	a1,a1,-2 # 11000 <message>
+   10006:	ffe58593          	{{add => addi}}	a1,a1,-2 # 11000 <message>
    1000a:	00002617          	auipc	a2,0x2
    1000e:	ff662603          	lw	a2,-10(a2) # 12000 <counter>
-   10012:	00e000ef          	jal	10020 <f>
-   10016:	d56d                	beqz	a0,10000 <_start>
-   10018:	05d00893          	li	a7,93
+   10012:	00e000ef          	jal	{{10020 <f> => ra,10020 <f>}}
+   10016:	d56d                	{{beqz => c.beqz}}	a0,10000 <_start>
+   10018:	05d00893          	{{li	a7,93 => addi	a7,zero,93}}
    1001c:	00000073          	ecall
 
 0000000000010020 <f>:
-   10020:	157d                	add	a0,a0,-1
-   10022:	fd7d                	bnez	a0,10020 <f>
-   10024:	8082                	ret
-#--- base.txt
-
-exe:     file format elf64-littleriscv
-
-
-Disassembly of section .text:
-
-0000000000010000 <_start>:
-   10000:	4505                	c.li	a0,1
-   10002:	00001597          	auipc	a1,0x1
-   10006:	ffe58593          	addi	a1,a1,-2 # 11000 <message>
-   1000a:	00002617          	auipc	a2,0x2
-   1000e:	ff662603          	lw	a2,-10(a2) # 12000 <counter>
-   10012:	00e000ef          	jal	ra,10020 <f>
-   10016:	d56d                	c.beqz	a0,10000 <_start>
-   10018:	05d00893          	addi	a7,zero,93
-   1001c:	00000073          	ecall
-
-0000000000010020 <f>:
-   10020:	157d                	c.addi	a0,-1
-   10022:	fd7d                	c.bnez	a0,10020 <f>
-   10024:	8082                	c.jr	ra
+   10020:	157d                	{{add	a0,a0,-1 => c.addi	a0,-1}}
+   10022:	fd7d                	{{bnez => c.bnez}}	a0,10020 <f>
+   10024:	8082                	{{ret => c.jr	ra}}
 #--- bare.txt
 
 exe:     file format elf64-littleriscv

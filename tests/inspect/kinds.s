@@ -21,18 +21,7 @@
 0000000000000012 T pro
 0000000000000016 t tl
 #--- elf.txt
-ELF Header:
-  Magic:   7f 45 4c 46 02 01 01 00 00 00 00 00 00 00 00 00 
-  Class:                             ELF64
-  Data:                              2's complement, little endian
-  Version:                           1 (current)
-  OS/ABI:                            UNIX - System V
-  ABI Version:                       0
-  Type:                              REL (Relocatable file)
-  Machine:                           RISC-V
-  Version:                           0x1
-  Entry point address:               0x0
-  Start of program headers:          0 (bytes into file)
+{{elf_object.txt}}
   Start of section headers:          1328 (bytes into file)
   Flags:                             0x1, RVC, soft-float ABI
   Size of this header:               64 (bytes)
@@ -64,11 +53,7 @@ Section Headers:
   [17] .symtab           SYMTAB          0000000000000000 0000a0 0002d0 18     18  25  8
   [18] .strtab           STRTAB          0000000000000000 000370 00004d 00      0   0  1
   [19] .shstrtab         STRTAB          0000000000000000 000498 000095 00      0   0  1
-Key to Flags:
-  W (write), A (alloc), X (execute), M (merge), S (strings), I (info),
-  L (link order), O (extra OS processing required), G (group), T (TLS),
-  C (compressed), x (unknown), o (OS specific), E (exclude),
-  D (mbind), p (processor specific)
+{{elf_flags.txt}}
 
 There are no program headers in this file.
 

@@ -28,18 +28,7 @@
 0000000000000000 r b8
 0000000000000000 d b9
 #--- elf.txt
-ELF Header:
-  Magic:   7f 45 4c 46 02 01 01 00 00 00 00 00 00 00 00 00 
-  Class:                             ELF64
-  Data:                              2's complement, little endian
-  Version:                           1 (current)
-  OS/ABI:                            UNIX - System V
-  ABI Version:                       0
-  Type:                              REL (Relocatable file)
-  Machine:                           RISC-V
-  Version:                           0x1
-  Entry point address:               0x0
-  Start of program headers:          0 (bytes into file)
+{{elf_object.txt}}
   Start of section headers:          1336 (bytes into file)
   Flags:                             0x1, RVC, soft-float ABI
   Size of this header:               64 (bytes)
@@ -73,11 +62,7 @@ Section Headers:
   [19] .symtab           SYMTAB          0000000000000000 0000a0 000378 18     20  31  8
   [20] .strtab           STRTAB          0000000000000000 000418 00005a 00      0   0  1
   [21] .shstrtab         STRTAB          0000000000000000 000490 0000a5 00      0   0  1
-Key to Flags:
-  W (write), A (alloc), X (execute), M (merge), S (strings), I (info),
-  L (link order), O (extra OS processing required), G (group), T (TLS),
-  C (compressed), x (unknown), o (OS specific), E (exclude),
-  D (mbind), p (processor specific)
+{{elf_flags.txt}}
 
 There are no program headers in this file.
 

@@ -25,13 +25,7 @@
 00000000000100d2 r msg
 00000000000110d7 D table
 #--- elf.txt
-ELF Header:
-  Magic:   7f 45 4c 46 02 01 01 00 00 00 00 00 00 00 00 00 
-  Class:                             ELF64
-  Data:                              2's complement, little endian
-  Version:                           1 (current)
-  OS/ABI:                            UNIX - System V
-  ABI Version:                       0
+{{elf_ident.txt}}
   Type:                              EXEC (Executable file)
   Machine:                           RISC-V
   Version:                           0x1
@@ -58,11 +52,7 @@ Section Headers:
   [ 7] .symtab           SYMTAB          0000000000000000 000358 000240 18      8  12  8
   [ 8] .strtab           STRTAB          0000000000000000 000598 00007c 00      0   0  1
   [ 9] .shstrtab         STRTAB          0000000000000000 000614 000044 00      0   0  1
-Key to Flags:
-  W (write), A (alloc), X (execute), M (merge), S (strings), I (info),
-  L (link order), O (extra OS processing required), G (group), T (TLS),
-  C (compressed), x (unknown), o (OS specific), E (exclude),
-  D (mbind), p (processor specific)
+{{elf_flags.txt}}
 
 Program Headers:
   Type           Offset   VirtAddr           PhysAddr           FileSiz  MemSiz   Flg Align

@@ -69,18 +69,7 @@ ext: .word 1, 2
 0000000000000000 D ext
 0000000000000000 W maybe
 #--- elf-a.txt
-ELF Header:
-  Magic:   7f 45 4c 46 02 01 01 00 00 00 00 00 00 00 00 00 
-  Class:                             ELF64
-  Data:                              2's complement, little endian
-  Version:                           1 (current)
-  OS/ABI:                            UNIX - System V
-  ABI Version:                       0
-  Type:                              REL (Relocatable file)
-  Machine:                           RISC-V
-  Version:                           0x1
-  Entry point address:               0x0
-  Start of program headers:          0 (bytes into file)
+{{elf_object.txt}}
   Start of section headers:          1144 (bytes into file)
   Flags:                             0x0
   Size of this header:               64 (bytes)
@@ -103,11 +92,7 @@ Section Headers:
   [ 8] .symtab           SYMTAB          0000000000000000 000340 0000c0 18      9   5  8
   [ 9] .strtab           STRTAB          0000000000000000 000400 00001e 00      0   0  1
   [10] .shstrtab         STRTAB          0000000000000000 000420 000053 00      0   0  1
-Key to Flags:
-  W (write), A (alloc), X (execute), M (merge), S (strings), I (info),
-  L (link order), O (extra OS processing required), G (group), T (TLS),
-  C (compressed), x (unknown), o (OS specific), E (exclude),
-  D (mbind), p (processor specific)
+{{elf_flags.txt}}
 
 There are no program headers in this file.
 
@@ -137,18 +122,7 @@ Symbol table '.symtab' contains 8 entries:
      6: 0000000000000000     0 NOTYPE  GLOBAL DEFAULT    3 table
      7: 0000000000000000     0 NOTYPE  GLOBAL DEFAULT  UND ext
 #--- elf-b.txt
-ELF Header:
-  Magic:   7f 45 4c 46 02 01 01 00 00 00 00 00 00 00 00 00 
-  Class:                             ELF64
-  Data:                              2's complement, little endian
-  Version:                           1 (current)
-  OS/ABI:                            UNIX - System V
-  ABI Version:                       0
-  Type:                              REL (Relocatable file)
-  Machine:                           RISC-V
-  Version:                           0x1
-  Entry point address:               0x0
-  Start of program headers:          0 (bytes into file)
+{{elf_object.txt}}
   Start of section headers:          384 (bytes into file)
   Flags:                             0x1, RVC, soft-float ABI
   Size of this header:               64 (bytes)
@@ -167,11 +141,7 @@ Section Headers:
   [ 4] .symtab           SYMTAB          0000000000000000 0000d0 000060 18      5   1  8
   [ 5] .strtab           STRTAB          0000000000000000 000130 000011 00      0   0  1
   [ 6] .shstrtab         STRTAB          0000000000000000 000148 000031 00      0   0  1
-Key to Flags:
-  W (write), A (alloc), X (execute), M (merge), S (strings), I (info),
-  L (link order), O (extra OS processing required), G (group), T (TLS),
-  C (compressed), x (unknown), o (OS specific), E (exclude),
-  D (mbind), p (processor specific)
+{{elf_flags.txt}}
 
 There are no program headers in this file.
 
@@ -198,13 +168,7 @@ Symbol table '.symtab' contains 4 entries:
 0000000000010020 T maybe
 0000000000012000 D table
 #--- elf-exe.txt
-ELF Header:
-  Magic:   7f 45 4c 46 02 01 01 00 00 00 00 00 00 00 00 00 
-  Class:                             ELF64
-  Data:                              2's complement, little endian
-  Version:                           1 (current)
-  OS/ABI:                            UNIX - System V
-  ABI Version:                       0
+{{elf_ident.txt}}
   Type:                              EXEC (Executable file)
   Machine:                           RISC-V
   Version:                           0x1
