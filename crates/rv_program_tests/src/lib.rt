@@ -1,7 +1,9 @@
-//! What the program does where the system fails, and the lines that it writes of what no source makes. What its words
-//! do else is said by the cases in `tests/`.
+//! What the program does where the system fails, the lines that it writes of what no source makes, and their colours on
+//! a terminal. What its words do else is said by the cases in `tests/`.
 #![tactic(auto)]
 
+#[cfg(test)]
+mod colours;
 #[cfg(test)]
 mod failures;
 #[cfg(test)]

@@ -1,3 +1,5 @@
+//! Which words of listings, traces and sources have which colour.
+
 use rv_paint::painted;
 use std::test::Fail;
 
