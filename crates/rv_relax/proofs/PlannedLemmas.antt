@@ -8,7 +8,7 @@ use Rattle.rv_layout_laws.specs.Alignment.{aligned}
 use Rattle.rv_object.specs.Object.{Relocation}
 use Rattle.rv_object.specs.Padding.{no_operations}
 use Rattle.rv_object_laws.specs.Moves.{Move, alignment_of, full_padding, plan}
-use Rattle.rv_relax.specs.declared.piece.Piece.{Piece}
+use Rattle.rv_relax.specs.Pieces.{Piece}
 use Rattle.rv_relax.specs.Paddings.{move_of, is_next, are_in_order, is_next_alignment, are_alignments}
 use Rattle.rv_object.specs.declared.relocation.Relocation.{Relocation as DeclaredRelocation}
 use Rattle.rv_object.specs.Parts.{relocation_of}
@@ -49,9 +49,9 @@ least_of start gone r = aligned (alignment_of r) (start + (r.place - gone)) - (s
 -- a padding as the plan has it
 pub planned : (start gone past least : ℕ) (r : Relocation) (rs : List Relocation) (ps : List Piece) (whole : List Move) → least ≡ least_of start gone r
     → map move_of ps ++ plan start gone (r ∷ rs) ≡ whole
-    → map move_of (ps ++ record { place = r.place; gone = past; full = full_padding r; left = least - least % 2 } ∷ []) ++ plan start (gone + (full_padding r - least)) rs ≡ whole
+    → map move_of (ps ++ record { place = r.place; gone = past; full = full_padding r; left = least - least % 2; detail = tt } ∷ []) ++ plan start (gone + (full_padding r - least)) rs ≡ whole
 planned start gone past least r rs ps whole is so_far =
-    ap (λ l. l ++ plan start (gone + (full_padding r - least)) rs) (map_push move_of ps (record { place = r.place; gone = past; full = full_padding r; left = least - least % 2 }))
+    ap (λ l. l ++ plan start (gone + (full_padding r - least)) rs) (map_push move_of ps (record { place = r.place; gone = past; full = full_padding r; left = least - least % 2; detail = tt }))
     ∙ append_assoc (map move_of ps) (record { place = r.place; full = full_padding r; text = no_operations (least - least % 2) } ∷ []) (plan start (gone + (full_padding r - least)) rs)
     ∙ ap (λ t. map move_of ps ++ (record { place = r.place; full = full_padding r; text = t } ∷ plan start (gone + (full_padding r - least)) rs)) (same_even least)
     ∙ ap (λ n. map move_of ps ++ (record { place = r.place; full = full_padding r; text = no_operations n } ∷ plan start (gone + (full_padding r - n)) rs)) is
@@ -61,12 +61,12 @@ planned start gone past least r rs ps whole is so_far =
 pub one_behind : (stop past least : ℕ) (r : Relocation) (ps : List Piece) → IsNextAlignment stop r
     → ((more : List Piece) → are_in_order stop past more ≡ true → are_in_order 0 0 (ps ++ more) ≡ true)
     → (more : List Piece) → are_in_order (r.place + full_padding r) (past + (full_padding r - (least - least % 2))) more ≡ true
-    → are_in_order 0 0 ((ps ++ record { place = r.place; gone = past; full = full_padding r; left = least - least % 2 } ∷ []) ++ more) ≡ true
+    → are_in_order 0 0 ((ps ++ record { place = r.place; gone = past; full = full_padding r; left = least - least % 2; detail = tt } ∷ []) ++ more) ≡ true
 one_behind stop past least r ps one so_far more h =
     ap (are_in_order 0 0) (append_assoc ps (p ∷ []) more) ∙ so_far (p ∷ more) (and_from (is_next stop past p) (are_in_order (r.place + full_padding r) (past + (full_padding r - (least - least % 2))) more) here h)
   where
     p : Piece
-    p = record { place = r.place; gone = past; full = full_padding r; left = least - least % 2 }
+    p = record { place = r.place; gone = past; full = full_padding r; left = least - least % 2; detail = tt }
 
     here : is_next stop past p ≡ true
     here =

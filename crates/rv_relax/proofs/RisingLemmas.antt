@@ -3,7 +3,7 @@
 use Rattle.std.proofs.Common.{◌≡◌, ℕ, ◌+◌, ◌-◌, ◌≤◌, min, max, true, List, [], ◌∷◌, length, map, refl, arith}
 use Rattle.rv_object.specs.Padding.{no_operations}
 use Rattle.rv_object_laws.specs.Moves.{Move, dropped, new_offset}
-use Rattle.rv_relax.specs.declared.piece.Piece.{Piece}
+use Rattle.rv_relax.specs.Pieces.{Piece}
 use Rattle.rv_relax.specs.declared.section_plan.SectionPlan.{SectionPlan}
 use Rattle.rv_relax.specs.Paddings.{move_of, are_in_order}
 use Rattle.rv_relax.specs.Plan.{moves_of}

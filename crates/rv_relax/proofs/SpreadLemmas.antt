@@ -15,10 +15,9 @@ use Rattle.rv_layout_laws.specs.declared.site.SiteKind.TheVariants.{Call, Paddin
 use Rattle.rv_layout_laws.specs.Offsets.{offset}
 use Rattle.rv_layout_laws.specs.Calls.{bytes_of, dropped, is_call, new_offset, site_at, InOrder}
 use Rattle.rv_layout_laws.specs.Paddings.{IsLaid, IsLeastPadding, IsRelaxedText}
-use Rattle.rv_relax.specs.declared.piece.Piece.{Piece}
 use Rattle.rv_relax.specs.Padded.{are_roomy, inner, joined, kept_at, padded, pads}
 use Rattle.rv_relax.specs.Passes.{drops}
-use Rattle.rv_relax.specs.Pieces.{pieces_of}
+use Rattle.rv_relax.specs.Pieces.{Piece, pieces_of}
 use Rattle.rv_relax.specs.Placed.{is_aligning}
 use Rattle.rv_relax.proofs.AlignedLemmas.{none_left, some_left}
 use Rattle.rv_relax.proofs.DroppingLemmas.{dropped_before_site, later, zeros_site}
@@ -233,7 +232,7 @@ module _ (starts : List Bool) (sites : List Site) (sized : List ℕ) (i : ℕ) (
         ∙ h
 
     abbrev piece : Piece
-    piece = record { place = site.offset - gaps; gone = gone; full = full; left = left }
+    piece = record { place = site.offset - gaps; gone = gone; full = full; left = left; detail = tt }
 
     pub one_piece : (found new all : List Piece) → start ≡ false → new ≡ found ++ piece ∷ []
         → found ++ pieces_from dropped gaps gone (drop i starts) (drop i sites) (drop i sized) ≡ all → new ++ pieces_from (dropped + cut) gaps (gone + cut) T S K ≡ all
@@ -244,8 +243,8 @@ module _ (starts : List Bool) (sites : List Site) (sized : List ℕ) (i : ℕ) (
         (ap (λ l. found ++ l)
         (from_here (pieces_from dropped gaps gone)
         ∙ ap (λ b. pieces_from dropped gaps gone (b ∷ T) (site ∷ S) (size ∷ K)) is
-        ∙ ap (λ n. record { place = site.offset - gaps; gone = gone; full = n; left = kept_at site.kind size (site.offset - dropped) } ∷ pieces_from next gaps (gone + (bytes_of site.kind - kept_at site.kind size (site.offset - dropped))) T S K) (sym is_full)
-        ∙ ap (λ n. record { place = site.offset - gaps; gone = gone; full = full; left = n } ∷ pieces_from next gaps (gone + (bytes_of site.kind - kept_at site.kind size (site.offset - dropped))) T S K) (sym is_left)
+        ∙ ap (λ n. record { place = site.offset - gaps; gone = gone; full = n; left = kept_at site.kind size (site.offset - dropped); detail = tt } ∷ pieces_from next gaps (gone + (bytes_of site.kind - kept_at site.kind size (site.offset - dropped))) T S K) (sym is_full)
+        ∙ ap (λ n. record { place = site.offset - gaps; gone = gone; full = full; left = n; detail = tt } ∷ pieces_from next gaps (gone + (bytes_of site.kind - kept_at site.kind size (site.offset - dropped))) T S K) (sym is_left)
         ∙ ap (λ n. piece ∷ pieces_from next gaps n T S K) more
         ∙ ap (λ n. piece ∷ pieces_from n gaps (gone + cut) T S K) is_next))
         ∙ h)

@@ -5,15 +5,14 @@ ghost use Rattle.rv_object_laws.specs.Moves.{kept};
 ghost use Rattle.rv_relax.specs.Paddings.{are_in_order, move_of};
 ghost use Rattle.rv_shorten.specs.Bytes.{left_bytes};
 
-use crate::piece::Piece;
 use rv_object::put_no_operations;
-use rv_shorten::LeftBytes;
+use rv_shorten::{LeftBytes, Piece};
 use std::alloc::AllocError;
 
 /// Adds what is kept of a section's bytes.
 pub(crate) fn put_kept(
     out: &mut Vec<u8>,
-    paddings: &[Piece],
+    paddings: &[Piece<()>],
     mut bytes: LeftBytes<'_>,
 ) -> Result<(), AllocError>
     requires { are_in_order 0 0 paddings.now ≡ true }

@@ -8,16 +8,17 @@ ghost use Rattle.rv_layout_laws.specs.Calls.{calls, is_call as is_call_site, new
 ghost use Rattle.rv_layout_laws.specs.Paddings.{IsRelaxedText};
 ghost use Rattle.rv_relax.specs.Padded.{alignments, are_roomy, inner, joined, padded, pads as pads_of};
 ghost use Rattle.rv_relax.specs.Passes.{IsInput, are_laid};
-ghost use Rattle.rv_relax.specs.Pieces.{are_pieces, pieces_of};
+ghost use Rattle.rv_shorten.specs.Pieces.{are_pieces};
+ghost use Rattle.rv_relax.specs.Pieces.{pieces_of};
 ghost use Rattle.rv_relax.specs.Sizes.{IsPlanned, call_sizes as sizes_of};
 
 use crate::layout::{Layout, laid_out};
 use crate::passes::settle;
-use crate::piece::Piece;
-use crate::pieces::{dropped_before, have_room};
+use crate::pieces::have_room;
 use crate::placed::Placed;
 use crate::places::{is_call, targets, whole};
 use rv_layout_laws::{Site, SiteKind};
+use rv_shorten::{Piece, dropped_before};
 use std::alloc::{AllocError, Global};
 
 /// Adds what is kept of a site, if it is a call.
@@ -99,7 +100,7 @@ pub struct Plan<'p> {
     /// The bytes that are kept of each alignment.
     pads: Vec<u32>,
     /// The calls and alignments, where the sections' bytes stand end to end.
-    pieces: Vec<Piece>,
+    pieces: Vec<Piece<()>>,
     /// How many passes over the sites there were, the last of which shortened nothing; none where calls are not relaxed.
     rounds: usize,
     /// The sites stand one behind the other, and of each no more is kept than there is.

@@ -10,9 +10,9 @@ ghost use Rattle.rv_relax.specs.Pieces.{pieces_of};
 ghost use Rattle.rv_relax.specs.Placed.{is_aligning};
 
 use crate::alignments::least_padding;
-use crate::piece::Piece;
 use crate::places::{is_call, whole_size};
 use rv_layout_laws::{Site, SiteKind};
+use rv_shorten::Piece;
 use std::alloc::{AllocError, Global};
 
 /// What is kept of a site that begins at a new offset: of a call its size, of a padding the least that aligns its end.
@@ -42,7 +42,7 @@ fn put_pad(pads: &mut Vec<u32>, kind: &SiteKind, kept: u32) -> Result<(), AllocE
 #[derive(Drop)]
 pub(crate) struct Layout {
     /// The calls and alignments, in the order of the text.
-    pub pieces: Vec<Piece>,
+    pub pieces: Vec<Piece<()>>,
     /// What is kept of each alignment, in the order of the text.
     pub pads: Vec<u32>,
 }
@@ -83,6 +83,7 @@ pub(crate) fn laid_out(
             gone,
             full,
             left,
+            detail: (),
         })?;
         put_pad(&mut pads, &site.kind, left)?;
         gone += cut;

@@ -40,7 +40,6 @@ mod layout;
 mod losses;
 mod paddings;
 mod passes;
-mod piece;
 mod pieces;
 mod placed;
 mod places;

@@ -8,9 +8,9 @@ ghost use Rattle.rv_object.specs.Padding.{operations_in};
 ghost use Rattle.rv_object_laws.specs.Moves.{lost as lost_of};
 ghost use Rattle.rv_relax.specs.Paddings.{are_in_order, lost_sums, move_of, sum_of_first};
 
-use crate::piece::Piece;
-use crate::pieces::{count_before, count_ended};
+use crate::pieces::count_ended;
 use rv_object::operations;
+use rv_shorten::{Piece, count_before};
 use std::alloc::{AllocError, Global};
 
 /// The instructions that a padding loses of which so many bytes are left.
@@ -21,7 +21,7 @@ fn loses(full: u32, left: u32) -> u64
 }
 
 /// Of each padding, the instructions that it and those before it lose.
-pub(crate) fn sums(alloc: Global, paddings: &[Piece]) -> Result<Vec<u64>, AllocError>
+pub(crate) fn sums(alloc: Global, paddings: &[Piece<()>]) -> Result<Vec<u64>, AllocError>
     requires { are_in_order 0 0 paddings.now ≡ true }
     ensures { IfOk result (λ sums. sums.items ≡ lost_sums 0 paddings.now) }
 {
@@ -46,7 +46,7 @@ fn lost_by(sums: &[u64], count: usize) -> u64
 }
 
 /// The instructions that the paddings within a range of bytes lose.
-pub(crate) fn lost(paddings: &[Piece], sums: &[u64], offset: u64, bytes: u32) -> u64
+pub(crate) fn lost(paddings: &[Piece<()>], sums: &[u64], offset: u64, bytes: u32) -> u64
     requires order { are_in_order 0 0 paddings.now ≡ true }
     requires sums { sums.now ≡ lost_sums 0 paddings.now }
     ensures { result ≡ lost_of (map move_of paddings.now) offset bytes }

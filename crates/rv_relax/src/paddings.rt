@@ -6,8 +6,8 @@ ghost use Rattle.rv_object_laws.specs.Moves.{plan};
 ghost use Rattle.rv_relax.specs.Paddings.{are_alignments, are_in_order, move_of};
 
 use crate::alignments::{asked_alignment, full_padding, least_padding};
-use crate::piece::Piece;
 use rv_object::Relocation;
+use rv_shorten::Piece;
 use std::alloc::{AllocError, Global};
 
 /// What is kept of the paddings in a section that starts at an address; the alignments stand from the last to the first.
@@ -15,7 +15,7 @@ pub(crate) fn paddings(
     alloc: Global,
     alignments: &[Relocation],
     start: u64,
-) -> Result<Vec<Piece>, AllocError>
+) -> Result<Vec<Piece<()>>, AllocError>
     requires { are_alignments 0 (reverse (map relocation_of alignments.now)) ≡ true }
     ensures moves { IfOk result (λ v. map move_of v.items
         ≡ plan start 0 (reverse (map relocation_of alignments.now))) }
@@ -36,6 +36,7 @@ pub(crate) fn paddings(
             gone: dropped,
             full,
             left,
+            detail: (),
         })?;
         gone += u64::from(full.saturating_sub(least));
         dropped += u64::from(full.saturating_sub(left));

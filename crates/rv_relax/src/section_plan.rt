@@ -12,15 +12,14 @@ use crate::alignments::alignments;
 use crate::bytes::put_kept;
 use crate::losses::{lost, sums};
 use crate::paddings::paddings;
-use crate::piece::Piece;
-use crate::pieces::{dropped_before, have_room};
-use rv_shorten::{LeftBytes, ShortSection};
+use crate::pieces::have_room;
+use rv_shorten::{LeftBytes, Piece, ShortSection, dropped_before};
 use std::alloc::{AllocError, Global};
 
 /// The paddings of a section that starts at an address: what is kept of each.
 #[derive(Drop)]
 pub struct SectionPlan {
-    paddings: Vec<Piece>,
+    paddings: Vec<Piece<()>>,
     /// Of each, the instructions that it and those before it lose.
     sums: Vec<u64>,
     /// The paddings stand one behind the other.

@@ -7,10 +7,10 @@ use Rattle.std.proofs.lemmas.Bool.{eq-eqb, ne_eqb, ltb-true, ltb-false}
 use Rattle.rv_isa.specs.declared.kind.Kind.{Kind}
 use Rattle.rv_isa.specs.declared.kind.Kind.TheVariants as kinds
 use Rattle.rv_object_laws.specs.Moves.{Move}
-use Rattle.rv_shorten.specs.declared.cut.Cut.{Cut}
-use Rattle.rv_shorten.specs.Cut.{move_of, are_in_order}
+use Rattle.rv_shorten.specs.Cut.{Cut, move_of, are_in_order}
 use Rattle.rv_shorten.specs.Cutting.{cut_at, kind_left}
-use Rattle.rv_shorten.proofs.OrderLemmas.{length_left, rising}
+use Rattle.rv_shorten.proofs.OrderLemmas.{length_left, as_pieces}
+use Rattle.rv_shorten.proofs.PiecedLemmas.{rising}
 
 -- none where all places differ
 pub none_at : (place : ℕ) (cs : List Cut) → ((k : ℕ) (d : Cut) → k < length cs → (slice_index_or cs k d).place ≢ place) → cut_at (map move_of cs) place ≡ None
@@ -31,8 +31,8 @@ one_at place (c ∷ cs) (suc k) d inside low is =
     ∙ one_at place cs k d (omega arith) (λ j e l r. low (suc j) e (omega arith) (omega arith)) is
 
 -- the kind of what is left
-pub kind_of_left : (kind : Kind) (c : Cut) → kind_left kind (Some (move_of c)) ≡ cond c.compressed kinds.RvcJump kinds.Jal
-kind_of_left kind c = ap (λ n. cond (n == 2) kinds.RvcJump kinds.Jal) (length_left c) ∙ by c.compressed
+pub kind_of_left : (kind : Kind) (c : Cut) → kind_left kind (Some (move_of c)) ≡ cond (c.left == 2) kinds.RvcJump kinds.Jal
+kind_of_left kind c = ap (λ n. cond (n == 2) kinds.RvcJump kinds.Jal) (length_left c) ∙ by (c.left == 2)
   where
     by : (b : Bool) → cond (cond b 2 4 == 2) kinds.RvcJump kinds.Jal ≡ cond b kinds.RvcJump kinds.Jal
     by true = refl
@@ -48,7 +48,7 @@ absent place cs k order low high = none_at place cs (λ j d inside. by j d insid
     by j d inside false before behind =
         let le : k ≤ j = behind refl in
         let more = high d (omega arith) in
-        let rise = rising 0 0 cs order k j d le inside in
+        let rise = rising 0 0 cs (as_pieces 0 0 cs order) k j d le inside in
         λ (same : (slice_index_or cs j d).place ≡ place). omega arith
 
 pub kept_kind : (kind : Kind) (b : Bool) (o : Option Move) → (b ≡ false) ⊎ (o ≡ None) → kind ≡ cond b (kind_left kind o) kind
@@ -56,7 +56,7 @@ kept_kind kind true o (inl is) = absurd (cc)
 kept_kind kind true o (inr is) = sym (ap (kind_left kind) is)
 kept_kind kind false o is = refl
 
-pub left_kind : (kind : Kind) (b : Bool) (o : Option Move) (c : Cut) → b ≡ true → o ≡ Some (move_of c) → cond c.compressed kinds.RvcJump kinds.Jal ≡ cond b (kind_left kind o) kind
+pub left_kind : (kind : Kind) (b : Bool) (o : Option Move) (c : Cut) → b ≡ true → o ≡ Some (move_of c) → cond (c.left == 2) kinds.RvcJump kinds.Jal ≡ cond b (kind_left kind o) kind
 left_kind kind true o c is at = sym (ap (kind_left kind) at ∙ kind_of_left kind c)
 left_kind kind false o c is at = absurd (cc)
 

@@ -1,3 +1,4 @@
+pub mod PiecedLemmas
 pub mod OrderLemmas
 pub mod LossesLemmas
 pub mod CutKindsLemmas

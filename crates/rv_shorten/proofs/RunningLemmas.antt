@@ -6,11 +6,10 @@ use Rattle.std.proofs.Math.Nat.{div-div-eq-div-mul, pow-suc}
 use Rattle.std.proofs.Math.Seq.{take-add, take-append-add, drop-append-add}
 use Rattle.std.proofs.lemmas.Nat.{shr-shr}
 use Rattle.std.proofs.lemmas.List.{append_assoc, append-nil, take-append-drop, take_at, drop-drop, length-append, nil_from_length}
-use Rattle.rv_shorten.specs.declared.cut.Cut.{Cut}
 use Rattle.rv_isa_laws.specs.Bytes.{little_endian}
 use Rattle.rv_object_laws.specs.Moves.{kept}
 use Rattle.rv_object_laws.specs.Shortened.{short_call}
-use Rattle.rv_shorten.specs.Cut.{left_of, move_of}
+use Rattle.rv_shorten.specs.Cut.{Cut, left_of, move_of}
 use Rattle.rv_shorten.specs.Cutting.{are_cuts}
 use Rattle.rv_shorten.specs.Bytes.{room_before}
 use Rattle.rv_shorten.proofs.ShiftsLemmas.{first_cut, length_kept_from}
@@ -64,8 +63,8 @@ kept_parts at n (c ∷ cs) bytes h few =
     let further : c.place + 8 - at ≡ n + (c.place + 8 - (at + n)) = omega (arith, one.from) in
     let front : take (c.place - at) bytes ≡ take n bytes ++ take (c.place - (at + n)) (drop n bytes) = ap (λ k. take k bytes) far ∙ take-add n (c.place - (at + n)) bytes in
     let back : drop (c.place + 8 - at) bytes ≡ drop (c.place + 8 - (at + n)) (drop n bytes) = ap (λ k. drop k bytes) further ∙ sym (drop-drop (c.place + 8 - (at + n)) n bytes) in
-    let behind = short_call (left_of c) c.link ++ kept (c.place + 8) (map move_of cs) (drop (c.place + 8 - (at + n)) (drop n bytes)) in
-    ap (λ l. take (c.place - at) bytes ++ (short_call (left_of c) c.link ++ kept (c.place + 8) (map move_of cs) l)) back
+    let behind = short_call c.left c.detail ++ kept (c.place + 8) (map move_of cs) (drop (c.place + 8 - (at + n)) (drop n bytes)) in
+    ap (λ l. take (c.place - at) bytes ++ (short_call c.left c.detail ++ kept (c.place + 8) (map move_of cs) l)) back
     ∙ ap (λ l. l ++ behind) front
     ∙ append_assoc (take n bytes) (take (c.place - (at + n)) (drop n bytes)) behind
 
@@ -99,7 +98,7 @@ run_taken word bytes at of_call of_section cs rest h low few one =
 
 -- a call that stands there begins
 pub call_begun : (word new bytes left at : ℕ) (c : Cut) (cs later : List Cut) (rest behind : List ℕ) → cs ≡ c ∷ later → are_cuts at (at + length rest) (map move_of cs) ≡ true
-    → bytes ≤ 0 → c.place ≤ at → left ≡ left_of c → little_endian (left_of c) new ≡ short_call (left_of c) c.link → behind ≡ drop 8 rest
+    → bytes ≤ 0 → c.place ≤ at → left ≡ left_of c → little_endian (left_of c) new ≡ short_call c.left c.detail → behind ≡ drop 8 rest
     → little_endian left new ++ kept (at + 8) (map move_of later) behind ≡ little_endian bytes word ++ kept at (map move_of cs) rest
 call_begun word new bytes left at c cs later rest behind parts h none here long is from =
     let one = first_cut at (at + length rest) (move_of c) (map move_of later) (sym (ap (λ l. are_cuts at (at + length rest) (map move_of l)) parts) ∙ h) in
@@ -109,10 +108,10 @@ call_begun word new bytes left at c cs later rest behind parts h none here long 
     let nothing : 0 ≡ bytes = omega arith in
     ap (λ n. little_endian n new ++ kept (at + 8) (map move_of later) behind) long
     ∙ ap (λ l. l ++ kept (at + 8) (map move_of later) behind) is
-    ∙ ap (λ l. short_call (left_of c) c.link ++ kept (at + 8) (map move_of later) l) from
-    ∙ ap (λ n. short_call (left_of c) c.link ++ kept (n + 8) (map move_of later) (drop 8 rest)) begins
-    ∙ ap (λ n. short_call (left_of c) c.link ++ kept (c.place + 8) (map move_of later) (drop n rest)) eight
-    ∙ ap (λ n. take n rest ++ (short_call (left_of c) c.link ++ kept (c.place + 8) (map move_of later) (drop (c.place + 8 - at) rest))) now
+    ∙ ap (λ l. short_call c.left c.detail ++ kept (at + 8) (map move_of later) l) from
+    ∙ ap (λ n. short_call c.left c.detail ++ kept (n + 8) (map move_of later) (drop 8 rest)) begins
+    ∙ ap (λ n. short_call c.left c.detail ++ kept (c.place + 8) (map move_of later) (drop n rest)) eight
+    ∙ ap (λ n. take n rest ++ (short_call c.left c.detail ++ kept (c.place + 8) (map move_of later) (drop (c.place + 8 - at) rest))) now
     ∙ ap (λ l. kept at (map move_of l) rest) (sym parts)
     ∙ ap (λ n. little_endian n word ++ kept at (map move_of cs) rest) nothing
 

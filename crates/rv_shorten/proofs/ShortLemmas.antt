@@ -11,8 +11,7 @@ use Rattle.rv_object.specs.Valid.{keeps_name, is_even, is_loaded_alone, fits_ins
 use Rattle.rv_object_laws.specs.Moves.{Move, new_offset, kept}
 use Rattle.rv_object_laws.specs.CallSites.{is_call}
 use Rattle.rv_object_laws.specs.Shortened.{shortened_contents}
-use Rattle.rv_shorten.specs.declared.cut.Cut.{Cut}
-use Rattle.rv_shorten.specs.Cut.{move_of}
+use Rattle.rv_shorten.specs.Cut.{Cut, move_of}
 use Rattle.rv_shorten.specs.Cutting.{are_cuts, IsClear, AreCuts, cut_kind, cut_relocation, cut_section}
 use Rattle.rv_shorten.proofs.CallKindsLemmas.{call_width}
 use Rattle.rv_shorten.proofs.ShiftsLemmas.{rising, stays_even, length_kept}

@@ -12,8 +12,7 @@ use Rattle.rv_object.specs.Valid.{fit_inside}
 use Rattle.rv_object_laws.specs.Moves.{Move, kept}
 use Rattle.rv_object_laws.specs.CallSites.{link_register}
 use Rattle.rv_object_laws.specs.Shortened.{empty_jump, empty_jal, short_call, shortened_contents}
-use Rattle.rv_shorten.specs.declared.cut.Cut.{Cut}
-use Rattle.rv_shorten.specs.Cut.{left_of, move_of, is_next, are_in_order}
+use Rattle.rv_shorten.specs.Cut.{Cut, left_of, move_of, is_next, are_in_order}
 use Rattle.rv_shorten.specs.Cutting.{are_cuts, AreCuts, cut_section, cut_sections, cut_object}
 use Rattle.rv_shorten.specs.Walk.{moves_of, cut_of, is_cut_site, cuts_of, gone_of, passed, passed_all, section_moves, object_moves, walked}
 use Rattle.rv_shorten.proofs.ShiftsLemmas.{first_cut, other_cuts}
@@ -24,6 +23,13 @@ short_same : (k link : ℕ) → short_call (cond (k == 2) 2 4) link ≡ short_ca
 short_same k link = by (k == 2)
   where
     by : (b : Bool) → cond (cond b 2 4 == 2) (little_endian 2 empty_jump) (little_endian 4 (empty_jal link)) ≡ cond b (little_endian 2 empty_jump) (little_endian 4 (empty_jal link))
+    by true = refl
+    by false = refl
+
+part_left : (k : ℕ) → ◌≡◌ {A = ℕ} (cond (k == 2) 2 4) (cond (cond (k == 2) 2 4 == 2) 2 4)
+part_left k = by (k == 2)
+  where
+    by : (b : Bool) → ◌≡◌ {A = ℕ} (cond b 2 4) (cond (cond b 2 4 == 2) 2 4)
     by true = refl
     by false = refl
 
@@ -82,16 +88,17 @@ next_behind size first gone bytes s k ss ks cs fits b = by (is_cut_site s k) b.a
         let from = one.from in
         let end : c.place + 8 < 2 ^ 64 = omega (arith, one.ends) in
         let here : is_next b.stop gone c ≡ true =
-        and_from (nat_le b.stop c.place) (nat_lt (c.place + 8) (2 ^ 64) && ((c.place % 2 == 0) && ((c.gone == gone) && nat_lt c.link 32))) (le-leb b.stop c.place from)
-        (and_from (nat_lt (c.place + 8) (2 ^ 64)) ((c.place % 2 == 0) && ((c.gone == gone) && nat_lt c.link 32)) (lt-ltb (c.place + 8) (2 ^ 64) end)
-        (and_from (c.place % 2 == 0) ((c.gone == gone) && nat_lt c.link 32) (eq-eqb (c.place % 2) 0 one.even)
-        (and_from (c.gone == gone) (nat_lt c.link 32) (eq-eqb gone gone refl) (lt-ltb c.link 32 (few_links bytes (s.offset - first)))))) in
+        and_from (nat_le b.stop c.place) (nat_lt (c.place + 8) (2 ^ 64) && ((c.place % 2 == 0) && ((c.gone == gone) && (nat_lt c.detail 32 && ((c.full == 8) && (c.left == left_of c)))))) (le-leb b.stop c.place from)
+        (and_from (nat_lt (c.place + 8) (2 ^ 64)) ((c.place % 2 == 0) && ((c.gone == gone) && (nat_lt c.detail 32 && ((c.full == 8) && (c.left == left_of c))))) (lt-ltb (c.place + 8) (2 ^ 64) end)
+        (and_from (c.place % 2 == 0) ((c.gone == gone) && (nat_lt c.detail 32 && ((c.full == 8) && (c.left == left_of c)))) (eq-eqb (c.place % 2) 0 one.even)
+        (and_from (c.gone == gone) (nat_lt c.detail 32 && ((c.full == 8) && (c.left == left_of c))) (eq-eqb gone gone refl)
+        (and_from (nat_lt c.detail 32) (c.left == left_of c) (lt-ltb c.detail 32 (few_links bytes (s.offset - first))) (eq-eqb c.left (left_of c) (part_left k)))))) in
         record {
           stop = c.place + 8;
           ahead = other_cuts b.stop size (move_at first bytes s k) rest h;
           low = omega arith;
           order = λ more after. ap (are_in_order 0 0) (append_assoc cs (c ∷ []) more)
-              ∙ b.order (c ∷ more) (and_from (is_next b.stop gone c) (are_in_order (c.place + 8) (gone + (8 - left_of c)) more) here after);
+              ∙ b.order (c ∷ more) (and_from (is_next b.stop gone c) (are_in_order (c.place + 8) (gone + (8 - c.left)) more) here after);
         }
     by false h = record {
       stop = b.stop;

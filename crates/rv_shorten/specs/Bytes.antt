@@ -5,8 +5,7 @@ use Rattle.rv_isa_laws.specs.Bytes.{little_endian}
 use Rattle.rv_object_laws.specs.Moves.{kept}
 use Rattle.rv_shorten.specs.declared.bytes.LeftBytes.{LeftBytes}
 use Rattle.rv_shorten.specs.declared.bytes.Run.{Run}
-use Rattle.rv_shorten.specs.declared.cut.Cut.{Cut}
-use Rattle.rv_shorten.specs.Cut.{move_of}
+use Rattle.rv_shorten.specs.Cut.{Cut, move_of}
 
 unfoldable pub left_bytes : LeftBytes → List ℕ
 left_bytes b =

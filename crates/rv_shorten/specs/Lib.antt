@@ -1,3 +1,4 @@
+pub mod Pieces
 pub mod Cut
 pub mod Cutting
 pub mod Bytes

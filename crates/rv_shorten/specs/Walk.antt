@@ -8,7 +8,7 @@ use Rattle.rv_object_laws.specs.Moves.{Move}
 use Rattle.rv_object_laws.specs.Inputs.{goes_to_text}
 use Rattle.rv_object_laws.specs.CallSites.{link_register}
 use Rattle.rv_object_laws.specs.Shortened.{short_call}
-use Rattle.rv_shorten.specs.declared.cut.Cut.{Cut}
+use Rattle.rv_shorten.specs.Cut.{Cut}
 use Rattle.rv_shorten.specs.Cutting.{cut_object, AllCut}
 
 -- the offset of the byte after a site: after the padding at its start, a section begins there
@@ -84,8 +84,9 @@ abbrev pub cut_of : (place gone : ℕ) → List ℕ → ℕ → Cut
 cut_of place gone stored k = record {
   place = place;
   gone = gone;
-  compressed = k == 2;
-  link = link_register stored place;
+  full = 8;
+  left = if k == 2 then 2 else 4;
+  detail = link_register stored place;
 }
 
 abbrev pub is_cut_site : Site → ℕ → Bool

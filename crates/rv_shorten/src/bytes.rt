@@ -50,11 +50,18 @@ pub struct LeftBytes<'s> {
     ghost within: { IsTrue (are_cuts at (at + length rest.now) (map move_of cuts.now)) },
 }
 
+/// The bytes that are left of a call.
+fn left_of(cut: &Cut) -> u64
+    ensures { result ≡ left_of cut.now }
+{
+    if cut.left == 2 { 2 } else { 4 }
+}
+
 /// What is left of a call, as a number: `c.j` or `jal` with an empty field.
 fn word_of(cut: &Cut) -> u64
-    ensures { little_endian (left_of cut.now) result ≡ short_call (left_of cut.now) (cut.now).link }
+    ensures { little_endian (left_of cut.now) result ≡ short_call (cut.now).left (cut.now).detail }
 {
-    if cut.compressed {
+    if cut.left == 2 {
         return u64::from(write(Compressed::J { offset: 0 }));
     }
     let jal = encode(Inst::Jal(JType {
@@ -62,7 +69,7 @@ fn word_of(cut: &Cut) -> u64
         rd: Reg::from_low_bits(0),
     }));
     // the register that it links stands from bit 7 on
-    u64::from(jal) + u64::from(cut.link) * 128
+    u64::from(jal) + u64::from(cut.detail) * 128
 }
 
 /// Adds the low bytes of a number.
@@ -186,7 +193,7 @@ impl<'s> LeftBytes<'s> {
         let (_, rest) = self.rest.split_at(8);
         *self = LeftBytes {
             word: word_of(cut),
-            bytes: cut.left(),
+            bytes: left_of(cut),
             cuts: later,
             at: self.at + 8,
             rest,

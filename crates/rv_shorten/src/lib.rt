@@ -6,8 +6,8 @@
 //!
 //! The objects are lent, and nothing of them is copied: [`ShortObject`] and [`ShortSection`] tell what becomes of a relocation,
 //! a symbol or a row when they are asked, and [`LeftBytes`] gives the bytes that are left, from the front. So a byte moves once,
-//! when the link takes it into its program. What is cut of a section is a table by old offset, and an offset is looked up in it
-//! by halves.
+//! when the link takes it into its program. What is cut of a section is a table by old offset, each row a
+//! [`Piece`], and an offset is looked up in it by halves. `rv_relax` has such tables of paddings.
 //!
 //! It must not know how the family is found, nor addresses.
 //!
@@ -26,6 +26,8 @@ mod lent;
 mod object;
 mod objects;
 mod offsets;
+mod piece;
+mod pieces;
 mod relocations;
 mod section;
 mod sites;
@@ -35,6 +37,8 @@ pub use bytes::LeftBytes;
 pub use lent::whole;
 pub use object::ShortObject;
 pub use objects::shorten;
+pub use piece::Piece;
+pub use pieces::{count_before, dropped_before};
 pub use section::ShortSection;
 pub use sites::is_text;
 pub use words::{link_register, word_at};

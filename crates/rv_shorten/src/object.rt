@@ -12,7 +12,8 @@ ghost use Rattle.rv_shorten.specs.Cutting as cutting;
 ghost use Rattle.rv_shorten.specs.Sections.{moves_in_all, short_section_of};
 
 use crate::cut::Cut;
-use crate::offsets::{dropped_before, lost, new_offset};
+use crate::offsets::{lost, new_offset};
+use crate::pieces::dropped_before;
 use crate::section::ShortSection;
 use rv_object::{Definition, Object, Row};
 

@@ -7,7 +7,8 @@ ghost use Rattle.rv_shorten.specs.Cut.{are_in_order, move_of};
 ghost use Rattle.rv_shorten.specs.Cutting.{cut_kind, cut_relocation};
 
 use crate::cut::Cut;
-use crate::offsets::{count_before, new_offset};
+use crate::offsets::new_offset;
+use crate::pieces::count_before;
 use rv_isa::Kind;
 use rv_object::Relocation;
 
@@ -30,7 +31,7 @@ fn new_kind(cuts: &[Cut], relocation: &Relocation) -> Kind
     if index == cuts.len() || cuts[index].place != relocation.place {
         return relocation.kind;
     }
-    if cuts[index].compressed {
+    if cuts[index].left == 2 {
         Kind::RvcJump
     } else {
         Kind::Jal

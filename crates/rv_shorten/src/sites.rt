@@ -93,8 +93,9 @@ fn cut(bytes: &[u8], place: u64, gone: u64, left: u32) -> Cut
     Cut {
         place,
         gone,
-        compressed: left == 2,
-        link: link_register(bytes, place as usize),
+        full: 8,
+        left: if left == 2 { 2 } else { 4 },
+        detail: link_register(bytes, place as usize),
     }
 }
 
@@ -118,7 +119,7 @@ fn put_site(
         return Ok(gone);
     }
     let cut = cut(bytes, place, gone, left);
-    let dropped = 8 - cut.left();
+    let dropped = u64::from(8 - cut.left);
     cuts.push(cut)?;
     Ok(gone + dropped)
 }

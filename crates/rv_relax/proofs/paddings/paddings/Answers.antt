@@ -90,13 +90,13 @@ loop-rest-preserved c =
     let wrapped = stands % 2 ^ 64 in
     let least_is : least ≡ least_of start gone r =
     c.least_padding-least.ensures.value ∙ ap (λ a. aligned a wrapped - wrapped) above ∙ same_least r stands in
-    let items : c.push.new.self.items ≡ ps ++ record { place = r.place; gone = past; full = full_padding r; left = least - least % 2 } ∷ [] =
-    c.in_ok-push.ensures.items ∙ ap (λ n. ps ++ record { place = r.place; gone = past; full = n; left = least - least % 2 } ∷ []) full in
+    let items : c.push.new.self.items ≡ ps ++ record { place = r.place; gone = past; full = full_padding r; left = least - least % 2; detail = tt } ∷ [] =
+    c.in_ok-push.ensures.items ∙ ap (λ n. ps ++ record { place = r.place; gone = past; full = n; left = least - least % 2; detail = tt } ∷ []) full in
     let more_gone : c.from-gone.result ≡ full_padding r - least = c.from-gone.ensures ∙ c.saturating_sub.ensures ∙ ap (λ n. n - least) full in
     let more_dropped : c.from-dropped.result ≡ full_padding r - (least - least % 2) = c.from-dropped.ensures ∙ c.saturating_sub-in-loop-rest.ensures ∙ ap (λ n. n - (least - least % 2)) full in (
       omega (arith, c.loop-rest.invariant.0),
       ap (λ l. map move_of l ++ plan start (gone + c.from-gone.result) rs) items
-          ∙ ap (λ n. map move_of (ps ++ record { place = r.place; gone = past; full = full_padding r; left = least - least % 2 } ∷ []) ++ plan start (gone + n) rs) more_gone
+          ∙ ap (λ n. map move_of (ps ++ record { place = r.place; gone = past; full = full_padding r; left = least - least % 2; detail = tt } ∷ []) ++ plan start (gone + n) rs) more_gone
           ∙ planned start gone past least r rs ps (plan start 0 (backwards xs)) least_is (ap (λ l. map move_of ps ++ l) (plan_at start gone xs (at - 1) at is inside) ∙ c.loop-rest.invariant.1),
       (
         r.place + full_padding r,

@@ -1,7 +1,7 @@
 use Rattle.std.proofs.Common.{◌+◌, nat_le, slice_index_or, rules, of_calls}
 use Rattle.std.proofs.lemmas.Fn.{always_returns_same}
 use Rattle.std.proofs.lemmas.Bool.{leb-true, leb-false}
-use Rattle.rv_relax.specs.declared.piece.Piece.{Piece}
+use Rattle.rv_relax.specs.Pieces.{Piece}
 use Rattle.rv_relax.proofs.PiecedLemmas.{ends_partitioned}
 use Rattle.rv_relax.proofs.pieces.count_ended.Goals as goal
 

@@ -1,7 +1,13 @@
 use Rattle.std.proofs.Common.{arith}
-use Rattle.rv_shorten.proofs.OrderLemmas.{ends_low}
+use Rattle.rv_shorten.proofs.OrderLemmas.{as_pieces, ends_low}
 use Rattle.rv_shorten.proofs.LossesLemmas.{counted}
 use Rattle.rv_shorten.proofs.offsets.lost.Goals as goal
+
+pub count_before-before-requires : goal.count_before-before-requires
+count_before-before-requires c = as_pieces 0 0 c.args.cuts.now c.requires
+
+pub count_before-ended-requires : goal.count_before-ended-requires
+count_before-ended-requires c = as_pieces 0 0 c.args.cuts.now c.requires
 
 pub returns : goal.returns
 returns c =

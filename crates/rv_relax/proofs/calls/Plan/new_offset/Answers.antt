@@ -1,6 +1,6 @@
 use Rattle.std.proofs.Common.{◌-◌, ap, ◌∙◌}
 use Rattle.rv_relax.specs.Padded.{inner, joined, padded}
-use Rattle.rv_relax.specs.Pieces.{pieces_dropped}
+use Rattle.rv_shorten.specs.Pieces.{pieces_dropped}
 use Rattle.rv_relax.specs.Plan.{padded_of, sites_in, starts_in}
 use Rattle.rv_relax.proofs.PiecedLemmas.{same_dropped}
 use Rattle.rv_relax.proofs.calls.Plan.new_offset.Goals as goal

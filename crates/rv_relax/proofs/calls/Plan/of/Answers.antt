@@ -2,7 +2,8 @@ use Rattle.std.proofs.Common.{◌≡◌, ◌+◌, ◌*◌, ◌≤◌, length, ar
 use Rattle.rv_layout_laws.specs.Calls.{IsFamily, InOrder, calls}
 use Rattle.rv_layout_laws.specs.Paddings.{IsRelaxedText}
 use Rattle.rv_relax.specs.Padded.{inner, joined, padded, pads}
-use Rattle.rv_relax.specs.Pieces.{are_pieces, pieces_of}
+use Rattle.rv_shorten.specs.Pieces.{are_pieces}
+use Rattle.rv_relax.specs.Pieces.{pieces_of}
 use Rattle.rv_relax.specs.Plan.{kept_of, padded_of, rounds_of, sites_in, starts_in}
 use Rattle.rv_relax.specs.Sizes.{IsPlanned, call_sizes}
 use Rattle.rv_relax.proofs.DroppingLemmas.{family_most}

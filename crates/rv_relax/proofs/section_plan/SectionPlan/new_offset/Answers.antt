@@ -1,5 +1,5 @@
 use Rattle.std.proofs.Common.{◌-◌, ap, ◌∙◌}
-use Rattle.rv_relax.specs.Pieces.{are_pieces, pieces_dropped}
+use Rattle.rv_shorten.specs.Pieces.{are_pieces, pieces_dropped}
 use Rattle.rv_relax.specs.Plan.{moves_of}
 use Rattle.rv_relax.proofs.OrderLemmas.{as_pieces, moves_dropped}
 use Rattle.rv_relax.proofs.section_plan.SectionPlan.new_offset.Goals as goal

@@ -18,5 +18,5 @@ returns-clause-same c =
     let cs = s.cuts.now in
     let parts : cs ≡ slice_index_or cs 0 zeros ∷ take (length cs - 1) (drop 1 cs) =
     drop_more cs 0 zeros c.in-len1-up.len_at_least ∙ ap (λ l. slice_index_or cs 0 zeros ∷ l) (sym (take_rest cs 1)) in
-    call_begun s.word c.word_of.result s.bytes c.left.result s.at (slice_index_or cs 0 zeros) cs (take (length cs - 1) (drop 1 cs)) s.rest.now c.split_at.result.1.now
-    parts s.within c.if-self-gt0.false c.if-cut-self.false c.left.ensures c.word_of.ensures c.split_at.ensures.back
+    call_begun s.word c.word_of.result s.bytes c.left_of.result s.at (slice_index_or cs 0 zeros) cs (take (length cs - 1) (drop 1 cs)) s.rest.now c.split_at.result.1.now
+    parts s.within c.if-self-gt0.false c.if-cut-self.false c.left_of.ensures c.word_of.ensures c.split_at.ensures.back

@@ -1,10 +1,14 @@
-//! Calls and alignments, in the order in which they stand.
+//! Parts of a text of which not all is kept.
+//!
+//! What is cut out of calls and what is dropped of paddings are tables of such rows, looked up in one way. What a table
+//! tells besides is a type of its own, so that a row of paddings has no room for the register of a call.
 
 ghost use Rattle.std.specs.Prelude.{◌≡◌, ◌+◌, ◌-◌, ◌^◌, ◌<◌, ◌≤◌, min, nat_le};
 
-/// A call or an alignment, and what is kept of it. Offsets are those of a section, or count the bytes of sections end to end.
-#[derive(Clone, Copy, Drop)]
-pub(crate) struct Piece {
+/// A call or a padding, and what is kept of it. Offsets are those of a section, or count the bytes of
+/// sections end to end.
+#[derive(Drop)]
+pub struct Piece<T> {
     /// The offset of its first byte.
     pub place: u64,
     /// The bytes that are dropped before it.
@@ -13,9 +17,11 @@ pub(crate) struct Piece {
     pub full: u32,
     /// The bytes that are left of it.
     pub left: u32,
+    /// What else is told of it.
+    pub detail: T,
 }
 
-impl Piece {
+impl<T> Piece<T> {
     /// The offset of the byte after it.
     pub fn end(&self) -> u64
         requires { (self.now).place + (self.now).full < 2 ^ 64 }
