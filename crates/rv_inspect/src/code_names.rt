@@ -8,7 +8,8 @@ use crate::marks::{Mark, Marks};
 use crate::parts::{bytes_of, count_symbols, section_named, symbol_at, symbol_table};
 use crate::relocations::{Relocation, file_relocations};
 use rv_elf::{
-    ET_REL, ElfView, FileFault, SHN_ABS, SHN_UNDEF, STB_GLOBAL, STB_LOCAL, Symbol, string_in,
+    ET_REL, ElfView, FileFault, SHN_ABS, SHN_UNDEF, STB_GLOBAL, STB_LOCAL, SectionHeader, Symbol,
+    string_in,
 };
 use rv_map::Map;
 use std::alloc::{AllocError, Global};
@@ -35,62 +36,109 @@ pub(crate) struct CodeNames<'a> {
     pub(crate) relocations: Vec<Relocation<'a>>,
 }
 
+impl<'a> CodeNames<'a> {
+    /// None yet.
+    pub(crate) fn new(alloc: Global) -> CodeNames<'a> {
+        CodeNames {
+            labels: Labels::new(alloc),
+            marks: Marks::new(alloc),
+            pointer: None,
+            relocations: Vec::new(alloc),
+        }
+    }
+
+    /// Puts labels and marks in order.
+    fn order(&mut self) -> Result<(), AllocError> {
+        self.labels.order()?;
+        self.marks.order()
+    }
+
+    /// Adds what the symbols of a file say.
+    fn add_symbols(&mut self, view: &ElfView<'a>, table: &SectionHeader) -> Result<(), FileFault> {
+        let symbols = bytes_of(view, table)?;
+        let strings = bytes_of(view, &section_named(view, table.sh_link)?)?;
+        for index in 1..count_symbols(symbols).max(1) {
+            let symbol = symbol_at(symbols, index).ok_or(FileFault::Truncated)?;
+            let name = string_in(strings, symbol.st_name).ok_or(FileFault::BadString)?;
+            self.add_symbol(&symbol, name)?;
+        }
+        Ok(())
+    }
+
+    /// Adds what a symbol says.
+    fn add_symbol(&mut self, symbol: &Symbol, name: &'a [u8]) -> Result<(), AllocError> {
+        let section = u32::from(symbol.st_shndx);
+        let address = symbol.st_value;
+        if name == b"__global_pointer$".as_slice() && symbol.st_shndx != SHN_UNDEF {
+            self.pointer = Some(address);
+        }
+        if let Some(is_data) = mark_named(name) {
+            return self.marks.add(Mark {
+                section,
+                address,
+                is_data,
+            });
+        }
+        if is_label(symbol, name) {
+            return self.labels.add(Label {
+                section,
+                address,
+                rank: rank_of(symbol, name),
+                size: symbol.st_size,
+                name,
+            });
+        }
+        Ok(())
+    }
+
+    /// Adds the names of a map, of which those inside a segment are told from the others.
+    fn add_globals(&mut self, map: &'a Map, start: u64, end: u64) -> Result<(), AllocError> {
+        for global in &map.globals {
+            let name = global.name.as_slice();
+            let address = global.address;
+            if name == b"__global_pointer$".as_slice() {
+                self.pointer = Some(address);
+            }
+            let is_inside = start <= address && address < end;
+            self.labels.add(Label {
+                section: u32::from(!is_inside),
+                address,
+                rank: 0,
+                size: 0,
+                name,
+            })?;
+        }
+        Ok(())
+    }
+}
+
 /// Those of a file's symbols.
 pub(crate) fn file_names<'a>(
     alloc: Global,
     view: &ElfView<'a>,
 ) -> Result<CodeNames<'a>, FileFault> {
-    let mut labels = Vec::new(alloc);
-    let mut marks = Vec::new(alloc);
-    let mut pointer = None;
-    let relocations = if view.header().e_type == ET_REL {
-        file_relocations(alloc, view)?
-    } else {
-        Vec::new(alloc)
-    };
-    if let Some(table) = symbol_table(view) {
-        let symbols = bytes_of(view, &table)?;
-        let strings = bytes_of(view, &section_named(view, table.sh_link)?)?;
-        for index in 1..count_symbols(symbols).max(1) {
-            let symbol = symbol_at(symbols, index).ok_or(FileFault::Truncated)?;
-            let name = string_in(strings, symbol.st_name).ok_or(FileFault::BadString)?;
-            add_symbol(&mut labels, &mut marks, &symbol, name)?;
-            if name == b"__global_pointer$".as_slice() && symbol.st_shndx != SHN_UNDEF {
-                pointer = Some(symbol.st_value);
-            }
-        }
+    let mut names = CodeNames::new(alloc);
+    if view.header().e_type == ET_REL {
+        names.relocations = file_relocations(alloc, view)?;
     }
-    Ok(CodeNames {
-        labels: Labels::of(labels)?,
-        marks: Marks::of(marks)?,
-        pointer,
-        relocations,
-    })
+    if let Some(table) = symbol_table(view) {
+        names.add_symbols(view, &table)?;
+    }
+    names.order()?;
+    Ok(names)
 }
 
-/// Adds what a symbol says.
-fn add_symbol<'a>(
-    labels: &mut Vec<Label<'a>>,
-    marks: &mut Vec<Mark>,
-    symbol: &Symbol,
-    name: &'a [u8],
-) -> Result<(), AllocError> {
-    if let Some(is_data) = mark_named(name) {
-        marks.push(Mark {
-            section: u32::from(symbol.st_shndx),
-            address: symbol.st_value,
-            is_data,
-        })?;
-    } else if is_label(symbol, name) {
-        labels.push(Label {
-            section: u32::from(symbol.st_shndx),
-            address: symbol.st_value,
-            rank: rank_of(symbol, name),
-            size: symbol.st_size,
-            name,
-        })?;
-    }
-    Ok(())
+/// Those of a map, of which those inside a segment are told from the others.
+pub(crate) fn names_of_map<'a>(
+    alloc: Global,
+    map: &'a Map,
+    start: u64,
+    end: u64,
+) -> Result<CodeNames<'a>, AllocError> {
+    let mut names = CodeNames::new(alloc);
+    names.add_globals(map, start, end)?;
+    names.order()?;
+    Ok(names)
 }
 
 /// Whether a name says that data begins, or that code does; none of another name.
@@ -128,35 +176,4 @@ fn rank_of(symbol: &Symbol, name: &[u8]) -> u8 {
         _ => 2,
     };
     kind + binding + u8::from(name.starts_with(b"."))
-}
-
-/// The names of a map, of which those inside a segment are told from the others.
-pub(crate) fn names_of_map<'a>(
-    alloc: Global,
-    map: &'a Map,
-    start: u64,
-    end: u64,
-) -> Result<CodeNames<'a>, AllocError> {
-    let mut labels = Vec::new(alloc);
-    let mut pointer = None;
-    for global in &map.globals {
-        let name = global.name.as_slice();
-        if name == b"__global_pointer$".as_slice() {
-            pointer = Some(global.address);
-        }
-        let is_inside = start <= global.address && global.address < end;
-        labels.push(Label {
-            section: u32::from(!is_inside),
-            address: global.address,
-            rank: 0,
-            size: 0,
-            name,
-        })?;
-    }
-    Ok(CodeNames {
-        labels: Labels::of(labels)?,
-        marks: Marks::of(Vec::new(alloc))?,
-        pointer,
-        relocations: Vec::new(alloc),
-    })
 }

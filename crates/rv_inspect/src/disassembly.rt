@@ -3,8 +3,6 @@
 use crate::code_lines::{Code, put_code};
 use crate::code_names::{CodeNames, file_names, names_of_map};
 use crate::columns::put;
-use crate::labels::Labels;
-use crate::marks::Marks;
 use crate::pairs::Pairs;
 use crate::parts::{bytes_of, section_at};
 use crate::relocations::relocations_in;
@@ -18,7 +16,7 @@ use rv_map::Map;
 use std::alloc::{AllocError, Global};
 
 /// How instructions are shown.
-#[derive(Clone, Copy, Debug, PartialEq, Eq, Drop)]
+#[derive(Clone, Copy, Drop)]
 pub struct Style {
     /// By their shortest names (`li`, `ret`, `mv`, `beqz`); else by those of the instruction set, parcels by their `c.`
     /// mnemonics.
@@ -39,15 +37,30 @@ pub fn code_text(
 ) -> Result<Vec<u8>, FileFault> {
     let view = ElfView::open(file)?;
     let mut text = Vec::new(alloc);
-    put(&mut text, b"\n")?;
-    put(&mut text, name.as_bytes())?;
-    put(&mut text, b":     file format elf64-littleriscv\n\n")?;
-    if map.is_none() && has_code(&view) {
-        put_sections(&mut text, &view, style)?;
-    } else {
-        put_segments(&mut text, &view, map, style)?;
-    }
+    put_heading(&mut text, name)?;
+    put_file(&mut text, &view, map, style)?;
     Ok(text)
+}
+
+/// Adds the lines above the code.
+fn put_heading(text: &mut Vec<u8>, name: &str) -> Result<(), AllocError> {
+    put(text, b"\n")?;
+    put(text, name.as_bytes())?;
+    put(text, b":     file format elf64-littleriscv\n\n")
+}
+
+/// Adds the lines of all code that is shown.
+fn put_file(
+    text: &mut Vec<u8>,
+    view: &ElfView<'_>,
+    map: Option<&Map>,
+    style: Style,
+) -> Result<(), FileFault> {
+    if map.is_none() && has_code(view) {
+        put_sections(text, view, style)
+    } else {
+        put_segments(text, view, map, style)
+    }
 }
 
 /// Whether a section has code.
@@ -70,11 +83,21 @@ fn has_code(view: &ElfView<'_>) -> bool {
 /// Adds the lines of all sections of code.
 fn put_sections(text: &mut Vec<u8>, view: &ElfView<'_>, style: Style) -> Result<(), FileFault> {
     let names = file_names(*text.allocator(), view)?;
+    put_named_sections(text, view, &names, style)
+}
+
+/// Adds the lines of all sections of code with these names.
+fn put_named_sections(
+    text: &mut Vec<u8>,
+    view: &ElfView<'_>,
+    names: &CodeNames<'_>,
+    style: Style,
+) -> Result<(), FileFault> {
     let mut pairs = Pairs::new(names.pointer);
     for index in 0..view.header().e_shnum {
         let header = section_at(view, index).ok_or(FileFault::BadIndex)?;
         if is_code(&header) {
-            put_section(text, view, &names, &mut pairs, &header, index, style)?;
+            put_section(text, view, names, &mut pairs, &header, index, style)?;
         }
     }
     Ok(())
@@ -152,7 +175,7 @@ fn put_segment(
     let end = start.saturating_add(bytes.len() as u64);
     let names = match map {
         Some(map) => names_of_map(alloc, map, start, end)?,
-        None => no_names(alloc)?,
+        None => CodeNames::new(alloc),
     };
     put_named_segment(text, start, bytes, &names, style)
 }
@@ -183,13 +206,4 @@ fn put_named_segment(
         aliases: style.aliases,
     };
     put_code(text, &code, &mut Pairs::new(names.pointer))
-}
-
-fn no_names<'a>(alloc: Global) -> Result<CodeNames<'a>, AllocError> {
-    Ok(CodeNames {
-        labels: Labels::of(Vec::new(alloc))?,
-        marks: Marks::of(Vec::new(alloc))?,
-        pointer: None,
-        relocations: Vec::new(alloc),
-    })
 }

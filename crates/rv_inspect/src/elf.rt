@@ -14,10 +14,15 @@ use std::alloc::Global;
 pub fn elf_text(alloc: Global, file: &[u8]) -> Result<Vec<u8>, FileFault> {
     let view = ElfView::open(file)?;
     let mut text = Vec::new(alloc);
-    put_file_header(&mut text, &view)?;
-    put_sections(&mut text, &view)?;
-    put_segments(&mut text, &view)?;
-    put_relocations(&mut text, &view)?;
-    put_symbols(&mut text, &view)?;
+    put_all(&mut text, &view)?;
     Ok(text)
+}
+
+/// Adds all parts.
+fn put_all(text: &mut Vec<u8>, view: &ElfView<'_>) -> Result<(), FileFault> {
+    put_file_header(text, view)?;
+    put_sections(text, view)?;
+    put_segments(text, view)?;
+    put_relocations(text, view)?;
+    put_symbols(text, view)
 }

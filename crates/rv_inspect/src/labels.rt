@@ -1,6 +1,6 @@
 //! Names of places, in order.
 
-use std::alloc::AllocError;
+use std::alloc::{AllocError, Global};
 
 /// A name and where it stands.
 #[derive(Clone, Copy, Drop)]
@@ -25,11 +25,23 @@ pub(crate) struct Labels<'a> {
 }
 
 impl<'a> Labels<'a> {
-    /// Those of these names, in any order.
-    pub(crate) fn of(labels: Vec<Label<'a>>) -> Result<Labels<'a>, AllocError> {
-        let alloc = *labels.allocator();
-        let mut by_section = labels;
-        by_section.sort_by_key(|label| {
+    /// None yet.
+    pub(crate) fn new(alloc: Global) -> Labels<'a> {
+        Labels {
+            by_section: Vec::new(alloc),
+            by_address: Vec::new(alloc),
+        }
+    }
+
+    /// Adds one.
+    pub(crate) fn add(&mut self, label: Label<'a>) -> Result<(), AllocError> {
+        self.by_section.push(label)?;
+        Ok(())
+    }
+
+    /// Puts all in order, once they are added.
+    pub(crate) fn order(&mut self) -> Result<(), AllocError> {
+        self.by_section.sort_by_key(|label| {
             (
                 label.section,
                 label.address,
@@ -38,12 +50,8 @@ impl<'a> Labels<'a> {
                 label.name,
             )
         })?;
-        let mut by_address = Vec::from_slice(alloc, &by_section)?;
-        by_address.sort_by_key(|label| (label.address, label.rank, !label.size, label.section))?;
-        Ok(Labels {
-            by_section,
-            by_address,
-        })
+        self.by_address = Vec::from_slice(*self.by_section.allocator(), &self.by_section)?;
+        self.by_address.sort_by_key(|label| (label.address, label.rank, !label.size, label.section))
     }
 
     /// Those of a section, by their places.

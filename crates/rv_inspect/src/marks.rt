@@ -1,6 +1,6 @@
 //! Where code and data begin, in order.
 
-use std::alloc::AllocError;
+use std::alloc::{AllocError, Global};
 
 /// Where code or data begins.
 #[derive(Clone, Copy, Drop)]
@@ -19,11 +19,22 @@ pub(crate) struct Marks {
 }
 
 impl Marks {
-    /// These marks, in any order; of those of a place the last holds.
-    pub(crate) fn of(marks: Vec<Mark>) -> Result<Marks, AllocError> {
-        let mut sorted = marks;
-        sorted.sort_by_key(|mark| (mark.section, mark.address))?;
-        Ok(Marks { sorted })
+    /// None yet.
+    pub(crate) fn new(alloc: Global) -> Marks {
+        Marks {
+            sorted: Vec::new(alloc),
+        }
+    }
+
+    /// Adds one; of those of a place the last holds.
+    pub(crate) fn add(&mut self, mark: Mark) -> Result<(), AllocError> {
+        self.sorted.push(mark)?;
+        Ok(())
+    }
+
+    /// Puts all in order, once they are added.
+    pub(crate) fn order(&mut self) -> Result<(), AllocError> {
+        self.sorted.sort_by_key(|mark| (mark.section, mark.address))
     }
 
     /// Those of a section, by their places.

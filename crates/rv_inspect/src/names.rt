@@ -33,13 +33,20 @@ pub fn symbol_names(alloc: Global, file: &[u8]) -> Result<Option<Vec<u8>>, FileF
     };
     let bytes = bytes_of(&view, &table)?;
     let strings = bytes_of(&view, &section_named(&view, table.sh_link)?)?;
-    let names = named_in(alloc, &view, bytes, strings)?;
+    let mut names = Vec::new(alloc);
+    add_symbols(&mut names, &view, bytes, strings)?;
     Ok(Some(lines(alloc, names)?))
 }
 
 /// The global names of a map by name, a line each.
 pub fn map_names(alloc: Global, map: &Map) -> Result<Vec<u8>, AllocError> {
     let mut names = Vec::new(alloc);
+    add_globals(&mut names, map)?;
+    lines(alloc, names)
+}
+
+/// Adds the global names of a map.
+fn add_globals<'a>(names: &mut Vec<Named<'a>>, map: &'a Map) -> Result<(), AllocError> {
     for global in &map.globals {
         names.push(Named {
             name: global.name.as_slice(),
@@ -47,7 +54,7 @@ pub fn map_names(alloc: Global, map: &Map) -> Result<Vec<u8>, AllocError> {
             value: Some(global.address),
         })?;
     }
-    lines(alloc, names)
+    Ok(())
 }
 
 /// The letter of a global name. Those that the linker makes at the ends of regions have that of their region.
@@ -79,14 +86,13 @@ fn is_in(region: &Region, address: u64) -> bool {
     region.start <= address && address < region.end
 }
 
-/// The symbols of a table that are shown.
-fn named_in<'a>(
-    alloc: Global,
+/// Adds the symbols of a table that are shown.
+fn add_symbols<'a>(
+    names: &mut Vec<Named<'a>>,
     view: &ElfView<'a>,
     table: &'a [u8],
     strings: &'a [u8],
-) -> Result<Vec<Named<'a>>, FileFault> {
-    let mut names = Vec::new(alloc);
+) -> Result<(), FileFault> {
     for index in 1..count_symbols(table).max(1) {
         let symbol = symbol_at(table, index).ok_or(FileFault::Truncated)?;
         let name = string_in(strings, symbol.st_name).ok_or(FileFault::BadString)?;
@@ -98,7 +104,7 @@ fn named_in<'a>(
             })?;
         }
     }
-    Ok(names)
+    Ok(())
 }
 
 fn value_of(symbol: &Symbol) -> Option<u64> {
@@ -119,10 +125,15 @@ fn is_shown(symbol: &Symbol, name: &[u8]) -> bool {
 fn lines(alloc: Global, mut names: Vec<Named<'_>>) -> Result<Vec<u8>, AllocError> {
     names.sort_by_key(|named| named.name)?;
     let mut text = Vec::new(alloc);
-    for named in &names {
-        put_line(&mut text, named)?;
-    }
+    put_lines(&mut text, names.as_slice())?;
     Ok(text)
+}
+
+fn put_lines(text: &mut Vec<u8>, names: &[Named<'_>]) -> Result<(), AllocError> {
+    for named in names {
+        put_line(text, named)?;
+    }
+    Ok(())
 }
 
 fn put_line(text: &mut Vec<u8>, named: &Named<'_>) -> Result<(), AllocError> {

@@ -27,15 +27,24 @@ pub(crate) fn file_relocations<'a>(
     view: &ElfView<'a>,
 ) -> Result<Vec<Relocation<'a>>, FileFault> {
     let mut relocations = Vec::new(alloc);
+    add_tables(&mut relocations, view)?;
+    relocations.sort_by_key(|relocation| (relocation.section, relocation.place))?;
+    Ok(relocations)
+}
+
+/// Adds those of all sections of relocations.
+fn add_tables<'a>(
+    relocations: &mut Vec<Relocation<'a>>,
+    view: &ElfView<'a>,
+) -> Result<(), FileFault> {
     for index in 0..view.header().e_shnum {
         if let Some(header) = section_at(view, index) {
             if header.sh_type == SHT_RELA {
-                add_table(&mut relocations, view, &header)?;
+                add_table(relocations, view, &header)?;
             }
         }
     }
-    relocations.sort_by_key(|relocation| (relocation.section, relocation.place))?;
-    Ok(relocations)
+    Ok(())
 }
 
 /// Those of a section, of relocations in order.

@@ -10,7 +10,7 @@ use rv_elf::{
 use std::alloc::{AllocError, Global};
 
 /// The bytes that a file has in memory, by what they are.
-#[derive(Clone, Copy, Debug, Drop)]
+#[derive(Clone, Copy, Drop)]
 struct Size {
     /// Instructions and constants.
     text: u64,
@@ -105,7 +105,7 @@ fn of_segment(header: &ProgramHeader) -> Size {
 }
 
 /// A table of sizes, a line a file.
-#[derive(Debug, Drop)]
+#[derive(Drop)]
 pub struct SizeTable {
     text: Vec<u8>,
     total: Size,
