@@ -8,16 +8,20 @@ use rv_disasm::{Targets, put_instruction};
 use rv_isa::{Inst, Reg};
 use std::alloc::{AllocError, Global};
 
-/// The widths of the columns.
+/// The widths of the columns: all but that of the symbol have room for whatever can stand there.
 const COUNT: usize = crate::counter::DIGITS;
 
 const SYMBOL: usize = 20;
 
 const BYTES: usize = 8;
+/// As `bgeu zero,zero,0xfffffffffffffff0`.
+const TEXT: usize = 33;
+/// As of `amoswap.d s10,t0,(a0)`: a register with its value, an address, and what is stored there.
+const EFFECT: usize = 62;
+/// The front of a symbol that has no room; with the end of it, which tells the distance, and two dots it fills the column.
+const FRONT: usize = 8;
 
-const TEXT: usize = 28;
-
-const EFFECT: usize = 42;
+const BACK: usize = SYMBOL - 2 - FRONT;
 /// Where the effects of an instruction begin in its line.
 const BEFORE_EFFECT: usize = COUNT + 1 + 16 + 1 + SYMBOL + 1 + BYTES + 1 + TEXT;
 /// Where the source begins.
@@ -122,9 +126,7 @@ fn put_bare(
     put_blanks(text, COUNT + 1)?;
     put_fixed(text, visited.pc, 8)?;
     text.push(b' ')?;
-    let symbol = text.len();
-    put_near(text, places.symbol_at(visited.pc))?;
-    fill_column(text, symbol, SYMBOL)?;
+    put_symbol(text, places, visited.pc)?;
     let bytes = text.len();
     for byte in visited
         .bits
@@ -136,6 +138,28 @@ fn put_bare(
     }
     fill_column(text, bytes, BYTES)?;
     put_instruction(text, Targets::Addresses(visited.pc), visited.inst)
+}
+
+/// Adds the symbol of an address and blanks up to the next column.
+fn put_symbol(text: &mut Vec<u8>, places: &Places<'_>, pc: u64) -> Result<(), AllocError> {
+    let start = text.len();
+    put_near(text, places.symbol_at(pc))?;
+    if text.len().saturating_sub(start) > SYMBOL {
+        leave_out_middle(text, start)?;
+    }
+    fill_column(text, start, SYMBOL)
+}
+
+/// Puts two dots in the place of the middle of what begins at an offset, so that it fills the column of a symbol.
+fn leave_out_middle(text: &mut Vec<u8>, start: usize) -> Result<(), AllocError> {
+    let mut back = [b' '; BACK];
+    if let Some(last) = text.last_chunk::<BACK>() {
+        back = *last;
+    }
+    text.truncate(start.saturating_add(FRONT));
+    put(text, "..")?;
+    text.extend_from_slice(&back)?;
+    Ok(())
 }
 
 /// Adds the room of the effects to a line that began at an offset, as `a0 <- .. [..] <- ..`.

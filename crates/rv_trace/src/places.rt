@@ -75,30 +75,51 @@ impl<'a> Places<'a> {
         map: Option<&'a Map>,
         source: Option<Source<'a>>,
     ) -> Result<Self, SourceFault> {
-        let mut places = Places {
+        let mut places = Places::nothing(alloc, source);
+        places.add(alloc, map)?;
+        Ok(places)
+    }
+
+    /// Nothing yet.
+    fn nothing(alloc: Global, source: Option<Source<'a>>) -> Self {
+        Places {
             symbols: Vec::new(alloc),
             rows: Vec::new(alloc),
             regions: Vec::new(alloc),
             source,
             lines: Vec::new(alloc),
-        };
+        }
+    }
+
+    /// Adds what a map and the source say.
+    fn add(&mut self, alloc: Global, map: Option<&'a Map>) -> Result<(), SourceFault> {
         if let Some(map) = map {
-            places.add_globals(map)?;
-            if let Some(source) = source {
-                places.add_labels(alloc, map, source.text)?;
+            self.add_globals(map)?;
+            if let Some(source) = self.source {
+                self.add_labels(alloc, map, source.text)?;
             }
-            places.order_symbols(alloc)?;
-            places.add_rows(map)?;
-            for region in [map.text, map.rodata, map.data, map.bss] {
-                places.regions.push(region)?;
-            }
+            self.order_symbols(alloc)?;
+            self.add_rows(map)?;
+            self.add_regions(map)?;
         }
-        if let Some(source) = source {
-            for line in source.text.split(|byte| *byte == b'\n') {
-                places.lines.push(line)?;
-            }
+        if let Some(source) = self.source {
+            self.add_lines(source.text)?;
         }
-        Ok(places)
+        Ok(())
+    }
+
+    fn add_regions(&mut self, map: &Map) -> Result<(), AllocError> {
+        for region in [map.text, map.rodata, map.data, map.bss] {
+            self.regions.push(region)?;
+        }
+        Ok(())
+    }
+
+    fn add_lines(&mut self, text: &'a [u8]) -> Result<(), AllocError> {
+        for line in text.split(|byte| *byte == b'\n') {
+            self.lines.push(line)?;
+        }
+        Ok(())
     }
 
     fn add_globals(&mut self, map: &'a Map) -> Result<(), AllocError> {
@@ -116,22 +137,35 @@ impl<'a> Places<'a> {
     /// Adds the labels of the source that was built: not numeric ones, those of GNU's local names (`.L`), and those with
     /// nothing behind them in their part of a section.
     fn add_labels(&mut self, alloc: Global, map: &Map, text: &'a [u8]) -> Result<(), SourceFault> {
+        let statements = parse(alloc, text)?;
         let mut waiting: Vec<&'a [u8]> = Vec::new(alloc);
         let mut ordinal: u64 = 0;
-        for statement in &parse(alloc, text)? {
+        for statement in &statements {
             ordinal = ordinal.saturating_add(1);
-            match &statement.kind {
-                StatementKind::Label(name) => {
-                    if !name.starts_with(b".L") {
-                        waiting.push(*name)?;
-                    }
+            self.add_label(map, &statement.kind, ordinal, &mut waiting)?;
+        }
+        Ok(())
+    }
+
+    /// Keeps the label of a statement of this ordinal; or gives the statement's address to those that are kept.
+    fn add_label(
+        &mut self,
+        map: &Map,
+        kind: &StatementKind<'a>,
+        ordinal: u64,
+        waiting: &mut Vec<&'a [u8]>,
+    ) -> Result<(), AllocError> {
+        match kind {
+            StatementKind::Label(name) => {
+                if !name.starts_with(b".L") {
+                    waiting.push(*name)?;
                 }
-                StatementKind::Enters(_) | StatementKind::Opens(_) => waiting.clear(),
-                _ => {
-                    if let Some(address) = address_of(map, ordinal) {
-                        self.add_waiting(waiting.as_slice(), address)?;
-                        waiting.clear();
-                    }
+            }
+            StatementKind::Enters(_) | StatementKind::Opens(_) => waiting.clear(),
+            _ => {
+                if let Some(address) = address_of(map, ordinal) {
+                    self.add_waiting(waiting.as_slice(), address)?;
+                    waiting.clear();
                 }
             }
         }

@@ -64,18 +64,7 @@ impl Segments {
     /// Those of an image, and the stack after them.
     pub fn of(alloc: Global, image: &Image) -> Result<Self, AllocError> {
         let mut bounds = Vec::new(alloc);
-        for segment in &image.segments {
-            bounds.push(Bounds {
-                start: segment.address,
-                end: segment.address.wrapping_add(segment.bytes.len() as u64),
-                flags: segment.flags,
-            })?;
-        }
-        bounds.push(Bounds {
-            start: STACK_START,
-            end: STACK_START + STACK_BYTES as u64,
-            flags: 6,
-        })?;
+        add_bounds(&mut bounds, image)?;
         Ok(Segments { bounds })
     }
 
@@ -85,6 +74,23 @@ impl Segments {
             address.wrapping_sub(bounds.start) < bounds.end.wrapping_sub(bounds.start)
         })
     }
+}
+
+/// Adds the bounds of an image's segments and of the stack.
+fn add_bounds(bounds: &mut Vec<Bounds>, image: &Image) -> Result<(), AllocError> {
+    for segment in &image.segments {
+        bounds.push(Bounds {
+            start: segment.address,
+            end: segment.address.wrapping_add(segment.bytes.len() as u64),
+            flags: segment.flags,
+        })?;
+    }
+    bounds.push(Bounds {
+        start: STACK_START,
+        end: STACK_START + STACK_BYTES as u64,
+        flags: 6,
+    })?;
+    Ok(())
 }
 
 /// Why a run ended that the guest did not end by an exit: the instruction at pc, the access that failed, the registers, the
@@ -98,25 +104,50 @@ pub fn report_text<M: Memory + Drop>(
     end: &End,
 ) -> Result<Vec<u8>, AllocError> {
     let mut text = Vec::new(alloc);
-    put(&mut text, "at\n")?;
-    put_place(&mut text, machine, places, machine.pc())?;
-    if let Some(row) = places.row_at(machine.pc()) {
-        put(&mut text, "  ")?;
-        put_line(&mut text, places, row)?;
-        text.push(b'\n')?;
-    }
+    put_at(&mut text, machine, places)?;
     put_failed(&mut text, machine, segments, end)?;
-    put(&mut text, "registers\n")?;
-    for number in 0..32 {
-        put_register(&mut text, machine, places, Reg::from_low_bits(number))?;
-    }
-    put(&mut text, "segments\n")?;
-    for bounds in &segments.bounds {
-        put_bounds(&mut text, bounds)?;
-    }
-    put(&mut text, "latest instructions\n")?;
+    put_registers(&mut text, machine, places)?;
+    put_segments(&mut text, segments)?;
     put_latest(&mut text, machine, latest, places)?;
     Ok(text)
+}
+
+/// Adds the lines of the instruction at pc.
+fn put_at<M: Memory + Drop>(
+    text: &mut Vec<u8>,
+    machine: &Watched<M>,
+    places: &Places<'_>,
+) -> Result<(), AllocError> {
+    put(text, "at\n")?;
+    put_place(text, machine, places, machine.pc())?;
+    if let Some(row) = places.row_at(machine.pc()) {
+        put(text, "  ")?;
+        put_line(text, places, row)?;
+        text.push(b'\n')?;
+    }
+    Ok(())
+}
+
+/// Adds the lines of the registers.
+fn put_registers<M: Memory + Drop>(
+    text: &mut Vec<u8>,
+    machine: &Watched<M>,
+    places: &Places<'_>,
+) -> Result<(), AllocError> {
+    put(text, "registers\n")?;
+    for number in 0..32 {
+        put_register(text, machine, places, Reg::from_low_bits(number))?;
+    }
+    Ok(())
+}
+
+/// Adds the lines of the segments.
+fn put_segments(text: &mut Vec<u8>, segments: &Segments) -> Result<(), AllocError> {
+    put(text, "segments\n")?;
+    for bounds in &segments.bounds {
+        put_bounds(text, bounds)?;
+    }
+    Ok(())
 }
 
 /// Adds the line of an address: its symbol, and the instruction that stands there.
@@ -262,13 +293,14 @@ fn rights(flags: u32) -> &'static str {
     }
 }
 
-/// Adds the latest instructions, the last one at the end.
+/// Adds the lines of the latest instructions, the last one at the end.
 fn put_latest<M: Memory + Drop>(
     text: &mut Vec<u8>,
     machine: &Watched<M>,
     latest: &Latest,
     places: &Places<'_>,
 ) -> Result<(), AllocError> {
+    put(text, "latest instructions\n")?;
     let shown = latest.count.min(16);
     for back in 0..shown {
         let number = latest.count.wrapping_sub(shown).wrapping_add(back);

@@ -58,19 +58,47 @@ pub fn counts_text(
     let mut text = Vec::new(alloc);
     let sums = sums_of(counts.instructions());
     put_sums(&mut text, &sums, counts.deepest())?;
-    put(&mut text, "by kind\n")?;
-    for (name, count) in KINDS.iter().zip(sums.kinds.iter()) {
-        put_part(&mut text, name, *count, sums.executed)?;
-    }
-    put(&mut text, "by mnemonic\n")?;
-    for tally in &tallies(alloc, counts.instructions())? {
-        put_part(&mut text, tally.name, tally.count, sums.executed)?;
-    }
-    put(&mut text, "calls\n")?;
-    for called in &calls(alloc, counts.instructions())? {
-        put_called(&mut text, called, places)?;
-    }
+    put_kinds(&mut text, &sums)?;
+    put_mnemonics(alloc, &mut text, counts.instructions(), sums.executed)?;
+    put_calls(alloc, &mut text, counts.instructions(), places)?;
     Ok(text)
+}
+
+/// Adds the lines of the kinds of instructions.
+fn put_kinds(text: &mut Vec<u8>, sums: &Sums) -> Result<(), AllocError> {
+    put(text, "by kind\n")?;
+    for (name, count) in KINDS.iter().zip(sums.kinds.iter()) {
+        put_part(text, name, *count, sums.executed)?;
+    }
+    Ok(())
+}
+
+/// Adds the lines of the mnemonics.
+fn put_mnemonics(
+    alloc: Global,
+    text: &mut Vec<u8>,
+    instructions: &[VisitedInstruction],
+    executed: u64,
+) -> Result<(), AllocError> {
+    put(text, "by mnemonic\n")?;
+    for tally in &tallies(alloc, instructions)? {
+        put_part(text, tally.name, tally.count, executed)?;
+    }
+    Ok(())
+}
+
+/// Adds the lines of the calls.
+fn put_calls(
+    alloc: Global,
+    text: &mut Vec<u8>,
+    instructions: &[VisitedInstruction],
+    places: &Places<'_>,
+) -> Result<(), AllocError> {
+    put(text, "calls\n")?;
+    for called in &calls(alloc, instructions)? {
+        put_called(text, called, places)?;
+    }
+    Ok(())
 }
 
 /// Adds the lines of the sums.
@@ -192,15 +220,22 @@ fn kind_of(inst: Inst) -> usize {
 
 /// The mnemonics by how often they were executed, then by name.
 fn tallies(alloc: Global, instructions: &[VisitedInstruction]) -> Result<Vec<Tally>, AllocError> {
-    let mut tallies: Vec<Tally> = Vec::new(alloc);
+    let mut tallies = Vec::new(alloc);
+    add_tallies(&mut tallies, instructions)?;
+    Ok(tallies)
+}
+
+fn add_tallies(
+    tallies: &mut Vec<Tally>,
+    instructions: &[VisitedInstruction],
+) -> Result<(), AllocError> {
     for visited in instructions {
         if visited.count > 0 {
-            add_to(&mut tallies, mnemonic(visited.inst), visited.count)?;
+            add_to(tallies, mnemonic(visited.inst), visited.count)?;
         }
     }
     tallies.sort_by_key(|tally| tally.name)?;
-    tallies.sort_by_key(|tally| u64::MAX - tally.count)?;
-    Ok(tallies)
+    tallies.sort_by_key(|tally| u64::MAX - tally.count)
 }
 
 /// Adds to the count of a mnemonic.
@@ -218,7 +253,15 @@ fn add_to(tallies: &mut Vec<Tally>, name: &'static str, count: u64) -> Result<()
 
 /// The addresses that were called by how often they were, then by address.
 fn calls(alloc: Global, instructions: &[VisitedInstruction]) -> Result<Vec<Called>, AllocError> {
-    let mut calls: Vec<Called> = Vec::new(alloc);
+    let mut calls = Vec::new(alloc);
+    add_calls(&mut calls, instructions)?;
+    Ok(calls)
+}
+
+fn add_calls(
+    calls: &mut Vec<Called>,
+    instructions: &[VisitedInstruction],
+) -> Result<(), AllocError> {
     for visited in instructions {
         if visited.calls > 0 {
             calls.push(Called {
@@ -228,6 +271,5 @@ fn calls(alloc: Global, instructions: &[VisitedInstruction]) -> Result<Vec<Calle
         }
     }
     calls.sort_by_key(|called| called.address)?;
-    calls.sort_by_key(|called| u64::MAX - called.count)?;
-    Ok(calls)
+    calls.sort_by_key(|called| u64::MAX - called.count)
 }
