@@ -6,33 +6,32 @@
 use crate::excerpt::Place;
 use crate::names::{is_assignment, is_macro, is_section};
 use crate::place::FaultPlace;
-use crate::tokens::{LineToken, Sort, all_tokens, part, span, text_of, unlabelled};
+use crate::tokens::{LineToken, all_tokens, is_end, is_line_feed, part, span, text_of, unlabelled};
 use rv_chain::SourceCode;
 use std::alloc::{AllocError, Global};
 
 /// Blanks the statement of a fault; whether that changes a byte.
 pub(crate) fn blank(draft: &mut [u8], code: SourceCode, place: &FaultPlace) -> bool {
-    let statement = part(draft, place.statement.start, place.statement.stop);
-    let value = value_of_assignment(statement, code);
-    match value {
+    let stop = place.statement.stop;
+    let statement = part(draft, place.statement.start, stop);
+    match value_of_assignment(statement, code) {
         Some(offset) => {
             let start = place.statement.start.saturating_add(offset);
-            blank_bytes(
-                draft,
-                Place {
-                    start,
-                    stop: place.statement.stop,
-                },
-            );
-            if let Some(last) = draft.get_mut(place.statement.stop.saturating_sub(1)) {
-                *last = b'0';
-            }
+            put_zero(draft, Place { start, stop });
             true
         }
         None => {
             let cut = cut_of(draft, code, place);
             blank_bytes(draft, cut)
         }
+    }
+}
+
+/// Puts a 0 in the place of a value.
+fn put_zero(draft: &mut [u8], value: Place) {
+    blank_bytes(draft, value);
+    if let Some(last) = draft.get_mut(value.stop.saturating_sub(1)) {
+        *last = b'0';
     }
 }
 
@@ -105,7 +104,7 @@ pub(crate) fn is_of_macro(draft: &[u8], place: &FaultPlace) -> bool {
     let rest = part(draft, place.statement.start, draft.len());
     is_macro(first_word(rest))
         && rest
-            .split(|byte| *byte == b'\n')
+            .split(is_line_feed)
             .any(|line| first_word(line) == b".endm".as_slice())
 }
 
@@ -127,22 +126,34 @@ pub(crate) fn without_macro(
     draft: &[u8],
     place: &FaultPlace,
 ) -> Result<Vec<u8>, AllocError> {
-    let rest = part(draft, place.statement.start, draft.len());
-    let words = part(rest, first_word(rest).len(), rest.len());
-    let name = first_word(words);
-    let mut out = part(draft, 0, place.statement.start).to_vec(alloc)?;
-    let mut is_inside = true;
-    for line in rest.split(|byte| *byte == b'\n') {
-        let first = first_word(line);
-        if is_inside || first == name {
-            put_blanks(&mut out, line)?;
-        } else {
-            out.extend_from_slice(line)?;
-        }
-        is_inside = is_inside && first != b".endm".as_slice();
-        out.push(b'\n')?;
-    }
+    let start = place.statement.start;
+    let mut out = part(draft, 0, start).to_vec(alloc)?;
+    put_without_macro(&mut out, part(draft, start, draft.len()))?;
     Ok(out)
+}
+
+/// Adds lines of which the first begins a macro, and blanks for that and the lines that use it.
+fn put_without_macro(out: &mut Vec<u8>, lines: &[u8]) -> Result<(), AllocError> {
+    let words = part(lines, first_word(lines).len(), lines.len());
+    let name = first_word(words);
+    let mut is_inside = true;
+    for line in lines.split(is_line_feed) {
+        let first = first_word(line);
+        put_or_blank(out, line, is_inside || first == name)?;
+        is_inside = is_inside && first != b".endm".as_slice();
+    }
+    Ok(())
+}
+
+/// Adds a line, or blanks for it.
+fn put_or_blank(out: &mut Vec<u8>, line: &[u8], is_blank: bool) -> Result<(), AllocError> {
+    if is_blank {
+        put_blanks(out, line)?;
+    } else {
+        out.extend_from_slice(line)?;
+    }
+    out.push(b'\n')?;
+    Ok(())
 }
 
 /// Adds a blank for each byte, and each line feed.
@@ -164,17 +175,29 @@ pub(crate) fn without_sort(
     let is_directive = part(draft, place.statement.start, draft.len()).starts_with(b".");
     let tokens = all_tokens(alloc, draft)?;
     let mut out = Vec::new(alloc);
+    put_without_sort(&mut out, draft, tokens.as_slice(), line, is_directive)?;
+    Ok(out)
+}
+
+/// Adds a source with these tokens, and blanks for the statements from a line on that are directives, or none.
+fn put_without_sort(
+    out: &mut Vec<u8>,
+    draft: &[u8],
+    tokens: &[LineToken],
+    line: u32,
+    is_directive: bool,
+) -> Result<(), AllocError> {
     let mut is_over = false;
-    for group in tokens.as_slice().split(|token| token.sort == Sort::End) {
+    for group in tokens.split(is_end) {
         let statement = unlabelled(group);
         is_over = is_over || ends_sort(draft, statement, line);
         if !is_over && is_of_sort(draft, statement, line, is_directive) {
-            put_without(&mut out, draft, statement)?;
+            put_without(out, draft, statement)?;
         }
     }
     let done = out.len();
     out.extend_from_slice(part(draft, done, draft.len()))?;
-    Ok(out)
+    Ok(())
 }
 
 /// Whether a statement after a line goes to a section.

@@ -84,10 +84,8 @@ fn put_first(
     let Some(source) = sources.get((file as usize).saturating_sub(1)) else {
         return Ok(());
     };
-    if let Some(place) = place_of(alloc, source, code, line)? {
-        put_fault(alloc, text, source, code, line, &place)?;
-    }
-    Ok(())
+    let place = place_of(alloc, source, code, line)?;
+    put_at(alloc, text, source, code, line, &place)
 }
 
 /// Adds the faults after the first, which is in this file; one more than are shown tells that there are more.
@@ -210,13 +208,26 @@ fn finding(
     place: Option<FaultPlace>,
 ) -> Result<Finding, Fault> {
     let mut text = String::new(alloc);
-    if let Some(place) = place {
-        put_fault(alloc, &mut text, source, code, line, &place)?;
-    }
+    put_at(alloc, &mut text, source, code, line, &place)?;
     Ok(Finding {
         fault: Fault::Source(file, SourceFault::At { code, line }),
         text,
     })
+}
+
+/// Adds what is said of a fault, where its place is known.
+fn put_at(
+    alloc: Global,
+    text: &mut String,
+    source: &[u8],
+    code: SourceCode,
+    line: u32,
+    place: &Option<FaultPlace>,
+) -> Result<(), Fault> {
+    match place {
+        Some(place) => put_fault(alloc, text, source, code, line, place),
+        None => Ok(()),
+    }
 }
 
 /// Adds the line of a fault with carets, and its sentence.

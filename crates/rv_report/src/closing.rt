@@ -1,14 +1,12 @@
 //! What sources come to that have no fault: the sizes of the program's regions, and warnings.
 
-use crate::excerpt::{put_bytes, put_excerpt};
+use crate::excerpt::{put_bytes, put_excerpt, put_file_and_line};
 use crate::names::is_linker_symbol;
-use crate::tokens::{LineToken, all_tokens, place, text_of};
+use crate::tokens::{LineToken, all_tokens, is_line_feed, part, place, text_of};
 use crate::warnings::{Doubt, Warning, warnings_of};
+use rv_map::{Map, Region, read};
 use std::alloc::{AllocError, Global};
 use std::collections::HashMap;
-
-/// The regions of a map, in its order.
-const REGIONS: usize = 4;
 
 /// The sizes of a program by the text of its map, and the warnings of its sources.
 pub(crate) fn closing_of(
@@ -17,8 +15,33 @@ pub(crate) fn closing_of(
     sources: &[&[u8]],
     map: &[u8],
 ) -> Result<String, AllocError> {
-    let mut text = sizes_line(alloc, map)?;
+    match read(alloc, without_rows(map))? {
+        Some(map) => closing_by(alloc, names, sources, &map),
+        None => Ok(String::new(alloc)),
+    }
+}
+
+/// The text of a map without the rows at its end, which is that of a map too.
+fn without_rows(map: &[u8]) -> &[u8] {
+    let mut stop = 0usize;
+    for line in map.split(is_line_feed) {
+        if line.starts_with(b"row ") {
+            return part(map, 0, stop);
+        }
+        stop = stop.saturating_add(line.len()).saturating_add(1);
+    }
+    map
+}
+
+/// The sizes of a program with this map, and the warnings of its sources.
+fn closing_by(
+    alloc: Global,
+    names: &[&str],
+    sources: &[&[u8]],
+    map: &Map,
+) -> Result<String, AllocError> {
     let symbols = symbols_of(alloc, map)?;
+    let mut text = sizes_line(alloc, map)?;
     for (name, source) in names.iter().zip(sources) {
         put_warnings(alloc, &mut text, name, source, &symbols)?;
     }
@@ -26,78 +49,39 @@ pub(crate) fn closing_of(
 }
 
 /// The sizes of the regions, a line.
-fn sizes_line(alloc: Global, map: &[u8]) -> Result<String, AllocError> {
-    let mut sizes = [0u64; REGIONS];
-    let mut lines = map.split(|byte| *byte == b'\n').skip(1);
-    for size in &mut sizes {
-        if let Some(line) = lines.next() {
-            *size = size_in(line);
-        }
-    }
-    let [text, rodata, data, bss] = sizes;
+fn sizes_line(alloc: Global, map: &Map) -> Result<String, AllocError> {
+    let text = size_of(&map.text);
+    let rodata = size_of(&map.rodata);
+    let data = size_of(&map.data);
+    let bss = size_of(&map.bss);
     format!(in alloc; "text {text}, rodata {rodata}, data {data}, bss {bss} bytes\n")
 }
 
-/// The size of a region by its line, as `text 10000 1000e`.
-fn size_in(line: &[u8]) -> u64 {
-    let mut words = line.split(|byte| *byte == b' ').skip(1);
-    let start = words.next().map_or(0, hexadecimal);
-    let end = words.next().map_or(0, hexadecimal);
-    end.saturating_sub(start)
+fn size_of(region: &Region) -> u64 {
+    region.end.saturating_sub(region.start)
 }
 
-/// The number that digits write, in hexadecimal and lower case.
-fn hexadecimal(digits: &[u8]) -> u64 {
-    let mut number = 0u64;
-    for digit in digits {
-        number = number
-            .wrapping_mul(16)
-            .wrapping_add(u64::from(value_of(*digit)));
-    }
-    number
-}
-
-/// The value of a hexadecimal digit in lower case.
-fn value_of(digit: u8) -> u8 {
-    match digit {
-        b'0'..=b'9' => digit - b'0',
-        b'a'..=b'f' => digit - b'a' + 10,
-        _ => 0,
-    }
-}
-
-/// Where the program of a map begins and ends.
-fn bounds_of(map: &[u8]) -> [u64; 2] {
-    let mut start = u64::MAX;
-    let mut end = 0u64;
-    for line in map.split(|byte| *byte == b'\n').skip(1).take(REGIONS) {
-        let mut words = line.split(|byte| *byte == b' ').skip(1);
-        start = start.min(words.next().map_or(0, hexadecimal));
-        end = end.max(words.next().map_or(0, hexadecimal));
-    }
-    [start, end]
+/// Whether an address lies in a program, or between two of its regions.
+fn is_inside(map: &Map, address: u64) -> bool {
+    let starts_before = map.text.start <= address
+        || map.rodata.start <= address
+        || map.data.start <= address
+        || map.bss.start <= address;
+    let ends_after = address < map.text.end
+        || address < map.rodata.end
+        || address < map.data.end
+        || address < map.bss.end;
+    starts_before && ends_after
 }
 
 /// The global names of a map by their addresses, those of the linker and numbers aside.
-fn symbols_of(alloc: Global, map: &[u8]) -> Result<HashMap<u64, &[u8]>, AllocError> {
+fn symbols_of(alloc: Global, map: &Map) -> Result<HashMap<u64, &[u8]>, AllocError> {
     let mut symbols = HashMap::new(alloc);
-    let [start, end] = bounds_of(map);
-    for line in map.split(|byte| *byte == b'\n') {
-        if line.starts_with(b"row ") {
-            break;
-        }
-        let mut words = line.split(|byte| *byte == b' ');
-        let is_global = words
-            .next()
-            .is_some_and(|word| word == b"global".as_slice());
-        if let (Some(name), Some(address)) = (words.next(), words.next())
-            && is_global
-            && !is_linker_symbol(name)
-        {
-            let address = hexadecimal(address);
-            if start <= address && address < end {
-                symbols.insert(address, name)?;
-            }
+    for global in &map.globals {
+        let name = global.name.as_slice();
+        let address = global.address;
+        if is_inside(map, address) && !is_linker_symbol(name) {
+            symbols.insert(address, name)?;
         }
     }
     Ok(symbols)
@@ -114,15 +98,26 @@ fn put_warnings(
     let tokens = all_tokens(alloc, source)?;
     let warnings = warnings_of(alloc, source, tokens.as_slice(), symbols)?;
     for warning in &warnings {
-        let token = warning.token;
-        let line = token.line;
-        let heading = format!(in alloc; "{name}:{line}: warning: ")?;
-        text.push_str(heading.as_str())?;
-        put_doubt(text, source, warning, symbols)?;
-        text.push_str("\n")?;
-        put_excerpt(text, source, line, place(&token))?;
+        put_warning(alloc, text, name, source, warning, symbols)?;
     }
     Ok(())
+}
+
+/// Adds a warning.
+fn put_warning(
+    alloc: Global,
+    text: &mut String,
+    name: &str,
+    source: &[u8],
+    warning: &Warning,
+    symbols: &HashMap<u64, &[u8]>,
+) -> Result<(), AllocError> {
+    let line = warning.token.line;
+    put_file_and_line(alloc, text, name, line)?;
+    text.push_str(" warning: ")?;
+    put_doubt(text, source, warning, symbols)?;
+    text.push_str("\n")?;
+    put_excerpt(text, source, line, place(&warning.token))
 }
 
 /// Adds what may be wrong.

@@ -20,10 +20,16 @@ pub fn explanation(code: &str) -> Option<&'static str> {
 /// The titles of all entries, a line each, as `E14 ImmediateRange`.
 pub fn titles(alloc: Global) -> Result<String, AllocError> {
     let mut text = String::new(alloc);
-    for entry in TABLE.split(BETWEEN) {
-        put_title(&mut text, entry)?;
-    }
+    put_titles(&mut text)?;
     Ok(text)
+}
+
+/// Adds the titles of all entries.
+fn put_titles(text: &mut String) -> Result<(), AllocError> {
+    for entry in TABLE.split(BETWEEN) {
+        put_title(text, entry)?;
+    }
+    Ok(())
 }
 
 /// Adds the title of an entry as a line.

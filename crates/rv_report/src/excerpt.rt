@@ -1,6 +1,7 @@
 //! A line of a source with carets below a part of it.
 
-use std::alloc::AllocError;
+use crate::tokens::is_line_feed;
+use std::alloc::{AllocError, Global};
 
 /// The most bytes of a line that are shown.
 const WIDTH: usize = 120;
@@ -10,10 +11,21 @@ const BEFORE: usize = 40;
 const MARGIN: &str = "    ";
 
 /// Bytes of a source, from an offset to another.
-#[derive(Clone, Copy, Debug, PartialEq, Eq, Drop)]
+#[derive(Clone, Copy, Drop)]
 pub(crate) struct Place {
     pub start: usize,
     pub stop: usize,
+}
+
+/// Adds a file and a line of it, as `a.s:4:`.
+pub(crate) fn put_file_and_line(
+    alloc: Global,
+    text: &mut String,
+    file: &str,
+    line: u32,
+) -> Result<(), AllocError> {
+    let added = format!(in alloc; "{file}:{line}:")?;
+    text.push_str(added.as_str())
 }
 
 /// Adds a line, from 1, with carets below a part of it. A byte that is not printed is shown as `?`, a tab as a blank.
@@ -25,7 +37,7 @@ pub(crate) fn put_excerpt(
 ) -> Result<(), AllocError> {
     let mut offset = 0usize;
     let mut number = 0u32;
-    for bytes in source.split(|byte| *byte == b'\n') {
+    for bytes in source.split(is_line_feed) {
         number = number.saturating_add(1);
         if number == line {
             let start = place.start.saturating_sub(offset);

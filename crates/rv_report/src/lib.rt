@@ -22,6 +22,7 @@ mod excerpt;
 mod linking;
 mod names;
 mod occurrences;
+mod parcel_numbers;
 mod place;
 mod report;
 mod sentences;

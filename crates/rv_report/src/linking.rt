@@ -1,9 +1,9 @@
 //! What is said of a fault of the link: which lines of which files it is about, where they are known.
 
-use crate::excerpt::put_excerpt;
+use crate::excerpt::{put_excerpt, put_file_and_line};
 use crate::occurrences::{definition_of, is_made_global, reference_in};
 use crate::suspects::suspect_of;
-use crate::tokens::{LineToken, Sort, all_tokens, place, unlabelled};
+use crate::tokens::{LineToken, all_tokens, is_end, place, unlabelled};
 use rv_chain::{Fault, LinkFault, LinkOptions};
 use std::alloc::{AllocError, Global};
 
@@ -82,13 +82,26 @@ fn put_references(
 ) -> Result<(), AllocError> {
     let mut left = MOST_REFERENCES;
     for (file, source) in names.iter().zip(sources) {
-        let tokens = all_tokens(alloc, source)?;
-        let tokens = tokens.as_slice();
-        if definition_of(source, tokens, name).is_some() == defined {
-            left = put_references_of(alloc, text, file, source, tokens, name, left)?;
-        }
+        left = put_references_in(alloc, text, file, source, name, defined, left)?;
     }
     Ok(())
+}
+
+/// Adds the references to a name in a source that defines it, or in one that does not; how many more there may be.
+fn put_references_in(
+    alloc: Global,
+    text: &mut String,
+    file: &str,
+    source: &[u8],
+    name: &[u8],
+    defined: bool,
+    most: usize,
+) -> Result<usize, AllocError> {
+    let tokens = all_tokens(alloc, source)?;
+    if definition_of(source, tokens.as_slice(), name).is_some() != defined {
+        return Ok(most);
+    }
+    put_references_of(alloc, text, file, source, tokens.as_slice(), name, most)
 }
 
 /// Adds the statements of a source that refer to a name, so many at most; how many more there may be.
@@ -102,7 +115,7 @@ fn put_references_of(
     most: usize,
 ) -> Result<usize, AllocError> {
     let mut left = most;
-    for group in tokens.split(|token| token.sort == Sort::End) {
+    for group in tokens.split(is_end) {
         if left == 0 {
             break;
         }
@@ -124,13 +137,24 @@ fn put_definitions(
     text: &mut String,
 ) -> Result<(), AllocError> {
     for (file, source) in names.iter().zip(sources) {
-        let tokens = all_tokens(alloc, source)?;
-        if is_made_global(source, tokens.as_slice(), name) {
-            let found = definition_of(source, tokens.as_slice(), name);
-            put_found(alloc, text, file, source, found)?;
-        }
+        let found = global_definition(alloc, source, name)?;
+        put_found(alloc, text, file, source, found)?;
     }
     Ok(())
+}
+
+/// The definition of a name in a source that makes it global.
+fn global_definition(
+    alloc: Global,
+    source: &[u8],
+    name: &[u8],
+) -> Result<Option<LineToken>, AllocError> {
+    let tokens = all_tokens(alloc, source)?;
+    if is_made_global(source, tokens.as_slice(), name) {
+        Ok(definition_of(source, tokens.as_slice(), name))
+    } else {
+        Ok(None)
+    }
 }
 
 /// Adds the statement that has a fault of a value, where it can be told.
@@ -162,10 +186,10 @@ fn put_found(
     let Some(token) = found else {
         return Ok(());
     };
-    let line = token.line;
-    let heading = format!(in alloc; "  {file}:{line}:\n")?;
-    text.push_str(heading.as_str())?;
-    put_excerpt(text, source, line, place(&token))
+    text.push_str("  ")?;
+    put_file_and_line(alloc, text, file, token.line)?;
+    text.push_str("\n")?;
+    put_excerpt(text, source, token.line, place(&token))
 }
 
 /// What is said of a fault whatever the sources are.

@@ -9,18 +9,21 @@ x28 x29 x30 x31 zero ra sp gp tp t0 t1 t2 s0 fp s1 a0 a1 a2 a3 a4 a5 a6 a7 s2 s3
 /// Instructions whose number has 12 bits and a sign (ISA manual, "RV32I Base Integer Instruction Set").
 const TWELVE_BITS: &str =
     "addi xori ori andi slti sltiu addiw add and or xor slt sltu addw lb lh lw ld lbu lhu lwu sb sh sw sd jalr jr";
-/// Shifts of 64 bits.
-const SHIFTS: &str = "slli srli srai sll srl sra";
-/// Shifts of 32 bits.
-const WORD_SHIFTS: &str = "slliw srliw sraiw sllw srlw sraw";
-/// Instructions whose number is the upper 20 bits.
-const UPPER: &str = "lui auipc";
 /// Directives that align.
 const ALIGNMENTS: &str = ".balign";
 /// Directives that align to a power of two by its exponent.
 const EXPONENTS: &str = ".align .p2align";
-/// Directives that count bytes.
-const SIZES: &str = ".zero .space .skip";
+/// What the numbers of statements may be: of those of 12 bits, shifts of 64 and of 32 bits, those of the upper 20 bits, and
+/// directives that align or count bytes.
+const RANGES: [(&str, &str); 7] = [
+    (TWELVE_BITS, "-2048 to 2047"),
+    ("slli srli srai sll srl sra", "0 to 63"),
+    ("slliw srliw sraiw sllw srlw sraw", "0 to 31"),
+    ("lui auipc", "0 to 1048575"),
+    (ALIGNMENTS, "a power of two up to 4096"),
+    (EXPONENTS, "0 to 12"),
+    (".zero .space .skip", "0 or more"),
+];
 /// Instructions after which the next is not executed.
 const JUMPS: &str = "j jr ret tail jump c.j c.jr";
 /// Directives that go to a section.
@@ -179,57 +182,12 @@ pub(crate) fn width_of(mnemonic: &[u8]) -> u64
     }
 }
 
-/// What the number of a statement may be, in words, where it is known.
+/// What the number of a statement may be, in words, where it is known; `c.` mnemonics aside.
 pub(crate) fn range_of(mnemonic: &[u8]) -> Option<&'static str> {
-    if is_among(mnemonic, TWELVE_BITS) {
-        Some("-2048 to 2047")
-    } else if is_among(mnemonic, SHIFTS) {
-        Some("0 to 63")
-    } else if is_among(mnemonic, WORD_SHIFTS) {
-        Some("0 to 31")
-    } else if is_among(mnemonic, UPPER) {
-        Some("0 to 1048575")
-    } else if is_among(mnemonic, ALIGNMENTS) {
-        Some("a power of two up to 4096")
-    } else if is_among(mnemonic, EXPONENTS) {
-        Some("0 to 12")
-    } else if is_among(mnemonic, SIZES) {
-        Some("0 or more")
-    } else {
-        compressed_range(mnemonic)
+    for (words, range) in RANGES {
+        if is_among(mnemonic, words) {
+            return Some(range);
+        }
     }
-}
-
-/// What the number of a compressed instruction may be, in words (ISA manual, "RVC Instruction Set Listings").
-fn compressed_range(mnemonic: &[u8]) -> Option<&'static str> {
-    if is_among(mnemonic, "c.li c.addiw c.andi") {
-        Some("-32 to 31")
-    } else if is_among(mnemonic, "c.addi") {
-        Some("-32 to 31 but 0")
-    } else if is_among(mnemonic, "c.slli c.srli c.srai") {
-        Some("1 to 63")
-    } else if is_among(mnemonic, "c.lui") {
-        Some("1 to 31 or 0xfffe0 to 0xfffff")
-    } else if is_among(mnemonic, "c.addi16sp") {
-        Some("a multiple of 16 from -512 to 496 but 0")
-    } else if is_among(mnemonic, "c.addi4spn") {
-        Some("a multiple of 4 from 4 to 1020")
-    } else {
-        compressed_offset(mnemonic)
-    }
-}
-
-/// What the offset of a compressed load or store may be, in words.
-fn compressed_offset(mnemonic: &[u8]) -> Option<&'static str> {
-    if is_among(mnemonic, "c.lw c.sw") {
-        Some("a multiple of 4 from 0 to 124")
-    } else if is_among(mnemonic, "c.ld c.sd") {
-        Some("a multiple of 8 from 0 to 248")
-    } else if is_among(mnemonic, "c.lwsp c.swsp") {
-        Some("a multiple of 4 from 0 to 252")
-    } else if is_among(mnemonic, "c.ldsp c.sdsp") {
-        Some("a multiple of 8 from 0 to 504")
-    } else {
-        None
-    }
+    None
 }

@@ -1,12 +1,12 @@
 //! Where the tokens of a source define a name, refer to it or make it global.
 
 use crate::names::{is_assignment, is_globalizer, is_section, is_silent};
-use crate::tokens::{LineToken, Sort, all_tokens, is_label, text_of, unlabelled};
+use crate::tokens::{LineToken, Sort, all_tokens, is_end, is_label, text_of, unlabelled};
 use std::alloc::{AllocError, Global};
 
 /// The token that defines a name, as a label or by `.set`.
 pub(crate) fn definition_of(source: &[u8], tokens: &[LineToken], name: &[u8]) -> Option<LineToken> {
-    for group in tokens.split(|token| token.sort == Sort::End) {
+    for group in tokens.split(is_end) {
         let found = definition_in(source, group, name);
         if found.is_some() {
             return found;
@@ -54,7 +54,7 @@ pub(crate) fn reference_in(
 
 /// Whether a source makes a name global or weak.
 pub(crate) fn is_made_global(source: &[u8], tokens: &[LineToken], name: &[u8]) -> bool {
-    for group in tokens.split(|token| token.sort == Sort::End) {
+    for group in tokens.split(is_end) {
         if makes_global(source, unlabelled(group), name) {
             return true;
         }
@@ -82,7 +82,7 @@ fn makes_global(source: &[u8], statement: &[LineToken], name: &[u8]) -> bool {
 pub(crate) fn section_before(alloc: Global, source: &[u8], line: u32) -> Result<u32, AllocError> {
     let tokens = all_tokens(alloc, source)?;
     let mut section = 0u32;
-    for group in tokens.as_slice().split(|token| token.sort == Sort::End) {
+    for group in tokens.as_slice().split(is_end) {
         if let Some(mnemonic) = unlabelled(group).first()
             && mnemonic.line < line
             && is_section(text_of(source, mnemonic))

@@ -8,7 +8,8 @@ use crate::excerpt::Place;
 use crate::names::{is_alignment, is_assignment, is_register, is_zero};
 use crate::occurrences::definition_of;
 use crate::tokens::{
-    LineToken, Sort, all_tokens, is_label, part, place, span, text_of, tokens_of_line, unlabelled,
+    LineToken, Sort, all_tokens, is_end, is_label, part, place, span, text_of, tokens_of_line,
+    unlabelled,
 };
 use rv_assemble::assemble;
 use rv_chain::{Fault, SourceCode, SourceFault};
@@ -21,7 +22,7 @@ const HALVINGS: usize = 64;
 const MOST_NAMES: usize = 16;
 
 /// What may stand in the place of a wrong token, where it is one phrase.
-#[derive(Clone, Copy, Debug, PartialEq, Eq, Drop)]
+#[derive(Clone, Copy, Drop)]
 pub(crate) enum Expected {
     Unknown,
     Register,
@@ -40,7 +41,7 @@ pub(crate) enum Expected {
 }
 
 /// Where a fault stands.
-#[derive(Clone, Copy, Debug, PartialEq, Eq, Drop)]
+#[derive(Clone, Copy, Drop)]
 pub(crate) struct FaultPlace {
     /// The statement, from its first label on.
     pub whole: Place,
@@ -66,14 +67,23 @@ pub(crate) fn place_of(
     line: u32,
 ) -> Result<Option<FaultPlace>, Fault> {
     let tokens = tokens_of_line(alloc, source, line)?;
-    let tokens = tokens.as_slice();
     // a line that is too long has no wrong token
     if code != SourceCode::Limit {
-        if let Some(wrong) = wrong_token(alloc, source, tokens)? {
-            let expected = expected_at(alloc, source, tokens, wrong, code)?;
-            return Ok(place_of_token(tokens, wrong, expected));
+        if let Some(wrong) = wrong_token(alloc, source, tokens.as_slice())? {
+            let expected = expected_at(alloc, source, tokens.as_slice(), wrong, code)?;
+            return Ok(place_of_token(tokens.as_slice(), wrong, expected));
         }
     }
+    place_of_content(alloc, source, tokens.as_slice(), code)
+}
+
+/// The place of a fault in a line that is right as a text.
+fn place_of_content(
+    alloc: Global,
+    source: &[u8],
+    tokens: &[LineToken],
+    code: SourceCode,
+) -> Result<Option<FaultPlace>, Fault> {
     if code == SourceCode::DuplicateLabel {
         let repeated = repeated_in_line(alloc, source, tokens)?;
         if repeated.is_some() {
@@ -140,7 +150,12 @@ fn is_read(
         text.push(b'\n')?;
     }
     text.extend_from_slice(b" \x01")?;
-    match parse(alloc, text.as_slice()) {
+    is_right(alloc, text.as_slice())
+}
+
+/// Whether a text that ends with a foreign byte is right up to that.
+fn is_right(alloc: Global, text: &[u8]) -> Result<bool, Fault> {
+    match parse(alloc, text) {
         Ok(_) => Ok(true),
         Err(SourceFault::At { code, .. }) => Ok(code == SourceCode::BadByte),
         Err(SourceFault::OutOfMemory) => Err(Fault::Memory),
@@ -243,11 +258,7 @@ fn is_read_with(alloc: Global, front: &[u8], word: &str) -> Result<bool, Fault> 
     text.extend_from_slice(b" ")?;
     text.extend_from_slice(word.as_bytes())?;
     text.extend_from_slice(b" \x01")?;
-    match parse(alloc, text.as_slice()) {
-        Ok(_) => Ok(true),
-        Err(SourceFault::At { code, .. }) => Ok(code == SourceCode::BadByte),
-        Err(SourceFault::OutOfMemory) => Err(Fault::Memory),
-    }
+    is_right(alloc, text.as_slice())
 }
 
 /// Whether `li` loads the number of an `addi` into its register.
@@ -275,7 +286,7 @@ fn repeated_in_line(
     tokens: &[LineToken],
 ) -> Result<Option<FaultPlace>, Fault> {
     let all = all_tokens(alloc, source)?;
-    for group in tokens.split(|token| token.sort == Sort::End) {
+    for group in tokens.split(is_end) {
         let found = repeated_in(source, all.as_slice(), group);
         if found.is_some() {
             return Ok(found);
@@ -331,7 +342,7 @@ fn place_of_repeated(group: &[LineToken], name: LineToken, first_line: u32) -> O
 /// The last statement of a line that begins at an offset or before.
 fn group_at(tokens: &[LineToken], offset: usize) -> &[LineToken] {
     let mut found = tokens;
-    for group in tokens.split(|token| token.sort == Sort::End) {
+    for group in tokens.split(is_end) {
         match group.first() {
             Some(first) if first.start <= offset => found = group,
             _ => {}
@@ -350,7 +361,7 @@ fn faulty_group<'t>(
 ) -> Result<&'t [LineToken], Fault> {
     let mut only = tokens;
     let mut count = 0usize;
-    for group in tokens.split(|token| token.sort == Sort::End) {
+    for group in tokens.split(is_end) {
         if !group.is_empty() {
             only = group;
             count = count.saturating_add(1);
@@ -362,7 +373,7 @@ fn faulty_group<'t>(
     if !needs_no_other(code) {
         return Ok(tokens);
     }
-    for group in tokens.split(|token| token.sort == Sort::End) {
+    for group in tokens.split(is_end) {
         if is_faulty_alone(alloc, source, group, code)? {
             return Ok(group);
         }
@@ -402,7 +413,7 @@ fn is_faulty_alone(
 /// The place of a fault in a statement that is right as a text, or in a line of several.
 fn place_in_group(source: &[u8], group: &[LineToken], code: SourceCode) -> Option<FaultPlace> {
     let whole = span(group)?;
-    if group.iter().any(|token| token.sort == Sort::End) {
+    if group.iter().any(is_end) {
         return Some(place_in_line(group, whole, code));
     }
     let statement = span(unlabelled(group)).unwrap_or(whole);

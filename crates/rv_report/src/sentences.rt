@@ -2,6 +2,7 @@
 
 use crate::excerpt::put_bytes;
 use crate::names::{has_gaps, is_access, is_zero, range_of};
+use crate::parcel_numbers::{numbers_of, parcel_named};
 use crate::place::{Expected, FaultPlace};
 use crate::tokens::part;
 use rv_chain::SourceCode;
@@ -100,7 +101,7 @@ fn put_words(
     match code {
         SourceCode::BadToken => put_bad_token(text, subject.shown),
         SourceCode::BadOperands => put_bad_operand(text, known, subject),
-        SourceCode::ImmediateRange => put_range(text, known, subject),
+        SourceCode::ImmediateRange => put_range(alloc, text, known, subject),
         SourceCode::NotConstant => {
             put_shown(text, known, subject, "a value here")?;
             text.push_str(
@@ -130,7 +131,7 @@ fn put_words(
                 " cannot stand in this section: instructions go to .text, data to .data or .rodata",
             )
         }
-        SourceCode::Limit if known => put_range(text, known, subject),
+        SourceCode::Limit if known => put_range(alloc, text, known, subject),
         _ => text.push_str(plain_words(code)),
     }
 }
@@ -286,14 +287,30 @@ fn expected_words(expected: Expected) -> &'static str {
 }
 
 /// Adds what is said of a number out of its range.
-fn put_range(text: &mut String, known: bool, subject: &Subject<'_>) -> Result<(), AllocError> {
-    let Some(range) = range_in(subject) else {
-        put_shown(text, known, subject, "a value here")?;
-        text.push_str(
-            " is none that this statement takes: it is out of range, or a number as a target",
-        )?;
-        return Ok(());
-    };
+fn put_range(
+    alloc: Global,
+    text: &mut String,
+    known: bool,
+    subject: &Subject<'_>,
+) -> Result<(), AllocError> {
+    if let Some(range) = range_in(subject) {
+        return put_missed(text, known, subject, range);
+    }
+    if let Some(operation) = parcel_named(subject.mnemonic) {
+        let numbers = numbers_of(alloc, operation)?;
+        return put_missed(text, known, subject, numbers.as_str());
+    }
+    put_shown(text, known, subject, "a value here")?;
+    text.push_str(" is none that this statement takes: it is out of range, or a number as a target")
+}
+
+/// Adds what is said of a number outside of this range.
+fn put_missed(
+    text: &mut String,
+    known: bool,
+    subject: &Subject<'_>,
+    range: &str,
+) -> Result<(), AllocError> {
     put_bytes(text, subject.mnemonic)?;
     text.push_str(" takes ")?;
     text.push_str(range)?;

@@ -5,7 +5,7 @@
 
 use crate::excerpt::Place;
 use crate::names::{is_register, is_word};
-use crate::tokens::{LineToken, Sort, all_tokens, part, span, text_of, unlabelled};
+use crate::tokens::{LineToken, Sort, all_tokens, is_end, part, span, text_of, unlabelled};
 use rv_chain::{Fault, LinkFault, LinkOptions, build_exe};
 use std::alloc::{AllocError, Global};
 
@@ -15,7 +15,7 @@ const HALVINGS: usize = 64;
 const FILLER: &str = "nop;nop;nop;nop";
 
 /// A statement that may have a fault of the link.
-#[derive(Clone, Copy, Debug, PartialEq, Eq, Drop)]
+#[derive(Clone, Copy, Drop)]
 pub(crate) struct Suspect {
     /// The index of its source.
     pub file: usize,
@@ -28,7 +28,7 @@ pub(crate) struct Suspect {
 }
 
 /// A fault of the value of a field.
-#[derive(Clone, Copy, Debug, PartialEq, Eq, Drop)]
+#[derive(Clone, Copy, PartialEq, Eq, Drop)]
 enum ValueFault {
     Overflow,
     OddTarget,
@@ -36,7 +36,7 @@ enum ValueFault {
 }
 
 /// What a build of changed sources tells.
-#[derive(Clone, Copy, Debug, PartialEq, Eq, Drop)]
+#[derive(Clone, Copy, Drop)]
 enum Verdict {
     /// The fault is there.
     Same,
@@ -135,14 +135,25 @@ fn put_suspects(
     suspects: &mut Vec<Suspect>,
 ) -> Result<(), AllocError> {
     let tokens = all_tokens(alloc, source)?;
-    for group in tokens.as_slice().split(|token| token.sort == Sort::End) {
+    for group in tokens.as_slice().split(is_end) {
         let statement = unlabelled(group);
-        if sums && !has_sum(statement) {
-            continue;
+        if !sums || has_sum(statement) {
+            put_suspect(source, statement, file, wanted, suspects)?;
         }
-        if let Some(suspect) = suspect_in(source, statement, file, wanted) {
-            suspects.push(suspect)?;
-        }
+    }
+    Ok(())
+}
+
+/// Adds a statement that may have this fault.
+fn put_suspect(
+    source: &[u8],
+    statement: &[LineToken],
+    file: usize,
+    wanted: ValueFault,
+    suspects: &mut Vec<Suspect>,
+) -> Result<(), AllocError> {
+    if let Some(suspect) = suspect_in(source, statement, file, wanted) {
+        suspects.push(suspect)?;
     }
     Ok(())
 }

@@ -10,7 +10,7 @@ use std::alloc::{AllocError, Global};
 const TOO_LARGE: usize = 1 << 31;
 
 /// What a token is to the search.
-#[derive(Clone, Copy, Debug, PartialEq, Eq, Drop)]
+#[derive(Clone, Copy, PartialEq, Eq, Drop)]
 pub(crate) enum Sort {
     Name,
     Number,
@@ -38,7 +38,7 @@ pub(crate) enum Sort {
 }
 
 /// A token: what it is, and its bytes in the source.
-#[derive(Clone, Copy, Debug, PartialEq, Eq, Drop)]
+#[derive(Clone, Copy, Drop)]
 pub(crate) struct LineToken {
     pub sort: Sort,
     /// The offset of its first byte.
@@ -181,6 +181,16 @@ fn sort_of_punct(punct: Punct) -> Sort {
         Punct::ShiftRight => Sort::Shift,
         _ => Sort::Other,
     }
+}
+
+/// Whether a byte ends a line.
+pub(crate) fn is_line_feed(byte: &u8) -> bool {
+    *byte == b'\n'
+}
+
+/// Whether a token ends a statement.
+pub(crate) fn is_end(token: &LineToken) -> bool {
+    token.sort == Sort::End
 }
 
 /// The tokens of a statement after its labels.

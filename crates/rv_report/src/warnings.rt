@@ -5,7 +5,7 @@ use crate::names::{
     is_load_of_number, is_quiet, is_register_jump, is_section, is_silent, is_size, is_stack,
     is_store, is_zero, width_of,
 };
-use crate::tokens::{LineToken, Sort, is_label, text_of, unlabelled};
+use crate::tokens::{LineToken, Sort, is_end, is_label, text_of, unlabelled};
 use std::alloc::{AllocError, Global};
 use std::collections::{HashMap, HashSet};
 
@@ -13,7 +13,7 @@ use std::collections::{HashMap, HashSet};
 const MOST_WARNINGS: usize = 20;
 
 /// What may be wrong.
-#[derive(Clone, Copy, Debug, PartialEq, Eq, Drop)]
+#[derive(Clone, Copy, Drop)]
 pub(crate) enum Doubt {
     /// A label to which nothing in its source refers.
     UnusedLabel,
@@ -26,7 +26,7 @@ pub(crate) enum Doubt {
 }
 
 /// A warning: what may be wrong, and the token that shows it.
-#[derive(Clone, Copy, Debug, PartialEq, Eq, Drop)]
+#[derive(Clone, Copy, Drop)]
 pub(crate) struct Warning {
     pub doubt: Doubt,
     pub token: LineToken,
@@ -40,11 +40,22 @@ pub(crate) fn warnings_of(
     symbols: &HashMap<u64, &[u8]>,
 ) -> Result<Vec<Warning>, AllocError> {
     let mut found = Vec::new(alloc);
-    put_unused(alloc, source, tokens, &mut found)?;
-    put_unreachable(source, tokens, &mut found)?;
-    put_misaligned(source, tokens, &mut found)?;
-    put_hiding(alloc, source, tokens, symbols, &mut found)?;
+    put_all(alloc, source, tokens, symbols, &mut found)?;
     Ok(found)
+}
+
+/// Adds the warnings of each kind.
+fn put_all(
+    alloc: Global,
+    source: &[u8],
+    tokens: &[LineToken],
+    symbols: &HashMap<u64, &[u8]>,
+    found: &mut Vec<Warning>,
+) -> Result<(), AllocError> {
+    put_unused(alloc, source, tokens, found)?;
+    put_unreachable(source, tokens, found)?;
+    put_misaligned(source, tokens, found)?;
+    put_hiding(alloc, source, tokens, symbols, found)
 }
 
 /// Adds a warning, where there are not too many.
@@ -65,14 +76,24 @@ fn put_unused(
     found: &mut Vec<Warning>,
 ) -> Result<(), AllocError> {
     let used = used_names(alloc, source, tokens)?;
+    put_labels_but(source, tokens, &used, found)
+}
+
+/// Adds the labels to which nothing refers where these names are used.
+fn put_labels_but<'a>(
+    source: &'a [u8],
+    tokens: &[LineToken],
+    used: &HashSet<&'a [u8]>,
+    found: &mut Vec<Warning>,
+) -> Result<(), AllocError> {
     let mut is_anchored = false;
     let mut is_reached = false;
     let mut count = found.len();
-    for group in tokens.split(|token| token.sort == Sort::End) {
+    for group in tokens.split(is_end) {
         let statement = unlabelled(group);
-        put_unused_of(source, group, &used, found)?;
-        is_anchored = is_anchored || anchors(source, statement, &used);
-        is_reached = is_reached || is_anchored || has_used_label(source, group, &used);
+        put_unused_of(source, group, used, found)?;
+        is_anchored = is_anchored || anchors(source, statement, used);
+        is_reached = is_reached || is_anchored || has_used_label(source, group, used);
         if is_reached {
             found.truncate(count);
         }
@@ -167,10 +188,20 @@ fn used_names<'a>(
     tokens: &[LineToken],
 ) -> Result<HashSet<&'a [u8]>, AllocError> {
     let mut used = HashSet::new(alloc);
-    for group in tokens.split(|token| token.sort == Sort::End) {
-        put_used(source, unlabelled(group), &mut used)?;
-    }
+    put_all_used(source, tokens, &mut used)?;
     Ok(used)
+}
+
+/// Adds the names that a source uses.
+fn put_all_used<'a>(
+    source: &'a [u8],
+    tokens: &[LineToken],
+    used: &mut HashSet<&'a [u8]>,
+) -> Result<(), AllocError> {
+    for group in tokens.split(is_end) {
+        put_used(source, unlabelled(group), used)?;
+    }
+    Ok(())
 }
 
 /// Adds the names that a statement uses.
@@ -214,7 +245,7 @@ fn put_unreachable(
     }
     let mut is_cut_off = false;
     let mut is_in_table = false;
-    for group in tokens.split(|token| token.sort == Sort::End) {
+    for group in tokens.split(is_end) {
         let step = step_of(source, group);
         is_cut_off = is_cut_off && !step.begins;
         is_in_table = is_in_table && !step.begins;
@@ -232,7 +263,7 @@ fn put_unreachable(
 
 /// Whether a source uses the place where it is, or jumps to an address in a register other than that of the return.
 fn reaches_anything(source: &[u8], tokens: &[LineToken]) -> bool {
-    for group in tokens.split(|token| token.sort == Sort::End) {
+    for group in tokens.split(is_end) {
         if goes_anywhere(source, unlabelled(group)) {
             return true;
         }
@@ -259,7 +290,7 @@ fn goes_anywhere(source: &[u8], statement: &[LineToken]) -> bool {
 }
 
 /// What a statement is to the flow of a program.
-#[derive(Clone, Copy, Debug, PartialEq, Eq, Drop)]
+#[derive(Clone, Copy, Drop)]
 struct Step {
     /// It has a label, or begins a section.
     begins: bool,
@@ -319,7 +350,7 @@ fn put_misaligned(
     found: &mut Vec<Warning>,
 ) -> Result<(), AllocError> {
     let is_kept = keeps_stack(source, tokens);
-    for group in tokens.split(|token| token.sort == Sort::End) {
+    for group in tokens.split(is_end) {
         if let Some(token) = misaligned_in(source, unlabelled(group), is_kept) {
             put(found, Doubt::Misaligned, token)?;
         }
@@ -351,7 +382,7 @@ fn misaligned_in(source: &[u8], statement: &[LineToken], is_kept: bool) -> Optio
 
 /// Whether `sp` stays a multiple of 16 in all of a source.
 fn keeps_stack(source: &[u8], tokens: &[LineToken]) -> bool {
-    for group in tokens.split(|token| token.sort == Sort::End) {
+    for group in tokens.split(is_end) {
         if !keeps_multiple(source, unlabelled(group)) {
             return false;
         }
@@ -394,22 +425,40 @@ fn put_hiding(
     found: &mut Vec<Warning>,
 ) -> Result<(), AllocError> {
     let assigned = assigned_names(alloc, source, tokens)?;
-    for group in tokens.split(|token| token.sort == Sort::End) {
-        let [mnemonic, _, _, number] = unlabelled(group) else {
-            continue;
-        };
-        let value = number.value;
-        let is_written = number.sort == Sort::Number
-            && text_of(source, number).starts_with(b"0x")
-            && value & value.wrapping_sub(1) != 0;
-        if is_written
-            && is_load_of_number(text_of(source, mnemonic))
-            && is_address(symbols, value, &assigned)
+    put_addresses(source, tokens, symbols, &assigned, found)
+}
+
+/// Adds each such `li` where these names are constants of the source.
+fn put_addresses(
+    source: &[u8],
+    tokens: &[LineToken],
+    symbols: &HashMap<u64, &[u8]>,
+    assigned: &HashSet<&[u8]>,
+    found: &mut Vec<Warning>,
+) -> Result<(), AllocError> {
+    for group in tokens.split(is_end) {
+        if let Some(number) = number_loaded(source, unlabelled(group))
+            && is_address(symbols, number.value, assigned)
         {
-            put(found, Doubt::HidesSymbol, *number)?;
+            put(found, Doubt::HidesSymbol, number)?;
         }
     }
     Ok(())
+}
+
+/// The hexadecimal number that a statement loads, but for powers of two.
+fn number_loaded(source: &[u8], statement: &[LineToken]) -> Option<LineToken> {
+    let [mnemonic, _, _, number] = statement else {
+        return None;
+    };
+    let is_written = number.sort == Sort::Number
+        && text_of(source, number).starts_with(b"0x")
+        && number.value & number.value.wrapping_sub(1) != 0;
+    if is_written && is_load_of_number(text_of(source, mnemonic)) {
+        Some(*number)
+    } else {
+        None
+    }
 }
 
 /// Whether a number is the address of a global name that is no constant of a source.
@@ -427,13 +476,23 @@ fn assigned_names<'a>(
     tokens: &[LineToken],
 ) -> Result<HashSet<&'a [u8]>, AllocError> {
     let mut assigned = HashSet::new(alloc);
-    for group in tokens.split(|token| token.sort == Sort::End) {
-        if let [set, name, ..] = unlabelled(group)
-            && text_of(source, set).starts_with(b".")
-            && is_assignment(text_of(source, set))
-        {
-            assigned.insert(text_of(source, name))?;
-        }
+    for group in tokens.split(is_end) {
+        put_assigned(source, unlabelled(group), &mut assigned)?;
     }
     Ok(assigned)
+}
+
+/// Adds the name that a statement gives a value.
+fn put_assigned<'a>(
+    source: &'a [u8],
+    statement: &[LineToken],
+    assigned: &mut HashSet<&'a [u8]>,
+) -> Result<(), AllocError> {
+    if let [set, name, ..] = statement
+        && text_of(source, set).starts_with(b".")
+        && is_assignment(text_of(source, set))
+    {
+        assigned.insert(text_of(source, name))?;
+    }
+    Ok(())
 }
