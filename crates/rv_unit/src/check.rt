@@ -150,7 +150,20 @@ impl<'a> Unit<'a> {
         is_difference(value)
     }
 
-    /// The fault of a value of data. A difference of names is looked at without them first: in most sources it has none.
+    /// Whether a value of data has no fault at once: a number, or a difference of names that have places.
+    fn is_faultless(&self, value: &Expr<'a>) -> bool
+        ensures { (width o : ℕ) (p : laws.SectionOffset) → IsFilled self.now → result ≡ true
+            → faults.value_faults width
+            (laws.value (laws.tables (said self.now)) true o p (tree_of_expr value.now)) ≡ [] }
+    {
+        match value {
+            Expr::Number(_) => true,
+            Expr::Negative(_) => true,
+            _ => self.is_distance(value),
+        }
+    }
+
+    /// The fault of a value of data. Most have none at once: numbers, and differences of names, which are not looked up.
     fn fault_of_value(
         &self,
         ordinal: u32,
@@ -163,7 +176,7 @@ impl<'a> Unit<'a> {
             (laws.value (laws.tables (said self.now)) true o (offset_of place)
             (tree_of_expr value.now))) }
     {
-        if self.is_distance(value) {
+        if self.is_faultless(value) {
             return None;
         }
         let found = self.value(ordinal, place, value, 0);

@@ -9,8 +9,8 @@ use Rattle.rv_unit_tables.specs.Sections.{offset_of}
 use Rattle.rv_unit.specs.Unit.{said}
 use Rattle.rv_unit.proofs.unit.Unit.fault_of_value.Goals as goal
 
-pub returns-then-is_distance : goal.returns-then-is_distance
-returns-then-is_distance c = λ o f at. sym (ap lowest (c.is_distance.ensures (bytes_of c.args.width) o (offset_of c.args.place) f c.if-is_distance.true))
+pub returns-then-is_faultless : goal.returns-then-is_faultless
+returns-then-is_faultless c = λ o f at. sym (ap lowest (c.is_faultless.ensures (bytes_of c.args.width) o (offset_of c.args.place) f c.if-is_faultless.true))
 
 pub returns : goal.returns
 returns c = λ o f at.
