@@ -118,7 +118,7 @@ impl<'u, 'a> Scope<'u, 'a> {
 
     /// Whether another file's definition may stand for a symbol's own.
     fn gives_way(&self, symbol: Symbol<'a>) -> bool
-        ensures { result
+        ensures { IsIndexed (self.now).unit.now.tables → result
             ≡ laws.gives_way (tables_of (self.now).unit.now.tables) (symbol_of symbol.entry) }
     {
         match symbol {

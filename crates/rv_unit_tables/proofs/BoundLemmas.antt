@@ -10,7 +10,7 @@ use Rattle.std.proofs.lemmas.List.Folds.{list_any-append}
 use Rattle.rv_statement.specs.View.{now_of}
 use Rattle.rv_statement.specs.declared.directive.Binding.{Binding}
 use Rattle.rv_statement.specs.declared.directive.Binding.TheVariants.{Local}
-use Rattle.rv_unit_laws.specs.Bindings.{Bindings, bound}
+use Rattle.rv_unit_laws.specs.Bindings.{Bindings, bound, is_weak}
 
 -- a test of one name more
 one_more : (xs : List (Bor (List ℕ))) (i : ℕ) (d : Bor (List ℕ)) (name : List ℕ) → i < length xs
@@ -34,3 +34,9 @@ bound_next binding xs i d name found before so_far inside =
     by true false h = refl
     by false true h = h
     by false false h = h
+
+-- where none is weak, none was before, nor is the new one
+pub none_weak : (weak : Bool) (binding before : Binding) (listed : Bool) → (weak ≡ false → is_weak before ≡ false) → (weak || is_weak binding) ≡ false → is_weak (if listed then binding else before) ≡ false
+none_weak true binding before listed h none = absurd (cc)
+none_weak false binding before true h none = none
+none_weak false binding before false h none = h refl

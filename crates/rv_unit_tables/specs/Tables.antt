@@ -1,6 +1,6 @@
 -- What the tables of the code stand for.
 
-use Rattle.std.specs.Prelude.{◌≡◌, ◌==◌, ℕ, List, [], ◌∷◌, nat_lt, map, filter, reverse, unwrap_or, if◌then◌else◌}
+use Rattle.std.specs.Prelude.{◌≡◌, ◌==◌, ℕ, false, List, [], ◌∷◌, nat_lt, map, filter, reverse, unwrap_or, if◌then◌else◌}
 use Rattle.std.specs.Option.{option_map_or}
 use Rattle.std.specs.declared.vec.Vec.{Vec}
 use Rattle.std.specs.Borrow.{Bor}
@@ -8,6 +8,7 @@ use Rattle.std.specs.Str.{bytes_eq}
 use Rattle.indexmap.specs.IndexMap.{IndexMap, get_by}
 use Rattle.rv_text_laws.specs.Bytes.{value}
 use Rattle.rv_text.specs.Eval.{meaning_of}
+use Rattle.rv_unit_laws.specs.Bindings.{is_weak}
 use Rattle.rv_unit_laws.specs.Sections as sections
 use Rattle.rv_unit_laws.specs.Tables as laws
 use Rattle.rv_statement.specs.declared.directive.Binding.{Binding}
@@ -97,6 +98,7 @@ pub record IsIndexed (b : Tables) : Type 0 where
   pub assignments : (name : List ℕ) →
       assignments_at b.by_name name
       ≡ filter (λ (g : Assignment). bytes_eq g.name.now name) b.assignments.items
+  pub weak : (name : List ℕ) → b.has_weak ≡ false → is_weak (binding_in b.bindings name) ≡ false
   pub numbered : (digits : List ℕ) →
       reverse (map (numeric_label_at (value 10 digits)) (numbered_at b.numbered (value 10 digits)))
       ≡ filter (λ (m : laws.NumericLabel). m.number == value 10 digits) (tables_of b).numeric_labels

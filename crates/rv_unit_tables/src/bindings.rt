@@ -1,13 +1,20 @@
 //! Bindings by their names.
 
-ghost use Rattle.std.specs.Prelude.{◌≡◌, ℕ, List, map, OnOk};
+ghost use Rattle.std.specs.Prelude.{◌≡◌, ◌||◌, ℕ, List, map, OnOk};
 ghost use Rattle.rv_statement.specs.View.{now_of};
-ghost use Rattle.rv_unit_laws.specs.Bindings.{bound};
+ghost use Rattle.rv_unit_laws.specs.Bindings.{bound, is_weak};
 ghost use Rattle.rv_unit_tables.specs.Tables.{binding_in};
 
 use indexmap::IndexMap;
 use rv_statement::Binding;
 use std::alloc::AllocError;
+
+/// Whether one of the names is weak, with one more binding.
+pub(crate) fn weak_after(weak: bool, binding: Binding) -> bool
+    ensures { result ≡ (weak || is_weak binding) }
+{
+    weak || matches!(binding, Binding::Weak)
+}
 
 /// Gives names a binding, in place of what was said of them before.
 pub(crate) fn bind_all<'a>(

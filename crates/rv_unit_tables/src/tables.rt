@@ -22,7 +22,7 @@ ghost use Rattle.rv_unit_tables.specs.Sections.{section_of, offset_of};
 ghost use Rattle.rv_unit_tables.specs.Tables.{tables_of, label_at, numeric_label_at, assignment_of, IsIndexed};
 
 use crate::assignments::{add_assigned, latest_before};
-use crate::bindings::bind_all;
+use crate::bindings::{bind_all, weak_after};
 use crate::number::Number;
 use crate::numeric_labels::{add_numbered, first_after, last_before};
 use crate::options::Options;
@@ -91,6 +91,8 @@ pub struct Tables<'a> {
     pub(crate) kept: Vec<Options>,
     /// What the source says last of each name of which it says a binding.
     pub(crate) bindings: IndexMap<&'a [u8], Binding>,
+    /// Whether it says of any name that it is weak: most sources do not, and then no name need be looked up.
+    pub(crate) has_weak: bool,
 }
 
 impl<'a> Tables<'a> {
@@ -115,6 +117,7 @@ impl<'a> Tables<'a> {
             options: Options::Both,
             kept: Vec::new(alloc),
             bindings: IndexMap::new(alloc),
+            has_weak: false,
         })
     }
 
@@ -267,7 +270,7 @@ impl<'a> Tables<'a> {
     /// What a name means that means this in its own file: a place whose name is weak is open, as another file's may stand
     /// for it.
     pub fn weakened(&self, name: &[u8], meaning: Meaning) -> Meaning
-        ensures { meaning_of result
+        ensures { IsIndexed self.now → meaning_of result
             ≡ laws.weakened ((tables_of self.now).bindings name.now) (meaning_of meaning) }
     {
         match meaning {
@@ -521,6 +524,7 @@ impl<'a> Tables<'a> {
             }) }
         ensures indexed { OnOk result (IsIndexed self.old → IsIndexed self.new) }
     {
+        self.has_weak = weak_after(self.has_weak, binding);
         bind_all(&mut self.bindings, binding, names)
     }
 
@@ -533,8 +537,12 @@ impl<'a> Tables<'a> {
 
     /// Whether a name is weak.
     pub fn is_weak(&self, name: &[u8]) -> bool
-        ensures { result ≡ is_weak ((tables_of self.now).bindings name.now) }
+        ensures { IsIndexed self.now
+            → result ≡ is_weak ((tables_of self.now).bindings name.now) }
     {
+        if !self.has_weak {
+            return false;
+        }
         matches!(self.binding(name), Binding::Weak)
     }
 

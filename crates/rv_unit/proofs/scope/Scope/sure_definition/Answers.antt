@@ -9,7 +9,7 @@ returns-then-gives_way c = λ i f s.
     let u = c.args.self.now.unit.now in
     let t = tables (said u) in
     let q = symbol_of c.args.symbol in
-    sym (ap (λ b. if b then None else definition t (i + 1) q) (ap (λ v. gives_way v q) (sym f.tables) ∙ sym c.gives_way.ensures ∙ c.if-gives_way.true))
+    sym (ap (λ b. if b then None else definition t (i + 1) q) (ap (λ v. gives_way v q) (sym f.tables) ∙ sym (c.gives_way.ensures f.indexed) ∙ c.if-gives_way.true))
 
 pub returns : goal.returns
 returns c = λ i f s.
@@ -17,4 +17,4 @@ returns c = λ i f s.
     let t = tables (said u) in
     let q = symbol_of c.args.symbol in
     c.definition.ensures i f s
-    ∙ sym (ap (λ b. if b then None else definition t (i + 1) q) (ap (λ v. gives_way v q) (sym f.tables) ∙ sym c.gives_way.ensures ∙ c.if-gives_way.false))
+    ∙ sym (ap (λ b. if b then None else definition t (i + 1) q) (ap (λ v. gives_way v q) (sym f.tables) ∙ sym (c.gives_way.ensures f.indexed) ∙ c.if-gives_way.false))

@@ -5,4 +5,4 @@ use Rattle.rv_unit.proofs.unit.Unit.named.Goals as goal
 
 pub returns : goal.returns
 returns c = λ i o h apart.
-    c.weakened.ensures ∙ ap (weakened ((tables_of c.args.self.now.tables).bindings c.args.name.now)) (c.own_named.ensures i o h apart)
+    c.weakened.ensures i ∙ ap (weakened ((tables_of c.args.self.now.tables).bindings c.args.name.now)) (c.own_named.ensures i o h apart)

@@ -24,6 +24,7 @@ returns-clause-indexed c =
     (λ both i h. record {
       numbers = i.numbers;
       assignments = i.assignments;
+      weak = i.weak;
       numbered = λ digits.
           indexed_later (value 10 c.args.digits.now) (value 10 digits) x
           (numbered_at b.numbered (value 10 digits)) (numbered_at c.add_numbered.new.numbered (value 10 digits))

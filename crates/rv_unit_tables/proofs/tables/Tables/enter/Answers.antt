@@ -15,5 +15,6 @@ returns-clause-indexed c = λ i.
           (ap sections_in c.in_ok-push.ensures.items ∙ sections_append es c.empty.result ∙ ap (λ (e : laws.Extent). sections_in es ++ e.section ∷ []) c.empty.ensures)
           refl c.in_ok-insert.ensures.updates.0;
       assignments = i.assignments;
+      weak = i.weak;
       numbered = i.numbered;
     }

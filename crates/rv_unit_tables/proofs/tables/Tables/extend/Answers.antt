@@ -32,5 +32,6 @@ returns-clause-indexed c = λ i.
     record {
       numbers = λ name. i.numbers name ∙ ap (λ l. place_of_name l name) (sym (sections_set b.extents.items b.current c.index.result.now c.longer.result inside c.index.ensures c.longer.ensures.section));
       assignments = i.assignments;
+      weak = i.weak;
       numbered = i.numbered;
     }

@@ -1,11 +1,13 @@
 use Rattle.std.proofs.Common.{◌∙◌, ap, sym, List, [], ◌∷◌, ◌++◌, ◌==◌, filter, map}
-use Rattle.std.specs.Prelude.{reverse}
+use Rattle.std.specs.Prelude.{reverse, unwrap_or}
 use Rattle.std.specs.Borrow.{Bor}
 use Rattle.std.specs.Option.{option_map_or}
 use Rattle.std.specs.Map.{lookup}
 use Rattle.std.specs.Str.{bytes_eq}
 use Rattle.indexmap.specs.IndexMap.{insert_entry}
 use Rattle.rv_text_laws.specs.Bytes.{value}
+use Rattle.rv_statement.specs.declared.directive.Binding.TheVariants.{Local}
+use Rattle.rv_unit_laws.specs.Bindings.{is_weak}
 use Rattle.rv_unit_laws.specs.Tables as laws
 use Rattle.rv_unit_laws.specs.Tables.{NumericLabel}
 use Rattle.rv_unit_tables.specs.declared.number.Number.{Number}
@@ -23,6 +25,7 @@ returns-clause-indexed c = record {
       (ap sections_in (c.in_ok-push.ensures.items ∙ ap (λ (l : List Extent). l ++ c.empty.result ∷ []) c.new-extents.ensures.items) ∙ ap (λ (e : laws.Extent). e.section ∷ []) c.empty.ensures)
       (λ i. c.text-section.result.name.now);
   assignments = λ name. ap (λ es. option_map_or (λ v. v.items) (lookup (λ (k : Bor (List _)). bytes_eq name k.now) es) []) c.new-4.ensures.empty ∙ sym (ap (filter (λ (g : Assignment). bytes_eq g.name.now name)) c.new-3.ensures.items);
+  weak = λ name none. ap (λ es. is_weak (unwrap_or (lookup (λ (k : Bor (List _)). bytes_eq name k.now) es) Local)) c.new-6.ensures.empty;
   numbered = λ digits.
       ap (λ es. reverse (map (numeric_label_at (value 10 digits)) (option_map_or (λ v. v.items) (lookup (λ (k : Number). value 10 digits == value 10 k.digits.now) es) []))) c.new-2.ensures.empty
       ∙ sym (ap (λ es. filter (λ (m : NumericLabel). m.number == value 10 digits) (numeric_labels_in es)) c.new-2.ensures.empty);
