@@ -43,6 +43,14 @@ fn depth_after(depth: usize, kind: &StatementKind<'_>) -> usize
     }
 }
 
+/// How many labels there are after a statement, as far as a number shows it.
+fn labels_after(labels: usize, kind: &StatementKind<'_>) -> usize {
+    match kind {
+        StatementKind::Label(_) => labels.saturating_add(1),
+        _ => labels,
+    }
+}
+
 /// The ordinal of the statement at an index.
 fn ordinal_of(index: usize) -> u32
     requires { index < most_statements }
@@ -66,7 +74,7 @@ impl<'a> Unit<'a> {
         let value = self.early_value(ordinal, place, &assignment.expression);
         set_fault(
             self.tables.section_at(place.section),
-            self.is_defined_before(ordinal, assignment.name),
+            self.is_defined_before(ordinal, 0, assignment.name),
             self.has_location_before(ordinal, assignment.name),
             &value,
         )
@@ -243,14 +251,14 @@ impl<'a> Unit<'a> {
         data_fault(self.tables.section_at(place.section), place.offset, bytes)
     }
 
-    /// The fault of a label: its name is defined before.
-    fn fault_of_label(&self, ordinal: u32, name: &[u8]) -> Option<SourceCode>
+    /// The fault of a label: its name is defined before. So many labels stand before it.
+    fn fault_of_label(&self, ordinal: u32, labels: usize, name: &[u8]) -> Option<SourceCode>
         ensures { (index : ℕ) (p : SectionOffsetOf)
             → IsStatementOf self.now index ordinal p (Label name.now)
             → IsLowest result (faults_at self.now index (Label name.now)) }
     {
         faulty_if(
-            self.is_defined_before(ordinal, name),
+            self.is_defined_before(ordinal, labels, name),
             SourceCode::DuplicateLabel,
         )
     }
@@ -277,11 +285,13 @@ impl<'a> Unit<'a> {
         faulty_if(!self.tables.knows(section.name), SourceCode::Limit)
     }
 
-    /// The fault of a statement of an ordinal, at the offset where it stands, after so many pushes without their pop.
+    /// The fault of a statement of an ordinal, at the offset where it stands, after so many labels, and after so many
+    /// pushes without their pop.
     fn fault(
         &self,
         ordinal: u32,
         place: SectionOffset,
+        labels: usize,
         depth: usize,
         kind: &StatementKind<'a>,
     ) -> Option<SourceCode>
@@ -290,7 +300,7 @@ impl<'a> Unit<'a> {
             → IsLowest result (faults_at self.now index (statement_kind kind.now)) }
     {
         match kind {
-            StatementKind::Label(name) => self.fault_of_label(ordinal, *name),
+            StatementKind::Label(name) => self.fault_of_label(ordinal, labels, *name),
             StatementKind::Numbered(_) => None,
             StatementKind::Plain(_) => self.fault_of_instruction(place),
             StatementKind::With(..) => self.fault_of_instruction(place),
@@ -328,13 +338,17 @@ impl<'a> Unit<'a> {
     {
         let statements = self.statements();
         let places = self.places();
+        let mut labels: usize = 0;
         let mut depth: usize = 0;
         for index in 0..statements.len() {
             let statement = &statements[index];
             let place = places[index];
-            match self.fault(ordinal_of(index), place, depth, &statement.kind) {
+            match self.fault(ordinal_of(index), place, labels, depth, &statement.kind) {
                 Some(code) => return Some((code, statement.line)),
-                None => depth = depth_after(depth, &statement.kind),
+                None => {
+                    labels = labels_after(labels, &statement.kind);
+                    depth = depth_after(depth, &statement.kind);
+                }
             }
         }
         None

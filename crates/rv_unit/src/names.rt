@@ -261,13 +261,13 @@ impl<'a> Unit<'a> {
         }
     }
 
-    /// Whether a label or an assignment has the name before an ordinal.
-    pub(crate) fn is_defined_before(&self, ordinal: u32, name: &[u8]) -> bool
+    /// Whether a label or an assignment has the name before an ordinal. The name may be that of the label of this index.
+    pub(crate) fn is_defined_before(&self, ordinal: u32, labels: usize, name: &[u8]) -> bool
         ensures { IsIndexed (self.now).tables → (o : ℕ) → IsBefore (tables_of (self.now).tables) o
             → IsApart (tables_of (self.now).tables)
             → result ≡ laws.is_defined (tables_of (self.now).tables) ordinal name.now }
     {
-        match self.tables.label(name) {
+        match self.tables.label_hinted(labels, name) {
             Some(label) => label.ordinal < ordinal,
             None => self.tables.assignment_before(ordinal, name).is_some(),
         }

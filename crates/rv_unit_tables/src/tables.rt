@@ -172,6 +172,20 @@ impl<'a> Tables<'a> {
         self.labels.get(&name).copied()
     }
 
+    /// The label of a name, which may be the one of this index: labels have the order of their statements, so that the
+    /// index saves most look-ups.
+    pub fn label_hinted(&self, index: usize, name: &[u8]) -> Option<Label>
+        ensures { option_map (label_at name.now) result
+            ≡ laws.label_of (tables_of self.now).labels true 0 name.now }
+    {
+        if let Some((key, label)) = self.labels.get_index(index) {
+            if *key == name {
+                return Some(*label);
+            }
+        }
+        self.label(name)
+    }
+
     /// The label of a name, if it stands before an ordinal.
     pub fn label_before(&self, ordinal: u32, name: &[u8]) -> Option<Label>
         ensures { (o : ℕ) → IsBefore (tables_of self.now) o →
