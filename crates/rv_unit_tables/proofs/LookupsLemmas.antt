@@ -6,6 +6,7 @@ use Rattle.std.specs.Borrow.{Bor}
 use Rattle.std.specs.List.{find, list_all}
 use Rattle.std.specs.Map.{lookup}
 use Rattle.std.specs.Str.{bytes_eq}
+use Rattle.indexmap.specs.IndexMap.{insert_entry}
 use Rattle.std.proofs.lemmas.List.{reverse-append, map-append, length-map}
 use Rattle.std.proofs.lemmas.Bool.{leb-true, leb-false, and_parts}
 use Rattle.rv_text_laws.specs.Values.{Meaning, Known, InSection, Open, Refused}
@@ -221,3 +222,40 @@ within_cut offset size bytes is = by (nat_le bytes (2 ^ 64 - 1)) refl
         let far : 2 ^ 28 < offset + size = omega (arith, is, l) in
         let farther : 2 ^ 28 < offset + bytes = omega (arith, l) in
         past_all offset size far ∙ sym (past_all offset bytes farther)
+
+-- a name that is put in again with what it had
+abbrev pub same_name : Bor (List ℕ) → Bor (List ℕ) → Bool
+same_name a b = bytes_eq a.now b.now
+
+pub put_back : (name : Bor (List ℕ)) (es : List (Bor (List ℕ) × Label)) (new old : Label) → lookup (λ (k : Bor (List ℕ)). bytes_eq name.now k.now) es ≡ Some old → insert_entry same_name (insert_entry same_name es name new) name old ≡ es
+put_back name [] new old found = absurd (cc)
+put_back name (e ∷ es) new old found = by (bytes_eq name.now e.0.now) refl found (put_back name es new old)
+  where
+    by : (b : Bool) → bytes_eq name.now e.0.now ≡ b → cond b (Some e.1) (lookup (λ (k : Bor (List ℕ)). bytes_eq name.now k.now) es) ≡ Some old
+        → (lookup (λ (k : Bor (List ℕ)). bytes_eq name.now k.now) es ≡ Some old → insert_entry same_name (insert_entry same_name es name new) name old ≡ es)
+        → insert_entry same_name (if b then (e.0, new) ∷ es else e ∷ insert_entry same_name es name new) name old ≡ e ∷ es
+    by true is first rest =
+        let same : old ≡ e.1 = cc in
+        ap (λ c. if c then (e.0, old) ∷ es else (e.0, new) ∷ insert_entry same_name es name old) is ∙ ap (λ (l : Label). (e.0, l) ∷ es) same
+    by false is later rest =
+        ap (λ c. if c then (e.0, old) ∷ insert_entry same_name es name new else e ∷ insert_entry same_name (insert_entry same_name es name new) name old) is
+        ∙ ap (λ l. e ∷ l) (rest later)
+
+-- a name with a label, or that is set, is defined
+pub label_defined : (a b : Bool) → a ≡ true → (a || b) ≡ true
+label_defined true b e = refl
+label_defined false b e = absurd (cc)
+
+pub set_defined : (a b : Bool) → b ≡ true → (a || b) ≡ true
+set_defined true b e = refl
+set_defined false b e = e
+
+-- a name without a label and an assignment is not
+pub free_defined : (a b : Bool) → a ≡ false → b ≡ false → (a || b) ≡ false
+free_defined true b p q = absurd (cc)
+free_defined false b p q = q
+
+-- what is found is found as well once it is changed
+pub found_mapped : {X Y : Type 0} (f : X → Y) (found : Option X) → is_some found ≡ is_some (option_map f found)
+found_mapped f None = refl
+found_mapped f (Some x) = refl

@@ -414,18 +414,23 @@ impl<'a> Tables<'a> {
         Ok(())
     }
 
-    /// Defines a label, unless its name is defined.
+    /// Defines a label, unless its name is defined. Few are, so that the name is looked up once, and the label that it had
+    /// is put back.
     pub(crate) fn add_label(&mut self, ordinal: u32, name: &'a [u8]) -> Result<(), AllocError>
         ensures tables { OnOk result
             (IsIndexed self.old → IsBefore (tables_of self.old) ordinal →
             tables_of self.new ≡ laws.with_label (tables_of self.old) ordinal name.now) }
         ensures indexed { OnOk result (IsIndexed self.old → IsIndexed self.new) }
     {
-        if self.is_defined(name) {
+        if self.assignment(name).is_some() {
             return Ok(());
         }
         let place = self.here();
-        self.labels.insert(name, Label { ordinal, place })?;
+        let before = self.labels.insert(name, Label { ordinal, place })?;
+        if let Some(first) = before {
+            self.labels.insert(name, first)?;
+            return Ok(());
+        }
         Ok(())
     }
 
