@@ -1,6 +1,6 @@
 //! What stands before and behind a call, among the relocations of its section in the order of their places.
 
-ghost use Rattle.std.specs.Prelude.{◌≡◌, ◌<◌, ◌≤◌, ◌+◌, ◌^◌, ◌++◌, ◌∷◌, [], List, map, ◌==◌, count_by, true};
+ghost use Rattle.std.specs.Prelude.{◌≡◌, ◌<◌, ◌+◌, ◌^◌, ◌++◌, ◌∷◌, [], List, map, ◌==◌, count_by, true};
 ghost use Rattle.std.specs.Bool.{OnTrue};
 ghost use Rattle.rv_isa.specs.Kinds.{width_of};
 ghost use Rattle.rv_object.specs.Object.{Relocation as SaidRelocation};

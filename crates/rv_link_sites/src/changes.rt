@@ -10,7 +10,6 @@ ghost use Rattle.std.specs.Int.{w64, int_wrap};
 ghost use Rattle.std.specs.Ordering.{nat_cmp};
 ghost use Rattle.std.specs.List.Sorted.{IsNonDecreasingBy, IsPermutation, IsStableByKey};
 ghost use Rattle.rv_layout_laws.specs.Sites.{padding_site};
-ghost use Rattle.rv_isa.specs.Kinds.{width_of};
 ghost use Rattle.rv_object.specs.Object.{Relocation as SaidRelocation, size_of, stored};
 ghost use Rattle.rv_object.specs.Parts.{relocation_of};
 ghost use Rattle.rv_object.specs.Sections.{section_of};
