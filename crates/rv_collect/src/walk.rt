@@ -3,7 +3,7 @@
 //! Sections are queued as they are marked, and gone over in that order: each section and each relocation once, whatever the
 //! references are. In which order they are marked is no matter (`rv_collect_laws`), so the queue is as simple as it can be.
 
-ghost use Rattle.std.specs.Prelude.{◌≡◌, ◌+◌, ℕ, Some, true, map, option_map, option_and_then, OnOk, IfOk};
+ghost use Rattle.std.specs.Prelude.{◌≡◌, ◌+◌, Some, true, map, option_map, option_and_then, OnOk, IfOk};
 ghost use Rattle.std.specs.List.{slice_get};
 ghost use Rattle.rv_map.specs.declared.map.SectionId.{SectionId};
 ghost use Rattle.rv_object.specs.Object.{Object as SaidObject};
