@@ -1,6 +1,6 @@
 //! The definitions of objects that names mean in all files.
 
-ghost use Rattle.std.specs.Prelude.{◌≡◌, List, ◌++◌, map, IfOk, IfErr, OnOk};
+ghost use Rattle.std.specs.Prelude.{List, ◌++◌, map, IfOk, IfErr, OnOk};
 ghost use Rattle.rv_map.specs.Globals.{AreDistinct};
 ghost use Rattle.rv_object.specs.Parts.{symbol_of};
 ghost use Rattle.rv_object.specs.View.{object_of};
