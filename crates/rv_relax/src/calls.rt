@@ -3,7 +3,7 @@
 //! First the passes find the sizes of calls, with each padding in full: then a shortened call reaches, whatever paddings become.
 //! After that one pass lays the text out, with the least padding of each alignment.
 
-ghost use Rattle.std.specs.Prelude.{◌≡◌, true, ◌+◌, ◌*◌, ◌<◌, ◌≤◌, ◌++◌, [], ◌∷◌, length, slice_index, IfOk, OnOk, IsTrue, if◌then◌else◌};
+ghost use Rattle.std.specs.Prelude.{◌≡◌, ◌+◌, ◌*◌, ◌<◌, ◌≤◌, ◌++◌, [], ◌∷◌, length, slice_index, IfOk, OnOk, IsTrue, if◌then◌else◌};
 ghost use Rattle.rv_layout_laws.specs.Calls.{calls, is_call as is_call_site, new_offset as offset_of, whole_sizes};
 ghost use Rattle.rv_layout_laws.specs.Paddings.{IsRelaxedText};
 ghost use Rattle.rv_relax.specs.Padded.{alignments, are_roomy, inner, joined, padded, pads as pads_of};

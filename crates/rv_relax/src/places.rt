@@ -1,6 +1,6 @@
 //! Where offsets of a text lie among its sites.
 
-ghost use Rattle.std.specs.Prelude.{◌≡◌, ◌+◌, ◌-◌, nat_le, length, map, IfOk};
+ghost use Rattle.std.specs.Prelude.{◌≡◌, ◌-◌, nat_le, IfOk};
 ghost use Rattle.rv_layout_laws.specs.Calls.{InOrder, bytes_of, is_call as is_call_site, whole_sizes};
 ghost use Rattle.rv_shorten.specs.Walk.{site_end};
 ghost use Rattle.rv_relax.specs.Passes.{AreTargets, IsPlace, LeadsTo};

@@ -1,6 +1,6 @@
 //! Which size a call takes at a distance.
 
-ghost use Rattle.std.specs.Prelude.{◌≡◌, ◌↔◌, ℕ, ◌*◌, ◌^◌, ◌<◌, ◌≤◌, pos, ◌≤ℤ◌, neg_ℤ, IsTrue};
+ghost use Rattle.std.specs.Prelude.{◌↔◌, ◌*◌, ◌^◌, ◌<◌, ◌≤◌, pos, ◌≤ℤ◌, neg_ℤ, IsTrue};
 ghost use Rattle.rv_layout_laws.specs.Offsets.{IsImmediate, Reaches};
 ghost use Rattle.rv_relax.specs.Passes.{HasForm, IsJudged, MayTake};
 
