@@ -8,3 +8,4 @@ pub mod RunLemmas
 pub mod StreamLemmas
 pub mod TransferLemmas
 pub mod WordLemmas
+pub mod ZeroLemmas

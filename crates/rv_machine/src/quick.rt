@@ -2,30 +2,46 @@
 //!
 //! Source: RISC-V Unprivileged ISA 20191213, sections 1.5 and 2.2.
 
-ghost use Rattle.std.specs.Prelude.{◌≡◌, ℕ, List, ◌%◌, ◌≤◌};
+ghost use Rattle.std.specs.Prelude.{◌≡◌, ◌⊎◌, ℕ, List, ◌%◌, ◌≤◌};
 ghost use Rattle.rv_compress.specs.Parcel.{StandsFor};
 ghost use Rattle.rv_encode.specs.Word.{Spells};
 ghost use Rattle.rv_isa_laws.specs.Effect.{apply};
+ghost use Rattle.rv_isa_laws.specs.Meaning.{with_result};
 ghost use Rattle.rv_isa_laws.specs.Reader.{Reader};
-ghost use Rattle.rv_isa_laws.specs.Run.{spelled, done, run, step as step_of};
+ghost use Rattle.rv_isa_laws.specs.Run.{spelled, fetch, done, run, step as step_of};
 ghost use Rattle.rv_machine.specs.Action.{effect_of, HasWidth};
 ghost use Rattle.rv_machine.specs.Asked.{IsDone};
+ghost use Rattle.rv_machine.specs.Fetch.{spelled_by};
 ghost use Rattle.rv_machine.specs.Hart.{hart_of};
 ghost use Rattle.rv_machine.specs.declared.action.Action.TheVariants as is;
 ghost use Rattle.rv_memory.specs.Rights.{IsWidth};
 
 use crate::access;
 use crate::action::{Action, Load, Store};
-use crate::fetch::bits_at;
+use crate::fetch::last_bits;
 use crate::hart::Hart;
 use crate::parcel::asked_by_parcel;
 use crate::word::asked_by_word;
-use rv_memory::Memory;
+use rv_isa::Reg;
+use rv_memory::{Memory, Right};
+
+/// A register set, and the hart at the next instruction. pc is given by value, as the loop has it at hand.
+#[inline(always)]
+fn set(hart: &mut Hart, pc: u64, rd: Reg, value: u64, bytes: u64)
+    requires { pc ≡ hart.old.pc }
+    ensures { (input console : List ℕ) →
+        hart_of hart.new input console
+        ≡ with_result bytes (hart_of hart.old input console) rd value }
+{
+    hart.registers.set(rd, value);
+    hart.pc = pc.wrapping_add(bytes);
+}
 
 /// Does a load; whether its bytes may be read.
 #[inline(always)]
-fn load<M: Memory>(hart: &mut Hart, memory: &M, x: Load, bytes: u64) -> bool
-    requires { IsWidth x.bytes }
+fn load<M: Memory>(hart: &mut Hart, pc: u64, memory: &M, x: Load, bytes: u64) -> bool
+    requires width { IsWidth x.bytes }
+    requires pc { pc ≡ hart.old.pc }
     ensures { (input console : List ℕ) →
         let before = hart_of hart.old input console in
         IsDone result (apply (effect_of (is.Load x) bytes before) (M.mem memory.now))
@@ -34,7 +50,7 @@ fn load<M: Memory>(hart: &mut Hart, memory: &M, x: Load, bytes: u64) -> bool
 {
     match access::read(memory, x.address, x.bytes, x.signed) {
         Some(value) => {
-            access::set(hart, x.rd, value, bytes);
+            set(hart, pc, x.rd, value, bytes);
             true
         }
         None => false,
@@ -43,8 +59,9 @@ fn load<M: Memory>(hart: &mut Hart, memory: &M, x: Load, bytes: u64) -> bool
 
 /// Does a store; whether its bytes may be written.
 #[inline(always)]
-fn store<M: Memory>(hart: &mut Hart, memory: &mut M, x: Store, bytes: u64) -> bool
-    requires { IsWidth x.bytes }
+fn store<M: Memory>(hart: &mut Hart, pc: u64, memory: &mut M, x: Store, bytes: u64) -> bool
+    requires width { IsWidth x.bytes }
+    requires pc { pc ≡ hart.old.pc }
     ensures { (input console : List ℕ) →
         let before = hart_of hart.old input console in
         IsDone result (apply (effect_of (is.Store x) bytes before) (M.mem memory.old))
@@ -54,7 +71,7 @@ fn store<M: Memory>(hart: &mut Hart, memory: &mut M, x: Store, bytes: u64) -> bo
     if !access::write(memory, x.address, x.bytes, x.value) {
         return false;
     }
-    hart.pc = hart.pc.wrapping_add(bytes);
+    hart.pc = pc.wrapping_add(bytes);
     true
 }
 
@@ -62,8 +79,14 @@ fn store<M: Memory>(hart: &mut Hart, memory: &mut M, x: Store, bytes: u64) -> bo
 /// nothing. Whether it was done. A length has code of its own, which is called from one place: at a second, LLVM would
 /// not take so much code into the loop.
 #[inline(always)]
-fn goes_on<M: Memory, const BYTES: u64>(action: Action, hart: &mut Hart, memory: &mut M) -> bool
-    requires { HasWidth action }
+fn goes_on<M: Memory, const BYTES: u64>(
+    action: Action,
+    pc: u64,
+    hart: &mut Hart,
+    memory: &mut M,
+) -> bool
+    requires width { HasWidth action }
+    requires pc { pc ≡ hart.old.pc }
     ensures { (input console : List ℕ) →
         let before = hart_of hart.old input console in
         IsDone result (apply (effect_of action BYTES before) (M.mem memory.old))
@@ -72,7 +95,7 @@ fn goes_on<M: Memory, const BYTES: u64>(action: Action, hart: &mut Hart, memory:
 {
     match action {
         Action::Set(rd, value) => {
-            access::set(hart, rd, value, BYTES);
+            set(hart, pc, rd, value, BYTES);
             true
         }
         Action::Jump(rd, target) => {
@@ -83,15 +106,16 @@ fn goes_on<M: Memory, const BYTES: u64>(action: Action, hart: &mut Hart, memory:
             hart.pc = target;
             true
         }
-        Action::Load(x) => load(hart, memory, x, BYTES),
-        Action::Store(x) => store(hart, memory, x, BYTES),
+        Action::Load(x) => load(hart, pc, memory, x, BYTES),
+        Action::Store(x) => store(hart, pc, memory, x, BYTES),
         _ => false,
     }
 }
 
 #[inline(always)]
-fn by_word<M: Memory>(bits: u32, hart: &mut Hart, memory: &mut M) -> bool
-    requires { bits % 4 ≡ 3 }
+fn by_word<M: Memory>(bits: u32, pc: u64, hart: &mut Hart, memory: &mut M) -> bool
+    requires word { bits % 4 ≡ 3 }
+    requires pc { pc ≡ hart.old.pc }
     ensures { (reader : Reader Spells StandsFor) (input console : List ℕ) →
         let before = hart_of hart.old input console in
         IsDone result (done (spelled 4 (reader.word bits)) before (M.mem memory.old))
@@ -99,13 +123,14 @@ fn by_word<M: Memory>(bits: u32, hart: &mut Hart, memory: &mut M) -> bool
         (hart_of hart.new input console) (M.mem memory.new) }
 {
     match asked_by_word(bits, hart) {
-        Some(action) => goes_on::<M, 4>(action, hart, memory),
+        Some(action) => goes_on::<M, 4>(action, pc, hart, memory),
         None => false,
     }
 }
 
 #[inline(always)]
-fn by_parcel<M: Memory>(bits: u16, hart: &mut Hart, memory: &mut M) -> bool
+fn by_parcel<M: Memory>(bits: u16, pc: u64, hart: &mut Hart, memory: &mut M) -> bool
+    requires { pc ≡ hart.old.pc }
     ensures { (reader : Reader Spells StandsFor) (input console : List ℕ) →
         let before = hart_of hart.old input console in
         IsDone result (done (spelled 2 (reader.parcel bits)) before (M.mem memory.old))
@@ -113,8 +138,24 @@ fn by_parcel<M: Memory>(bits: u16, hart: &mut Hart, memory: &mut M) -> bool
         (hart_of hart.new input console) (M.mem memory.new) }
 {
     match asked_by_parcel(bits, hart) {
-        Some(action) => goes_on::<M, 2>(action, hart, memory),
+        Some(action) => goes_on::<M, 2>(action, pc, hart, memory),
         None => false,
+    }
+}
+
+/// The bits at an address, or 0, which spells nothing, where nothing can be fetched. A number alone: of an `Option` the
+/// loop would ask again what the look-up has just told.
+#[inline(always)]
+fn bits_or_zero<M: Memory>(memory: &M, pc: u64) -> u32
+    ensures { (reader : Reader Spells StandsFor) → (result ≡ 0)
+        ⊎ (fetch reader (M.mem memory.now) pc ≡ spelled_by reader result) }
+{
+    match memory.try_load(pc, 4, Right::Execute) {
+        Some(word) => word as u32,
+        None => match last_bits(memory, pc) {
+            Some(bits) => bits,
+            None => 0,
+        },
     }
 }
 
@@ -126,15 +167,12 @@ pub fn step<M: Memory>(hart: &mut Hart, memory: &mut M) -> bool
         IsDone result (step_of reader before (M.mem memory.old)) before (M.mem memory.old)
         (hart_of hart.new input console) (M.mem memory.new) }
 {
-    match bits_at(memory, hart.pc) {
-        Some(bits) => {
-            if bits % 4 == 3 {
-                by_word(bits, hart, memory)
-            } else {
-                by_parcel((bits % 0x1_0000) as u16, hart, memory)
-            }
-        }
-        None => false,
+    let pc = hart.pc;
+    let bits = bits_or_zero(memory, pc);
+    if bits % 4 == 3 {
+        by_word(bits, pc, hart, memory)
+    } else {
+        by_parcel((bits % 0x1_0000) as u16, pc, hart, memory)
     }
 }
 
