@@ -6,8 +6,8 @@ pub mod LayoutsLemmas
 pub mod MapRowsLemmas
 pub mod SortedLemmas
 pub mod RoomsLemmas
-pub mod RoomsBehindLemmas
-pub mod RoomsBelowLemmas
+pub mod AlignedLemmas
+pub mod RoomsStandLemmas
 pub mod PlacedLemmas
 pub mod BehindLemmas
 pub mod StandingLemmas

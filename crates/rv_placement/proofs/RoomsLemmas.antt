@@ -13,10 +13,10 @@ use Rattle.rv_placement.specs.declared.placement.Placement.{Placement}
 use Rattle.rv_placement.specs.Placement.{starts_of, start_in, placed_in, placed_at, section_in, are_roomy_in, are_roomy, IsPlacement, AreRoomy}
 use Rattle.rv_placement.proofs.StandingLemmas.{moves_other}
 
-abbrev room : Starts → InputSection → Bool
+abbrev pub room : Starts → InputSection → Bool
 room starts i = list_all has_room (moves (start_of starts i) i.section)
 
-and_assoc : (a b c : Bool) → a && (b && c) ≡ (a && b) && c
+pub and_assoc : (a b c : Bool) → a && (b && c) ≡ (a && b) && c
 and_assoc true b c = refl
 and_assoc false b c = refl
 
@@ -62,7 +62,7 @@ module _ (starts : Starts) where
       (λ k. ap (starts file) (let e : 0 + k ≡ k = omega arith in e) ∙ ap (λ n. starts n k) (let e : file ≡ file + 0 = omega arith in e) ∙ at 0 k)
       ∙ ap (λ b. are_roomy_in f.items && b) (room_files (suc file) fs os tail (λ j k s q a b. planned (suc j) k s q a b) (λ j k. ap (λ n. starts n k) (let e : suc file + j ≡ file + suc j = omega arith in e) ∙ at (suc j) k))
 
-all_true : {A : Type 0} (p : A → Bool) (xs : List A) → list_all p xs ≡ true → AllByRecursion (λ x. IsTrue (p x)) xs
+pub all_true : {A : Type 0} (p : A → Bool) (xs : List A) → list_all p xs ≡ true → AllByRecursion (λ x. IsTrue (p x)) xs
 all_true p [] h = tt
 all_true p (x ∷ xs) h = (front (p x) (list_all p xs) h, all_true p xs (back (p x) (list_all p xs) h))
   where
@@ -74,7 +74,7 @@ all_true p (x ∷ xs) h = (front (p x) (list_all p xs) h, all_true p xs (back (p
     back true b h = h
     back false b h = absurd (cc)
 
-true_all : {A : Type 0} (p : A → Bool) (xs : List A) → AllByRecursion (λ x. IsTrue (p x)) xs → list_all p xs ≡ true
+pub true_all : {A : Type 0} (p : A → Bool) (xs : List A) → AllByRecursion (λ x. IsTrue (p x)) xs → list_all p xs ≡ true
 true_all p [] h = refl
 true_all p (x ∷ xs) h = ap (λ b. b && list_all p xs) h.0 ∙ true_all p xs h.1
 

@@ -95,27 +95,19 @@ IsTooLarge os text_start =
     (inputs goes_to_bss os)
     → (stack_start < bss.end) ⊎ (memory_limit < memory_of text rodata variables bss)
 
--- addresses are looked at below this
-abbrev pub farthest : ℕ
-farthest = 2 ^ 62
-
 -- wherever the text's sections stand one behind the other, one of them has a padding without room
 abbrev pub IsShort : List Object → ℕ → Type 0
 IsShort os text_start =
     (starts : Starts) → Stand starts text_start (inputs goes_to_text os) → AreRoomy os starts → ⊥
 
--- each of the text's sections that starts below has room for its paddings
-abbrev pub AreRoomyBelow : List Object → ℕ → Type 0
-AreRoomyBelow os text_start =
-    (starts : Starts) → Stand starts text_start (inputs goes_to_text os)
-    → AllByRecursion
-    (λ i. start_of starts i < farthest
-    → IsTrue (list_all has_room (moves (start_of starts i) i.section)))
-    (inputs goes_to_text os)
+-- or each of them has room for its paddings
+abbrev pub HasRoom : List Object → ℕ → Type 0
+HasRoom os text_start =
+    (starts : Starts) → Stand starts text_start (inputs goes_to_text os) → AreRoomy os starts
 
 -- why sections cannot be placed
 abbrev pub IsUnplaced : List Object → ℕ → PlacementFault → Type 0
-IsUnplaced os text_start TooLarge = IsTooLarge os text_start × AreRoomyBelow os text_start
+IsUnplaced os text_start TooLarge = IsTooLarge os text_start × HasRoom os text_start
 IsUnplaced os text_start Short = IsTooLarge os text_start × IsShort os text_start
 IsUnplaced os text_start OutOfMemory = ⊤
 

@@ -1,6 +1,6 @@
 -- Sections one after another, as a pass over them places those that go to a region.
 
-use Rattle.std.specs.Prelude.{◌≡◌, ℕ, ◌+◌, ◌<◌, ◌^◌, Bool, true, not, ◌&&◌, ◌||◌, nat_lt, nat_le, min, max, map, List, [], ◌∷◌, ◌++◌, if◌then◌else◌}
+use Rattle.std.specs.Prelude.{◌≡◌, ℕ, ◌+◌, ◌<◌, ◌^◌, Bool, nat_lt, max, map, List, [], ◌∷◌, ◌++◌, if◌then◌else◌}
 use Rattle.std.specs.Global.{Vec}
 use Rattle.std.specs.List.{AllZip, list_all}
 use Rattle.rv_layout_laws.specs.Alignment.{aligned}
@@ -10,7 +10,6 @@ use Rattle.rv_object.specs.Object.{Section, Object, size_of}
 use Rattle.rv_object_laws.specs.Moves.{moves, has_room, new_offset}
 use Rattle.rv_object_laws.specs.Inputs.{goes_to_text, goes_to_rodata, goes_to_data, goes_to_bss, begins_at}
 use Rattle.rv_relax.specs.Plan.{moves_of}
-use Rattle.rv_placement.specs.Placement.{farthest}
 use Rattle.rv_placement.specs.declared.destination.Destination.{Destination}
 use Rattle.rv_placement.specs.declared.destination.Destination.TheVariants.{Rodata, Data, Bss}
 use Rattle.rv_placement.specs.declared.placement.PlacedSection.{PlacedSection}
@@ -44,26 +43,13 @@ abbrev pub ended_files : (Section → Bool) → ℕ → List Object → ℕ
 ended_files to stop [] = stop
 ended_files to stop (o ∷ os) = ended_files to (ended to stop o.sections) os
 
--- an end, as far as addresses are looked at
-abbrev pub capped : ℕ → ℕ
-capped stop = min stop farthest
+-- whether the paddings of a section have room: where it stands makes no difference, since it begins
+-- at a multiple of each of its alignments
+abbrev pub is_roomy : Section → Bool
+is_roomy s = list_all has_room (moves 0 s)
 
--- whether a section of the text that starts so far has room for its paddings
-abbrev pub is_roomy_from : ℕ → Section → Bool
-is_roomy_from start s = nat_le farthest start || list_all has_room (moves start s)
-
-abbrev pub is_roomy_behind : ℕ → Section → Bool
-is_roomy_behind stop s = not (goes_to_text s) || is_roomy_from (start_behind stop s) s
-
-abbrev pub are_roomy_behind : ℕ → List Section → Bool
-are_roomy_behind stop [] = true
-are_roomy_behind stop (s ∷ ss) =
-    is_roomy_behind stop s && are_roomy_behind (next goes_to_text stop s) ss
-
-abbrev pub are_files_roomy : ℕ → List Object → Bool
-are_files_roomy stop [] = true
-are_files_roomy stop (o ∷ os) =
-    are_roomy_behind stop o.sections && are_files_roomy (ended goes_to_text stop o.sections) os
+abbrev pub are_roomy_objects : List Object → Bool
+are_roomy_objects os = list_all (λ o. list_all is_roomy o.sections) os
 
 -- where it starts; one that goes elsewhere stays
 abbrev pub start_from : (Section → Bool) → ℕ → ℕ → Section → ℕ

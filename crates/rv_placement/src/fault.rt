@@ -8,8 +8,7 @@ use thiserror::Error;
 /// Why sections cannot be placed.
 #[derive(Clone, Copy, Debug, PartialEq, Eq, Drop, Error)]
 pub enum PlacementFault {
-    /// They pass the end of memory, or need too much of it; as far as addresses are looked at, each
-    /// padding of the text has room.
+    /// They pass the end of memory, or need too much of it; each padding of the text has room.
     #[error("the sections need too much memory")]
     TooLarge,
     /// They are too large, and a padding of the text has no room.

@@ -5,7 +5,7 @@
 //!
 //! Main contracts: of `Placement::of`, that the regions hold the sections of all files as `rv_object_laws` says (`IsPlacement`),
 //! or that these are too large for memory wherever they stand so (`IsTooLarge`; by `sections_stand` they stand so somewhere), and
-//! then that a padding of the text has no room (`IsShort`) or that each has (`AreRoomyBelow`); of `rows` and `address`, that they
+//! then that a padding of the text has no room (`IsShort`) or that each has (`HasRoom`); of `rows` and `address`, that they
 //! are those of the definitions at these starts. It must not know symbols, values of relocations, nor statements.
 //!
 //! ```text

@@ -93,17 +93,17 @@ impl Placement {
         let mut gaps = Vec::new(alloc);
         let found = put_files(alloc, &mut files, &mut gaps, objects, text_start)?;
         let Some(end) = found else {
-            return Err(unplaced(alloc, objects, text_start)?);
+            return Err(unplaced(alloc, objects)?);
         };
         let text = Region {
             start: text_start,
             end,
         };
         let Some(behind) = regions_behind(files.as_mut_slice(), objects, end) else {
-            return Err(unplaced(alloc, objects, text_start)?);
+            return Err(unplaced(alloc, objects)?);
         };
         if memory_of(text, behind) > MEMORY_LIMIT {
-            return Err(unplaced(alloc, objects, text_start)?);
+            return Err(unplaced(alloc, objects)?);
         }
         Ok(Placement {
             files,

@@ -11,7 +11,7 @@ use Rattle.rv_placement.proofs.placement.Placement.of.Goals as goal
 
 pub returns-in_default-clause-refuses : goal.returns-in_default-clause-refuses
 returns-in_default-clause-refuses c =
-    c.in_ok-unplaced.ensures (text_too_large (map short_object_of c.args.objects.now) c.args.text_start (told_none _ c.in_ok-found.found c.in_default.is c.in_ok-found.ensures.far))
+    c.in_ok-unplaced.ensures c.args.text_start (text_too_large (map short_object_of c.args.objects.now) c.args.text_start (told_none _ c.in_ok-found.found c.in_default.is c.in_ok-found.ensures.far))
 
 pub regions_behind-requires-clause-each : goal.regions_behind-requires-clause-each
 regions_behind-requires-clause-each c =
@@ -21,7 +21,7 @@ regions_behind-requires-clause-each c =
 pub returns-in_default-regions_behind-clause-refuses : goal.returns-in_default-regions_behind-clause-refuses
 returns-in_default-regions_behind-clause-refuses c =
     let placed = told _ c.in_ok-found.found c.in-Some.end c.in-Some.is c.in_ok-found.ensures.placed in
-    c.in_ok-unplaced-2.ensures (behind_too_large (map short_object_of c.args.objects.now) c.args.text_start c.in-Some.end placed.0 c.in_default-regions_behind.ensures.far)
+    c.in_ok-unplaced-2.ensures c.args.text_start (behind_too_large (map short_object_of c.args.objects.now) c.args.text_start c.in-Some.end placed.0 c.in_default-regions_behind.ensures.far)
 
 pub memory_of-requires : goal.memory_of-requires
 memory_of-requires c =
@@ -39,7 +39,7 @@ pub returns-then-memory_of-gt-MEMORY_LIMIT-clause-refuses : goal.returns-then-me
 returns-then-memory_of-gt-MEMORY_LIMIT-clause-refuses c =
     let placed = told _ c.in_ok-found.found c.in-Some.end c.in-Some.is c.in_ok-found.ensures.placed in
     let r = c.in-Some-regions_behind.behind in
-    c.in_ok-unplaced-3.ensures
+    c.in_ok-unplaced-3.ensures c.args.text_start
     (memory_too_large (map short_object_of c.args.objects.now) c.args.text_start (record { start = c.args.text_start; end = c.in-Some.end }) r.rodata r.data r.bss refl placed.0 c.in-Some-regions_behind.ensures.behind
     (subst (λ n. memory_limit < n) c.memory_of.ensures c.if-memory_of-gt-MEMORY_LIMIT.true))
 
