@@ -11,7 +11,7 @@ use Rattle.rv_object_laws.specs.Names.{global_names, entry_of}
 use Rattle.rv_object_laws.specs.IsLinkOf.{most_files, is_loaded}
 use Rattle.rv_object_laws.specs.IsProgramOf.{Leaves}
 use Rattle.rv_placement.specs.declared.placement.Placement.{Placement}
-use Rattle.rv_placement.specs.Placement.{starts_of, are_roomy, IsPlacement, AreRoomy, IsTooLarge, AreRoomyBelow}
+use Rattle.rv_placement.specs.Placement.{starts_of, are_roomy, IsPlacement, AreRoomy, IsTooLarge, HasRoom}
 use Rattle.rv_resolve.specs.Entry.{has_entry}
 use Rattle.rv_resolve.specs.Exports.{first_duplicate}
 use Rattle.rv_resolve.specs.Undefined.{first_undefined}
@@ -61,10 +61,10 @@ abbrev pub LacksRoom : List Object → ℕ → Type 0
 LacksRoom os start =
     (starts : Starts) × Stand starts start (inputs goes_to_text os) × (AreRoomy os starts → ⊥)
 
--- paddings come before what is too large
+-- paddings come before what is too large, where each has room
 abbrev pub AreUnplaced : List Object → ℕ → LinkFault → Type 0
 AreUnplaced os start AlignmentShort = LacksRoom os start
-AreUnplaced os start ImageTooLarge = IsTooLarge os start × AreRoomyBelow os start
+AreUnplaced os start ImageTooLarge = IsTooLarge os start × HasRoom os start
 AreUnplaced os start OutOfMemory = ⊤
 AreUnplaced os start _ = ⊥
 

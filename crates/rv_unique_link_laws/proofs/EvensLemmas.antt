@@ -26,7 +26,7 @@ module _ (starts : Starts) where
 
   all_even : (stop : ℕ) (is : List InputSection) → AllByRecursion BeginsSo is → Stand starts stop is → AllByRecursion StartsEven is
   all_even stop [] h st = tt
-  all_even stop (i ∷ is) (multiple, h) (at, st) = (ap (λ n. n % 2) at ∙ aligned_even (begins_at i.section) stop multiple.0, all_even (start_of starts i + size starts i) is h st)
+  all_even stop (i ∷ is) (even, h) (at, st) = (ap (λ n. n % 2) at ∙ aligned_even (begins_at i.section) stop even, all_even (start_of starts i + size starts i) is h st)
 
 -- ---- what is kept of paddings
 

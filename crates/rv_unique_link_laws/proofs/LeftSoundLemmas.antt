@@ -1,12 +1,12 @@
--- What collection and relaxation leave of sound and small objects is sound and small.
+-- What collection and relaxation leave of sound objects is sound.
 
-use Rattle.std.proofs.Common.{◌≡◌, ℕ, suc, ◌+◌, ◌-◌, ◌^◌, ◌≤◌, Bool, true, false, List, [], ◌∷◌, drop, slice_index_or, refl, sym, ap, subst, ◌∙◌, arith}
+use Rattle.std.proofs.Common.{◌≡◌, ℕ, suc, ◌+◌, ◌-◌, ◌≤◌, Bool, true, false, List, [], ◌∷◌, drop, slice_index_or, refl, sym, ap, subst, ◌∙◌, arith}
 use Rattle.std.specs.Prelude.{IsTrue}
 use Rattle.std.specs.List.{AllByRecursion}
 use Rattle.std.proofs.lemmas.Bool.{and_from}
 use Rattle.rv_layout_laws.specs.declared.site.Site.{Site}
 use Rattle.rv_layout_laws.specs.Calls.{IsText}
-use Rattle.rv_object.specs.Object.{Section, Object, size_of}
+use Rattle.rv_object.specs.Object.{Section, Object}
 use Rattle.rv_object.specs.Valid.{is_alignment, fit_inside, are_paddings}
 use Rattle.rv_object_laws.specs.Moves.{Move}
 use Rattle.rv_object_laws.specs.Inputs.{goes_to_text}
@@ -18,17 +18,16 @@ use Rattle.rv_object_laws.proofs.TextInputsLemmas.{IsTextInput}
 use Rattle.rv_object_laws.proofs.TextLineLemmas.{text}
 use Rattle.rv_shorten.specs.Cutting.{AreCuts, AllCut, cut_section, cut_sections, cut_object}
 use Rattle.rv_shorten.specs.Walk.{AreWalked, walked, object_moves, passed_all}
-use Rattle.rv_shorten.proofs.ShortLemmas.{size_left, fit_stays, paddings_stay}
-use Rattle.rv_shorten.proofs.StaysLemmas.{all_fit, as_many, rows_stay}
+use Rattle.rv_shorten.proofs.ShortLemmas.{fit_stays, paddings_stay}
+use Rattle.rv_shorten.proofs.StaysLemmas.{all_fit, rows_stay}
 use Rattle.rv_shorten.proofs.LineLemmas.{AreSound, AllSound}
 use Rattle.rv_shorten.proofs.LaidLemmas.{walk_is}
 use Rattle.rv_link.proofs.LinksLemmas.{all_both}
-use Rattle.rv_unique_link_laws.specs.Asked.{LeavesEven, LeavesBelow, IsSound, IsSmall}
+use Rattle.rv_unique_link_laws.specs.Asked.{LeavesEven, IsSound}
 use Rattle.rv_unique_link_laws.proofs.FoundLemmas.{EachOf, all_of}
 use Rattle.rv_unique_link_laws.proofs.ValuesLemmas.{all_at}
 use Rattle.rv_unique_link_laws.proofs.EvensLemmas.{begins_even}
-use Rattle.rv_unique_link_laws.proofs.BelowLemmas.{starts_below}
-use Rattle.rv_unique_link_laws.proofs.WithoutLemmas.{without_sound, without_small}
+use Rattle.rv_unique_link_laws.proofs.WithoutLemmas.{without_sound}
 
 -- ---- sections
 
@@ -41,9 +40,6 @@ HasPaddings s = IsTrue (are_paddings s.executable s.contents s.relocations)
 
 abbrev IsAligned : Section → Type 0
 IsAligned s = IsTrue (is_alignment s.alignment)
-
-abbrev IsShort : Section → Type 0
-IsShort s = goes_to_text s ≡ true → size_of s.contents ≤ 2 ^ 28
 
 all_cut : (P Q : Section → Type 0) → ((s : Section) (ms : List Move) → AreCuts s ms → P s → Q (cut_section ms s)) → (ss : List Section) (mss : List (List Move)) → AllCut ss mss → AllByRecursion P ss
     → AllByRecursion Q (cut_sections mss ss)
@@ -67,30 +63,11 @@ cut_sound o mss cuts sound = record {
   rows = rows_stay o.sections mss o.rows cuts (fits o.sections sound.inside) sound.rows;
 }
 
-short_left : (s : Section) (ms : List Move) → AreCuts s ms → IsFit s × IsShort s → IsShort (cut_section ms s)
-short_left s ms cuts (fit, short) at =
-    let few : size_of s.contents ≤ 2 ^ 28 = short at in
-    let size = size_left s ms fit cuts in
-    omega (arith, few, size)
-
-cut_small : (o : Object) (mss : List (List Move)) → AllCut o.sections mss → IsSound o → IsSmall o → IsSmall (cut_object mss o)
-cut_small o mss cuts sound small = record {
-  few = (let many = as_many o.sections mss cuts in let few = small.few in omega (arith, many, few));
-  short = all_cut (λ s. IsFit s × IsShort s) IsShort short_left o.sections mss cuts (all_both IsFit IsShort (λ s. IsFit s × IsShort s) (λ s a b. (a, b)) o.sections sound.inside small.short);
-}
-
 walked_sound : (os : List Object) (sites : List Site) (kept : List ℕ) → AreWalked os sites kept → AllByRecursion IsSound os → AllByRecursion IsSound (walked os sites kept)
 walked_sound [] sites kept walk h = tt
 walked_sound (o ∷ os) sites kept walk (sound, h) = (
   cut_sound o (object_moves o.sections sites kept) walk.0 sound,
   walked_sound os (drop (passed_all o.sections sites) sites) (drop (passed_all o.sections sites) kept) walk.1 h,
-)
-
-walked_small : (os : List Object) (sites : List Site) (kept : List ℕ) → AreWalked os sites kept → AllByRecursion IsSound os → AllByRecursion IsSmall os → AllByRecursion IsSmall (walked os sites kept)
-walked_small [] sites kept walk h k = tt
-walked_small (o ∷ os) sites kept walk (sound, h) (small, k) = (
-  cut_small o (object_moves o.sections sites kept) walk.0 sound small,
-  walked_small os (drop (passed_all o.sections sites) sites) (drop (passed_all o.sections sites) kept) walk.1 h k,
 )
 
 -- ---- the sites of sound objects
@@ -131,26 +108,11 @@ sound_by true os left is h =
     let walk = walk_is os is.0 (all_sound os h) (sites_text os h) is.1.closed.family.same_length in
     subst (AllByRecursion IsSound) (walk.same ∙ sym is.2) (walked_sound os (sites_of os) is.0 walk.allowed h)
 
-small_by : (short : Bool) (os left : List Object) → IsRelaxed short os left → AllByRecursion IsSound os → AllByRecursion IsSmall os → AllByRecursion IsSmall left
-small_by false os left is h k = subst (AllByRecursion IsSmall) (sym is) k
-small_by true os left is h k =
-    let walk = walk_is os is.0 (all_sound os h) (sites_text os h) is.1.closed.family.same_length in
-    subst (AllByRecursion IsSmall) (walk.same ∙ sym is.2) (walked_small os (sites_of os) is.0 walk.allowed h k)
-
 left_sound : (relax : Bool) (os left : List Object) → Relaxes relax os left → AllByRecursion IsSound os → AllByRecursion IsSound left
 left_sound false os left is h = subst (AllByRecursion IsSound) (sym is) h
 left_sound true os left is h = sound_by (is_short_text os) os left is h
-
-left_small : (relax : Bool) (os left : List Object) → Relaxes relax os left → AllByRecursion IsSound os → AllByRecursion IsSmall os → AllByRecursion IsSmall left
-left_small false os left is h k = subst (AllByRecursion IsSmall) (sym is) k
-left_small true os left is h k = small_by (is_short_text os) os left is h k
 
 -- ---- with collection
 
 pub leaves_even : (os : List Object) (start : ℕ) (relax gc : Bool) → AllByRecursion IsSound os → LeavesEven os start relax gc
 leaves_even os start relax gc h drops left leaves = begins_even left start (left_sound relax (without drops os) left leaves.relaxed (without_sound drops os h))
-
-pub leaves_below : (os : List Object) (start : ℕ) (relax gc : Bool) → AllByRecursion IsSound os → AllByRecursion IsSmall os → LeavesBelow os start relax gc
-leaves_below os start relax gc h k drops left leaves =
-    starts_below left start (left_sound relax (without drops os) left leaves.relaxed (without_sound drops os h))
-    (left_small relax (without drops os) left leaves.relaxed (without_sound drops os h) (without_small drops os k))

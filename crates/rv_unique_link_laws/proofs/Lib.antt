@@ -14,7 +14,6 @@ pub mod ReasonsLemmas
 pub mod PlacedLemmas
 pub mod MultiplesLemmas
 pub mod EvensLemmas
-pub mod BelowLemmas
 pub mod LeftLemmas
 pub mod WithoutLemmas
 pub mod LeftSoundLemmas

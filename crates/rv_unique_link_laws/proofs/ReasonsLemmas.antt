@@ -1,16 +1,14 @@
 -- Objects are refused for one reason: the first test of a link that they fail.
 
 use Rattle.std.proofs.Common.{◌≡◌, ℕ, ◌<◌, ◌≤◌, Bool, true, false, refl, sym, ◌∙◌, arith, Option, Some, None, List, [], length, inl, inr}
-use Rattle.std.specs.Prelude.{◌⊎◌, IsTrue}
-use Rattle.std.specs.List.{list_all}
+use Rattle.std.specs.Prelude.{◌⊎◌}
 use Rattle.rv_map.specs.Globals.{AreDistinct}
 use Rattle.rv_object.specs.Object.{Object}
-use Rattle.rv_object_laws.specs.Moves.{moves, has_room}
-use Rattle.rv_object_laws.specs.Inputs.{Starts, goes_to_text, inputs, start_of, Stand}
+use Rattle.rv_object_laws.specs.Inputs.{inputs}
 use Rattle.rv_object_laws.specs.Names.{global_names}
 use Rattle.rv_object_laws.specs.IsLinkOf.{most_files, is_loaded}
 use Rattle.rv_placement.specs.declared.placement.Placement.{Placement}
-use Rattle.rv_placement.specs.Placement.{farthest, starts_of, memory_of, IsPlacement, AreRoomy, IsTooLarge, AreRoomyBelow}
+use Rattle.rv_placement.specs.Placement.{starts_of, memory_of, IsPlacement, IsTooLarge, HasRoom}
 use Rattle.rv_isa_laws.specs.Platform.{stack_start, memory_limit}
 use Rattle.rv_resolve.specs.Entry.{has_entry}
 use Rattle.rv_resolve.specs.Exports.{first_duplicate}
@@ -20,8 +18,7 @@ use Rattle.rv_link.specs.declared.fault.LinkFault.TheVariants.{Overflow, OddTarg
 use Rattle.rv_link.specs.Fault.{number_of}
 use Rattle.rv_link.specs.Untaken.{IsFirstUntaken}
 use Rattle.rv_link.specs.Refusals.{IsTextStart, AreWithin, LacksRoom, LacksEntry, ComesToEntry, ComesToPlaces, IsUnapplied, IsUnlinked}
-use Rattle.rv_link.proofs.LinksLemmas.{all_both}
-use Rattle.rv_unique_link_laws.specs.Asked.{BeginsEven, StartBelow}
+use Rattle.rv_unique_link_laws.specs.Asked.{BeginsEven}
 use Rattle.rv_unique_link_laws.specs.Same.{name_in, IsSameFault}
 use Rattle.rv_unique_link_laws.proofs.DistinctLemmas.{no_duplicate}
 use Rattle.rv_unique_link_laws.proofs.EnteredLemmas.{entry_there}
@@ -55,9 +52,6 @@ tells_once number name f g (a, e) (b, k) =
 module _ (os : List Object) (start : ℕ) where
   -- ---- the tests of a link
 
-  abbrev HasRoom : Type 0
-  HasRoom = (starts : Starts) → Stand starts start (inputs goes_to_text os) → AreRoomy os starts
-
   abbrev IsPlaced : Type 0
   IsPlaced = (p : Placement) × IsPlacement os start p
 
@@ -68,7 +62,7 @@ module _ (os : List Object) (start : ℕ) where
   Fits = Stage (IsTooLarge os start) IsPlaced (Tells 8 (Some [])) Applies
 
   abbrev Pads : LinkFault → Type 0
-  Pads = Stage (LacksRoom os start) HasRoom (Tells 4 (Some [])) Fits
+  Pads = Stage (LacksRoom os start) (HasRoom os start) (Tells 4 (Some [])) Fits
 
   abbrev Enters : LinkFault → Type 0
   Enters = Stage (has_entry os ≡ false) (has_entry os ≡ true) (Tells 7 (Some [])) Pads
@@ -94,7 +88,7 @@ module _ (os : List Object) (start : ℕ) where
       by (inl high) = let low = placed.below in absurd (omega (arith, high, low))
       by (inr much) = let few = placed.memory in absurd (omega (arith, much, few))
 
-  lacks : LacksRoom os start → HasRoom → ⊥
+  lacks : LacksRoom os start → HasRoom os start → ⊥
   lacks (starts, stand, cramped) roomy = cramped (roomy starts stand)
 
   entered : has_entry os ≡ false → has_entry os ≡ true → ⊥
@@ -107,7 +101,7 @@ module _ (os : List Object) (start : ℕ) where
   fits_once = at_stage (IsTooLarge os start) IsPlaced (Tells 8 (Some [])) Applies too_large (tells_once 8 (Some [])) applies_once
 
   pads_once : AreOnce Pads
-  pads_once = at_stage (LacksRoom os start) HasRoom (Tells 4 (Some [])) Fits lacks (tells_once 4 (Some [])) fits_once
+  pads_once = at_stage (LacksRoom os start) (HasRoom os start) (Tells 4 (Some [])) Fits lacks (tells_once 4 (Some [])) fits_once
 
   enters_once : AreOnce Enters
   enters_once = at_stage (has_entry os ≡ false) (has_entry os ≡ true) (Tells 7 (Some [])) Pads entered (tells_once 7 (Some [])) pads_once
@@ -139,7 +133,7 @@ module _ (os : List Object) (start : ℕ) where
   past_entry : (f : LinkFault) → ComesToPlaces os start → Pads f → Counts f
   past_entry f come h = past_names f come.0 (inr (come.1, h))
 
-  module _ (even : BeginsEven os start) (below : StartBelow os start) where
+  module _ (even : BeginsEven os start) where
     entry_missing : LacksEntry os start → has_entry os ≡ false
     entry_missing (inl none) = none
     entry_missing (inr (p, placed, odd)) = by (has_entry os) refl
@@ -149,11 +143,6 @@ module _ (os : List Object) (start : ℕ) where
         by true e =
             let (a, is) = entry_there (starts_of p) os e in
             absurd (odd a is (even (starts_of p) placed.text.1 a is))
-
-    all_room : AreWithin (length os) start → AreRoomyBelow os start → HasRoom
-    all_room within roomy starts stand =
-        all_both (λ i. start_of starts i < farthest) (λ i. start_of starts i < farthest → IsTrue (list_all has_room (moves (start_of starts i) i.section)))
-        (λ i. IsTrue (list_all has_room (moves (start_of starts i) i.section))) (λ i low room. room low) (inputs goes_to_text os) (below within starts stand) (roomy starts stand)
 
     unapplied : (f : LinkFault) → IsUnapplied os start f → Counts f
     unapplied f (come, (p, placed, roomy, first)) =
@@ -167,7 +156,7 @@ module _ (os : List Object) (start : ℕ) where
     stands (Undefined name) u known = past_limits (Undefined name) u.0 (inr (u.1.0, inl ((name.items, u.1.1), (refl, u.1.1))))
     stands EntryMissing u known = past_names EntryMissing u.0 (inl (entry_missing u.1, (refl, refl)))
     stands AlignmentShort u known = past_entry AlignmentShort u.0 (inl (u.1, (refl, refl)))
-    stands ImageTooLarge u known = past_entry ImageTooLarge u.0 (inr (all_room u.0.0.0 u.1.1, inl (u.1.0, (refl, refl))))
+    stands ImageTooLarge u known = past_entry ImageTooLarge u.0 (inr (u.1.1, inl (u.1.0, (refl, refl))))
     stands Overflow u known = unapplied Overflow u
     stands OddTarget u known = unapplied OddTarget u
     stands DanglingPcrel u known = unapplied DanglingPcrel u

@@ -9,7 +9,7 @@ use Rattle.rv_object_laws.specs.IsProgramOf.{IsProgramOf}
 use Rattle.rv_link.specs.declared.fault.LinkFault.{LinkFault}
 use Rattle.rv_link.specs.declared.fault.LinkFault.TheVariants.{OutOfMemory}
 use Rattle.rv_link.specs.Refusals.{IsUnlinked, HasNoProgram}
-use Rattle.rv_unique_link_laws.specs.Asked.{HavePlacedRows, LeavesEven, LeavesBelow}
+use Rattle.rv_unique_link_laws.specs.Asked.{HavePlacedRows, LeavesEven}
 use Rattle.rv_unique_link_laws.specs.Same.{IsSameFault}
 use Rattle.rv_unique_link_laws.proofs.LeftLemmas.{left_placed}
 use Rattle.rv_unique_link_laws.proofs.WithoutLemmas.{one_leaves, without_placed}
@@ -29,8 +29,8 @@ module _ (os : List Object) (start : ℕ) (relax gc : Bool) where
       let same = one_leaves os relax gc l.map.drops b.drops a.left b.left a.leaves b.leaves in
       refused a.left start l a.linked fault (subst (λ left. IsUnlinked left start fault) same.1 b.unlinked)
 
-  pub one_refusal : (f g : LinkFault) → LeavesEven os start relax gc → LeavesBelow os start relax gc
+  pub one_refusal : (f g : LinkFault) → LeavesEven os start relax gc
       → HasNoProgram os start relax gc f → (f ≡ OutOfMemory → ⊥) → HasNoProgram os start relax gc g → (g ≡ OutOfMemory → ⊥) → IsSameFault f g
-  one_refusal f g even below a known b same_known =
+  one_refusal f g even a known b same_known =
       let same = one_leaves os relax gc a.drops b.drops a.left b.left a.leaves b.leaves in
-      one_reason a.left start (even a.drops a.left a.leaves) (below a.drops a.left a.leaves) f g a.unlinked known (subst (λ left. IsUnlinked left start g) same.1 b.unlinked) same_known
+      one_reason a.left start (even a.drops a.left a.leaves) f g a.unlinked known (subst (λ left. IsUnlinked left start g) same.1 b.unlinked) same_known

@@ -1,6 +1,6 @@
 -- What collection drops of objects is one list, and what it leaves keeps of them what the laws ask.
 
-use Rattle.std.proofs.Common.{◌≡◌, ℕ, suc, ◌^◌, ◌≤◌, Bool, true, false, not, cond, ◌&&◌, ◌||◌, List, [], ◌∷◌, refl, sym, ap, subst, ◌∙◌, Option, Some, None}
+use Rattle.std.proofs.Common.{◌≡◌, ℕ, suc, Bool, true, false, not, cond, ◌&&◌, ◌||◌, List, [], ◌∷◌, refl, ap, subst, ◌∙◌, Option, Some, None}
 use Rattle.std.specs.Prelude.{IsTrue, filter, option_map}
 use Rattle.std.specs.List.{AllByRecursion, slice_get}
 use Rattle.std.proofs.lemmas.Bool.{and_parts, and_from}
@@ -8,16 +8,15 @@ use Rattle.rv_map.specs.declared.map.SectionId.{SectionId}
 use Rattle.rv_collect_laws.specs.Graph.{is_dropped}
 use Rattle.rv_collect_laws.proofs.MarksLemmas.{same_drops}
 use Rattle.rv_object.specs.declared.row.Row.{Row}
-use Rattle.rv_object.specs.Object.{Contents, Progbits, Note, Nobits, Section, Object, size_of}
+use Rattle.rv_object.specs.Object.{Contents, Progbits, Note, Nobits, Section, Object}
 use Rattle.rv_object.specs.Valid.{is_alignment, fit_inside, are_paddings, is_row_in, are_rows}
-use Rattle.rv_object_laws.specs.Inputs.{goes_to_text}
 use Rattle.rv_object_laws.specs.Collects.{graph_of}
 use Rattle.rv_object_laws.specs.IsProgramOf.{Leaves}
 use Rattle.rv_object_laws.specs.Shortened.{Relaxes}
 use Rattle.rv_object_laws.specs.Without.{without_section, without_sections, without_object, without_from, without}
-use Rattle.rv_object_laws.proofs.WithoutLemmas.{as_many_sections, section_left}
+use Rattle.rv_object_laws.proofs.WithoutLemmas.{section_left}
 use Rattle.rv_resolve.specs.Undefined.{is_loaded_at}
-use Rattle.rv_unique_link_laws.specs.Asked.{HasPlacedRows, HavePlacedRows, IsSound, IsSmall}
+use Rattle.rv_unique_link_laws.specs.Asked.{HasPlacedRows, HavePlacedRows, IsSound}
 use Rattle.rv_unique_link_laws.proofs.LeftLemmas.{one_left}
 
 -- ---- one list
@@ -94,13 +93,6 @@ paddings_left : (b : Bool) (s : Section) → IsTrue (are_paddings s.executable s
 paddings_left true s h = no_paddings s.executable
 paddings_left false s h = h
 
-abbrev IsShort : Section → Type 0
-IsShort s = goes_to_text s ≡ true → size_of s.contents ≤ 2 ^ 28
-
-short_left : (b : Bool) (s : Section) → IsShort s → IsShort (without_section b s)
-short_left true s h e = absurd (cc)
-short_left false s h e = h e
-
 -- ---- objects
 
 all_from : (P : Object → Type 0) → ((dropped : ℕ → Bool) (o : Object) → P o → P (without_object dropped o)) → (drops : List SectionId) (file : ℕ) (os : List Object) → AllByRecursion P os
@@ -119,14 +111,5 @@ without_sound drops os h =
       inside = all_sections (λ s. IsTrue (fit_inside s.contents s.relocations)) inside_left dropped 0 o.sections one.inside;
       paddings = all_sections (λ s. IsTrue (are_paddings s.executable s.contents s.relocations)) paddings_left dropped 0 o.sections one.paddings;
       rows = rows_left dropped o o.rows one.rows;
-    })
-    drops 1 os h
-
-pub without_small : (drops : List SectionId) (os : List Object) → AllByRecursion IsSmall os → AllByRecursion IsSmall (without drops os)
-without_small drops os h =
-    all_from IsSmall
-    (λ dropped o one. record {
-      few = subst (λ n. n ≤ 2 ^ 20) (sym (as_many_sections dropped 0 o.sections)) one.few;
-      short = all_sections IsShort short_left dropped 0 o.sections one.short;
     })
     drops 1 os h

@@ -1,16 +1,14 @@
 -- What the laws ask of objects.
 
-use Rattle.std.specs.Prelude.{◌≡◌, ℕ, ◌%◌, ◌<◌, ◌≤◌, ◌^◌, Bool, true, IsTrue, List, length, Some}
+use Rattle.std.specs.Prelude.{◌≡◌, ℕ, ◌%◌, Bool, true, IsTrue, List, Some}
 use Rattle.std.specs.List.{AllByRecursion, slice_get}
 use Rattle.rv_map.specs.declared.map.SectionId.{SectionId}
-use Rattle.rv_object.specs.Object.{Object, size_of}
+use Rattle.rv_object.specs.Object.{Object}
 use Rattle.rv_object.specs.Valid.{is_alignment, fit_inside, are_paddings, are_rows}
-use Rattle.rv_object_laws.specs.Inputs.{Starts, goes_to_text, inputs, start_of, Stand}
+use Rattle.rv_object_laws.specs.Inputs.{Starts, goes_to_text, inputs, Stand}
 use Rattle.rv_object_laws.specs.Names.{entry_of}
 use Rattle.rv_object_laws.specs.IsProgramOf.{Leaves}
-use Rattle.rv_placement.specs.Placement.{farthest}
 use Rattle.rv_resolve.specs.Undefined.{is_loaded_at}
-use Rattle.rv_link.specs.Refusals.{AreWithin}
 
 -- ---- what each law needs
 
@@ -28,24 +26,12 @@ BeginsEven os start =
     (starts : Starts) → Stand starts start (inputs goes_to_text os)
     → (a : ℕ) → entry_of starts os ≡ Some a → a % 2 ≡ 0
 
--- and, within the limits of a link, each of them starts at an address that is looked at
-abbrev pub StartBelow : List Object → ℕ → Type 0
-StartBelow os start =
-    AreWithin (length os) start
-    → (starts : Starts) → Stand starts start (inputs goes_to_text os)
-    → AllByRecursion (λ i. start_of starts i < farthest) (inputs goes_to_text os)
-
 -- ---- of what collection and relaxation leave
 
 abbrev pub LeavesEven : List Object → ℕ → Bool → Bool → Type 0
 LeavesEven os start relax gc =
     (drops : List SectionId) (left : List Object) → Leaves os relax gc drops left
     → BeginsEven left start
-
-abbrev pub LeavesBelow : List Object → ℕ → Bool → Bool → Type 0
-LeavesBelow os start relax gc =
-    (drops : List SectionId) (left : List Object) → Leaves os relax gc drops left
-    → StartBelow left start
 
 -- ---- objects that have it
 
@@ -56,10 +42,3 @@ pub record IsSound (o : Object) : Type 0 where
   pub paddings : AllByRecursion
       (λ s. IsTrue (are_paddings s.executable s.contents s.relocations)) o.sections
   pub rows : IsTrue (are_rows o.sections o.rows)
-
--- its sections are so few, and those of the text so short, that the sections of as many objects as
--- are linked at once start far below the end of all addresses
-pub record IsSmall (o : Object) : Type 0 where
-  pub few : length o.sections ≤ 2 ^ 20
-  pub short : AllByRecursion
-      (λ s. goes_to_text s ≡ true → size_of s.contents ≤ 2 ^ 28) o.sections

@@ -9,7 +9,7 @@ use Rattle.rv_link.specs.declared.fault.LinkFault.{LinkFault}
 use Rattle.rv_link.specs.declared.fault.LinkFault.TheVariants.{Undefined, Duplicate, OutOfMemory}
 use Rattle.rv_link.specs.Fault.{number_of}
 use Rattle.rv_link.specs.Refusals.{HasNoProgram}
-use Rattle.rv_unique_link_laws.specs.Asked.{HavePlacedRows, LeavesEven, LeavesBelow, IsSound, IsSmall}
+use Rattle.rv_unique_link_laws.specs.Asked.{HavePlacedRows, LeavesEven, IsSound}
 
 -- two programs of the same objects are equal
 abbrev pub OneProgram : Type 0
@@ -38,11 +38,11 @@ IsSameFault f g = (number_of f ≡ number_of g) × (name_in f ≡ name_in g)
 abbrev pub RefusedForOne : Type 0
 RefusedForOne =
     (os : List Object) (start : ℕ) (relax gc : Bool) (f g : LinkFault)
-    → LeavesEven os start relax gc → LeavesBelow os start relax gc
+    → LeavesEven os start relax gc
     → HasNoProgram os start relax gc f → (f ≡ OutOfMemory → ⊥)
     → HasNoProgram os start relax gc g → (g ≡ OutOfMemory → ⊥) → IsSameFault f g
 
--- what the laws ask is had by the objects of the code, if they are small enough
+-- what the laws ask is had by the objects of the code
 abbrev pub RowsArePlaced : Type 0
 RowsArePlaced = (os : List Object) → AllByRecursion IsSound os → HavePlacedRows os
 
@@ -50,8 +50,3 @@ abbrev pub RunsBeginEven : Type 0
 RunsBeginEven =
     (os : List Object) (start : ℕ) (relax gc : Bool)
     → AllByRecursion IsSound os → LeavesEven os start relax gc
-
-abbrev pub TextsStartBelow : Type 0
-TextsStartBelow =
-    (os : List Object) (start : ℕ) (relax gc : Bool)
-    → AllByRecursion IsSound os → AllByRecursion IsSmall os → LeavesBelow os start relax gc

@@ -1,6 +1,6 @@
 //! Laws of programs and of refusals.
 
-ghost use Rattle.rv_unique_link_laws.specs.Same.{OneProgram, RefusedForMemory, RefusedForOne, RowsArePlaced, RunsBeginEven, TextsStartBelow};
+ghost use Rattle.rv_unique_link_laws.specs.Same.{OneProgram, RefusedForMemory, RefusedForOne, RowsArePlaced, RunsBeginEven};
 
 /// Objects whose rows have addresses have one program: two that are programs of them are equal, with relaxation and collection
 /// and without.
@@ -14,15 +14,13 @@ pub fn refused_has_no_program()
 {}
 
 /// But for want of memory, objects are refused for one reason, where a run of what collection and relaxation leave of them
-/// begins at an even address and each section of its text starts at an address that is looked at.
+/// begins at an even address.
 pub fn refused_for_one_reason()
     ensures { RefusedForOne }
 {}
 
-/// What these laws ask is had by objects that keep what every object of the code keeps and, so that their text starts low
-/// enough, have few and short sections.
+/// What these laws ask is had by objects that keep what every object of the code keeps.
 pub fn objects_keep_it()
     ensures rows { RowsArePlaced }
     ensures runs { RunsBeginEven }
-    ensures texts { TextsStartBelow }
 {}

@@ -1,5 +1,5 @@
 use Rattle.rv_unique_link_laws.proofs.PlacedLemmas.{rows_placed}
-use Rattle.rv_unique_link_laws.proofs.LeftSoundLemmas.{leaves_even, leaves_below}
+use Rattle.rv_unique_link_laws.proofs.LeftSoundLemmas.{leaves_even}
 use Rattle.rv_unique_link_laws.proofs.law.objects_keep_it.Goals as goal
 
 pub returns-clause-rows : goal.returns-clause-rows
@@ -7,6 +7,3 @@ returns-clause-rows c = rows_placed
 
 pub returns-clause-runs : goal.returns-clause-runs
 returns-clause-runs c = leaves_even
-
-pub returns-clause-texts : goal.returns-clause-texts
-returns-clause-texts c = leaves_below
