@@ -11,9 +11,7 @@ list is linked with and without `--no-relax`, and so with `--gc-sections`; the w
 by byte. List N of a seed is
 the same in each run; `--only N` takes it alone.
 
-One known difference is counted apart. A text of 2^62 bytes or more has L4 and L8 otherwise: there no call is shortened,
-and no padding behind these bytes is looked at. Each find is one line; its objects are kept in the folder that the last line
-names. Exit status 1 if there is a find.
+Each find is one line; its objects are kept in the folder that the last line names. Exit status 1 if there is a find.
 """
 
 import argparse
@@ -41,7 +39,7 @@ WRITE, ALLOC, EXEC = 1, 2, 4
 LOCAL, GLOBAL, WEAK = 0, 1, 2
 ABSOLUTE, UNDEFINED, UNLOADED = "absolute", "undefined", "unloaded"
 WHOLE, STACK, MIB = 1 << 64, 0x3FF00000, 1 << 20
-KNOWN = 1 << 62
+LONGEST = 1 << 62  # no call of a longer text is shortened
 NAME = {number: name for name, number in KINDS.items()}
 WIDTH = {"32": 4, "64": 8, "BRANCH": 4, "JAL": 4, "CALL": 8, "CALL_PLT": 8, "PCREL_HI20": 4, "PCREL_LO12_I": 4,
     "PCREL_LO12_S": 4, "HI20": 4, "LO12_I": 4, "LO12_S": 4, "RVC_BRANCH": 2, "RVC_JUMP": 2, "SUB6": 1, "SET6": 1, "SET8": 1,
@@ -316,6 +314,8 @@ class Link:
 
     def call_sizes(self):
         """The greatest family of sizes in which no call has a shorter form that reaches."""
+        if sum(self.align(at) - 2 + self.section(*at).size for at in self.text) > LONGEST:
+            return {}
         calls = [(at, n) for at in self.text for n in range(len(self.section(*at).relocs)) if self.is_permitted(at, n)]
         sizes, before = dict.fromkeys(calls, 8), None
         while sizes != before:
@@ -786,15 +786,12 @@ def compared(number):
         for n, it in enumerate(objects[:6]):
             (folder / f"{n}.o").write_bytes(file_of(it))
         files = ["0.o"] * len(objects) if len(objects) > 6 else [f"{n}.o" for n in range(len(objects))]
-        text = sum(it.size for object in objects for it in object.sections if region_of(it) == "text")
         for relax, collects in itertools.product((True, False), (False, True)):
             options = ["--no-relax"] * (not relax) + ["--gc-sections"] * collects
             link = Link(objects, start, relax, collects)
             wanted, got = link.answer(), linked(folder, files, start, options)
             what = difference(wanted, got)
-            if what and {wanted, got} == {"L4 AlignmentShort", "L8 ImageTooLarge"} and text >= KNOWN:
-                ends[f"known: 2^62 bytes, {got[:2]} for {wanted[:2]}"] += 1
-            elif what:
+            if what:
                 finds.append(f"list {number}, {' '.join(options) or 'relaxed'}, text at {start:#x}: {what}")
             ends[wanted.split()[0] if isinstance(wanted, str) else "linked"] += 1
             ends["sections dropped"] += len(link.drops)
