@@ -17,7 +17,7 @@ use Rattle.rv_chain.specs.Linking.{IsBuiltOf, AreBuilt, AreLinked}
 use Rattle.rv_chain.specs.Agreement.{IsFileFor, AreFilesFor, AreBuiltAlike, AreNotUnlinkable, AreNotRefused, AreRefusedAlike, BuildsAsItLinks}
 use Rattle.rv_chain.proofs.EachLemmas.{same_each}
 use Rattle.rv_chain.proofs.ReasonsLemmas.{LinkLaws, no_refusal, one_reason}
-use Rattle.rv_chain.proofs.SourcesLemmas.{SourceLaws, one_from, are_sound, are_small, no_source, refusal_from}
+use Rattle.rv_chain.proofs.SourcesLemmas.{SourceLaws, one_from, are_sound, no_source, refusal_from}
 use Rattle.rv_chain.proofs.FilesLemmas.{one_in, no_unread, refusal_in}
 
 -- ---- the objects of texts, which are those in their files
@@ -110,7 +110,7 @@ module _ (laws : Laws) where
   refused_alike texts files start relax gc (Link fault) (Link other) h (named, reason) (called, again) =
       let os = objects_of texts files h in
       let from : AreObjectsFrom texts os = are_from texts files h in
-      inr (inr (one_reason laws.linking os start relax gc fault other (are_sound laws.sources texts os from) (are_small laws.sources texts os from) named called
+      inr (inr (one_reason laws.linking os start relax gc fault other (are_sound laws.sources texts os from) named called
       (refusal_from laws.sources texts os start relax gc fault from reason) (refusal_in laws.one_held files os start relax gc other (are_in texts files h) again)))
   refused_alike texts files start relax gc (Link fault) Memory h refused un = inr (inl refl)
 

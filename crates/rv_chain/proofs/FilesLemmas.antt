@@ -22,7 +22,7 @@ use Rattle.rv_chain.specs.declared.fault.Fault.TheVariants.{Source, File, Link, 
 use Rattle.rv_chain.specs.Fault.{IsNamed}
 use Rattle.rv_chain.specs.Objects.{IsObjectIn, AreEach, AreObjectsIn}
 use Rattle.rv_chain.specs.LinkRefusals.{IsFirstUnread, AreReadUnlinked}
-use Rattle.rv_chain.specs.OneFault.{AreSmallIn, FilesForMemory, FilesForOne, FilesHaveOneFault}
+use Rattle.rv_chain.specs.OneFault.{FilesForMemory, FilesForOne, FilesHaveOneFault}
 use Rattle.rv_chain.proofs.EachLemmas.{weaken, same_each, count_each, in_middle, all_each, one_first}
 use Rattle.rv_chain.proofs.ReasonsLemmas.{within_past, past_once, IsRefusal, LinkLaws, no_refusal, one_reason}
 
@@ -107,25 +107,25 @@ module _ (one_held : (file : List ℕ) (o p : Object) → ObjectOf file o → Ob
         absurd (no_refusal linking os start relax gc built.linked fault built.links named (refusal_in files os start relax gc fault inside reason))
     for_memory files start relax gc exe map Memory linked un = refl
 
-    both_unlinked : (files : List (List ℕ)) (start : ℕ) (relax gc : Bool) (fault other : LinkFault) → AreSmallIn files → IsNamed (Link fault) → IsNamed (Link other)
+    both_unlinked : (files : List (List ℕ)) (start : ℕ) (relax gc : Bool) (fault other : LinkFault) → IsNamed (Link fault) → IsNamed (Link other)
         → ArePast (length files) start fault ⊎ AreReadUnlinked files start relax gc fault → ArePast (length files) start other ⊎ AreReadUnlinked files start relax gc other → IsSameFault fault other
-    both_unlinked files start relax gc fault other small named called (inl past) (inl again) = past_once (length files) start fault other past again
-    both_unlinked files start relax gc fault other small named called (inl past) (inr (os, inside, un)) =
-        one_reason linking os start relax gc fault other (are_sound files os inside) (small os inside) named called (refusal_in files os start relax gc fault inside (inl past)) (inr un)
-    both_unlinked files start relax gc fault other small named called (inr (os, inside, un)) again =
-        one_reason linking os start relax gc fault other (are_sound files os inside) (small os inside) named called (inr un) (refusal_in files os start relax gc other inside again)
+    both_unlinked files start relax gc fault other named called (inl past) (inl again) = past_once (length files) start fault other past again
+    both_unlinked files start relax gc fault other named called (inl past) (inr (os, inside, un)) =
+        one_reason linking os start relax gc fault other (are_sound files os inside) named called (refusal_in files os start relax gc fault inside (inl past)) (inr un)
+    both_unlinked files start relax gc fault other named called (inr (os, inside, un)) again =
+        one_reason linking os start relax gc fault other (are_sound files os inside) named called (inr un) (refusal_in files os start relax gc other inside again)
 
     for_one : FilesForOne
-    for_one files start relax gc Memory other small h k = inl refl
-    for_one files start relax gc (Source number fault) other small h k = absurd h
-    for_one files start relax gc (File number fault) Memory small h k = inr (inl refl)
-    for_one files start relax gc (File number fault) (Source place other) small h k = absurd k
-    for_one files start relax gc (File number fault) (File place other) small (named, within, first) (called, inside, second) = inr (inr (one_unread files number place fault other first second))
-    for_one files start relax gc (File number fault) (Link other) small (named, within, first) (called, reason) = absurd (file_first files start relax gc number fault other within first reason)
-    for_one files start relax gc (Link fault) Memory small h k = inr (inl refl)
-    for_one files start relax gc (Link fault) (Source place other) small h k = absurd k
-    for_one files start relax gc (Link fault) (File place other) small (named, reason) (called, within, first) = absurd (file_first files start relax gc place other fault within first reason)
-    for_one files start relax gc (Link fault) (Link other) small (named, reason) (called, again) = inr (inr (both_unlinked files start relax gc fault other small named called reason again))
+    for_one files start relax gc Memory other h k = inl refl
+    for_one files start relax gc (Source number fault) other h k = absurd h
+    for_one files start relax gc (File number fault) Memory h k = inr (inl refl)
+    for_one files start relax gc (File number fault) (Source place other) h k = absurd k
+    for_one files start relax gc (File number fault) (File place other) (named, within, first) (called, inside, second) = inr (inr (one_unread files number place fault other first second))
+    for_one files start relax gc (File number fault) (Link other) (named, within, first) (called, reason) = absurd (file_first files start relax gc number fault other within first reason)
+    for_one files start relax gc (Link fault) Memory h k = inr (inl refl)
+    for_one files start relax gc (Link fault) (Source place other) h k = absurd k
+    for_one files start relax gc (Link fault) (File place other) (named, reason) (called, within, first) = absurd (file_first files start relax gc place other fault within first reason)
+    for_one files start relax gc (Link fault) (Link other) (named, reason) (called, again) = inr (inr (both_unlinked files start relax gc fault other named called reason again))
 
     pub have_one_fault : FilesHaveOneFault
     have_one_fault = record { linked = for_memory; refused = for_one }

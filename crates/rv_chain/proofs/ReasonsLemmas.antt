@@ -14,8 +14,8 @@ use Rattle.rv_link.specs.declared.fault.LinkFault.TheVariants as links
 use Rattle.rv_link.specs.Fault.{number_of}
 use Rattle.rv_link.specs.Refusals.{AreWithin, ArePast, HasNoProgram}
 use Rattle.rv_link.proofs.LeftLemmas.{alike, past_unlinked}
-use Rattle.rv_unique_link_laws.specs.Asked.{IsSound, IsSmall}
-use Rattle.rv_unique_link_laws.specs.Same.{OneProgram, RefusedForMemory, name_in, IsSameFault, RefusedForOne, RowsArePlaced, RunsBeginEven, TextsStartBelow}
+use Rattle.rv_unique_link_laws.specs.Asked.{IsSound}
+use Rattle.rv_unique_link_laws.specs.Same.{OneProgram, RefusedForMemory, name_in, IsSameFault, RefusedForOne, RowsArePlaced, RunsBeginEven}
 use Rattle.rv_chain.specs.declared.fault.Fault.TheVariants.{Link}
 use Rattle.rv_chain.specs.Fault.{IsNamed}
 
@@ -96,7 +96,6 @@ pub record LinkLaws : Type 0 where
   pub for_one : RefusedForOne
   pub placed : RowsArePlaced
   pub even : RunsBeginEven
-  pub below : TextsStartBelow
 
 module _ (laws : LinkLaws) where
   -- objects with a program are not refused
@@ -104,15 +103,15 @@ module _ (laws : LinkLaws) where
   no_refusal os start relax gc l fault links named h =
       not_memory fault named (laws.for_memory os start relax gc l fault links (told os start relax gc l.map.drops links.left fault links.leaves h))
 
-  by_law : (os : List Object) (start : ℕ) (relax gc : Bool) (fault other : LinkFault) → AllByRecursion IsSound os → AllByRecursion IsSmall os → IsNamed (Link fault) → IsNamed (Link other)
+  by_law : (os : List Object) (start : ℕ) (relax gc : Bool) (fault other : LinkFault) → AllByRecursion IsSound os → IsNamed (Link fault) → IsNamed (Link other)
       → HasNoProgram os start relax gc fault → HasNoProgram os start relax gc other → IsSameFault fault other
-  by_law os start relax gc fault other sound small named called h k =
-      laws.for_one os start relax gc fault other (laws.even os start relax gc sound) (laws.below os start relax gc sound small) h (not_memory fault named) k (not_memory other called)
+  by_law os start relax gc fault other sound named called h k =
+      laws.for_one os start relax gc fault other (laws.even os start relax gc sound) h (not_memory fault named) k (not_memory other called)
 
-  pub one_reason : (os : List Object) (start : ℕ) (relax gc : Bool) (fault other : LinkFault) → AllByRecursion IsSound os → AllByRecursion IsSmall os → IsNamed (Link fault) → IsNamed (Link other)
+  pub one_reason : (os : List Object) (start : ℕ) (relax gc : Bool) (fault other : LinkFault) → AllByRecursion IsSound os → IsNamed (Link fault) → IsNamed (Link other)
       → IsRefusal os start relax gc fault → IsRefusal os start relax gc other → IsSameFault fault other
-  one_reason os start relax gc fault other sound small named called (inl h) (inl k) = past_once (length os) start fault other h k
-  one_reason os start relax gc fault other sound small named called (inl h) (inr k) =
-      by_law os start relax gc fault other sound small named called (past_is os start relax gc k.drops k.left fault k.leaves h) k
-  one_reason os start relax gc fault other sound small named called (inr h) k =
-      by_law os start relax gc fault other sound small named called h (told os start relax gc h.drops h.left other h.leaves k)
+  one_reason os start relax gc fault other sound named called (inl h) (inl k) = past_once (length os) start fault other h k
+  one_reason os start relax gc fault other sound named called (inl h) (inr k) =
+      by_law os start relax gc fault other sound named called (past_is os start relax gc k.drops k.left fault k.leaves h) k
+  one_reason os start relax gc fault other sound named called (inr h) k =
+      by_law os start relax gc fault other sound named called h (told os start relax gc h.drops h.left other h.leaves k)

@@ -1,6 +1,6 @@
 -- The objects of sources, and why sources are refused.
 
-use Rattle.std.proofs.Common.{◌≡◌, ℕ, ◌+◌, Bool, ◌≤◌, ◌⊎◌, inl, inr, true, ◌&&◌, List, length, map, refl, sym, ap, subst, ◌∙◌, arith, None, Some}
+use Rattle.std.proofs.Common.{◌≡◌, ℕ, ◌+◌, Bool, ◌⊎◌, inl, inr, List, length, map, refl, sym, ap, subst, ◌∙◌, None, Some}
 use Rattle.std.specs.Prelude.{if◌then◌else◌, ◌==◌}
 use Rattle.std.specs.List.{AllByRecursion}
 use Rattle.rv_lexer.specs.Fault.{number_of}
@@ -11,10 +11,8 @@ use Rattle.rv_lexer.specs.declared.fault.SourceFault.TheVariants as sources
 use Rattle.rv_statement.specs.Statement.{Statement}
 use Rattle.rv_parse_laws.specs.Reading.{Reads}
 use Rattle.rv_parse_laws.specs.Refusals.{SyntaxFault as TextFault, Refuses}
-use Rattle.rv_unit_laws.specs.Sections.{most_sections}
-use Rattle.rv_unit_laws.specs.Tables.{longest_section}
 use Rattle.rv_unit_laws.specs.Faults.{StatementFault as StatementsFault}
-use Rattle.rv_object.specs.Object.{Object, size_of}
+use Rattle.rv_object.specs.Object.{Object}
 use Rattle.rv_object.specs.View.{object_of}
 use Rattle.rv_assemble_laws.specs.Refusals.{statements_fault, IsTooLong, IsStatementsFault}
 use Rattle.rv_assemble_laws.specs.ShownNames.{HasNames}
@@ -22,7 +20,7 @@ use Rattle.rv_assemble_laws.specs.IsObjectOf.{IsObjectOf}
 use Rattle.rv_assemble.specs.FirstFault.{IsFirstFault}
 use Rattle.rv_link.specs.declared.fault.LinkFault.{LinkFault}
 use Rattle.rv_link.specs.Refusals.{AreWithin, ArePast, HasNoProgram}
-use Rattle.rv_unique_link_laws.specs.Asked.{IsSound, IsSmall}
+use Rattle.rv_unique_link_laws.specs.Asked.{IsSound}
 use Rattle.rv_unique_link_laws.specs.Same.{IsSameFault}
 use Rattle.rv_chain.specs.declared.fault.Fault.TheVariants.{Source, File, Link, Memory}
 use Rattle.rv_chain.specs.Fault.{IsNamed}
@@ -73,8 +71,6 @@ pub record SourceLaws : Type 0 where
   pub not_both : (text : List ℕ) (ss : List Statement) (fault : TextFault) → Reads text ss → Refuses text fault → ⊥
   pub shown : (text : List ℕ) (ss : List Statement) → Reads text ss → HasNames ss
   pub one_assembled : (ss : List Statement) (o p : Object) → HasNames ss → IsObjectOf ss o → IsObjectOf ss p → o ≡ p
-  pub few : (ss : List Statement) (o : Object) → IsObjectOf ss o → length o.sections ≤ most_sections
-  pub brief : (ss : List Statement) (o : Object) → IsObjectOf ss o → AllByRecursion (λ s. (s.loaded && s.executable) ≡ true → size_of s.contents ≤ longest_section) o.sections
   pub never_long : (ss : List Statement) (o : Object) (f : StatementsFault) → IsObjectOf ss o → IsTooLong ss f → ⊥
   pub once : (ss : List Statement) (f g : StatementsFault) → IsStatementsFault ss f → IsStatementsFault ss g → f ≡ g
 
@@ -88,17 +84,8 @@ module _ (laws : SourceLaws) where
   is_sound : (text : List ℕ) (o : Object) → IsObjectFrom text o → IsSound o
   is_sound text o (ss, reads, good, is) = sound ss o is
 
-  is_small : (text : List ℕ) (o : Object) → IsObjectFrom text o → IsSmall o
-  is_small text o (ss, reads, good, is) = record {
-    few = (let n : length o.sections ≤ 32000 = laws.few ss o is in omega (arith, n));
-    short = laws.brief ss o is;
-  }
-
   pub are_sound : (texts : List (List ℕ)) (os : List Object) → AreObjectsFrom texts os → AllByRecursion IsSound os
   are_sound texts os from = all_each IsObjectFrom IsSound is_sound texts os from
-
-  pub are_small : (texts : List (List ℕ)) (os : List Object) → AreObjectsFrom texts os → AllByRecursion IsSmall os
-  are_small texts os from = all_each IsObjectFrom IsSmall is_small texts os from
 
   -- ---- a source without a fault
 
@@ -180,10 +167,10 @@ module _ (laws : SourceLaws) where
     both_unlinked texts start relax gc fault other named called (inl past) (inl again) = past_once (length texts) start fault other past again
     both_unlinked texts start relax gc fault other named called (inl past) (inr un) =
         let os = map object_of un.objects in
-        one_reason linking os start relax gc fault other (are_sound texts os un.are) (are_small texts os un.are) named called (refusal_from texts os start relax gc fault un.are (inl past)) (inr un.unlinked)
+        one_reason linking os start relax gc fault other (are_sound texts os un.are) named called (refusal_from texts os start relax gc fault un.are (inl past)) (inr un.unlinked)
     both_unlinked texts start relax gc fault other named called (inr un) again =
         let os = map object_of un.objects in
-        one_reason linking os start relax gc fault other (are_sound texts os un.are) (are_small texts os un.are) named called (inr un.unlinked) (refusal_from texts os start relax gc other un.are again)
+        one_reason linking os start relax gc fault other (are_sound texts os un.are) named called (inr un.unlinked) (refusal_from texts os start relax gc other un.are again)
 
     for_one : SourcesForOne
     for_one texts start relax gc Memory other h k = inl refl

@@ -1,14 +1,10 @@
 -- That sources, and files, are refused for want of memory or for one fault.
 
 use Rattle.std.specs.Prelude.{◌≡◌, ◌⊎◌, ℕ, Bool, ⊤, List}
-use Rattle.std.specs.List.{AllByRecursion}
 use Rattle.rv_image.specs.Linked.{Linked}
-use Rattle.rv_object.specs.Object.{Object}
-use Rattle.rv_unique_link_laws.specs.Asked.{IsSmall}
 use Rattle.rv_unique_link_laws.specs.Same.{IsSameFault}
 use Rattle.rv_chain.specs.declared.fault.Fault.{Fault}
 use Rattle.rv_chain.specs.declared.fault.Fault.TheVariants.{Source, File, Link, Memory}
-use Rattle.rv_chain.specs.Objects.{AreObjectsIn}
 use Rattle.rv_chain.specs.Linking.{IsProgramOfObjectsFrom, AreLinked}
 use Rattle.rv_chain.specs.Refusals.{IsRefusedFor}
 use Rattle.rv_chain.specs.LinkRefusals.{AreUnlinkable}
@@ -54,16 +50,12 @@ FilesForMemory =
     → AreLinked files start relax gc exe map → AreUnlinkable files start relax gc fault
     → fault ≡ Memory
 
--- the objects in them, if each has one, are small
-abbrev pub AreSmallIn : List (List ℕ) → Type 0
-AreSmallIn files = (os : List Object) → AreObjectsIn files os → AllByRecursion IsSmall os
-
--- and others, where these are small, but for that for one fault
+-- and others, but for that, for one fault
 abbrev pub FilesForOne : Type 0
 FilesForOne =
     (files : List (List ℕ)) (start : ℕ) (relax gc : Bool) (fault other : Fault)
-    → AreSmallIn files → AreUnlinkable files start relax gc fault
-    → AreUnlinkable files start relax gc other → IsMemoryOrSame fault other
+    → AreUnlinkable files start relax gc fault → AreUnlinkable files start relax gc other
+    → IsMemoryOrSame fault other
 
 pub record FilesHaveOneFault : Type 0 where
   pub linked : FilesForMemory

@@ -13,7 +13,7 @@ use rv_unique_link_laws::{
     objects_keep_it, one_program, refused_for_one_reason, refused_has_no_program,
 };
 use rv_unique_object_laws::{
-    objects_are_not_too_long, objects_are_small, objects_have_files, one_object_of_statements,
+    objects_are_not_too_long, objects_have_files, one_object_of_statements,
     statements_have_one_fault,
 };
 
@@ -27,7 +27,6 @@ pub fn builds_as_it_links()
     not_both();
     names_are_shown();
     one_object_of_statements();
-    objects_are_small();
     objects_are_not_too_long();
     statements_have_one_fault();
     objects_have_files();
@@ -49,7 +48,6 @@ pub fn sources_have_one_fault()
     not_both();
     names_are_shown();
     one_object_of_statements();
-    objects_are_small();
     objects_are_not_too_long();
     statements_have_one_fault();
     one_program();
@@ -59,7 +57,7 @@ pub fn sources_have_one_fault()
 }
 
 /// Nor does what `link_objects` says of one: files that are linked are refused for want of memory alone, and others for that
-/// or for one fault, where their objects are small.
+/// or for one fault.
 pub fn files_have_one_fault()
     ensures { FilesHaveOneFault }
 {

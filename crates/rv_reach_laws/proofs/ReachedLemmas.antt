@@ -198,7 +198,7 @@ module _ (os : List Object) (whole : AllByRecursion IsWhole os) (kept : List ℕ
         paddings = subst (λ (x : Section). are_paddings x.executable x.contents x.relocations ≡ true) (same_text (its i) i.section a.text)
             (paddings_stay i.section (cuts (its i) i.section) i.section.executable a.inside f.allowed a.paddings);
       };
-      even = b.0;
+      even = b;
       even_size = c;
       ends = size_left i.section (cuts (its i) i.section) a.inside f.allowed;
     },

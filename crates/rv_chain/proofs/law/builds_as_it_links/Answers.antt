@@ -9,8 +9,6 @@ returns c = agreed (record {
     not_both = c.not_both.ensures;
     shown = c.names_are_shown.ensures;
     one_assembled = c.one_object_of_statements.ensures;
-    few = c.objects_are_small.ensures.few;
-    brief = c.objects_are_small.ensures.short;
     never_long = c.objects_are_not_too_long.ensures;
     once = c.statements_have_one_fault.ensures;
   };
@@ -20,7 +18,6 @@ returns c = agreed (record {
     for_one = c.refused_for_one_reason.ensures;
     placed = c.objects_keep_it.ensures.rows;
     even = c.objects_keep_it.ensures.runs;
-    below = c.objects_keep_it.ensures.texts;
   };
   filed = c.objects_have_files.ensures;
   sound = c.written_object_is_read.ensures.fault;

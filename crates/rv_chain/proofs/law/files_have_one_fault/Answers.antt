@@ -8,5 +8,4 @@ returns c = have_one_fault c.one_object.ensures (record {
   for_one = c.refused_for_one_reason.ensures;
   placed = c.objects_keep_it.ensures.rows;
   even = c.objects_keep_it.ensures.runs;
-  below = c.objects_keep_it.ensures.texts;
 })

@@ -8,8 +8,6 @@ returns c = have_one_fault (record {
   not_both = c.not_both.ensures;
   shown = c.names_are_shown.ensures;
   one_assembled = c.one_object_of_statements.ensures;
-  few = c.objects_are_small.ensures.few;
-  brief = c.objects_are_small.ensures.short;
   never_long = c.objects_are_not_too_long.ensures;
   once = c.statements_have_one_fault.ensures;
 }) (record {
@@ -18,5 +16,4 @@ returns c = have_one_fault (record {
   for_one = c.refused_for_one_reason.ensures;
   placed = c.objects_keep_it.ensures.rows;
   even = c.objects_keep_it.ensures.runs;
-  below = c.objects_keep_it.ensures.texts;
 })
