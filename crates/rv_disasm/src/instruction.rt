@@ -2,7 +2,7 @@
 //!
 //! Source: RISC-V Assembly Programmer's Manual; RISC-V Unprivileged ISA 20191213, chapters 2, 5, 7 and 8.
 
-ghost use Rattle.std.specs.Prelude.{◌≡◌, ◌++◌, ◌∷◌, [], OnOk, Bool, codes, decimal};
+ghost use Rattle.std.specs.Prelude.{◌≡◌, ◌++◌, ◌∷◌, [], OnOk, codes, decimal};
 ghost use Rattle.std.specs.Fmt.{signed_decimal};
 ghost use Rattle.rv_isa.specs.Operations.{format_of};
 ghost use Rattle.rv_isa_laws.specs.Arithmetic.{wrapped, sum_of};
