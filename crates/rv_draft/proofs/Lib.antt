@@ -16,6 +16,7 @@ pub mod LocationsLemmas
 pub mod LoneLemmas
 pub mod MadeLemmas
 pub mod NearLemmas
+pub mod NumbersLemmas
 pub mod RoomsLemmas
 pub mod RoomyLemmas
 pub mod SectionedLemmas

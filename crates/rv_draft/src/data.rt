@@ -249,8 +249,8 @@ fn put_fields<'a>(
 
 // ---- statements
 
-/// Adds a value: its bytes, and its fields where its section is loaded.
-fn put_value<'a>(
+/// Adds a value that is looked up: its bytes, and its fields where its section is loaded.
+fn put_evaluated<'a>(
     bytes: &mut Vec<u8>,
     fields: &mut Vec<OpenField<'a>>,
     spot: &Spot<'_, '_, 'a>,
@@ -271,6 +271,28 @@ fn put_value<'a>(
         return Ok(());
     }
     put_fields(fields, spot, place, width, &value)
+}
+
+/// Adds a value: its bytes, and its fields where its section is loaded. Most are numbers, and have none.
+fn put_value<'a>(
+    bytes: &mut Vec<u8>,
+    fields: &mut Vec<OpenField<'a>>,
+    spot: &Spot<'_, '_, 'a>,
+    place: u32,
+    width: Width,
+    expression: &Expr<'a>,
+) -> Result<(), AllocError>
+    ensures bytes { OnOk result (AddsBytes spot.now bytes.old.items bytes.new.items
+        (λ index. value_bytes (bytes_of width)
+        (value_in spot.now index (tree_of_expr expression.now)))) }
+    ensures fields { OnOk result (AddsFields spot.now fields.old.items fields.new.items
+        (λ index. if (spot.now).loaded then own_fields spot.now place (bytes_of width)
+        (value_in spot.now index (tree_of_expr expression.now)) else [])) }
+{
+    match expression {
+        Expr::Number(number) => put_number(bytes, width, *number),
+        _ => put_evaluated(bytes, fields, spot, place, width, expression),
+    }
 }
 
 /// Adds values from a place on.
