@@ -32,43 +32,24 @@ pub fn lines_text(
 ) -> Result<Vec<u8>, AllocError> {
     let covered = coverage(alloc, counts, places)?;
     let mut text = Vec::new(alloc);
-    put_covered(&mut text, places, covered.as_slice())?;
-    Ok(text)
-}
-
-/// Adds the lines of statements, and how many were never executed.
-fn put_covered(
-    text: &mut Vec<u8>,
-    places: &Places<'_>,
-    covered: &[Covered],
-) -> Result<(), AllocError> {
     let mut never: u64 = 0;
-    for statement in covered {
-        put_statement(text, places, statement)?;
+    for statement in &covered {
+        put_file(&mut text, places, statement.row.file)?;
+        text.push(b':')?;
+        put_decimal(&mut text, statement.row.line)?;
+        text.push(b' ')?;
+        put_decimal(&mut text, statement.count)?;
+        text.push(b'\n')?;
         if statement.count == 0 {
             never = never.saturating_add(1);
         }
     }
-    put(text, "never executed ")?;
-    put_decimal(text, never)?;
-    put(text, " of ")?;
-    put_decimal(text, covered.len() as u64)?;
-    put(text, " statements\n")
-}
-
-/// Adds the line of a statement.
-fn put_statement(
-    text: &mut Vec<u8>,
-    places: &Places<'_>,
-    statement: &Covered,
-) -> Result<(), AllocError> {
-    put_file(text, places, statement.row.file)?;
-    text.push(b':')?;
-    put_decimal(text, statement.row.line)?;
-    text.push(b' ')?;
-    put_decimal(text, statement.count)?;
-    text.push(b'\n')?;
-    Ok(())
+    put(&mut text, "never executed ")?;
+    put_decimal(&mut text, never)?;
+    put(&mut text, " of ")?;
+    put_decimal(&mut text, covered.len() as u64)?;
+    put(&mut text, " statements\n")?;
+    Ok(text)
 }
 
 /// The lines as a tracefile of lcov, which `genhtml` draws. A line with several statements was executed as often as the one
@@ -78,50 +59,34 @@ pub fn lcov_text(
     counts: &Counts,
     places: &Places<'_>,
 ) -> Result<Vec<u8>, AllocError> {
-    let lines = most_of_lines(alloc, coverage(alloc, counts, places)?)?;
+    let covered = coverage(alloc, counts, places)?;
     let mut text = Vec::new(alloc);
-    put_records(&mut text, places, lines.as_slice())?;
-    Ok(text)
-}
-
-/// Adds the records of lines.
-fn put_records(
-    text: &mut Vec<u8>,
-    places: &Places<'_>,
-    lines: &[Covered],
-) -> Result<(), AllocError> {
-    put(text, "TN:\n")?;
+    put(&mut text, "TN:\n")?;
     let mut file = 0;
     let mut found: u64 = 0;
     let mut hit: u64 = 0;
-    for line in lines {
+    for line in &most_of_lines(alloc, covered.as_slice())? {
         if line.row.file != file {
             if file != 0 {
-                put_end(text, found, hit)?;
+                put_end(&mut text, found, hit)?;
             }
-            put_source(text, places, line.row.file)?;
+            put(&mut text, "SF:")?;
+            put_file(&mut text, places, line.row.file)?;
+            text.push(b'\n')?;
             file = line.row.file;
             found = 0;
             hit = 0;
         }
-        put_data(text, line)?;
+        put_data(&mut text, line)?;
         found = found.saturating_add(1);
         if line.count > 0 {
             hit = hit.saturating_add(1);
         }
     }
     if file != 0 {
-        put_end(text, found, hit)?;
+        put_end(&mut text, found, hit)?;
     }
-    Ok(())
-}
-
-/// Adds the beginning of a file's records: `SF:FILE`.
-fn put_source(text: &mut Vec<u8>, places: &Places<'_>, file: u64) -> Result<(), AllocError> {
-    put(text, "SF:")?;
-    put_file(text, places, file)?;
-    text.push(b'\n')?;
-    Ok(())
+    Ok(text)
 }
 
 /// Adds the record of a line: `DA:LINE,COUNT`.
@@ -163,45 +128,30 @@ fn coverage(
 ) -> Result<Vec<Covered>, AllocError> {
     let executed = by_address(alloc, counts.instructions())?;
     let mut covered = Vec::new(alloc);
-    add_covered(&mut covered, executed.as_slice(), places)?;
-    Ok(covered)
-}
-
-/// Adds the statements that have instructions, by file and number.
-fn add_covered(
-    covered: &mut Vec<Covered>,
-    executed: &[Executed],
-    places: &Places<'_>,
-) -> Result<(), AllocError> {
     for row in places.rows() {
         if row.instructions > 0 {
-            let count = count_at(executed, row.address);
+            let count = count_at(executed.as_slice(), row.address);
             covered.push(Covered { row: *row, count })?;
         }
     }
-    covered.sort_by_key(|statement: &Covered| (statement.row.file, statement.row.ordinal))
+    covered.sort_by_key(|statement: &Covered| (statement.row.file, statement.row.ordinal))?;
+    Ok(covered)
 }
 
 /// One entry for each line of the statements, that of its statement that was executed most.
-fn most_of_lines(alloc: Global, covered: Vec<Covered>) -> Result<Vec<Covered>, AllocError> {
-    let mut ordered = covered;
-    ordered.sort_by_key(|statement: &Covered| (statement.row.file, statement.row.line))?;
-    let mut lines = Vec::new(alloc);
+fn most_of_lines(alloc: Global, covered: &[Covered]) -> Result<Vec<Covered>, AllocError> {
+    let mut ordered: Vec<Covered> = Vec::from_slice(alloc, covered)?;
+    ordered.sort_by_key(|statement| (statement.row.file, statement.row.line))?;
+    let mut lines: Vec<Covered> = Vec::new(alloc);
     for statement in &ordered {
-        add_line(&mut lines, statement)?;
+        match lines.last_mut() {
+            Some(last) if is_same_line(&last.row, &statement.row) => {
+                last.count = last.count.max(statement.count);
+            }
+            _ => lines.push(*statement)?,
+        }
     }
     Ok(lines)
-}
-
-/// Adds the line of a statement, or what it has more than the last one if that is the same.
-fn add_line(lines: &mut Vec<Covered>, statement: &Covered) -> Result<(), AllocError> {
-    match lines.last_mut() {
-        Some(last) if is_same_line(&last.row, &statement.row) => {
-            last.count = last.count.max(statement.count);
-        }
-        _ => lines.push(*statement)?,
-    }
-    Ok(())
 }
 
 fn is_same_line(one: &Row, other: &Row) -> bool {
@@ -213,38 +163,24 @@ fn by_address(
     alloc: Global,
     instructions: &[VisitedInstruction],
 ) -> Result<Vec<Executed>, AllocError> {
-    let mut ordered = Vec::new(alloc);
-    add_executed(&mut ordered, instructions)?;
-    let mut executed = Vec::new(alloc);
-    for at in &ordered {
-        add_address(&mut executed, at)?;
-    }
-    Ok(executed)
-}
-
-/// Adds the addresses of instructions, in their order.
-fn add_executed(
-    ordered: &mut Vec<Executed>,
-    instructions: &[VisitedInstruction],
-) -> Result<(), AllocError> {
+    let mut ordered: Vec<Executed> = Vec::new(alloc);
     for visited in instructions {
         ordered.push(Executed {
             address: visited.pc,
             count: visited.count,
         })?;
     }
-    ordered.sort_by_key(|at: &Executed| at.address)
-}
-
-/// Adds an address, or only its count if it is the last one.
-fn add_address(executed: &mut Vec<Executed>, at: &Executed) -> Result<(), AllocError> {
-    match executed.last_mut() {
-        Some(last) if last.address == at.address => {
-            last.count = last.count.saturating_add(at.count);
+    ordered.sort_by_key(|at| at.address)?;
+    let mut executed: Vec<Executed> = Vec::new(alloc);
+    for at in &ordered {
+        match executed.last_mut() {
+            Some(last) if last.address == at.address => {
+                last.count = last.count.saturating_add(at.count);
+            }
+            _ => executed.push(*at)?,
         }
-        _ => executed.push(*at)?,
     }
-    Ok(())
+    Ok(executed)
 }
 
 /// How often the instruction at an address was executed.
