@@ -40,6 +40,15 @@ fn put_name<'a>(
     Ok(())
 }
 
+/// How many symbols have a name.
+fn count_named(symbols: &[Symbol<'_>]) -> usize {
+    let mut count: u64 = 0;
+    for symbol in symbols {
+        count = count.saturating_add(u64::from(!symbol.name.is_empty()));
+    }
+    count as usize
+}
+
 /// The indices of the last symbols of each name.
 fn name_indices<'a>(
     alloc: Global,
@@ -48,7 +57,7 @@ fn name_indices<'a>(
     requires { length symbols.now < 2 ^ 32 }
     ensures { IfOk result (λ x. AreNameIndices x (map object_symbol symbols.now)) }
 {
-    let mut names = HashMap::new(alloc);
+    let mut names = HashMap::with_capacity(alloc, count_named(symbols))?;
     for i in 0..symbols.len() {
         put_name(&mut names, i as u32, &symbols[i])?;
     }
