@@ -39,7 +39,6 @@ WRITE, ALLOC, EXEC = 1, 2, 4
 LOCAL, GLOBAL, WEAK = 0, 1, 2
 ABSOLUTE, UNDEFINED, UNLOADED = "absolute", "undefined", "unloaded"
 WHOLE, STACK, MIB = 1 << 64, 0x3FF00000, 1 << 20
-LONGEST = 1 << 62  # no call of a longer text is shortened
 NAME = {number: name for name, number in KINDS.items()}
 WIDTH = {"32": 4, "64": 8, "BRANCH": 4, "JAL": 4, "CALL": 8, "CALL_PLT": 8, "PCREL_HI20": 4, "PCREL_LO12_I": 4,
     "PCREL_LO12_S": 4, "HI20": 4, "LO12_I": 4, "LO12_S": 4, "RVC_BRANCH": 2, "RVC_JUMP": 2, "SUB6": 1, "SET6": 1, "SET8": 1,
@@ -314,8 +313,6 @@ class Link:
 
     def call_sizes(self):
         """The greatest family of sizes in which no call has a shorter form that reaches."""
-        if sum(self.align(at) - 2 + self.section(*at).size for at in self.text) > LONGEST:
-            return {}
         calls = [(at, n) for at in self.text for n in range(len(self.section(*at).relocs)) if self.is_permitted(at, n)]
         sizes, before = dict.fromkeys(calls, 8), None
         while sizes != before:

@@ -1,11 +1,12 @@
 //! A part of the text that may keep only its first bytes.
 
 /// A part of the text that may keep only its first bytes. Offsets count the text as it is before relaxation, with each
-/// padding in full, over all sections; so do the bytes from the end of one section to the start of the next.
+/// padding in full, over all sections; so do the bytes from the end of one section to the start of the next. They have 128
+/// bits, since each of many sections may have 2^64 - 1 bytes.
 #[derive(Clone, Copy, Debug, PartialEq, Eq, Drop)]
 pub struct Site {
     /// The bytes of the text before it.
-    pub offset: u64,
+    pub offset: u128,
     /// What it is.
     pub kind: SiteKind,
 }
@@ -23,7 +24,7 @@ pub enum SiteKind {
 #[derive(Clone, Copy, Debug, PartialEq, Eq, Drop)]
 pub struct Call {
     /// The target's offset in the text.
-    pub target: u64,
+    pub target: u128,
     /// The constant that is added to the target, in bytes.
     pub addend: i64,
     /// Whether it links no register and its object may have compressed instructions.

@@ -12,11 +12,11 @@ use Rattle.rv_object.specs.declared.symbol.Definition.{Definition}
 use Rattle.rv_object.specs.declared.symbol.Definition.TheVariants as definitions
 use Rattle.rv_object.specs.Object.{Symbol, Object}
 use Rattle.rv_object.specs.View.{object_of}
-use Rattle.rv_object_laws.specs.CallSites.{is_short_text, sites_of}
+use Rattle.rv_object_laws.specs.CallSites.{sites_of}
 use Rattle.rv_object_laws.specs.Collects.{Collects, graph_of}
 use Rattle.rv_object_laws.specs.IsProgramOf.{Leaves, IsProgramOf}
 use Rattle.rv_object_laws.specs.Without.{without, without_from}
-use Rattle.rv_object_laws.specs.Shortened.{Sizes, shortened_symbol, shortened_from, shortened, IsRelaxed, Relaxes}
+use Rattle.rv_object_laws.specs.Shortened.{Sizes, shortened_symbol, shortened_from, shortened, Relaxes}
 use Rattle.rv_object_laws.proofs.TextLineLemmas.{sites_text, whole_text}
 use Rattle.rv_object_laws.proofs.WholeLemmas.{are_whole, whole_left}
 use Rattle.rv_object_laws.proofs.WithoutLemmas.{without_none}
@@ -60,16 +60,12 @@ pub record AreAlike (os left : List Object) : Type 0 where
 same_objects : (os left : List Object) → left ≡ os → AreAlike os left
 same_objects os left e = record { many = ap length e; seen = ap seen_of e }
 
-alike_by : (short : Bool) (os left : List Object) → IsRelaxed short os left → AreAlike os left
-alike_by false os left h = same_objects os left h
-alike_by true os left h = record {
+pub alike : (relax : Bool) (os left : List Object) → Relaxes relax os left → AreAlike os left
+alike false os left h = same_objects os left h
+alike true os left h = record {
   many = ap length h.2 ∙ many_from _ 1 os;
   seen = ap seen_of h.2 ∙ seen_from _ 1 os;
 }
-
-pub alike : (relax : Bool) (os left : List Object) → Relaxes relax os left → AreAlike os left
-alike false os left h = same_objects os left h
-alike true os left h = alike_by (is_short_text os) os left h
 
 many_left_from : (drops : List SectionId) (file : ℕ) (os : List Object) → length (without_from drops file os) ≡ length os
 many_left_from drops file [] = refl
@@ -85,15 +81,11 @@ alike_leaves os relax gc drops left h =
 
 -- ---- there is such
 
-left_by : (short : Bool) (os : List Object) → IsText (sites_of os) → (left : List Object) × IsRelaxed short os left
-left_by false os text = (os, refl)
-left_by true os text =
-    let found = greatest_closed_exists (sites_of os) text in
-    (shortened found.0 os, (found.0, found.1, refl))
-
 some_left : (relax : Bool) (os : List Object) → IsText (sites_of os) → (left : List Object) × Relaxes relax os left
 some_left false os text = (os, refl)
-some_left true os text = left_by (is_short_text os) os text
+some_left true os text =
+    let found = greatest_closed_exists (sites_of os) text in
+    (shortened found.0 os, (found.0, found.1, refl))
 
 -- what collection and relaxation leave
 pub record SomeLeaves (os : List Object) (relax gc : Bool) : Type 0 where

@@ -16,12 +16,11 @@ use Rattle.rv_object.specs.declared.symbol.Definition.TheVariants as definitions
 use Rattle.rv_object.specs.Bindings.{is_global, is_weak}
 use Rattle.rv_object.specs.Object.{Section, Symbol, Object}
 use Rattle.rv_object.specs.View.{object_of}
-use Rattle.rv_object_laws.specs.CallSites.{is_short_text}
 use Rattle.rv_object_laws.specs.Collects.{entry_place, Collects}
 use Rattle.rv_object_laws.specs.Inputs.{InputSection, goes_to_text, inputs_from, inputs_of}
 use Rattle.rv_object_laws.specs.IsLinkOf.{is_loaded}
 use Rattle.rv_object_laws.specs.Names.{Export, exports_in, exports_from, exports_where, candidates, is_export, global_names, is_in_text, can_begin}
-use Rattle.rv_object_laws.specs.Shortened.{Sizes, shortened_text, shortened_section, shortened_sections, shortened_from, IsRelaxed, Relaxes}
+use Rattle.rv_object_laws.specs.Shortened.{Sizes, shortened_text, shortened_section, shortened_sections, shortened_from, Relaxes}
 use Rattle.rv_object_laws.specs.Without.{without}
 use Rattle.rv_object_laws.proofs.DanglingLemmas.{nothing_left}
 use Rattle.rv_object_laws.proofs.TextInputsLemmas.{all_append}
@@ -80,13 +79,9 @@ short_from : (sizes : ℕ → ℕ → Sizes) (file : ℕ) (os : List Object) →
 short_from sizes file [] h = tt
 short_from sizes file (o ∷ os) h = (short_in (sizes file) 0 o.sections h.0, short_from sizes (suc file) os h.1)
 
-unloaded_by : (short : Bool) (os left : List Object) → IsRelaxed short os left → AreUnloaded os → AreUnloaded left
-unloaded_by false os left e h = subst AreUnloaded (sym e) h
-unloaded_by true os left (kept, greatest, e) h = subst AreUnloaded (sym e) (short_from _ 1 os h)
-
 unloaded_left : (relax : Bool) (os left : List Object) → Relaxes relax os left → AreUnloaded os → AreUnloaded left
 unloaded_left false os left e h = subst AreUnloaded (sym e) h
-unloaded_left true os left e h = unloaded_by (is_short_text os) os left e h
+unloaded_left true os left (kept, greatest, e) h = subst AreUnloaded (sym e) (short_from _ 1 os h)
 
 -- ---- they refer to nothing
 

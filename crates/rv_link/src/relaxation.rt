@@ -10,13 +10,13 @@ ghost use Rattle.rv_link.specs.declared.fault.LinkFault.TheVariants.{OutOfMemory
 use crate::fault::LinkFault;
 use rv_link_sites::placed;
 use rv_object::Object;
-use rv_relax::Plan;
+use rv_relax::kept_sizes;
 use rv_resolve::Names;
 use rv_shorten::{ShortObject, shorten, whole};
 use std::alloc::Global;
 
 /// What relaxation, where it is on, leaves of objects, whose names mean this. They are lent: no byte of them moves before the
-/// program. A text that is too long for memory stays as it is.
+/// program.
 pub(crate) fn relaxed<'o, 'a>(
     alloc: Global,
     objects: &'o [Object<'a>],
@@ -31,11 +31,7 @@ pub(crate) fn relaxed<'o, 'a>(
     if !relax {
         return Ok(whole(alloc, objects)?);
     }
-    match placed(alloc, objects, names)? {
-        Some(text) => {
-            let plan = Plan::of(alloc, &text, true)?;
-            Ok(shorten(alloc, objects, text.sites(), plan.kept())?)
-        }
-        None => Ok(whole(alloc, objects)?),
-    }
+    let text = placed(alloc, objects, names)?;
+    let kept = kept_sizes(alloc, &text, true)?;
+    Ok(shorten(alloc, objects, text.sites(), &kept)?)
 }

@@ -1,15 +1,14 @@
 -- The passes along the line give its sites, its length and where its sections stand.
 
-use Rattle.std.proofs.Common.{◌≡◌, ℕ, zero, suc, ◌+◌, Bool, true, false, ◌&&◌, List, [], ◌∷◌, ◌++◌, Option, Some, None, refl, sym, ap, ◌∙◌, append_assoc, arith}
-use Rattle.std.specs.Prelude.{◌==◌, if◌then◌else◌, unwrap_or, option_map}
-use Rattle.std.specs.Global.{Vec}
+use Rattle.std.proofs.Common.{◌≡◌, ℕ, zero, suc, ◌+◌, ◌*◌, Bool, true, false, ◌&&◌, List, [], ◌∷◌, ◌++◌, length, Some, refl, sym, ap, ◌∙◌, append_assoc, arith}
+use Rattle.std.specs.Prelude.{◌==◌, if◌then◌else◌}
 use Rattle.std.specs.List.{slice_get}
-use Rattle.std.proofs.lemmas.Option.{slice_get-map}
 use Rattle.std.proofs.lemmas.Bool.{eq-eqb, ne_eqb, and_from, and_left, and_right}
 use Rattle.rv_object.specs.Object.{Section, Object, size_of}
 use Rattle.rv_object_laws.specs.Inputs.{InputSection, goes_to_text, inputs_from, inputs_of, inputs}
 use Rattle.rv_object_laws.specs.CallSites.{start_padding, base_in, base, sites_from, sites_of, length_of}
-use Rattle.rv_link_sites.specs.Line.{end_from, ended, ended_files, firsts, firsts_files, lists_of, text_sites, input, object_sites, files_sites, base_at, base_of}
+use Rattle.rv_link_sites.specs.Line.{end_from, next, ended, ended_files, first_behind, places, places_files, entries, text_sites, input, object_sites, files_sites}
+use Rattle.rv_link_sites.proofs.StepsLemmas.{many_places}
 
 -- ---- lengths
 
@@ -79,13 +78,19 @@ sites_are os = files_are os 1 0 os
 
 -- ---- where sections stand
 
--- the number at an index of a list of lists; 0 where there is none
-abbrev pub number_in : Option (List ℕ) → ℕ → ℕ
-number_in None index = 0
-number_in (Some l) index = unwrap_or (slice_get l index) 0
+-- where the first byte of a section stands, by its index, and by its file and its index there
+abbrev pub first_in : ℕ → List Section → ℕ → ℕ
+first_in stop [] k = stop
+first_in stop (s ∷ ss) zero = first_behind stop s
+first_in stop (s ∷ ss) (suc k) = first_in (next stop s) ss k
+
+abbrev pub first_of : ℕ → List Object → (file index : ℕ) → ℕ
+first_of stop [] n k = stop
+first_of stop (o ∷ os) zero k = first_in stop o.sections k
+first_of stop (o ∷ os) (suc n) k = first_of (ended stop o.sections) os n k
 
 base_section : (file : ℕ) (o : Object) (index stop : ℕ) (ss : List Section) (more : List InputSection) (k : ℕ) (s : Section) → slice_get ss k ≡ Some s → goes_to_text s ≡ true
-    → unwrap_or (slice_get (firsts stop ss) k) 0 ≡ stop + base_in (inputs_from goes_to_text file o index ss ++ more) file (index + k)
+    → first_in stop ss k ≡ stop + base_in (inputs_from goes_to_text file o index ss ++ more) file (index + k)
 base_section file o index stop [] more k s at text = absurd (cc)
 base_section file o index stop (t ∷ ss) more zero s at text =
     let same : t ≡ s = cc in
@@ -103,7 +108,7 @@ base_section file o index stop (t ∷ ss) more zero s at text =
     here : base_in (it ∷ (rest ++ more)) file (index + 0) ≡ start_padding t + 0
     here = ap (λ b. start_padding t + (if b then 0 else size_of t.contents + base_in (rest ++ more) file (index + 0))) found
 
-    by : (b : Bool) → b ≡ true → (if b then stop + start_padding t else 0) ≡ stop + base_in ((if b then it ∷ rest else rest) ++ more) file (index + 0)
+    by : (b : Bool) → b ≡ true → (if b then stop + start_padding t else stop) ≡ stop + base_in ((if b then it ∷ rest else rest) ++ more) file (index + 0)
     by true e = let h = here in omega (arith, h)
     by false e = absurd (cc)
 base_section file o index stop (t ∷ ss) more (suc k) s at text =
@@ -124,9 +129,9 @@ base_section file o index stop (t ∷ ss) more (suc k) s at text =
     past : base_in (it ∷ (rest ++ more)) file (index + suc k) ≡ start_padding t + (size_of t.contents + base_in (rest ++ more) file (index + suc k))
     past = ap (λ b. start_padding t + (if b then 0 else size_of t.contents + base_in (rest ++ more) file (index + suc k))) other
 
-    by : (b : Bool) → unwrap_or (slice_get (firsts (end_from stop t) ss) k) 0 ≡ end_from stop t + base_in (rest ++ more) file (suc index + k)
-        → unwrap_or (slice_get (firsts stop ss) k) 0 ≡ stop + base_in (rest ++ more) file (suc index + k)
-        → unwrap_or (slice_get (firsts (if b then end_from stop t else stop) ss) k) 0 ≡ stop + base_in ((if b then it ∷ rest else rest) ++ more) file (index + suc k)
+    by : (b : Bool) → first_in (end_from stop t) ss k ≡ end_from stop t + base_in (rest ++ more) file (suc index + k)
+        → first_in stop ss k ≡ stop + base_in (rest ++ more) file (suc index + k)
+        → first_in (if b then end_from stop t else stop) ss k ≡ stop + base_in ((if b then it ∷ rest else rest) ++ more) file (index + suc k)
     by true h g =
         let moved = ap (base_in (rest ++ more) file) same in
         let p = past in
@@ -154,7 +159,7 @@ base_past file other o index (t ∷ ss) more k not' = by (goes_to_text t) (base_
     by false h = h
 
 base_files : (file stop : ℕ) (os : List Object) (n k : ℕ) (o : Object) (s : Section) → slice_get os n ≡ Some o → slice_get o.sections k ≡ Some s → goes_to_text s ≡ true
-    → number_in (slice_get (firsts_files stop os) n) k ≡ stop + base_in (inputs_of goes_to_text file os) (file + n) k
+    → first_of stop os n k ≡ stop + base_in (inputs_of goes_to_text file os) (file + n) k
 base_files file stop [] n k o s at there text = absurd (cc)
 base_files file stop (p ∷ os) zero k o s at there text =
     let same : p ≡ o = cc in
@@ -173,17 +178,62 @@ base_files file stop (p ∷ os) (suc n) k o s at there text =
     ≡ stop + base_in (inputs_from goes_to_text file p 0 p.sections ++ inputs_of goes_to_text (suc file) os) (file + suc n) k = omega (arith, past, ends, moved) in
     more ∙ total
 
-pub same_number : (files : List (Vec ℕ)) (n k : ℕ) → base_at files n k ≡ number_in (slice_get (lists_of files) n) k
-same_number files n k = go (slice_get files n) ∙ ap (λ l. number_in l k) (sym (slice_get-map (λ (v : Vec ℕ). v.items) files n))
-  where
-    go : (o : Option (Vec ℕ)) → base_of o k ≡ number_in (option_map (λ (v : Vec ℕ). v.items) o) k
-    go None = refl
-    go (Some v) = refl
-
-pub base_is : (files : List (Vec ℕ)) (os : List Object) (n k : ℕ) (o : Object) (s : Section) → lists_of files ≡ firsts_files 0 os → slice_get os n ≡ Some o → slice_get o.sections k ≡ Some s → goes_to_text s ≡ true
-    → base_at files n k ≡ base os (n + 1) k
-base_is files os n k o s is at there text =
+pub base_is : (os : List Object) (n k : ℕ) (o : Object) (s : Section) → slice_get os n ≡ Some o → slice_get o.sections k ≡ Some s → goes_to_text s ≡ true → first_of 0 os n k ≡ base os (n + 1) k
+base_is os n k o s at there text =
     let all = base_files 1 0 os n k o s at there text in
     let number : 1 + n ≡ n + 1 = omega arith in
     let start : 0 + base_in (inputs goes_to_text os) (1 + n) k ≡ base_in (inputs goes_to_text os) (1 + n) k = omega arith in
-    same_number files n k ∙ ap (λ l. number_in (slice_get l n) k) is ∙ all ∙ start ∙ ap (λ m. base os m k) number
+    all ∙ start ∙ ap (λ m. base os m k) number
+
+-- ---- and where that is told
+
+-- both places of a section, from a place of a list on
+abbrev pub AtPlace : List ℕ → (place first size : ℕ) → Type 0
+AtPlace xs place first size = (slice_get xs place ≡ Some first) × (slice_get xs (suc place) ≡ Some (first + size))
+
+at_front : {A : Type 0} (xs ys : List A) (i : ℕ) (x : A) → slice_get xs i ≡ Some x → slice_get (xs ++ ys) i ≡ Some x
+at_front [] ys i x h = absurd (cc)
+at_front (y ∷ xs) ys zero x h = h
+at_front (y ∷ xs) ys (suc i) x h = at_front xs ys i x h
+
+at_back : {A : Type 0} (xs ys : List A) (i j : ℕ) → j ≡ length xs + i → slice_get (xs ++ ys) j ≡ slice_get ys i
+at_back [] ys i j e = ap (slice_get ys) (let h : j ≡ i = omega (arith, e) in h)
+at_back (x ∷ xs) ys i zero e = absurd (omega (arith, e))
+at_back (x ∷ xs) ys i (suc j) e = at_back xs ys i j (omega (arith, e))
+
+at_section : (stop : ℕ) (ss : List Section) (k place : ℕ) (s : Section) → place ≡ 2 * k → slice_get ss k ≡ Some s → goes_to_text s ≡ true → AtPlace (places stop ss) place (first_in stop ss k) (size_of s.contents)
+at_section stop [] k place s e at text = absurd (cc)
+at_section stop (t ∷ ss) zero (suc place) s e at text = absurd (omega (arith, e))
+at_section stop (t ∷ ss) zero zero s e at text =
+    let same : t ≡ s = cc in
+    (refl, ap Some (by (goes_to_text t) (ap goes_to_text same ∙ text) (ap (λ (x : Section). size_of x.contents) same)))
+  where
+    by : (b : Bool) → b ≡ true → size_of t.contents ≡ size_of s.contents → (if b then end_from stop t else stop) ≡ (if b then stop + start_padding t else stop) + size_of s.contents
+    by true e size = omega (arith, size)
+    by false e size = absurd (cc)
+at_section stop (t ∷ ss) (suc k) zero s e at text = absurd (omega (arith, e))
+at_section stop (t ∷ ss) (suc k) (suc zero) s e at text = absurd (omega (arith, e))
+at_section stop (t ∷ ss) (suc k) (suc (suc place)) s e at text = at_section (next stop t) ss k place s (omega (arith, e)) at text
+
+pub at_files : (n stop : ℕ) (os : List Object) (file k : ℕ) (o : Object) (s : Section) → slice_get os file ≡ Some o → slice_get o.sections k ≡ Some s → goes_to_text s ≡ true
+    → (entry : ℕ) × (slice_get (entries n os) file ≡ Some (n + entry)) × AtPlace (places_files stop os) (entry + 2 * k) (first_of stop os file k) (size_of s.contents)
+at_files n stop [] file k o s at there text = absurd (cc)
+at_files n stop (p ∷ os) zero k o s at there text =
+    let same : p ≡ o = cc in
+    let here = at_section stop p.sections k (0 + 2 * k) s (omega arith) (ap (λ (x : Object). slice_get x.sections k) same ∙ there) text in
+    let more = places_files (ended stop p.sections) os in
+    (0, ap Some (let e : n ≡ n + 0 = omega arith in e), (at_front (places stop p.sections) more _ _ here.0, at_front (places stop p.sections) more _ _ here.1))
+at_files n stop (p ∷ os) (suc file) k o s at there text =
+    let len = length p.sections in
+    let found = at_files (n + 2 * len) (ended stop p.sections) os file k o s at there text in
+    let own = places stop p.sections in
+    let more = places_files (ended stop p.sections) os in
+    let many = many_places stop p.sections in
+    let entry = found.0 in (
+      2 * len + entry,
+      found.1 ∙ ap Some (let e : n + 2 * len + entry ≡ n + (2 * len + entry) = omega arith in e),
+      (
+        at_back own more (entry + 2 * k) (2 * len + entry + 2 * k) (omega (arith, many)) ∙ found.2.0,
+        at_back own more (suc (entry + 2 * k)) (suc (2 * len + entry + 2 * k)) (omega (arith, many)) ∙ found.2.1,
+      ),
+    )

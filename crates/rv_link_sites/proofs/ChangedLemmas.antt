@@ -204,7 +204,7 @@ section_apart s text = of_code s.executable (and_parts s.loaded s.executable tex
 pub fine_at : (s : DeclaredSection) (sorted : List Declared) (k : ℕ) → goes_to_text (section_of s) ≡ true → IsPermutation s.relocations.items sorted → k < length sorted → IsFine (section_of s) (at sorted k)
 fine_at s sorted k text same inside = All-get_or (IsFine (section_of s)) sorted k nothing inside (All-permutation (IsFine (section_of s)) s.relocations.items sorted same (section_fine s text))
 
-pub field_low : (s : Section) (x : Declared) → IsFine s x → size_of s.contents ≤ 2 ^ 62 → 0 < width_of x.kind → x.place + width_of x.kind < 2 ^ 64
+pub field_low : (s : Section) (x : Declared) → IsFine s x → size_of s.contents < 2 ^ 64 → 0 < width_of x.kind → x.place + width_of x.kind < 2 ^ 64
 field_low s x h low some = by h.ending
   where
     by : (x.place + width_of x.kind ≤ size_of s.contents) ⊎ (width_of x.kind ≡ 0) → x.place + width_of x.kind < 2 ^ 64

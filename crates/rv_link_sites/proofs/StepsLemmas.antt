@@ -1,25 +1,16 @@
 -- One section, and one file, more of a pass along the line.
 
-use Rattle.std.proofs.Common.{◌≡◌, ◌<◌, ◌≤◌, ◌+◌, ℕ, suc, Bool, true, false, Option, Some, None, List, [], ◌∷◌, ◌++◌, length, drop, get_or, map, sym, ap, subst, ◌∙◌, append_assoc, arith}
-use Rattle.std.specs.Prelude.{if◌then◌else◌, IfSome, IfNone}
-use Rattle.std.specs.Global.{Vec}
-use Rattle.std.proofs.lemmas.List.{map-append}
-use Rattle.rv_layout_laws.specs.declared.site.Site.{Site}
+use Rattle.std.proofs.Common.{◌≡◌, ◌<◌, ◌≤◌, ◌+◌, ◌*◌, ◌^◌, ℕ, Bool, true, false, List, [], ◌∷◌, ◌++◌, length, drop, get_or, map, refl, sym, ap, ◌∙◌, append_assoc, arith}
+use Rattle.std.specs.Prelude.{if◌then◌else◌}
+use Rattle.std.proofs.lemmas.List.{drop_all, length-append}
 use Rattle.rv_object.specs.declared.object.Object.{Object as DeclaredObject}
 use Rattle.rv_object.specs.declared.section.Section.{Section as DeclaredSection}
 use Rattle.rv_object.specs.Object.{Section, Object}
 use Rattle.rv_object.specs.Sections.{section_of}
 use Rattle.rv_object.specs.View.{object_of}
 use Rattle.rv_object_laws.specs.Inputs.{goes_to_text}
-use Rattle.rv_link_sites.specs.Line.{end_from, next, ended, ended_files, firsts, first_behind, firsts_files, lists_of, section_sites, input, object_sites, files_sites}
+use Rattle.rv_link_sites.specs.Line.{end_from, next, ended, ended_files, first_behind, places, places_files, entries}
 use Rattle.rv_link_sites.proofs.LoopsLemmas.{left}
-
--- what is said of the value that an option has
-pub told : {A : Type 0} (P : A → Type 0) (o : Option A) (x : A) → o ≡ Some x → IfSome o P → P x
-told P o x e h = subst (λ v. IfSome v P) e h
-
-pub told_none : {A : Type 0} (P : Type 0) (o : Option A) → o ≡ None → IfNone o P → P
-told_none P o e h = subst (λ v. IfNone v P) e h
 
 -- ---- ends only grow
 
@@ -50,69 +41,52 @@ module _ (stop i : ℕ) (sections : List DeclaredSection) (x : DeclaredSection) 
   here : map section_of (drop i sections) ≡ section_of x ∷ rest
   here = ap (map section_of) (left sections i x x inside is)
 
-  pub section_far : (limit whole : ℕ) → limit < next stop (section_of x) → ended stop (map section_of (drop i sections)) ≡ whole → limit < whole
-  section_far limit whole far h =
-      let e : ended (next stop (section_of x)) rest ≡ whole = ap (ended stop) (sym here) ∙ h in
-      let more = grows (next stop (section_of x)) rest in
-      omega (arith, far, e, more)
-
-  -- and it ends where the whole has not ended yet
-  pub section_low : (limit whole : ℕ) → whole ≤ limit → ended stop (map section_of (drop i sections)) ≡ whole → next stop (section_of x) ≤ limit
-  section_low limit whole low h =
-      let e : ended (next stop (section_of x)) rest ≡ whole = ap (ended stop) (sym here) ∙ h in
-      let more = grows (next stop (section_of x)) rest in
-      omega (arith, low, e, more)
-
   module _ (end : ℕ) (ends : end ≡ next stop (section_of x)) where
     pub section_ends : (whole : ℕ) → ended stop (map section_of (drop i sections)) ≡ whole → ended end rest ≡ whole
     section_ends whole h = ap (λ n. ended n rest) ends ∙ ap (ended stop) (sym here) ∙ h
 
-    pub section_firsts : (first : ℕ) (old new all : List ℕ) → new ≡ old ++ (first ∷ []) → first ≡ first_behind stop (section_of x)
-        → old ++ firsts stop (map section_of (drop i sections)) ≡ all → new ++ firsts end rest ≡ all
-    section_firsts first old new all e is_first h =
-        grown old (first ∷ []) (firsts end rest) new all e
-        (ap (λ n. old ++ (first ∷ firsts n rest)) ends ∙ ap (λ n. old ++ (n ∷ firsts (next stop (section_of x)) rest)) is_first ∙ ap (λ l. old ++ firsts stop l) (sym here) ∙ h)
+    pub section_places : (first : ℕ) (old mid new all : List ℕ) → mid ≡ old ++ (first ∷ []) → new ≡ mid ++ (end ∷ []) → first ≡ first_behind stop (section_of x)
+        → old ++ places stop (map section_of (drop i sections)) ≡ all → new ++ places end rest ≡ all
+    section_places first old mid new all one two is_first h =
+        grown mid (end ∷ []) (places end rest) new all two
+        (grown old (first ∷ []) (end ∷ places end rest) mid all one
+        (ap (λ n. old ++ (first ∷ n ∷ places n rest)) ends ∙ ap (λ n. old ++ (n ∷ next stop (section_of x) ∷ places (next stop (section_of x)) rest)) is_first ∙ ap (λ l. old ++ places stop l) (sym here) ∙ h))
 
-    pub section_more : (os : List Object) (file : ℕ) (o : Object) (old new all : List Site) → new ≡ old ++ section_sites os stop (input file o i (section_of x))
-        → old ++ object_sites os file o i stop (map section_of (drop i sections)) ≡ all → new ++ object_sites os file o (suc i) end rest ≡ all
-    section_more os file o old new all e h =
-        grown old (section_sites os stop (input file o i (section_of x))) (object_sites os file o (suc i) end rest) new all e
-        (ap (λ n. old ++ (section_sites os stop (input file o i (section_of x)) ++ object_sites os file o (suc i) n rest)) ends
-        ∙ ap (λ l. old ++ object_sites os file o i stop l) (sym here) ∙ h)
+-- each place is of a section of less than 2 ^ 64 bytes behind a padding
+pub low_more : (old mid new : List ℕ) (first end stop : ℕ) → mid ≡ old ++ (first ∷ []) → new ≡ mid ++ (end ∷ []) → end ≤ stop + (2 ^ 64 + 4094)
+    → 2 * stop ≤ length old * (2 ^ 64 + 4094) → 2 * end ≤ length new * (2 ^ 64 + 4094)
+low_more old mid new first end stop one two near low =
+    let a = ap length one ∙ length-append old (first ∷ []) in
+    let b = ap length two ∙ length-append mid (end ∷ []) in
+    omega (arith, a, b, near, low)
+
+-- each section has two places
+pub many_places : (stop : ℕ) (ss : List Section) → length (places stop ss) ≡ 2 * length ss
+many_places stop [] = refl
+many_places stop (s ∷ ss) = let h = many_places (next stop s) ss in omega (arith, h)
 
 module _ (stop i : ℕ) (objects : List DeclaredObject) (o : DeclaredObject) (inside : i < length objects) (is : o ≡ get_or objects i o) where
+  abbrev own : List Section
+  own = map section_of o.sections.items
+
   abbrev others : List Object
   others = map object_of (drop (i + 1) objects)
 
   there : map object_of (drop i objects) ≡ object_of o ∷ others
   there = ap (map object_of) (left objects i o o inside is)
 
-  pub object_far : (limit whole : ℕ) → limit < ended stop (map section_of o.sections.items) → ended_files stop (map object_of (drop i objects)) ≡ whole → limit < whole
-  object_far limit whole far h =
-      let e : ended_files (ended stop (map section_of o.sections.items)) others ≡ whole = ap (ended_files stop) (sym there) ∙ h in
-      let more = grows_files (ended stop (map section_of o.sections.items)) others in
-      omega (arith, far, e, more)
+  pub object_entries : (old new all : List ℕ) (n m : ℕ) → new ≡ old ++ (n ∷ []) → m ≡ n + 2 * length own
+      → old ++ entries n (map object_of (drop i objects)) ≡ all → new ++ entries m others ≡ all
+  object_entries old new all n m e is_next h =
+      grown old (n ∷ []) (entries m others) new all e (ap (λ k. old ++ (n ∷ entries k others)) is_next ∙ ap (λ l. old ++ entries n l) (sym there) ∙ h)
 
-  pub object_low : (limit whole : ℕ) → whole ≤ limit → ended_files stop (map object_of (drop i objects)) ≡ whole → ended stop (map section_of o.sections.items) ≤ limit
-  object_low limit whole low h =
-      let e : ended_files (ended stop (map section_of o.sections.items)) others ≡ whole = ap (ended_files stop) (sym there) ∙ h in
-      let more = grows_files (ended stop (map section_of o.sections.items)) others in
-      omega (arith, low, e, more)
-
-  module _ (end : ℕ) (ends : end ≡ ended stop (map section_of o.sections.items)) where
+  module _ (end : ℕ) (ends : end ≡ ended stop own) where
     pub object_ends : (whole : ℕ) → ended_files stop (map object_of (drop i objects)) ≡ whole → ended_files end others ≡ whole
     object_ends whole h = ap (λ n. ended_files n others) ends ∙ ap (ended_files stop) (sym there) ∙ h
 
-    pub object_firsts : (f : Vec ℕ) (old new : List (Vec ℕ)) (all : List (List ℕ)) → new ≡ old ++ (f ∷ []) → f.items ≡ firsts stop (map section_of o.sections.items)
-        → lists_of old ++ firsts_files stop (map object_of (drop i objects)) ≡ all → lists_of new ++ firsts_files end others ≡ all
-    object_firsts f old new all e is_first h =
-        grown (lists_of old) (f.items ∷ []) (firsts_files end others) (lists_of new) all (ap lists_of e ∙ map-append (λ (v : Vec ℕ). v.items) old (f ∷ []))
-        (ap (λ n. lists_of old ++ (f.items ∷ firsts_files n others)) ends ∙ ap (λ l. lists_of old ++ (l ∷ firsts_files (ended stop (map section_of o.sections.items)) others)) is_first
-        ∙ ap (λ l. lists_of old ++ firsts_files stop l) (sym there) ∙ h)
+    pub object_places : (old new all : List ℕ) → new ≡ old ++ places stop own → old ++ places_files stop (map object_of (drop i objects)) ≡ all → new ++ places_files end others ≡ all
+    object_places old new all e h =
+        grown old (places stop own) (places_files end others) new all e (ap (λ n. old ++ (places stop own ++ places_files n others)) ends ∙ ap (λ l. old ++ places_files stop l) (sym there) ∙ h)
 
-    pub object_more : (os : List Object) (file : ℕ) (old new all : List Site) → new ≡ old ++ object_sites os file (object_of o) 0 stop (map section_of o.sections.items)
-        → old ++ files_sites os file stop (map object_of (drop i objects)) ≡ all → new ++ files_sites os (suc file) end others ≡ all
-    object_more os file old new all e h =
-        grown old (object_sites os file (object_of o) 0 stop (map section_of o.sections.items)) (files_sites os (suc file) end others) new all e
-        (ap (λ n. old ++ (object_sites os file (object_of o) 0 stop (map section_of o.sections.items) ++ files_sites os (suc file) n others)) ends
-        ∙ ap (λ l. old ++ files_sites os file stop l) (sym there) ∙ h)
+pub files_ended : (stop i whole : ℕ) (objects : List DeclaredObject) → length objects ≤ i → ended_files stop (map object_of (drop i objects)) ≡ whole → stop ≡ whole
+files_ended stop i whole objects past h = ap (λ l. ended_files stop (map object_of l)) (sym (drop_all i objects past)) ∙ h

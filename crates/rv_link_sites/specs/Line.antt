@@ -1,13 +1,12 @@
 -- The text in one line, section by section, as passes over objects go along it.
 
-use Rattle.std.specs.Prelude.{ℕ, suc, ◌+◌, Bool, true, false, List, [], ◌∷◌, ◌++◌, map, Option, Some, None, unwrap_or, if◌then◌else◌}
-use Rattle.std.specs.List.{slice_get}
-use Rattle.std.specs.Global.{Vec}
+use Rattle.std.specs.Prelude.{◌≡◌, ℕ, suc, ◌+◌, ◌*◌, Bool, true, false, List, [], ◌∷◌, ◌++◌, length, map, if◌then◌else◌}
 use Rattle.rv_layout_laws.specs.Sites.{padding_site}
 use Rattle.rv_layout_laws.specs.declared.site.Site.{Site}
 use Rattle.rv_object.specs.Object.{Section, Object, size_of}
 use Rattle.rv_object_laws.specs.Inputs.{InputSection, goes_to_text, inputs, begins_at}
 use Rattle.rv_object_laws.specs.CallSites.{changes, start_padding, site_of}
+use Rattle.rv_link_sites.specs.declared.line.Line.{Line}
 
 -- the end of the line after a section; one that does not go to the text changes nothing
 abbrev pub end_from : ℕ → Section → ℕ
@@ -24,28 +23,27 @@ abbrev pub ended_files : ℕ → List Object → ℕ
 ended_files stop [] = stop
 ended_files stop (o ∷ os) = ended_files (ended stop o.sections) os
 
--- the offset of a section's first byte; 0 of one that does not go to the text
+-- the offset of a section's first byte
 abbrev pub first_behind : ℕ → Section → ℕ
-first_behind stop s = if goes_to_text s then stop + start_padding s else 0
+first_behind stop s = if goes_to_text s then stop + start_padding s else stop
 
-abbrev pub firsts : ℕ → List Section → List ℕ
-firsts stop [] = []
-firsts stop (s ∷ ss) = first_behind stop s ∷ firsts (next stop s) ss
+-- two numbers of each section: where its first byte stands, and where its end does
+abbrev pub places : ℕ → List Section → List ℕ
+places stop [] = []
+places stop (s ∷ ss) = first_behind stop s ∷ next stop s ∷ places (next stop s) ss
 
-abbrev pub firsts_files : ℕ → List Object → List (List ℕ)
-firsts_files stop [] = []
-firsts_files stop (o ∷ os) = firsts stop o.sections ∷ firsts_files (ended stop o.sections) os
+abbrev pub places_files : ℕ → List Object → List ℕ
+places_files stop [] = []
+places_files stop (o ∷ os) = places stop o.sections ++ places_files (ended stop o.sections) os
 
-abbrev pub lists_of : List (Vec ℕ) → List (List ℕ)
-lists_of files = map (λ f. f.items) files
+-- where those of each file begin, behind so many
+abbrev pub entries : ℕ → List Object → List ℕ
+entries n [] = []
+entries n (o ∷ os) = n ∷ entries (n + 2 * length o.sections) os
 
--- the number at an index of a file; 0 where there is none
-abbrev pub base_of : Option (Vec ℕ) → ℕ → ℕ
-base_of None index = 0
-base_of (Some v) index = unwrap_or (slice_get v.items index) 0
-
-abbrev pub base_at : List (Vec ℕ) → (file index : ℕ) → ℕ
-base_at files file index = base_of (slice_get files file) index
+pub record IsLine (os : List Object) (l : Line) : Type 0 where
+  pub files : l.files.items ≡ entries 0 os
+  pub places : l.places.items ≡ places_files 0 os
 
 -- ---- sites
 

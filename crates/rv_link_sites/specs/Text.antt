@@ -1,6 +1,6 @@
 -- The text of objects, as the code has it.
 
-use Rattle.std.specs.Prelude.{◌≡◌, ℕ, ◌+◌, ◌≤◌, ◌^◌, Bool, not, ◌&&◌, true, List, length, map, Option, Some, None, if◌then◌else◌}
+use Rattle.std.specs.Prelude.{◌≡◌, ◌+◌, ◌*◌, ◌≤◌, ◌^◌, Bool, not, ◌&&◌, true, List, length, map, Option, Some, None, if◌then◌else◌}
 use Rattle.std.specs.List.{slice_get}
 use Rattle.rv_layout_laws.specs.declared.site.Call.{Call}
 use Rattle.rv_object.specs.Object.{Relocation, Section, Object, stored, size_of}
@@ -15,27 +15,22 @@ use Rattle.rv_link_sites.specs.declared.text.Target.{Target}
 use Rattle.rv_link_sites.specs.declared.text.Text.{Text}
 use Rattle.rv_link_sites.specs.declared.changes.Input.{Input}
 use Rattle.rv_link_sites.specs.Entries.{AreEntries}
-use Rattle.rv_link_sites.specs.Line.{ended_files, firsts_files, lists_of, input}
+use Rattle.rv_link_sites.specs.Line.{ended_files, IsLine, input}
 
 abbrev pub objects_of : Text → List Object
 objects_of t = map object_of t.objects.now
 
--- what the names of the objects mean, and where each section of a text that is short enough begins
+-- what the names of the objects mean, and where their sections stand
 pub record IsLaid (t : Text) : Type 0 where
   pub names : IsNames (objects_of t) t.names.now
-  pub bases : lists_of t.bases.items ≡ firsts_files 0 (objects_of t)
-  pub short : ended_files 0 (objects_of t) ≤ 2 ^ 62
+  pub line : IsLine (objects_of t) t.line
+  pub low : ended_files 0 (objects_of t) ≤ 9 * 2 ^ 123
 
 -- where a place is, if it is in text
 abbrev pub text_target : List Object → Option Place → Option Target
 text_target os p =
     if is_text_place os p
     then Some (record { offset = text_offset os p; past_end = excess os p }) else None
-
--- the bytes of a section, if it goes to text
-abbrev pub text_size : Option Section → Option ℕ
-text_size None = None
-text_size (Some s) = if goes_to_text s then Some (size_of s.contents) else None
 
 -- ---- a section
 

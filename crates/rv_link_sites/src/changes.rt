@@ -5,7 +5,7 @@
 //! the constant that is added to the end. Where the rules are silent, a call keeps eight bytes: at an odd place no instruction
 //! begins.
 
-ghost use Rattle.std.specs.Prelude.{◌≡◌, ◌+◌, ◌≤◌, ◌<◌, ◌^◌, ◌++◌, ◌∷◌, [], List, pos, ◌+ℤ◌, map, length, replicate, Some, None, false, IfOk, OnOk, if◌then◌else◌};
+ghost use Rattle.std.specs.Prelude.{◌≡◌, ◌+◌, ◌*◌, ◌≤◌, ◌<◌, ◌^◌, ◌++◌, ◌∷◌, [], List, pos, ◌+ℤ◌, map, length, replicate, Some, None, false, IfOk, OnOk, if◌then◌else◌};
 ghost use Rattle.std.specs.Int.{w64, int_wrap};
 ghost use Rattle.std.specs.Ordering.{nat_cmp};
 ghost use Rattle.std.specs.List.Sorted.{IsNonDecreasingBy, IsPermutation, IsStableByKey};
@@ -52,7 +52,7 @@ pub(crate) struct Marked {
 }
 
 /// A padding.
-fn padding_site(offset: u64, bytes: u64, alignment: u64) -> Site
+fn padding_site(offset: u128, bytes: u64, alignment: u64) -> Site
     requires bytes { bytes ≤ 4094 }
     requires alignment { alignment ≤ 4096 }
     ensures { result ≡ padding_site offset bytes alignment }
@@ -107,12 +107,12 @@ fn put_call(
     sites: &mut Vec<Site>,
     text: &Text<'_, '_, '_>,
     input: &Input<'_, '_>,
-    first: u64,
+    first: u128,
     relocation: &Relocation,
 ) -> Result<(), AllocError>
     requires laid { IsLaid text.now }
     requires given { IsGiven text.now input.now }
-    requires low { first + (relocation.now).place < 2 ^ 64 }
+    requires low { first + (relocation.now).place < 2 ^ 128 }
     requires within { (relocation.now).place + 8
         ≤ length (stored (section_of ((input.now).section).now).contents) }
     ensures { OnOk result (sites.new.items ≡ sites.old.items
@@ -124,7 +124,7 @@ fn put_call(
     match call(text, input, relocation) {
         Some(call) => {
             sites.push(Site {
-                offset: first + relocation.place,
+                offset: first + u128::from(relocation.place),
                 kind: SiteKind::Call(call),
             })?;
             Ok(())
@@ -139,14 +139,14 @@ fn put_change(
     sites: &mut Vec<Site>,
     text: &Text<'_, '_, '_>,
     input: &Input<'_, '_>,
-    first: u64,
+    first: u128,
     before: Before,
     relocation: &Relocation,
     after: &[Relocation],
 ) -> Result<(), AllocError>
     requires laid { IsLaid text.now }
     requires given { IsGiven text.now input.now }
-    requires low { first + size_of (section_of ((input.now).section).now).contents ≤ 2 ^ 62 }
+    requires low { first + size_of (section_of ((input.now).section).now).contents ≤ 9 * 2 ^ 123 }
     requires lying { IsLying (section_of ((input.now).section).now) (relocation_of relocation.now) }
     ensures { OnOk result ((rs : List SaidRelocation) → IsBefore rs before
         → Rise 0 (rs ++ relocation_of relocation.now ∷ map relocation_of after.now)
@@ -161,7 +161,7 @@ fn put_change(
 {
     if has_padding(relocation) {
         let site = padding_site(
-            first + relocation.place,
+            first + u128::from(relocation.place),
             full_padding(relocation),
             asked_alignment(relocation),
         );
@@ -180,12 +180,13 @@ fn put_changes(
     sites: &mut Vec<Site>,
     text: &Text<'_, '_, '_>,
     input: &Input<'_, '_>,
-    first: u64,
+    first: u128,
     sorted: &[Relocation],
 ) -> Result<(), AllocError>
     requires laid { IsLaid text.now }
     requires given { IsGiven text.now input.now }
-    requires low { first + size_of (section_of ((input.now).section).now).contents ≤ 2 ^ 62 }
+    requires low { first + size_of (section_of ((input.now).section).now).contents ≤ 9 * 2 ^ 123 }
+    requires sized { size_of (section_of ((input.now).section).now).contents < 2 ^ 64 }
     requires same { IsPermutation (((input.now).section).now).relocations.items sorted.now }
     requires rise { IsNonDecreasingBy (λ r. r.place) sorted.now }
     requires stable { IsStableByKey (λ r. r.place) nat_cmp
@@ -227,11 +228,11 @@ pub(crate) fn put_section(
     marked: &mut Marked,
     text: &Text<'_, '_, '_>,
     input: &Input<'_, '_>,
-    stop: u64,
-) -> Result<u64, AllocError>
+    stop: u128,
+) -> Result<u128, AllocError>
     requires laid { IsLaid text.now }
     requires given { IsGiven text.now input.now }
-    requires low { end_from stop (section_of ((input.now).section).now) ≤ 2 ^ 62 }
+    requires low { end_from stop (section_of ((input.now).section).now) ≤ 9 * 2 ^ 123 }
     ensures end { IfOk result (λ end. end ≡ end_from stop (section_of ((input.now).section).now)) }
     ensures sites { OnOk result (marked.new.sites.items
         ≡ marked.old.sites.items ++ text_sites (objects_of text.now) stop (input_of input.now)) }
@@ -239,12 +240,14 @@ pub(crate) fn put_section(
         ≡ marked.old.starts.items ++ text_starts (objects_of text.now) (input_of input.now)) }
 {
     let padding = start_padding(input.section);
+    let size = input.section.contents.size();
+    let first = stop + u128::from(padding);
     let site = padding_site(stop, padding, begins_at(input.section));
     marked.sites.push(site)?;
     marked.starts.push(true)?;
     let before = marked.sites.len();
     let sorted = by_place(alloc, &input.section.relocations)?;
-    put_changes(&mut marked.sites, text, input, stop + padding, &sorted)?;
+    put_changes(&mut marked.sites, text, input, first, &sorted)?;
     put_no_starts(&mut marked.starts, marked.sites.len() - before)?;
-    Ok(stop + padding + input.section.contents.size())
+    Ok(first + u128::from(size))
 }

@@ -4,13 +4,12 @@
 //! whose sites calls are shortened: all sections of text in one line, as long as they are before anything is taken out.
 //!
 //! Main contract: [`placed`] gives the text whose sites are `sites_of` the objects (`rv_object_laws`, specs/CallSites), in which
-//! each offset is at most 2^62, and of which each tells whether it is the start of a section (`starts_of`, specs/Line); or
-//! nothing where the text is longer. It must not know addresses, nor which calls come to be
-//! shortened.
+//! each offset is at most 9 * 2^123, and of which each tells whether it is the start of a section (`starts_of`, specs/Line). It
+//! must not know addresses, nor which calls come to be shortened.
 //!
 //! ```text
 //! let names = Names::of(alloc, &whole(alloc, &objects)?)?;
-//! let Some(placed) = placed(alloc, &objects, &names)? else { .. };
+//! let placed = placed(alloc, &objects, &names)?;
 //! ```
 //!
 //! Each section's relocations are sorted once, where they do not stand in order, and gone over once; each object's symbols

@@ -1,6 +1,6 @@
 //! The text of objects in one line.
 
-ghost use Rattle.std.specs.Prelude.{◌≡◌, ◌++◌, ◌<◌, ◌≤◌, ◌^◌, map, IfOk, IfSome, IfNone};
+ghost use Rattle.std.specs.Prelude.{◌≡◌, ◌+◌, ◌*◌, ◌++◌, ◌≤◌, ◌^◌, length, map, IfOk};
 ghost use Rattle.rv_object.specs.Sections.{section_of};
 ghost use Rattle.rv_object.specs.View.{object_of};
 ghost use Rattle.rv_object_laws.specs.CallSites as laws;
@@ -11,8 +11,15 @@ use rv_placement::begins_at;
 use rv_shorten::is_text;
 use std::alloc::{AllocError, Global};
 
-/// Offsets are looked at up to this.
-const LIMIT: u64 = 1 << 62;
+/// Where the sections of objects stand in the line.
+#[derive(Drop)]
+pub(crate) struct Line {
+    /// Of each file, where the places of its sections begin among all.
+    pub(crate) files: Vec<usize>,
+    /// Two places of each section: where its first byte stands, and where its end does. A list has less than 2^63 numbers, so
+    /// the line ends below 9 * 2^123.
+    pub(crate) places: Vec<u128>,
+}
 
 /// The bytes of padding that a section may need before its start.
 pub(crate) fn start_padding(section: &Section<'_>) -> u64
@@ -22,74 +29,56 @@ pub(crate) fn start_padding(section: &Section<'_>) -> u64
     begins_at(section).saturating_sub(2)
 }
 
-/// Where a section's first byte stands behind an end of the line, and the end after it; `None` where that is past the limit.
-fn stand(section: &Section<'_>, stop: u64) -> Option<(u64, u64)>
-    requires { stop ≤ 2 ^ 62 }
-    ensures found { IfSome result (λ found.
-        (found.0 ≡ walk.first_behind stop (section_of section.now))
-        × (found.1 ≡ walk.next stop (section_of section.now)) × (found.1 ≤ 2 ^ 62)) }
-    ensures far { IfNone result (2 ^ 62 < walk.next stop (section_of section.now)) }
+/// Where a section's first byte stands behind an end of the line, and the end after it.
+fn stand(section: &Section<'_>, stop: u128) -> (u128, u128)
+    requires { stop ≤ 2 ^ 127 }
+    ensures first { result.0 ≡ walk.first_behind stop (section_of section.now) }
+    ensures end { result.1 ≡ walk.next stop (section_of section.now) }
+    ensures near { result.1 ≤ stop + (2 ^ 64 + 4094) }
 {
     if !is_text(section) {
-        return Some((0, stop));
+        return (stop, stop);
     }
-    let first = stop + start_padding(section);
-    let size = section.contents.size();
-    if size > LIMIT || first + size > LIMIT {
-        return None;
-    }
-    Some((first, first + size))
+    let first = stop + u128::from(start_padding(section));
+    (first, first + u128::from(section.contents.size()))
 }
 
-/// Adds the offsets of a file's sections, behind an end of the line. Gives the end after them, or `None` where that is past
-/// the limit.
+/// Adds the places of a file's sections, behind an end of the line. Gives the end after them.
 fn put_file(
-    bases: &mut Vec<u64>,
+    places: &mut Vec<u128>,
     sections: &[Section<'_>],
-    first: u64,
-) -> Result<Option<u64>, AllocError>
-    requires { first ≤ 2 ^ 62 }
-    ensures placed { IfOk result (λ found. IfSome found (λ end.
-        (end ≡ walk.ended first (map section_of sections.now)) × (end ≤ 2 ^ 62)
-        × (bases.new.items
-        ≡ bases.old.items ++ walk.firsts first (map section_of sections.now)))) }
-    ensures far { IfOk result (λ found. IfNone found
-        (2 ^ 62 < walk.ended first (map section_of sections.now))) }
+    first: u128,
+) -> Result<u128, AllocError>
+    requires { 2 * first ≤ length places.old.items * (2 ^ 64 + 4094) }
+    ensures end { IfOk result (λ end. end ≡ walk.ended first (map section_of sections.now)) }
+    ensures places { IfOk result (λ _. places.new.items
+        ≡ places.old.items ++ walk.places first (map section_of sections.now)) }
+    ensures low { IfOk result (λ end. 2 * end ≤ length places.new.items * (2 ^ 64 + 4094)) }
 {
     let mut stop = first;
     for section in sections {
-        match stand(section, stop) {
-            Some((base, end)) => {
-                bases.push(base)?;
-                stop = end;
-            }
-            None => return Ok(None),
-        }
+        let (start, end) = stand(section, stop);
+        places.push(start)?;
+        places.push(end)?;
+        stop = end;
     }
-    Ok(Some(stop))
+    Ok(stop)
 }
 
-/// The offset of the first byte of each section, by its file and its index there, both from 0; `None` where the line is past
-/// the limit.
-pub(crate) fn bases(
-    alloc: Global,
-    objects: &[Object<'_>],
-) -> Result<Option<Vec<Vec<u64>>>, AllocError>
-    ensures found { IfOk result (λ found. IfSome found (λ files.
-        (walk.lists_of files.items ≡ walk.firsts_files 0 (map object_of objects.now))
-        × (walk.ended_files 0 (map object_of objects.now) ≤ 2 ^ 62))) }
-    ensures far { IfOk result (λ found. IfNone found
-        (2 ^ 62 < walk.ended_files 0 (map object_of objects.now))) }
-{
-    let mut files = Vec::new(alloc);
-    let mut stop = 0;
-    for object in objects {
-        let mut bases = Vec::new(alloc);
-        match put_file(&mut bases, object.sections.as_slice(), stop)? {
-            Some(end) => stop = end,
-            None => return Ok(None),
+impl Line {
+    /// That of objects.
+    pub(crate) fn of(alloc: Global, objects: &[Object<'_>]) -> Result<Line, AllocError>
+        ensures line { IfOk result (λ line. walk.IsLine (map object_of objects.now) line) }
+        ensures low { IfOk result
+            (λ _. walk.ended_files 0 (map object_of objects.now) ≤ 9 * 2 ^ 123) }
+    {
+        let mut files = Vec::new(alloc);
+        let mut places = Vec::new(alloc);
+        let mut stop = 0;
+        for object in objects {
+            files.push(places.len())?;
+            stop = put_file(&mut places, object.sections.as_slice(), stop)?;
         }
-        files.push(bases)?;
+        Ok(Line { files, places })
     }
-    Ok(Some(files))
 }

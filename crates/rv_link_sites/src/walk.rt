@@ -1,11 +1,11 @@
 //! The sites of the text of objects.
 
-ghost use Rattle.std.specs.Prelude.{◌≡◌, ◌+◌, ◌≤◌, ◌^◌, ◌++◌, ◌<◌, ℕ, Some, map, length, true, false, IfOk, IfSome, IfNone, OnOk};
+ghost use Rattle.std.specs.Prelude.{◌≡◌, ◌+◌, ◌*◌, ◌≤◌, ◌^◌, ◌++◌, ◌<◌, ℕ, Some, map, length, IfOk, OnOk};
 ghost use Rattle.std.specs.List.{slice_get};
 ghost use Rattle.rv_layout_laws.specs.Calls.{IsText, site_at};
 ghost use Rattle.rv_object.specs.Object.{Section};
 ghost use Rattle.rv_object.specs.View.{object_of};
-ghost use Rattle.rv_object_laws.specs.CallSites.{is_short_text, sites_of};
+ghost use Rattle.rv_object_laws.specs.CallSites.{sites_of};
 ghost use Rattle.rv_object_laws.specs.Within.{IsWithin};
 ghost use Rattle.rv_relax.specs.Plan.{placed_sites, placed_starts};
 ghost use Rattle.rv_resolve.specs.Names.{IsNames};
@@ -22,38 +22,29 @@ use rv_resolve::Names;
 use rv_shorten::is_text;
 use std::alloc::{AllocError, Global};
 
-/// The text of objects, whose names mean this: its sites, and which of them are starts of sections. `None`: it is too long for
-/// memory, whatever is taken out of it.
+/// The text of objects, whose names mean this: its sites, and which of them are starts of sections.
 pub fn placed(
     alloc: Global,
     objects: &[Object<'_>],
     names: &Names<'_>,
-) -> Result<Option<Placed>, AllocError>
+) -> Result<Placed, AllocError>
     requires { IsNames (map object_of objects.now) names.now }
-    ensures sites { IfOk result (λ found. IfSome found
-        (λ text. placed_sites text ≡ sites_of (map object_of objects.now))) }
-    ensures starts { IfOk result (λ found. IfSome found
-        (λ text. placed_starts text ≡ walk.starts_of (map object_of objects.now))) }
-    ensures text { IfOk result (λ found. IfSome found (λ text. IsText (placed_sites text))) }
-    ensures within { IfOk result (λ found. IfSome found
-        (λ text. (i : ℕ) → IsWithin (2 ^ 62) (site_at (placed_sites text) i))) }
-    ensures short { IfOk result
-        (λ found. IfSome found (λ _. is_short_text (map object_of objects.now) ≡ true)) }
-    ensures long { IfOk result
-        (λ found. IfNone found (is_short_text (map object_of objects.now) ≡ false)) }
+    ensures sites { IfOk result
+        (λ text. placed_sites text ≡ sites_of (map object_of objects.now)) }
+    ensures starts { IfOk result
+        (λ text. placed_starts text ≡ walk.starts_of (map object_of objects.now)) }
+    ensures text { IfOk result (λ text. IsText (placed_sites text)) }
+    ensures within { IfOk result
+        (λ text. (i : ℕ) → IsWithin (9 * 2 ^ 123) (site_at (placed_sites text) i)) }
 {
-    match Text::of(alloc, objects, names)? {
-        Some(text) => {
-            let mut marked = Marked {
-                sites: Vec::new(alloc),
-                starts: Vec::new(alloc),
-            };
-            put_all(alloc, &mut marked, &text)?;
-            let Marked { sites, starts } = marked;
-            Ok(Some(Placed::of(sites, starts)))
-        }
-        None => Ok(None),
-    }
+    let text = Text::of(alloc, objects, names)?;
+    let mut marked = Marked {
+        sites: Vec::new(alloc),
+        starts: Vec::new(alloc),
+    };
+    put_all(alloc, &mut marked, &text)?;
+    let Marked { sites, starts } = marked;
+    Ok(Placed::of(sites, starts))
 }
 
 /// Adds the sites of all objects.
@@ -78,11 +69,11 @@ fn put_object(
     text: &Text<'_, '_, '_>,
     file: usize,
     object: &Object<'_>,
-    first: u64,
-) -> Result<u64, AllocError>
+    first: u128,
+) -> Result<u128, AllocError>
     requires laid { IsLaid text.now }
     requires at { slice_get (objects_of text.now) file ≡ Some (object_of object.now) }
-    requires low { walk.ended first (object_of object.now).sections ≤ 2 ^ 62 }
+    requires low { walk.ended first (object_of object.now).sections ≤ 9 * 2 ^ 123 }
     ensures end { IfOk result (λ end. end ≡ walk.ended first (object_of object.now).sections) }
     ensures sites { OnOk result (marked.new.sites.items ≡ marked.old.sites.items
         ++ walk.object_sites (objects_of text.now) (file + 1) (object_of object.now) 0 first
@@ -108,14 +99,14 @@ fn put_at(
     object: &Object<'_>,
     entries: &Entries,
     index: usize,
-    stop: u64,
-) -> Result<u64, AllocError>
+    stop: u128,
+) -> Result<u128, AllocError>
     requires laid { IsLaid text.now }
     requires at { slice_get (objects_of text.now) file ≡ Some (object_of object.now) }
     requires entries { AreEntries (object_of object.now) entries.now }
     requires inside { index < length (object.now).sections.items }
     requires low { (s : Section) → slice_get (object_of object.now).sections index ≡ Some s
-        → walk.next stop s ≤ 2 ^ 62 }
+        → walk.next stop s ≤ 9 * 2 ^ 123 }
     ensures end { IfOk result (λ end. (s : Section)
         → slice_get (object_of object.now).sections index ≡ Some s → end ≡ walk.next stop s) }
     ensures sites { OnOk result ((s : Section)

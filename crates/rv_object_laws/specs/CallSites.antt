@@ -222,8 +222,3 @@ sites_of os = sites_from os 0 (inputs goes_to_text os)
 abbrev pub length_of : List InputSection → ℕ
 length_of [] = 0
 length_of (i ∷ is) = start_padding i.section + size_of i.section.contents + length_of is
-
--- whether a text is short enough to be looked at: a longer one has no place in memory, whatever is
--- taken out of it
-abbrev pub is_short_text : List Object → Bool
-is_short_text os = nat_le (length_of (inputs goes_to_text os)) (2 ^ 62)

@@ -18,7 +18,7 @@ use Rattle.rv_object.specs.declared.row.Row.{Row}
 use Rattle.rv_object.specs.Object.{Contents, Progbits, Note, Nobits, Relocation, Section, Symbol, Object, stored}
 use Rattle.rv_object_laws.specs.Moves.{Move, new_offset, kept, lost}
 use Rattle.rv_object_laws.specs.Inputs.{goes_to_text}
-use Rattle.rv_object_laws.specs.CallSites.{is_call, link_register, in_order, base, sites_of, is_short_text}
+use Rattle.rv_object_laws.specs.CallSites.{is_call, link_register, in_order, base, sites_of}
 
 -- the bytes of the call at each place of a section
 abbrev pub Sizes : Type 0
@@ -144,14 +144,9 @@ shortened kept os = shortened_from (sizes_by os kept) 1 os
 
 -- ---- relaxation
 
--- the calls are those of the greatest family in which no call has a shorter form that reaches; a
--- text that is too long for memory stays as it is
-abbrev pub IsRelaxed : (short : Bool) → List Object → List Object → Type 0
-IsRelaxed false os left = left ≡ os
-IsRelaxed true os left =
-    (kept : List ℕ) × IsGreatestClosed (sites_of os) kept × (left ≡ shortened kept os)
-
--- what relaxation, where it is on, leaves of objects
+-- what relaxation, where it is on, leaves of objects: the calls are those of the greatest family in
+-- which no call has a shorter form that reaches
 abbrev pub Relaxes : (relax : Bool) → List Object → List Object → Type 0
 Relaxes false os left = left ≡ os
-Relaxes true os left = IsRelaxed (is_short_text os) os left
+Relaxes true os left =
+    (kept : List ℕ) × IsGreatestClosed (sites_of os) kept × (left ≡ shortened kept os)

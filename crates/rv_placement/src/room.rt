@@ -19,6 +19,7 @@ use std::alloc::{AllocError, Global};
 fn is_roomy(alloc: Global, section: &ShortSection<'_, '_>) -> Result<bool, AllocError>
     ensures { IfOk result (λ roomy. roomy ≡ walk.is_roomy (short_section_of section.now)) }
 {
+    // tells that a section with its calls cut has a size in 64 bits, as its plan asks
     let _size = section.size();
     let plan = SectionPlan::of(alloc, section, 0)?;
     Ok(plan.is_roomy())

@@ -9,8 +9,8 @@ use Rattle.rv_object.specs.Valid.{is_alignment, is_even}
 use Rattle.rv_object.specs.View.{object_of}
 use Rattle.rv_object_laws.specs.Moves.{alignment_of, alignments_of, full_padding}
 use Rattle.rv_object_laws.specs.Inputs.{InputSection, Starts, Stand, goes_to_text, inputs_from, inputs_of, inputs, begins_at, raised}
-use Rattle.rv_object_laws.specs.CallSites.{sites_of, is_short_text}
-use Rattle.rv_object_laws.specs.Shortened.{shortened, IsRelaxed, Relaxes}
+use Rattle.rv_object_laws.specs.CallSites.{sites_of}
+use Rattle.rv_object_laws.specs.Shortened.{shortened, Relaxes}
 use Rattle.rv_object_laws.specs.Whole.{IsWholeSection, IsWhole}
 use Rattle.rv_object_laws.specs.Without.{without}
 use Rattle.rv_object_laws.proofs.WholeLemmas.{are_whole, whole_left}
@@ -117,11 +117,10 @@ pub record IsKept (os : List Object) (kept : List ℕ) (left : List Object) : Ty
   pub family : IsFamily (sites_of os) kept
   pub shortens : left ≡ shortened kept os
 
-is_kept : (relax : Bool) (os left : List Object) (kept : List ℕ) → is_short_text os ≡ true → IsPlanned relax (sites_of os) kept → Relaxes relax os left → IsKept os kept left
-is_kept true os left kept short planned relaxes =
-    let found : IsRelaxed true os left = subst (λ (b : Bool). IsRelaxed b os left) short relaxes in
-    record { family = planned.closed.family; shortens = found.2 ∙ ap (λ ks. shortened ks os) (one_greatest_closed (sites_of os) found.0 kept found.1 planned) }
-is_kept false os left kept short planned relaxes = record {
+is_kept : (relax : Bool) (os left : List Object) (kept : List ℕ) → IsPlanned relax (sites_of os) kept → Relaxes relax os left → IsKept os kept left
+is_kept true os left kept planned relaxes =
+    record { family = planned.closed.family; shortens = relaxes.2 ∙ ap (λ ks. shortened ks os) (one_greatest_closed (sites_of os) relaxes.0 kept relaxes.1 planned) }
+is_kept false os left kept planned relaxes = record {
   family = subst (λ (ks : List ℕ). IsFamily (sites_of os) ks) (sym planned) (whole_family (sites_of os));
   shortens = relaxes ∙ sym (ap (λ ks. shortened ks os) planned ∙ nothing_shortened os);
 }
@@ -168,7 +167,7 @@ module _ (os : List Object) (whole : AllByRecursion IsWhole os) (p : Plan) (text
 
 pub plans_are_links : PlansAreLinks
 plans_are_links os left text_start starts relax p whole of relaxes page stand =
-    as_linked os whole p text_start starts relax of left (is_kept relax os left (kept_of p) of.short of.planned relaxes) page stand
+    as_linked os whole p text_start starts relax of left (is_kept relax os left (kept_of p) of.planned relaxes) page stand
 
 pub plans_are_programs : PlansArePrograms
 plans_are_programs ds text_start relax gc l p of program =

@@ -2,7 +2,7 @@
 -- are cut, and then, where what is left of it stands, its paddings (RISC-V ELF psABI, "Linker
 -- Relaxation", function call relaxation and R_RISCV_ALIGN).
 
-use Rattle.std.specs.Prelude.{◌≡◌, ℕ, ◌+◌, ◌%◌, ◌≤◌, ⊤, Bool, true, List, [], ◌∷◌, ◌++◌, length, filter, map}
+use Rattle.std.specs.Prelude.{◌≡◌, ℕ, ◌+◌, ◌%◌, ◌≤◌, ⊤, Bool, List, [], ◌∷◌, ◌++◌, length, filter, map}
 use Rattle.std.specs.List.{AllByRecursion, list_all}
 use Rattle.rv_layout_laws.specs.Calls.{new_offset as offset_of}
 use Rattle.rv_image.specs.Linked.{Linked}
@@ -11,7 +11,7 @@ use Rattle.rv_object.specs.Object.{Relocation, Object, size_of}
 use Rattle.rv_object.specs.View.{object_of}
 use Rattle.rv_object_laws.specs.Moves.{Move, moves, has_room, new_offset}
 use Rattle.rv_object_laws.specs.Inputs.{InputSection, Starts, Stand, goes_to_text, inputs, start_of}
-use Rattle.rv_object_laws.specs.CallSites.{in_order, is_permitted, sites_of, is_short_text}
+use Rattle.rv_object_laws.specs.CallSites.{in_order, is_permitted, sites_of}
 use Rattle.rv_object_laws.specs.Shortened.{Sizes, sizes_by, cuts, shortened, shortened_section, Relaxes}
 use Rattle.rv_object_laws.specs.Whole.{IsWhole}
 use Rattle.rv_object_laws.specs.Without.{without}
@@ -22,10 +22,8 @@ use Rattle.rv_relax.specs.Plan.{sites_in, starts_in, kept_of, joined_sites, join
 use Rattle.rv_relax.specs.Sizes.{IsPlanned, call_sizes}
 use Rattle.rv_link_sites.specs.Line.{starts_of}
 
--- a plan of the text of objects, which is short enough to be looked at, with relaxation or without
--- (`rv_link_sites::placed`, `Plan::of`)
+-- a plan of the text of objects, with relaxation or without (`rv_link_sites::placed`, `Plan::of`)
 pub record IsPlanOf (os : List Object) (relax : Bool) (p : Plan) : Type 0 where
-  pub short : is_short_text os ≡ true
   pub sites : sites_in p ≡ sites_of os
   pub starts : starts_in p ≡ starts_of os
   pub planned : IsPlanned relax (sites_of os) (kept_of p)
@@ -84,7 +82,8 @@ OffsetsAgree os kept starts new before after (i ∷ is) =
 -- ---- the law
 
 -- what a plan tells of a text is what becomes of it, where relaxation leaves these objects of its
--- own and their sections start there
+-- own and their sections start there; the link finds its sizes apart (`kept_sizes`), and they are the
+-- plan's, since there is one greatest family
 pub record IsAsLinked (os left : List Object) (p : Plan) (starts : Starts) : Type 0 where
   pub shortens : left ≡ shortened (kept_of p) os
   pub calls : call_sizes (sites_in p) (kept_of p)

@@ -12,14 +12,14 @@ use Rattle.rv_object.specs.declared.symbol.Definition.{Definition}
 use Rattle.rv_object.specs.declared.symbol.Definition.TheVariants as definitions
 use Rattle.rv_object.specs.declared.row.Row.{Row}
 use Rattle.rv_object.specs.Object.{Contents, Progbits, Note, Nobits, Relocation, Section, Symbol, Object}
-use Rattle.rv_object_laws.specs.CallSites.{is_call, in_order, is_short_text}
+use Rattle.rv_object_laws.specs.CallSites.{is_call, in_order}
 use Rattle.rv_object_laws.specs.Collects.{Collects, entry_place, run_place, lies_in, loaded_sections, id_of}
 use Rattle.rv_object_laws.specs.Inputs.{InputSection, goes_to_text, inputs_from, inputs}
 use Rattle.rv_object_laws.specs.IsLinkOf.{is_loaded}
 use Rattle.rv_object_laws.specs.IsProgramOf.{Leaves}
 use Rattle.rv_object_laws.specs.Moves.{Move, new_offset, lost}
 use Rattle.rv_object_laws.specs.Names.{is_in_text, begins_run}
-use Rattle.rv_object_laws.specs.Shortened.{Sizes, sizes_by, is_shortened, cut, cuts, shortened_kind, shortened_relocation, shortened_contents, shortened_text, shortened_section, shortened_sections, cuts_at, cuts_in, shortened_definition, shortened_symbol, shortened_row, shortened_object, IsRelaxed, Relaxes}
+use Rattle.rv_object_laws.specs.Shortened.{Sizes, sizes_by, is_shortened, cut, cuts, shortened_kind, shortened_relocation, shortened_contents, shortened_text, shortened_section, shortened_sections, cuts_at, cuts_in, shortened_definition, shortened_symbol, shortened_row, shortened_object, Relaxes}
 use Rattle.rv_object_laws.specs.Without.{without}
 use Rattle.rv_object_laws.proofs.WithoutLemmas.{without_none}
 use Rattle.rv_raw_link_laws.proofs.CodesLemmas.{leads}
@@ -152,13 +152,9 @@ module _ (o : Object) (x : Section) (alone : o.sections ≡ x ∷ []) where
         ∙ ap (λ l. record o { symbols = l; rows = map (shortened_row sizes o) o.rows }) (same_symbols sizes o.symbols)
         ∙ ap (λ l. record o { rows = l }) (same_rows sizes o.rows)
 
-    relaxed : (short : Bool) (left : List Object) → IsRelaxed short (o ∷ []) left → left ≡ o ∷ []
-    relaxed false left h = h
-    relaxed true left (sizes, greatest, is) = is ∙ ap (λ q. q ∷ []) (same_object (sizes_by (o ∷ []) sizes 1))
-
     nothing_relaxed : (relax : Bool) (left : List Object) → Relaxes relax (o ∷ []) left → left ≡ o ∷ []
     nothing_relaxed false left h = h
-    nothing_relaxed true left h = relaxed (is_short_text (o ∷ [])) left h
+    nothing_relaxed true left (sizes, greatest, is) = is ∙ ap (λ q. q ∷ []) (same_object (sizes_by (o ∷ []) sizes 1))
 
     -- ---- both
 

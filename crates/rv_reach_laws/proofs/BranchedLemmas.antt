@@ -26,8 +26,8 @@ use Rattle.rv_object_laws.specs.Inputs.{InputSection, goes_to_text, inputs}
 use Rattle.rv_object.specs.Bindings.{is_weak}
 use Rattle.rv_object_laws.specs.Names.{offset_address, defined_address, symbol_address}
 use Rattle.rv_object_laws.specs.Values.{target}
-use Rattle.rv_object_laws.specs.CallSites.{is_call, sites_of, is_short_text}
-use Rattle.rv_object_laws.specs.Shortened.{sizes_by, cuts, shortened_kind, shortened_definition, shortened_symbol, shortened_relocation, shortened_object, shortened, IsRelaxed}
+use Rattle.rv_object_laws.specs.CallSites.{is_call, sites_of}
+use Rattle.rv_object_laws.specs.Shortened.{sizes_by, cuts, shortened_kind, shortened_definition, shortened_symbol, shortened_relocation, shortened_object, shortened}
 use Rattle.rv_object_laws.specs.Left.{is_left, left_of}
 use Rattle.rv_object_laws.specs.Whole.{IsWhole}
 use Rattle.rv_object_laws.specs.Without.{without}
@@ -472,14 +472,10 @@ same_reach sources os us start p whole nears same placed = subst (λ u. IsPlacem
         (subst (λ x. IsTaken os p i x) one
         (whole_one os whole start p placed section i at_i before (all_at (HasNear sources) (inputs goes_to_text os) section i nears at_i place before at_before short) (short_of sources i before short)))
 
-relaxed_reach : (sources : List (List Statement)) (short : Bool) (os us : List Object) (start : ℕ) (p : Placement) → AllByRecursion IsWhole os → AllByRecursion (HasNear sources) (inputs goes_to_text os) → IsRelaxed short os us → IsTextStart start
-    → IsPlacement us start p → ForEachLeft os us (Reaching sources us p)
-relaxed_reach sources false os us start p whole nears same begins placed = same_reach sources os us start p whole nears same placed
-relaxed_reach sources true os us start p whole nears (kept, greatest, same) begins placed =
-    subst (λ u. IsPlacement u start p → ForEachLeft os u (Reaching sources u p)) (sym same) (short_reach sources os whole nears kept greatest start p begins) placed
-
 pub short_branches_reach : ShortBranchesReach
 short_branches_reach sources ds drops us start false p h same begins placed =
     same_reach sources (without drops (map object_of ds)) us start p (whole_left drops (map object_of ds) (are_whole ds)) (all_near_left sources drops (map object_of ds) h) same placed
-short_branches_reach sources ds drops us start true p h relaxed begins placed =
-    relaxed_reach sources (is_short_text (without drops (map object_of ds))) (without drops (map object_of ds)) us start p (whole_left drops (map object_of ds) (are_whole ds)) (all_near_left sources drops (map object_of ds) h) relaxed begins placed
+short_branches_reach sources ds drops us start true p h (kept, greatest, same) begins placed =
+    let os = without drops (map object_of ds) in
+    subst (λ u. IsPlacement u start p → ForEachLeft os u (Reaching sources u p)) (sym same)
+    (short_reach sources os (whole_left drops (map object_of ds) (are_whole ds)) (all_near_left sources drops (map object_of ds) h) kept greatest start p begins) placed

@@ -24,8 +24,8 @@ use Rattle.rv_object_laws.specs.Moves.{Move, dropped, moves, new_offset, has_pad
 use Rattle.rv_object_laws.specs.Inputs.{Starts, InputSection, goes_to_text, inputs, Stand}
 use Rattle.rv_object_laws.specs.Names.{Place}
 use Rattle.rv_object_laws.specs.Values.{target}
-use Rattle.rv_object_laws.specs.CallSites.{is_call, start_padding, base, home, moving, past_end, text_offset, excess, constant, target_place, is_text_place, is_permitted, may_change, changes, call_site, site_of, sites_of, is_short_text}
-use Rattle.rv_object_laws.specs.Shortened.{Sizes, sizes_by, is_shortened, cuts, shortened_kind, shortened_relocation, shortened_text, shortened, IsRelaxed}
+use Rattle.rv_object_laws.specs.CallSites.{is_call, start_padding, base, home, moving, past_end, text_offset, excess, constant, target_place, is_text_place, is_permitted, may_change, changes, call_site, site_of, sites_of}
+use Rattle.rv_object_laws.specs.Shortened.{Sizes, sizes_by, is_shortened, cuts, shortened_kind, shortened_relocation, shortened_text, shortened}
 use Rattle.rv_object_laws.specs.Whole.{IsWhole}
 use Rattle.rv_object_laws.specs.Without.{without}
 use Rattle.rv_object_laws.proofs.ChangesLemmas as permitted
@@ -516,13 +516,8 @@ short_reach os whole kept greatest start p begins placed section place i j befor
     (is_taken os whole kept greatest start p begins placed section i at_i place before at_before
     (was_shortened sizes before (ap (λ (x : Relocation). is_short_call before.kind x.kind) one ∙ short))))
 
-relaxed_reach : (short : Bool) (os left : List Object) → AllByRecursion IsWhole os → (start : ℕ) (p : Placement) → IsRelaxed short os left → IsTextStart start → IsPlacement left start p
-    → ForEachLeft os left (Reaches_in left p)
-relaxed_reach false os us whole start p same begins placed = same_reach os us p same
-relaxed_reach true os us whole start p (kept, greatest, same) begins placed =
-    subst (λ u. IsPlacement u start p → ForEachLeft os u (Reaches_in u p)) (sym same) (short_reach os whole kept greatest start p begins) placed
-
 pub short_calls_reach : ShortCallsReach
 short_calls_reach ds drops us start false p same begins placed = same_reach (without drops (map object_of ds)) us p same
-short_calls_reach ds drops us start true p relaxed begins placed =
-    relaxed_reach (is_short_text (without drops (map object_of ds))) (without drops (map object_of ds)) us (whole_left drops (map object_of ds) (are_whole ds)) start p relaxed begins placed
+short_calls_reach ds drops us start true p (kept, greatest, same) begins placed =
+    let os = without drops (map object_of ds) in
+    subst (λ u. IsPlacement u start p → ForEachLeft os u (Reaches_in u p)) (sym same) (short_reach os (whole_left drops (map object_of ds) (are_whole ds)) kept greatest start p begins) placed

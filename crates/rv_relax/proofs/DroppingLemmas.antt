@@ -1,6 +1,6 @@
 -- What sites drop, as a list of numbers: its sums, and what is dropped before an offset.
 
-use Rattle.std.proofs.Common.{◌≡◌, inl, inr, ⊎_elim, ℕ, zero, suc, ◌+◌, ◌-◌, ◌*◌, ◌≤◌, ◌<◌, min, false, cond, IsTrue, List, [], ◌∷◌, length, set, take, drop, slice_index, slice_index_or, sum, pos, refl, ap, sym, ◌∙◌, arith}
+use Rattle.std.proofs.Common.{◌≡◌, inl, inr, ⊎_elim, ℕ, zero, suc, ◌+◌, ◌-◌, ◌*◌, ◌≤◌, ◌<◌, min, false, IsTrue, List, [], ◌∷◌, length, set, take, drop, slice_index, slice_index_or, sum, pos, refl, ap, sym, ◌∙◌, arith}
 use Rattle.std.proofs.lemmas.Bool.{cases_lt}
 use Rattle.std.proofs.lemmas.List.{get_or_past, take-append-drop, drop_more, drop_all}
 use Rattle.std.proofs.lemmas.List.Sums.{sum_by-append, sum_by-cons}
@@ -8,7 +8,7 @@ use Rattle.rv_layout_laws.specs.declared.site.Site.{Site}
 use Rattle.rv_layout_laws.specs.declared.site.SiteKind.{SiteKind}
 use Rattle.rv_layout_laws.specs.declared.site.SiteKind.TheVariants.{Call, Padding}
 use Rattle.rv_layout_laws.specs.Offsets.{offset}
-use Rattle.rv_layout_laws.specs.Calls.{bytes_of, Offers, is_call, site_at, dropped_of, dropped, calls, whole_sizes, IsFamily, InOrder, IsOutside}
+use Rattle.rv_layout_laws.specs.Calls.{bytes_of, Offers, is_call, site_at, dropped_of, dropped, whole_sizes, IsFamily, InOrder, IsOutside}
 use Rattle.rv_layout_laws.proofs.ShorteningLemmas.{IsOpen, offers_most, before_all}
 use Rattle.rv_shorten.specs.Walk.{site_end}
 use Rattle.rv_relax.specs.Passes.{IsPlace, drops, rest}
@@ -106,23 +106,6 @@ none_at_first sites j =
     let all : sum (drops sites (whole_sizes sites)) ≡ 0 = none_from sites in
     let both : offset (drops sites (whole_sizes sites)) j + rest (drops sites (whole_sizes sites)) j ≡ sum (drops sites (whole_sizes sites)) = parts (drops sites (whole_sizes sites)) j in
     omega arith
-
--- each call has 8 bytes of the text
-calls_from : (from top : ℕ) (sites : List Site) → InOrder from sites → ((i : ℕ) → site_end (site_at sites i) ≤ top) → from ≤ top → from + 8 * calls sites ≤ top
-calls_from from top [] order ends low = omega arith
-calls_from from top (site ∷ sites) order ends low =
-    let first : from ≤ site.offset = order.0 in
-    let others : (site.offset + bytes_of site.kind) + 8 * calls sites ≤ top = calls_from (site.offset + bytes_of site.kind) top sites order.1 (λ i. ends (suc i)) (ends zero) in
-    let counted : calls (site ∷ sites) ≡ cond (is_call site.kind) 1 0 + calls sites = sum_by-cons (λ x. cond (is_call x.kind) 1 0) site sites in
-    let one : 8 * cond (is_call site.kind) 1 0 ≤ bytes_of site.kind = has_eight site.kind in
-    omega arith
-  where
-    has_eight : (kind : SiteKind) → 8 * cond (is_call kind) 1 0 ≤ bytes_of kind
-    has_eight (Call call) = omega arith
-    has_eight (Padding padding) = omega arith
-
-pub calls_few : (top : ℕ) (sites : List Site) → InOrder 0 sites → ((i : ℕ) → site_end (site_at sites i) ≤ top) → 8 * calls sites ≤ top
-calls_few top sites order ends = let h : 0 + 8 * calls sites ≤ top = calls_from 0 top sites order ends (omega arith) in omega arith
 
 -- ---- what is dropped before an offset
 

@@ -1,6 +1,6 @@
 -- What `Placed` holds of its sites is what a pass asks of them.
 
-use Rattle.std.proofs.Common.{◌≡◌, ◌⊎◌, inl, inr, ⊎_elim, ℕ, ◌^◌, nat_le, Bool, true, false, not, ◌||◌, IsTrue, List, [], ◌∷◌, refl}
+use Rattle.std.proofs.Common.{◌≡◌, ◌⊎◌, inl, inr, ⊎_elim, ℕ, ◌*◌, ◌^◌, nat_le, Bool, true, false, not, ◌||◌, IsTrue, List, [], ◌∷◌, refl}
 use Rattle.std.proofs.lemmas.Bool.{leb-true, le-leb, and_parts, and_from, or_left, or_right}
 use Rattle.rv_layout_laws.specs.declared.site.Site.{Site}
 use Rattle.rv_layout_laws.specs.declared.site.SiteKind.{SiteKind}
@@ -50,11 +50,11 @@ outside_meant (Call call) site h = meant call.target site (is_call site.kind) h
 outside_meant (Padding padding) site h = tt
 
 low_from : (kind : SiteKind) → LeadsLow kind → leads_low kind ≡ true
-low_from (Call call) h = le-leb call.target (2 ^ 62) h
+low_from (Call call) h = le-leb call.target (9 * 2 ^ 123) h
 low_from (Padding padding) h = refl
 
 low_meant : (kind : SiteKind) → leads_low kind ≡ true → LeadsLow kind
-low_meant (Call call) h = leb-true call.target (2 ^ 62) h
+low_meant (Call call) h = leb-true call.target (9 * 2 ^ 123) h
 low_meant (Padding padding) h = tt
 
 -- ---- all sites

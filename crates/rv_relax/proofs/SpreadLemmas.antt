@@ -1,12 +1,13 @@
 -- A text laid out: that each padding is the least that aligns, and one site more of the table.
 
-use Rattle.std.proofs.Common.{◌≡◌, inl, inr, ℕ, zero, suc, ◌+◌, ◌-◌, ◌*◌, ◌/◌, ◌%◌, ◌<◌, ◌≤◌, Bool, true, false, ◌&&◌, ◌||◌, nat_le, List, [], ◌∷◌, ◌++◌, length, take, drop, slice_index, slice_index_or, refl, sym, ap, subst, ◌∙◌, append_assoc, arith, add-mul}
+use Rattle.std.proofs.Common.{◌≡◌, inl, inr, ℕ, zero, suc, ◌+◌, ◌-◌, ◌*◌, ◌/◌, ◌%◌, ◌<◌, ◌≤◌, Bool, true, false, ◌&&◌, ◌||◌, nat_le, List, [], ◌∷◌, ◌++◌, length, take, drop, filter, slice_index, slice_index_or, refl, sym, ap, subst, ◌∙◌, append_assoc, arith, add-mul}
 use Rattle.std.specs.Prelude.{if◌then◌else◌}
-use Rattle.std.specs.List.{list_all}
+use Rattle.std.proofs.Math.Bool.{and_assoc}
 use Rattle.std.proofs.Math.Nat.{mod-lt, mul-mod_left, mul-le-mul_right}
 use Rattle.std.proofs.lemmas.Nat.{div-add-mod'}
-use Rattle.std.proofs.lemmas.Bool.{cases_lt, ltb-true, le-leb}
+use Rattle.std.proofs.lemmas.Bool.{cases_lt, ltb-true}
 use Rattle.std.proofs.lemmas.List.{drop_more, get_or_past}
+use Rattle.std.proofs.lemmas.List.Elements.{filter-append}
 use Rattle.std.proofs.lemmas.List.Sums.{sum_by-cons}
 use Rattle.rv_layout_laws.specs.Alignment.{aligned}
 use Rattle.rv_layout_laws.specs.declared.site.Site.{Site}
@@ -17,12 +18,11 @@ use Rattle.rv_layout_laws.specs.Calls.{bytes_of, dropped, is_call, new_offset, s
 use Rattle.rv_layout_laws.specs.Paddings.{IsLaid, IsLeastPadding, IsRelaxedText}
 use Rattle.rv_relax.specs.Padded.{are_roomy, inner, joined, kept_at, padded, pads}
 use Rattle.rv_relax.specs.Passes.{drops}
-use Rattle.rv_relax.specs.Pieces.{Piece, pieces_of}
+use Rattle.rv_relax.specs.Pieces.{Piece, is_low, pieces_of}
 use Rattle.rv_relax.specs.Placed.{is_aligning}
 use Rattle.rv_relax.proofs.AlignedLemmas.{none_left, some_left}
 use Rattle.rv_relax.proofs.DroppingLemmas.{dropped_before_site, later, zeros_site}
 use Rattle.rv_relax.proofs.LaidLemmas.{no_site}
-use Rattle.rv_relax.proofs.PiecedLemmas.{fits}
 
 -- ---- the least padding
 
@@ -135,36 +135,16 @@ joined_order (false ∷ starts) gaps from (site ∷ sites) order low =
     let stop : site.offset + bytes_of site.kind - gaps ≡ (site.offset - gaps) + bytes_of site.kind = omega arith in
     (omega arith, subst (λ n. InOrder n (joined gaps starts sites)) stop (joined_order starts gaps (site.offset + bytes_of site.kind) sites order.1 (omega arith)))
 
--- calls never keep more than they have
-fits_as : (kind : SiteKind) (k start : ℕ) → k ≤ bytes_of kind → nat_le (kept_at kind k start) (bytes_of kind) ≡ (is_call kind || nat_le (kept_at kind k start) (bytes_of kind))
-fits_as (Call call) k start most = le-leb k 8 most
-fits_as (Padding padding) k start most = refl
-
-pub same_room : (gone past gaps : ℕ) (starts : List Bool) (sites : List Site) (sized : List ℕ) → ((i : ℕ) → slice_index sized i ≤ bytes_of (site_at sites i).kind)
-    → list_all fits (pieces_of past (joined gaps starts sites) (inner starts (padded gone sites sized))) ≡ are_roomy (joined gaps starts sites) (inner starts (padded gone sites sized))
-same_room gone past gaps [] sites sized most = refl
-same_room gone past gaps (start ∷ starts) [] sized most = refl
-same_room gone past gaps (true ∷ starts) (site ∷ sites) [] most = none past (joined (gaps + bytes_of site.kind) starts sites)
-  where
-    none : (past : ℕ) (sites : List Site) → list_all fits (pieces_of past sites []) ≡ are_roomy sites []
-    none past [] = refl
-    none past (site ∷ sites) = refl
-same_room gone past gaps (false ∷ starts) (site ∷ sites) [] most = refl
-same_room gone past gaps (true ∷ starts) (site ∷ sites) (k ∷ sized) most =
-    same_room (gone + (bytes_of site.kind - kept_at site.kind k (site.offset - gone))) past (gaps + bytes_of site.kind) starts sites sized (λ i. most (suc i))
-same_room gone past gaps (false ∷ starts) (site ∷ sites) (k ∷ sized) most =
-    let kept = kept_at site.kind k (site.offset - gone) in
-    let next = gone + (bytes_of site.kind - kept) in
-    ap (λ b. b && list_all fits (pieces_of (past + (bytes_of site.kind - kept)) (joined gaps starts sites) (inner starts (padded next sites sized)))) (fits_as site.kind k (site.offset - gone) (most zero))
-    ∙ ap (λ b. (is_call site.kind || nat_le kept (bytes_of site.kind)) && b) (same_room next (past + (bytes_of site.kind - kept)) gaps starts sites sized (λ i. most (suc i)))
-
 -- ---- one more site
 
 abbrev pub pieces_from : (dropped gaps gone : ℕ) → List Bool → List Site → List ℕ → List Piece
-pieces_from dropped gaps gone starts sites sized = pieces_of gone (joined gaps starts sites) (inner starts (padded dropped sites sized))
+pieces_from dropped gaps gone starts sites sized = filter is_low (pieces_of gone (joined gaps starts sites) (inner starts (padded dropped sites sized)))
 
 abbrev pub pads_from : (dropped gaps : ℕ) → List Bool → List Site → List ℕ → List ℕ
 pads_from dropped gaps starts sites sized = pads (joined gaps starts sites) (inner starts (padded dropped sites sized))
+
+abbrev pub is_roomy_from : (dropped gaps : ℕ) → List Bool → List Site → List ℕ → Bool
+is_roomy_from dropped gaps starts sites sized = are_roomy (joined gaps starts sites) (inner starts (padded dropped sites sized))
 
 abbrev pub own_pad : Bool → ℕ → List ℕ
 own_pad call k = if call then [] else k ∷ []
@@ -172,6 +152,9 @@ own_pad call k = if call then [] else k ∷ []
 one_pad : (call : Bool) (k : ℕ) (left : List ℕ) → (if call then left else k ∷ left) ≡ own_pad call k ++ left
 one_pad true k left = refl
 one_pad false k left = refl
+
+one_low : (p : Piece) (left : List Piece) → filter is_low (p ∷ left) ≡ filter is_low (p ∷ []) ++ filter is_low left
+one_low p left = filter-append is_low (p ∷ []) left
 
 grown : {A : Type 0} (front add more new all : List A) → new ≡ front ++ add → front ++ (add ++ more) ≡ all → new ++ more ≡ all
 grown front add more new all e h = ap (λ l. l ++ more) e ∙ append_assoc front add more ∙ h
@@ -231,23 +214,52 @@ module _ (starts : List Bool) (sites : List Site) (sized : List ℕ) (i : ℕ) (
         ∙ ap (λ n. pads_from (dropped + cut) (gaps + n) T S K) (sym is_full)))
         ∙ h
 
+    abbrev all_from : (dropped gaps gone : ℕ) → List Piece
+    all_from dropped gaps gone = pieces_of gone (joined gaps T S) (inner T (padded dropped S K))
+
     abbrev piece : Piece
     piece = record { place = site.offset - gaps; gone = gone; full = full; left = left; detail = tt }
 
-    pub one_piece : (found new all : List Piece) → start ≡ false → new ≡ found ++ piece ∷ []
+    pub one_piece : (found new all : List Piece) → start ≡ false → new ≡ found ++ filter is_low (piece ∷ [])
         → found ++ pieces_from dropped gaps gone (drop i starts) (drop i sites) (drop i sized) ≡ all → new ++ pieces_from (dropped + cut) gaps (gone + cut) T S K ≡ all
     one_piece found new all is e h =
         let more : gone + (bytes_of site.kind - kept_at site.kind size (site.offset - dropped)) ≡ gone + cut = omega arith in
-        grown found (piece ∷ []) (pieces_from (dropped + cut) gaps (gone + cut) T S K) new all e
+        grown found (filter is_low (piece ∷ [])) (pieces_from (dropped + cut) gaps (gone + cut) T S K) new all e
         (sym
         (ap (λ l. found ++ l)
         (from_here (pieces_from dropped gaps gone)
         ∙ ap (λ b. pieces_from dropped gaps gone (b ∷ T) (site ∷ S) (size ∷ K)) is
-        ∙ ap (λ n. record { place = site.offset - gaps; gone = gone; full = n; left = kept_at site.kind size (site.offset - dropped); detail = tt } ∷ pieces_from next gaps (gone + (bytes_of site.kind - kept_at site.kind size (site.offset - dropped))) T S K) (sym is_full)
-        ∙ ap (λ n. record { place = site.offset - gaps; gone = gone; full = full; left = n; detail = tt } ∷ pieces_from next gaps (gone + (bytes_of site.kind - kept_at site.kind size (site.offset - dropped))) T S K) (sym is_left)
-        ∙ ap (λ n. piece ∷ pieces_from next gaps n T S K) more
-        ∙ ap (λ n. piece ∷ pieces_from n gaps (gone + cut) T S K) is_next))
+        ∙ ap (λ n. filter is_low (record { place = site.offset - gaps; gone = gone; full = n; left = kept_at site.kind size (site.offset - dropped); detail = tt } ∷ all_from next gaps (gone + (bytes_of site.kind - kept_at site.kind size (site.offset - dropped))))) (sym is_full)
+        ∙ ap (λ n. filter is_low (record { place = site.offset - gaps; gone = gone; full = full; left = n; detail = tt } ∷ all_from next gaps (gone + (bytes_of site.kind - kept_at site.kind size (site.offset - dropped))))) (sym is_left)
+        ∙ ap (λ n. filter is_low (piece ∷ all_from next gaps n)) more
+        ∙ ap (λ n. filter is_low (piece ∷ all_from n gaps (gone + cut))) is_next
+        ∙ one_low piece (all_from (dropped + cut) gaps (gone + cut))))
         ∙ h)
+
+    pub start_room : (found all : Bool) → start ≡ true
+        → (found && is_roomy_from dropped gaps (drop i starts) (drop i sites) (drop i sized)) ≡ all → (found && is_roomy_from (dropped + cut) (gaps + full) T S K) ≡ all
+    start_room found all is h =
+        sym
+        (ap (λ l. found && l)
+        (from_here (is_roomy_from dropped gaps)
+        ∙ ap (λ b. is_roomy_from dropped gaps (b ∷ T) (site ∷ S) (size ∷ K)) is
+        ∙ ap (λ n. is_roomy_from n (gaps + bytes_of site.kind) T S K) is_next
+        ∙ ap (λ n. is_roomy_from (dropped + cut) (gaps + n) T S K) (sym is_full)))
+        ∙ h
+
+    pub one_room : (found own all : Bool) → start ≡ false → own ≡ (is_call site.kind || nat_le left (bytes_of site.kind))
+        → (found && is_roomy_from dropped gaps (drop i starts) (drop i sites) (drop i sized)) ≡ all
+        → ((found && own) && is_roomy_from (dropped + cut) gaps T S K) ≡ all
+    one_room found own all is e h =
+        ap (λ b. (found && b) && is_roomy_from (dropped + cut) gaps T S K) e
+        ∙ and_assoc found (is_call site.kind || nat_le left (bytes_of site.kind)) (is_roomy_from (dropped + cut) gaps T S K)
+        ∙ sym
+        (ap (λ l. found && l)
+        (from_here (is_roomy_from dropped gaps)
+        ∙ ap (λ b. is_roomy_from dropped gaps (b ∷ T) (site ∷ S) (size ∷ K)) is
+        ∙ ap (λ n. (is_call site.kind || nat_le n (bytes_of site.kind)) && is_roomy_from next gaps T S K) (sym is_left)
+        ∙ ap (λ n. (is_call site.kind || nat_le left (bytes_of site.kind)) && is_roomy_from n gaps T S K) is_next))
+        ∙ h
 
     pub one_pad_more : (found new all : List ℕ) → start ≡ false → new ≡ found ++ own_pad (is_call site.kind) left
         → found ++ pads_from dropped gaps (drop i starts) (drop i sites) (drop i sized) ≡ all → new ++ pads_from (dropped + cut) gaps T S K ≡ all

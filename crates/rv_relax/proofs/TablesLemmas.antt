@@ -28,35 +28,35 @@ first_table sites kept stands whole same none = record {
 
 -- ---- numbers are small
 
-pub offset_low : (sites : List Site) (kept : List ℕ) (i : ℕ) → IsInput sites → IsFamily sites kept → offset (drops sites kept) i ≤ 3 * 2 ^ 60
+pub offset_low : (sites : List Site) (kept : List ℕ) (i : ℕ) → IsInput sites → IsFamily sites kept → offset (drops sites kept) i ≤ 27 * 2 ^ 121
 offset_low sites kept i input f =
-    let all : 4 * sum (drops sites kept) ≤ 3 * 2 ^ 62 = sum_low (2 ^ 62) sites kept input.text.in_order input.ends f in
+    let all : 4 * sum (drops sites kept) ≤ 3 * (9 * 2 ^ 123) = sum_low (9 * 2 ^ 123) sites kept input.text.in_order input.ends f in
     let both : offset (drops sites kept) i + rest (drops sites kept) i ≡ sum (drops sites kept) = parts (drops sites kept) i in
     omega arith
 
-pub rest_low : (sites : List Site) (kept : List ℕ) (i : ℕ) → IsInput sites → IsFamily sites kept → rest (drops sites kept) i ≤ 3 * 2 ^ 60
+pub rest_low : (sites : List Site) (kept : List ℕ) (i : ℕ) → IsInput sites → IsFamily sites kept → rest (drops sites kept) i ≤ 27 * 2 ^ 121
 rest_low sites kept i input f =
-    let all : 4 * sum (drops sites kept) ≤ 3 * 2 ^ 62 = sum_low (2 ^ 62) sites kept input.text.in_order input.ends f in
+    let all : 4 * sum (drops sites kept) ≤ 3 * (9 * 2 ^ 123) = sum_low (9 * 2 ^ 123) sites kept input.text.in_order input.ends f in
     let both : offset (drops sites kept) i + rest (drops sites kept) i ≡ sum (drops sites kept) = parts (drops sites kept) i in
     omega arith
 
-pub table_low : (sites : List Site) (i : ℕ) (kept stands : List ℕ) (j : ℕ) → IsInput sites → IsTable sites i kept stands → j ≤ length sites → slice_index stands j ≤ 3 * 2 ^ 60
+pub table_low : (sites : List Site) (i : ℕ) (kept stands : List ℕ) (j : ℕ) → IsInput sites → IsTable sites i kept stands → j ≤ length sites → slice_index stands j ≤ 27 * 2 ^ 121
 table_low sites i kept stands j input table within = elim (cases_lt j i) [
   | inl before ↦
       let is : slice_index stands j ≡ offset (drops sites kept) j = table.starts j before in
-      let low : offset (drops sites kept) j ≤ 3 * 2 ^ 60 = offset_low sites kept j input table.family in
+      let low : offset (drops sites kept) j ≤ 27 * 2 ^ 121 = offset_low sites kept j input table.family in
       omega arith
   | inr after ↦
       let is : slice_index stands j ≡ rest (drops sites kept) j = table.rests j after within in
-      let low : rest (drops sites kept) j ≤ 3 * 2 ^ 60 = rest_low sites kept j input table.family in
+      let low : rest (drops sites kept) j ≤ 27 * 2 ^ 121 = rest_low sites kept j input table.family in
       omega arith
 ]
 
-pub target_low : (sites : List Site) (i : ℕ) (call : CallSite) → IsInput sites → (site_at sites i).kind ≡ Call call → call.target ≤ 2 ^ 62
+pub target_low : (sites : List Site) (i : ℕ) (call : CallSite) → IsInput sites → (site_at sites i).kind ≡ Call call → call.target ≤ 9 * 2 ^ 123
 target_low sites i call input is = subst LeadsLow is (input.targets i)
 
-pub site_low : (sites : List Site) (i : ℕ) → IsInput sites → (site_at sites i).offset ≤ 2 ^ 62
-site_low sites i input = let low : site_end (site_at sites i) ≤ 2 ^ 62 = input.ends i in omega arith
+pub site_low : (sites : List Site) (i : ℕ) → IsInput sites → (site_at sites i).offset ≤ 9 * 2 ^ 123
+site_low sites i input = let low : site_end (site_at sites i) ≤ 9 * 2 ^ 123 = input.ends i in omega arith
 
 -- ---- one step
 

@@ -1,7 +1,7 @@
 -- What the tables hold while a pass goes over the sites of a text: the bytes that are dropped before
 -- each site, or from it on.
 
-use Rattle.std.specs.Prelude.{◌≡◌, ◌⊎◌, ℕ, ◌+◌, ◌-◌, ◌^◌, ◌≤◌, ◌<◌, nat_le, Bool, true, false, ◌&&◌, List, [], ◌∷◌, length, drop, set, slice_index, sum, ℤ, ⊤, MatchBool}
+use Rattle.std.specs.Prelude.{◌≡◌, ◌⊎◌, ℕ, ◌+◌, ◌-◌, ◌*◌, ◌^◌, ◌≤◌, ◌<◌, nat_le, Bool, true, false, ◌&&◌, List, [], ◌∷◌, length, drop, set, slice_index, sum, ℤ, ⊤, MatchBool}
 use Rattle.rv_layout_laws.specs.declared.site.Site.{Site}
 use Rattle.rv_layout_laws.specs.declared.site.Call.{Call as CallSite}
 use Rattle.rv_layout_laws.specs.declared.site.SiteKind.{SiteKind}
@@ -13,13 +13,13 @@ use Rattle.rv_shorten.specs.Walk.{site_end}
 -- ---- sites
 
 abbrev pub LeadsLow : SiteKind → Type 0
-LeadsLow (Call call) = call.target ≤ 2 ^ 62
+LeadsLow (Call call) = call.target ≤ 9 * 2 ^ 123
 LeadsLow (Padding padding) = ⊤
 
--- the sites of a text of at most 2 ^ 62 bytes
+-- the sites of a text of at most 9 * 2 ^ 123 bytes: more than a list of sections can have
 pub record IsInput (sites : List Site) : Type 0 where
   pub text : IsText sites
-  pub ends : (i : ℕ) → site_end (site_at sites i) ≤ 2 ^ 62
+  pub ends : (i : ℕ) → site_end (site_at sites i) ≤ 9 * 2 ^ 123
   pub targets : (i : ℕ) → LeadsLow (site_at sites i).kind
 
 -- so many sites end at an offset or before it

@@ -4,19 +4,19 @@
 //! After that one pass lays the text out, with the least padding of each alignment.
 
 ghost use Rattle.std.specs.Prelude.{◌≡◌, ◌+◌, ◌*◌, ◌<◌, ◌≤◌, ◌++◌, [], ◌∷◌, length, slice_index, IfOk, OnOk, IsTrue, if◌then◌else◌};
-ghost use Rattle.rv_layout_laws.specs.Calls.{calls, is_call as is_call_site, new_offset as offset_of, whole_sizes};
+ghost use Rattle.std.specs.List.{filter};
+ghost use Rattle.rv_layout_laws.specs.Calls.{calls, is_call as is_call_site, new_offset as offset_of};
 ghost use Rattle.rv_layout_laws.specs.Paddings.{IsRelaxedText};
 ghost use Rattle.rv_relax.specs.Padded.{alignments, are_roomy, inner, joined, padded, pads as pads_of};
-ghost use Rattle.rv_relax.specs.Passes.{IsInput, are_laid};
+ghost use Rattle.rv_relax.specs.Passes.{are_laid};
 ghost use Rattle.rv_shorten.specs.Pieces.{are_pieces};
-ghost use Rattle.rv_relax.specs.Pieces.{pieces_of};
+ghost use Rattle.rv_relax.specs.Pieces.{is_low, pieces_of};
 ghost use Rattle.rv_relax.specs.Sizes.{IsPlanned, call_sizes as sizes_of};
 
 use crate::layout::{Layout, laid_out};
-use crate::passes::settle;
-use crate::pieces::have_room;
 use crate::placed::Placed;
-use crate::places::{is_call, targets, whole};
+use crate::places::is_call;
+use crate::sizes::{Sizes, find_sizes};
 use rv_layout_laws::{Site, SiteKind};
 use rv_shorten::{Piece, dropped_before};
 use std::alloc::{AllocError, Global};
@@ -44,47 +44,6 @@ fn call_sizes(alloc: Global, sites: &[Site], kept: &[u32]) -> Result<Vec<u32>, A
     Ok(sizes)
 }
 
-/// What passes over the sites of a text find.
-#[derive(Drop)]
-struct Sizes {
-    /// The bytes that are kept of each site, each padding in full.
-    kept: Vec<u32>,
-    /// How many passes there were.
-    rounds: usize,
-}
-
-/// Where calls are relaxed, finds the greatest sizes with which no call has a shorter form that reaches, and tells in how many
-/// passes. At first the sites are whole.
-fn relaxed(
-    alloc: Global,
-    sites: &[Site],
-    relax: bool,
-    kept: &mut [u32],
-) -> Result<usize, AllocError>
-    requires input { IsInput sites.now }
-    requires whole { kept.old ≡ whole_sizes sites.now }
-    ensures planned { OnOk result (IsPlanned relax sites.now kept.new) }
-    ensures rounds { IfOk result (λ rounds. rounds ≤ 2 * calls sites.now + 1) }
-{
-    if !relax {
-        return Ok(0);
-    }
-    let targets = targets(alloc, sites)?;
-    let mut stands = vec![in alloc; 0; sites.len() + 1]?;
-    Ok(settle(sites, &targets, kept, &mut stands))
-}
-
-/// Finds what is kept of each site, each padding in full.
-fn find_sizes(alloc: Global, sites: &[Site], relax: bool) -> Result<Sizes, AllocError>
-    requires { IsInput sites.now }
-    ensures planned { IfOk result (λ found. IsPlanned relax sites.now found.kept.items) }
-    ensures rounds { IfOk result (λ found. found.rounds ≤ 2 * calls sites.now + 1) }
-{
-    let mut kept = whole(alloc, sites)?;
-    let rounds = relaxed(alloc, sites, relax, &mut kept)?;
-    Ok(Sizes { kept, rounds })
-}
-
 /// How much is kept of each site of a text, so that the calls which can be short are short, and then each alignment is as short
 /// as it can be. No byte of the text is in it.
 #[derive(Drop)]
@@ -99,7 +58,9 @@ pub struct Plan<'p> {
     sizes: Vec<u32>,
     /// The bytes that are kept of each alignment.
     pads: Vec<u32>,
-    /// The calls and alignments, where the sections' bytes stand end to end.
+    /// Whether each alignment has as many bytes as it needs.
+    roomy: bool,
+    /// The calls and alignments that begin before 2^64, where the sections' bytes stand end to end.
     pieces: Vec<Piece<()>>,
     /// How many passes over the sites there were, the last of which shortened nothing; none where calls are not relaxed.
     rounds: usize,
@@ -110,9 +71,12 @@ pub struct Plan<'p> {
     /// The pads are those of the alignments, each the least.
     ghost least: { pads.items ≡ pads_of (joined 0 starts.now sites.now)
         (inner starts.now (padded 0 sites.now kept.items)) },
-    /// The pieces are the calls and the alignments.
-    ghost pieced: { pieces.items ≡ pieces_of 0 (joined 0 starts.now sites.now)
+    /// The flag is theirs.
+    ghost room: { roomy ≡ are_roomy (joined 0 starts.now sites.now)
         (inner starts.now (padded 0 sites.now kept.items)) },
+    /// The pieces are the calls and the alignments.
+    ghost pieced: { pieces.items ≡ filter is_low (pieces_of 0 (joined 0 starts.now sites.now)
+        (inner starts.now (padded 0 sites.now kept.items))) },
     /// They stand one behind the other.
     ghost order: { IsTrue (are_pieces 0 0 pieces.items) },
 }
@@ -143,13 +107,18 @@ impl<'p> Plan<'p> {
         let starts = placed.starts();
         let Sizes { kept, rounds } = find_sizes(alloc, sites, relax)?;
         let sizes = call_sizes(alloc, sites, &kept)?;
-        let Layout { pieces, pads } = laid_out(alloc, sites, starts, &kept)?;
+        let Layout {
+            pieces,
+            pads,
+            roomy,
+        } = laid_out(alloc, sites, starts, &kept)?;
         Ok(Plan {
             sites,
             starts,
             kept,
             sizes,
             pads,
+            roomy,
             pieces,
             rounds,
         })
@@ -197,7 +166,7 @@ impl<'p> Plan<'p> {
     pub fn is_roomy(&self) -> bool
         ensures { result ≡ are_roomy (joined_sites self.now) (joined_kept self.now) }
     {
-        have_room(&self.pieces)
+        self.roomy
     }
 
     /// Where an offset is afterwards: less the bytes of calls and of alignments that are dropped before it. Offsets count the

@@ -2,11 +2,12 @@
 //!
 //! A text begins at a multiple of every alignment, so that an offset counted from there is aligned as its address is.
 
-ghost use Rattle.std.specs.Prelude.{◌≡◌, ◌++◌, [], ◌∷◌, ℕ, true, length, IfOk, OnOk, if◌then◌else◌};
-ghost use Rattle.rv_layout_laws.specs.Calls.{is_call as is_call_site, site_at};
-ghost use Rattle.rv_relax.specs.Padded.{inner, joined, kept_at as kept_of_site, padded, pads as pads_of};
+ghost use Rattle.std.specs.Prelude.{◌≡◌, ◌≤◌, ◌++◌, ◌||◌, [], ◌∷◌, ℕ, true, nat_le, length, IfOk, OnOk, if◌then◌else◌};
+ghost use Rattle.std.specs.List.{filter};
+ghost use Rattle.rv_layout_laws.specs.Calls.{bytes_of, is_call as is_call_site, site_at};
+ghost use Rattle.rv_relax.specs.Padded.{are_roomy, inner, joined, kept_at as kept_of_site, padded, pads as pads_of};
 ghost use Rattle.rv_relax.specs.Passes.{IsInput};
-ghost use Rattle.rv_relax.specs.Pieces.{pieces_of};
+ghost use Rattle.rv_relax.specs.Pieces.{is_low, pieces_of};
 ghost use Rattle.rv_relax.specs.Placed.{is_aligning};
 
 use crate::alignments::least_padding;
@@ -16,7 +17,7 @@ use rv_shorten::Piece;
 use std::alloc::{AllocError, Global};
 
 /// What is kept of a site that begins at a new offset: of a call its size, of a padding the least that aligns its end.
-fn kept_at(kind: &SiteKind, sized: u32, start: u64) -> u32
+fn kept_at(kind: &SiteKind, sized: u32, start: u128) -> u32
     requires { is_aligning kind.now ≡ true }
     ensures { result ≡ kept_of_site kind.now sized start }
 {
@@ -38,13 +39,49 @@ fn put_pad(pads: &mut Vec<u32>, kind: &SiteKind, kept: u32) -> Result<(), AllocE
     Ok(())
 }
 
+/// Adds a call or an alignment at a place, if it begins before 2^64.
+fn put_piece(
+    pieces: &mut Vec<Piece<()>>,
+    place: u128,
+    gone: u128,
+    full: u32,
+    left: u32,
+) -> Result<(), AllocError>
+    requires { gone ≤ place }
+    ensures { OnOk result (pieces.new.items
+        ≡ pieces.old.items ++ filter is_low
+        (record { place = place; gone = gone; full = full; left = left; detail = tt } ∷ [])) }
+{
+    let Ok(place) = u64::try_from(place) else {
+        return Ok(());
+    };
+    pieces.push(Piece {
+        place,
+        gone: gone as u64,
+        full,
+        left,
+        detail: (),
+    })?;
+    Ok(())
+}
+
+/// Whether a site has as many bytes as are kept of it, if it is an alignment.
+fn has_room(kind: &SiteKind, left: u32) -> bool
+    ensures { result ≡ (is_call_site kind.now || nat_le left (bytes_of kind.now)) }
+{
+    is_call(kind) || left <= whole_size(kind)
+}
+
 /// The text after relaxation.
 #[derive(Drop)]
 pub(crate) struct Layout {
-    /// The calls and alignments, in the order of the text.
+    /// The calls and alignments that begin before 2^64, in the order of the text: later ones drop nothing before an offset of
+    /// 64 bits.
     pub pieces: Vec<Piece<()>>,
     /// What is kept of each alignment, in the order of the text.
     pub pads: Vec<u32>,
+    /// Whether each alignment has as many bytes as it needs.
+    pub roomy: bool,
 }
 
 /// Lays a text out whose calls have these sizes.
@@ -59,34 +96,37 @@ pub(crate) fn laid_out(
     requires starts { length starts.now ≡ length sites.now }
     requires sized { length sized.now ≡ length sites.now }
     ensures pieces { IfOk result (λ text. text.pieces.items
-        ≡ pieces_of 0 (joined 0 starts.now sites.now)
-        (inner starts.now (padded 0 sites.now sized.now))) }
+        ≡ filter is_low (pieces_of 0 (joined 0 starts.now sites.now)
+        (inner starts.now (padded 0 sites.now sized.now)))) }
     ensures pads { IfOk result (λ text. text.pads.items
         ≡ pads_of (joined 0 starts.now sites.now)
+        (inner starts.now (padded 0 sites.now sized.now))) }
+    ensures roomy { IfOk result (λ text. text.roomy
+        ≡ are_roomy (joined 0 starts.now sites.now)
         (inner starts.now (padded 0 sites.now sized.now))) }
 {
     let mut pieces = Vec::with_capacity(alloc, sites.len())?;
     let mut pads = Vec::new(alloc);
+    let mut roomy = true;
     let (mut dropped, mut gaps, mut gone) = (0, 0, 0);
     for i in 0..sites.len() {
         let site = &sites[i];
         let full = whole_size(&site.kind);
         let left = kept_at(&site.kind, sized[i], site.offset - dropped);
-        let cut = u64::from(full.saturating_sub(left));
+        let cut = u128::from(full.saturating_sub(left));
         dropped += cut;
         if starts[i] {
-            gaps += u64::from(full);
+            gaps += u128::from(full);
             continue;
         }
-        pieces.push(Piece {
-            place: site.offset - gaps,
-            gone,
-            full,
-            left,
-            detail: (),
-        })?;
+        put_piece(&mut pieces, site.offset - gaps, gone, full, left)?;
         put_pad(&mut pads, &site.kind, left)?;
+        roomy &= has_room(&site.kind, left);
         gone += cut;
     }
-    Ok(Layout { pieces, pads })
+    Ok(Layout {
+        pieces,
+        pads,
+        roomy,
+    })
 }

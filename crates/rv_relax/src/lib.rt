@@ -7,6 +7,9 @@
 //! calls and one. Where relaxation is off each call keeps its eight bytes. With these sizes each padding is then the least that
 //! aligns its end (`IsRelaxedText`), where the text begins at a multiple of all alignments. A plan tells how long each call and each
 //! alignment is, whether an alignment would need more bytes than it has, and where an offset is afterwards.
+//! [`kept_sizes`] gives what is kept of each site alone, to a link that asks for no more.
+//!
+//! Offsets of a text have 128 bits, since each of its sections may have 2^64 - 1 bytes.
 //!
 //! An alignment in code (R_RISCV_ALIGN) brings as much padding as it can ever need. Where its section starts at an address,
 //! the linker keeps the least of it that is needed, writes it anew as instructions without effect, and drops the rest; all
@@ -45,9 +48,11 @@ mod placed;
 mod places;
 mod reach;
 mod section_plan;
+mod sizes;
 
 pub use alignments::{asked_alignment, full_padding, has_padding};
 pub use calls::Plan;
 pub use law::{call_and_alignment, one_alignment, three_calls, two_alignments, two_sections};
 pub use placed::Placed;
 pub use section_plan::SectionPlan;
+pub use sizes::kept_sizes;

@@ -29,7 +29,7 @@ pub(crate) fn paddings(
         let alignment = &alignments[rest];
         let full = full_padding(alignment) as u32;
         let stands = start.wrapping_add(alignment.place - gone);
-        let least = least_padding(asked_alignment(alignment) as u32, stands);
+        let least = least_padding(asked_alignment(alignment) as u32, u128::from(stands));
         let left = least - least % 2;
         paddings.push(Piece {
             place: alignment.place,

@@ -14,12 +14,12 @@ use crate::reach::judged_size;
 use rv_layout_laws::{Call, Site, SiteKind};
 
 /// What lies between two places, in bytes.
-fn between(from: u64, to: u64) -> i64
-    requires from { from ≤ 2 ^ 62 }
-    requires to { to ≤ 2 ^ 62 }
+fn between(from: u128, to: u128) -> i128
+    requires from { from ≤ 9 * 2 ^ 123 }
+    requires to { to ≤ 9 * 2 ^ 123 }
     ensures { result ≡ pos to -ℤ pos from }
 {
-    to as i64 - from as i64
+    to as i128 - from as i128
 }
 
 /// Whether no form of a call is shorter than this size.
@@ -34,19 +34,19 @@ fn is_shortest(call: &Call, size: u32) -> bool
 }
 
 /// What is left of a distance from site `i`, before which `before` is dropped, in a pass forwards.
-fn distance_forwards(far: i64, target: usize, i: usize, before: u64, stands: &[u64]) -> i64
-    requires low { neg_ℤ (pos (2 ^ 62)) ≤ℤ far }
-    requires high { far ≤ℤ pos (2 ^ 62) }
+fn distance_forwards(far: i128, target: usize, i: usize, before: u128, stands: &[u128]) -> i128
+    requires low { neg_ℤ (pos (9 * 2 ^ 123)) ≤ℤ far }
+    requires high { far ≤ℤ pos (9 * 2 ^ 123) }
     requires target { target < length stands.now }
     requires here { i < length stands.now }
-    requires before { before ≤ 3 * 2 ^ 60 }
-    requires own { slice_index stands.now i ≤ 3 * 2 ^ 60 }
-    requires there { slice_index stands.now target ≤ 3 * 2 ^ 60 }
+    requires before { before ≤ 27 * 2 ^ 121 }
+    requires own { slice_index stands.now i ≤ 27 * 2 ^ 121 }
+    requires there { slice_index stands.now target ≤ 27 * 2 ^ 121 }
     ensures value { result
         ≡ (if ltb target i then far +ℤ (pos before -ℤ pos (slice_index stands.now target))
         else far +ℤ (pos (slice_index stands.now target) -ℤ pos (slice_index stands.now i))) }
-    ensures low { neg_ℤ (pos (7 * 2 ^ 60)) ≤ℤ result }
-    ensures high { result ≤ℤ pos (7 * 2 ^ 60) }
+    ensures low { neg_ℤ (pos (63 * 2 ^ 121)) ≤ℤ result }
+    ensures high { result ≤ℤ pos (63 * 2 ^ 121) }
 {
     if target < i {
         return far + between(stands[target], before);
@@ -55,19 +55,19 @@ fn distance_forwards(far: i64, target: usize, i: usize, before: u64, stands: &[u
 }
 
 /// What is left of a distance from site `i`, from which on `left` is dropped, in a pass backwards.
-fn distance_backwards(far: i64, target: usize, i: usize, left: u64, stands: &[u64]) -> i64
-    requires low { neg_ℤ (pos (2 ^ 62)) ≤ℤ far }
-    requires high { far ≤ℤ pos (2 ^ 62) }
+fn distance_backwards(far: i128, target: usize, i: usize, left: u128, stands: &[u128]) -> i128
+    requires low { neg_ℤ (pos (9 * 2 ^ 123)) ≤ℤ far }
+    requires high { far ≤ℤ pos (9 * 2 ^ 123) }
     requires target { target < length stands.now }
     requires here { i < length stands.now }
-    requires left { left ≤ 3 * 2 ^ 60 }
-    requires own { slice_index stands.now i ≤ 3 * 2 ^ 60 }
-    requires there { slice_index stands.now target ≤ 3 * 2 ^ 60 }
+    requires left { left ≤ 27 * 2 ^ 121 }
+    requires own { slice_index stands.now i ≤ 27 * 2 ^ 121 }
+    requires there { slice_index stands.now target ≤ 27 * 2 ^ 121 }
     ensures value { result
         ≡ (if ltb i target then far +ℤ (pos (slice_index stands.now target) -ℤ pos left)
         else far +ℤ (pos (slice_index stands.now i) -ℤ pos (slice_index stands.now target))) }
-    ensures low { neg_ℤ (pos (7 * 2 ^ 60)) ≤ℤ result }
-    ensures high { result ≤ℤ pos (7 * 2 ^ 60) }
+    ensures low { neg_ℤ (pos (63 * 2 ^ 121)) ≤ℤ result }
+    ensures high { result ≤ℤ pos (63 * 2 ^ 121) }
 {
     if i < target {
         return far + between(left, stands[target]);
@@ -80,9 +80,9 @@ fn size_forwards(
     sites: &[Site],
     targets: &[usize],
     i: usize,
-    before: u64,
+    before: u128,
     kept: &[u32],
-    stands: &[u64],
+    stands: &[u128],
 ) -> u32
     requires input { IsInput sites.now }
     requires targets { AreTargets sites.now targets.now }
@@ -110,9 +110,9 @@ fn size_backwards(
     sites: &[Site],
     targets: &[usize],
     i: usize,
-    left: u64,
+    left: u128,
     kept: &[u32],
-    stands: &[u64],
+    stands: &[u128],
 ) -> u32
     requires input { IsInput sites.now }
     requires targets { AreTargets sites.now targets.now }
@@ -140,9 +140,9 @@ fn visit_forwards(
     sites: &[Site],
     targets: &[usize],
     i: usize,
-    before: &mut u64,
+    before: &mut u128,
     kept: &mut [u32],
-    stands: &mut [u64],
+    stands: &mut [u128],
 ) -> bool
     requires input { IsInput sites.now }
     requires targets { AreTargets sites.now targets.now }
@@ -158,7 +158,7 @@ fn visit_forwards(
     let shorter = size_forwards(sites, targets, i, start, kept, stands);
     kept[i] = shorter;
     stands[i] = start;
-    *before = start + u64::from(dropped_bytes(&sites[i].kind, shorter));
+    *before = start + u128::from(dropped_bytes(&sites[i].kind, shorter));
     shorter < size
 }
 
@@ -167,9 +167,9 @@ fn visit_backwards(
     sites: &[Site],
     targets: &[usize],
     i: usize,
-    after: &mut u64,
+    after: &mut u128,
     kept: &mut [u32],
-    stands: &mut [u64],
+    stands: &mut [u128],
 ) -> bool
     requires input { IsInput sites.now }
     requires targets { AreTargets sites.now targets.now }
@@ -182,9 +182,9 @@ fn visit_backwards(
 {
     let size = kept[i];
     let behind = *after;
-    let left = behind + u64::from(dropped_bytes(&sites[i].kind, size));
+    let left = behind + u128::from(dropped_bytes(&sites[i].kind, size));
     let shorter = size_backwards(sites, targets, i, left, kept, stands);
-    let now = behind + u64::from(dropped_bytes(&sites[i].kind, shorter));
+    let now = behind + u128::from(dropped_bytes(&sites[i].kind, shorter));
     kept[i] = shorter;
     stands[i] = now;
     *after = now;
@@ -196,7 +196,7 @@ fn shorten_forwards(
     sites: &[Site],
     targets: &[usize],
     kept: &mut [u32],
-    stands: &mut [u64],
+    stands: &mut [u128],
 ) -> usize
     requires input { IsInput sites.now }
     requires targets { AreTargets sites.now targets.now }
@@ -220,7 +220,7 @@ fn shorten_backwards(
     sites: &[Site],
     targets: &[usize],
     kept: &mut [u32],
-    stands: &mut [u64],
+    stands: &mut [u128],
 ) -> usize
     requires input { IsInput sites.now }
     requires targets { AreTargets sites.now targets.now }
@@ -247,10 +247,11 @@ pub(crate) fn settle(
     sites: &[Site],
     targets: &[usize],
     kept: &mut [u32],
-    stands: &mut [u64],
+    stands: &mut [u128],
 ) -> usize
     requires input { IsInput sites.now }
     requires targets { AreTargets sites.now targets.now }
+    requires many { length sites.now < 2 ^ 63 }
     requires whole { kept.old ≡ whole_sizes sites.now }
     requires same_length { length stands.old ≡ length sites.now + 1 }
     requires none { (j : ℕ) → slice_index stands.old j ≡ 0 }

@@ -33,17 +33,17 @@ pub(crate) fn dropped_bytes(kind: &SiteKind, kept: u32) -> u32
 }
 
 /// Whether a site ends at an offset or before it.
-fn ends_by(site: &Site, old: u64) -> bool
+fn ends_by(site: &Site, old: u128) -> bool
     ensures { result ≡ nat_le (site_end site.now) old }
 {
     if old < site.offset {
         return false;
     }
-    u64::from(whole_size(&site.kind)) <= old - site.offset
+    u128::from(whole_size(&site.kind)) <= old - site.offset
 }
 
 /// How many sites end at an offset or before it.
-pub(crate) fn place_of(sites: &[Site], old: u64) -> usize
+pub(crate) fn place_of(sites: &[Site], old: u128) -> usize
     requires { InOrder 0 sites.now }
     ensures { IsPlace sites.now old result }
 {

@@ -38,17 +38,17 @@ fn is_call(site: &Site) -> bool
 }
 
 /// The bytes of a site before relaxation.
-fn bytes_of(site: &Site) -> u64
+fn bytes_of(site: &Site) -> u128
     ensures { result ≡ calls.bytes_of (site.now).kind }
 {
     match site.kind {
         SiteKind::Call(_) => 8,
-        SiteKind::Padding(padding) => u64::from(padding.bytes),
+        SiteKind::Padding(padding) => u128::from(padding.bytes),
     }
 }
 
 /// The offset of a site in its section, which begins behind a first site.
-fn place_of(start: &Site, site: &Site) -> u64
+fn place_of(start: &Site, site: &Site) -> u128
     ensures { result ≡ (site.now).offset - walk.site_end start.now }
 {
     site.offset
@@ -63,7 +63,7 @@ fn count_within(start: &Site, size: u64, sites: &[Site]) -> usize
 {
     let mut count = 0;
     for site in sites {
-        if place_of(start, site) >= size {
+        if place_of(start, site) >= u128::from(size) {
             return count;
         }
         count += 1;
@@ -104,7 +104,7 @@ fn cut(bytes: &[u8], place: u64, gone: u64, left: u32) -> Cut
 fn put_site(
     cuts: &mut Vec<Cut>,
     bytes: &[u8],
-    place: u64,
+    place: u128,
     gone: u64,
     site: &Site,
     left: u32,
@@ -118,7 +118,7 @@ fn put_site(
     if !is_call(site) || left >= 8 {
         return Ok(gone);
     }
-    let cut = cut(bytes, place, gone, left);
+    let cut = cut(bytes, place as u64, gone, left);
     let dropped = u64::from(8 - cut.left);
     cuts.push(cut)?;
     Ok(gone + dropped)

@@ -24,18 +24,17 @@ use Rattle.rv_source_laws.specs.Shortened.{Placed, HaveBytes, text_of, full_leng
 use Rattle.rv_source_laws.proofs.HomesLemmas.{all_filter}
 use Rattle.rv_chain_laws.specs.Contents.{IsLinked}
 use Rattle.rv_object.specs.Object.{Section, Symbol, Object, size_of, stored}
-use Rattle.rv_object_laws.specs.CallSites.{base_in, start_padding, changes, site_of, sites_from, sites_of, is_entered, is_short_text}
+use Rattle.rv_object_laws.specs.CallSites.{base_in, start_padding, changes, site_of, sites_from, sites_of, is_entered}
 use Rattle.rv_object_laws.specs.Inputs.{Starts, InputSection, goes_to_text, inputs_from, inputs_of, inputs, begins_at}
 use Rattle.rv_object_laws.specs.IsLinkOf.{IsLinkOf}
 use Rattle.rv_object_laws.specs.Names.{symbol_place}
-use Rattle.rv_object_laws.specs.Shortened.{Sizes, sizes_by, shortened_object, shortened_from, shortened, IsRelaxed, Relaxes}
+use Rattle.rv_object_laws.specs.Shortened.{Sizes, sizes_by, shortened_object, shortened_from, shortened, Relaxes}
 use Rattle.rv_assemble_laws.specs.LaidStatements.{LaidStatement, part_bytes, laid_in}
 use Rattle.rv_assemble_laws.specs.Symbols.{laid_at, StandsFor}
 use Rattle.rv_assemble_laws.specs.IsObjectOf.{relocations_from}
 use Rattle.rv_sources_link_laws.proofs.sections.KeptLemmas.{IsKept, AreKept, AreMasked}
 use Rattle.rv_sources_link_laws.proofs.sections.MaskedLemmas.{source_sections}
 use Rattle.rv_sources_link_laws.proofs.sections.AssembledLemmas.{IsAssembled, AreAssembled, AreSectionsOf, IsSectionOf, parts}
-use Rattle.rv_sources_link_laws.proofs.sections.BoundedLemmas.{text_short}
 use Rattle.rv_sources_link_laws.proofs.calls.ChangesOfLemmas as changed
 use Rattle.rv_sources_link_laws.proofs.calls.CutObjectsLemmas as cut
 use Rattle.rv_sources_link_laws.proofs.calls.CutObjectsLemmas.{Fitting, cut_is, cut_laid, cut_dropped}
@@ -377,20 +376,10 @@ module _ (sources : List (List Statement)) (os : List Object) (text_start : ℕ)
       relaxed.joined sources os text_start l h masks (shortened kept os) k sizes c link true gc collected
       (kept, subst (λ ss. IsGreatestClosed ss kept) (sym same) greatest, subst (λ ss. HaveBytes (size_at ss kept) (text_of sources l.map)) (sym same) bytes)
 
--- ---- with relaxation, of a text that is short and of one that is not
-
-relaxed_link : (sources : List (List Statement)) (os : List Object) (text_start : ℕ) (gc : Bool) (l : Linked) (h : AreKept sources os) → AreMasked l.map.drops 1 sources os h → AreDrops gc (graph_of sources) l.map.drops
-    → (left : List Object) (short : Bool) → is_short_text os ≡ short → IsRelaxed short os left → IsLinkOf left text_start l → IsLinked sources text_start true gc l
-relaxed_link sources os text_start gc l h masks collected left true e (kept, greatest, same) link =
-    shortens sources os text_start gc l h masks collected kept greatest (subst (λ us. IsLinkOf us text_start l) same link)
-relaxed_link sources os text_start gc l h masks collected left false e same link =
-    let here = subst (λ us. IsLinkOf us text_start l) same link in
-    let both : true ≡ false = sym (text_short sources os h here.few) ∙ e in absurd (cc)
-
 -- of objects without the sections that collection dropped
 pub kept_link : (sources : List (List Statement)) (os : List Object) (text_start : ℕ) (relax gc : Bool) (l : Linked) (h : AreKept sources os) → AreMasked l.map.drops 1 sources os h
     → AreDrops gc (graph_of sources) l.map.drops → (left : List Object) → Relaxes relax os left → IsLinkOf left text_start l → IsLinked sources text_start relax gc l
 kept_link sources os text_start false gc l h masks collected left same link =
     relaxed.unrelaxed sources os text_start gc l h masks collected (subst (λ us. IsLinkOf us text_start l) same link)
-kept_link sources os text_start true gc l h masks collected left shorter link =
-    relaxed_link sources os text_start gc l h masks collected left (is_short_text os) refl shorter link
+kept_link sources os text_start true gc l h masks collected left (kept, greatest, same) link =
+    shortens sources os text_start gc l h masks collected kept greatest (subst (λ us. IsLinkOf us text_start l) same link)

@@ -2,7 +2,6 @@ pub mod MaskedLemmas
 pub mod KeptLemmas
 pub mod KeepingLemmas
 pub mod FiledLemmas
-pub mod BoundedLemmas
 pub mod StoodLemmas
 pub mod AssembledLemmas
 pub mod SectionsLemmas

@@ -7,20 +7,16 @@ use Rattle.rv_layout_laws.proofs.ShorteningLemmas.{one_greatest_closed}
 use Rattle.rv_object.specs.declared.row.Row.{Row}
 use Rattle.rv_object.specs.Object.{Section, Object}
 use Rattle.rv_object_laws.specs.Inputs.{goes_to_text}
-use Rattle.rv_object_laws.specs.CallSites.{is_short_text, sites_of}
-use Rattle.rv_object_laws.specs.Shortened.{Sizes, sizes_by, shortened_text, shortened_section, shortened_sections, shortened_row, shortened_from, shortened, IsRelaxed, Relaxes}
+use Rattle.rv_object_laws.specs.CallSites.{sites_of}
+use Rattle.rv_object_laws.specs.Shortened.{Sizes, sizes_by, shortened_text, shortened_section, shortened_sections, shortened_row, shortened_from, shortened, Relaxes}
 use Rattle.rv_resolve.specs.Undefined.{is_loaded_at}
 use Rattle.rv_unique_link_laws.specs.Asked.{HavePlacedRows}
 
 -- ---- one list
 
-one_by : (short : Bool) (os left other : List Object) → IsRelaxed short os left → IsRelaxed short os other → left ≡ other
-one_by false os left other a b = a ∙ sym b
-one_by true os left other a b = a.2 ∙ ap (λ kept. shortened kept os) (one_greatest_closed (sites_of os) a.0 b.0 a.1 b.1) ∙ sym b.2
-
 pub one_left : (relax : Bool) (os left other : List Object) → Relaxes relax os left → Relaxes relax os other → left ≡ other
 one_left false os left other a b = a ∙ sym b
-one_left true os left other a b = one_by (is_short_text os) os left other a b
+one_left true os left other a b = a.2 ∙ ap (λ kept. shortened kept os) (one_greatest_closed (sites_of os) a.0 b.0 a.1 b.1) ∙ sym b.2
 
 -- ---- rows
 
@@ -45,10 +41,6 @@ placed_from : (sizes : ℕ → ℕ → Sizes) (file : ℕ) (os : List Object) �
 placed_from sizes file [] h = tt
 placed_from sizes file (o ∷ os) (one, h) = (rows_stay (sizes file) o o.rows one, placed_from sizes (suc file) os h)
 
-placed_by : (short : Bool) (os left : List Object) → IsRelaxed short os left → HavePlacedRows os → HavePlacedRows left
-placed_by false os left is h = subst HavePlacedRows (sym is) h
-placed_by true os left is h = subst HavePlacedRows (sym is.2) (placed_from (sizes_by os is.0) 1 os h)
-
 pub left_placed : (relax : Bool) (os left : List Object) → Relaxes relax os left → HavePlacedRows os → HavePlacedRows left
 left_placed false os left is h = subst HavePlacedRows (sym is) h
-left_placed true os left is h = placed_by (is_short_text os) os left is h
+left_placed true os left is h = subst HavePlacedRows (sym is.2) (placed_from (sizes_by os is.0) 1 os h)

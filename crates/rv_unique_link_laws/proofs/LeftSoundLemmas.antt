@@ -11,8 +11,8 @@ use Rattle.rv_object.specs.Valid.{is_alignment, fit_inside, are_paddings}
 use Rattle.rv_object_laws.specs.Moves.{Move}
 use Rattle.rv_object_laws.specs.Inputs.{goes_to_text}
 use Rattle.rv_object_laws.specs.Names.{no_object, object_at}
-use Rattle.rv_object_laws.specs.CallSites.{is_short_text, sites_of}
-use Rattle.rv_object_laws.specs.Shortened.{IsRelaxed, Relaxes}
+use Rattle.rv_object_laws.specs.CallSites.{sites_of}
+use Rattle.rv_object_laws.specs.Shortened.{Relaxes}
 use Rattle.rv_object_laws.specs.Without.{without}
 use Rattle.rv_object_laws.proofs.TextInputsLemmas.{IsTextInput}
 use Rattle.rv_object_laws.proofs.TextLineLemmas.{text}
@@ -102,15 +102,11 @@ sites_text os h =
 
 -- ---- what is left
 
-sound_by : (short : Bool) (os left : List Object) → IsRelaxed short os left → AllByRecursion IsSound os → AllByRecursion IsSound left
-sound_by false os left is h = subst (AllByRecursion IsSound) (sym is) h
-sound_by true os left is h =
-    let walk = walk_is os is.0 (all_sound os h) (sites_text os h) is.1.closed.family.same_length in
-    subst (AllByRecursion IsSound) (walk.same ∙ sym is.2) (walked_sound os (sites_of os) is.0 walk.allowed h)
-
 left_sound : (relax : Bool) (os left : List Object) → Relaxes relax os left → AllByRecursion IsSound os → AllByRecursion IsSound left
 left_sound false os left is h = subst (AllByRecursion IsSound) (sym is) h
-left_sound true os left is h = sound_by (is_short_text os) os left is h
+left_sound true os left is h =
+    let walk = walk_is os is.0 (all_sound os h) (sites_text os h) is.1.closed.family.same_length in
+    subst (AllByRecursion IsSound) (walk.same ∙ sym is.2) (walked_sound os (sites_of os) is.0 walk.allowed h)
 
 -- ---- with collection
 

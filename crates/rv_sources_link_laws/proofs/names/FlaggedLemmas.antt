@@ -10,8 +10,7 @@ use Rattle.rv_source_laws.specs.Located.{located_from, located_of}
 use Rattle.rv_source_laws.specs.Compressed.{is_compressed_code}
 use Rattle.rv_map.specs.declared.map.SectionId.{SectionId}
 use Rattle.rv_object.specs.Object.{Object}
-use Rattle.rv_object_laws.specs.CallSites.{is_short_text}
-use Rattle.rv_object_laws.specs.Shortened.{Sizes, sizes_by, shortened_from, IsRelaxed, Relaxes}
+use Rattle.rv_object_laws.specs.Shortened.{Sizes, sizes_by, shortened_from, Relaxes}
 use Rattle.rv_object_laws.specs.Without.{without, without_from}
 use Rattle.rv_assemble_laws.specs.LaidStatements.{LaidStatement}
 use Rattle.rv_sources_link_laws.specs.Joins.{AreObjectsOf}
@@ -47,12 +46,6 @@ shortened_flags : (sizes : ℕ → ℕ → Sizes) (file : ℕ) (os : List Object
 shortened_flags sizes file [] = refl
 shortened_flags sizes file (o ∷ os) = ap (λ b. o.rvc || b) (shortened_flags sizes (suc file) os)
 
-relaxed_flags : (short : Bool) (os left : List Object) → IsRelaxed short os left
-    → list_any (λ o. o.rvc) left ≡ list_any (λ o. o.rvc) os
-relaxed_flags false os left e = ap (list_any (λ o. o.rvc)) e
-relaxed_flags true os left (kept, greatest, e) =
-    ap (list_any (λ o. o.rvc)) e ∙ shortened_flags (sizes_by os kept) 1 os
-
 -- collection changes none either
 left_flags : (drops : List SectionId) (file : ℕ) (os : List Object)
     → list_any (λ o. o.rvc) (without_from drops file os) ≡ list_any (λ o. o.rvc) os
@@ -62,7 +55,8 @@ left_flags drops file (o ∷ os) = ap (λ b. o.rvc || b) (left_flags drops (suc 
 relaxes_flags : (relax : Bool) (os left : List Object) → Relaxes relax os left
     → list_any (λ o. o.rvc) left ≡ list_any (λ o. o.rvc) os
 relaxes_flags false os left e = ap (list_any (λ o. o.rvc)) e
-relaxes_flags true os left h = relaxed_flags (is_short_text os) os left h
+relaxes_flags true os left (kept, greatest, e) =
+    ap (list_any (λ o. o.rvc)) e ∙ shortened_flags (sizes_by os kept) 1 os
 
 pub flags_stay : (relax : Bool) (os : List Object) (drops : List SectionId) (left : List Object)
     → Relaxes relax (without drops os) left → list_any (λ o. o.rvc) left ≡ list_any (λ o. o.rvc) os

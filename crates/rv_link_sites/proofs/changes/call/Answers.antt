@@ -19,7 +19,7 @@ returns-then-input c =
     let r = relocation_of c.args.relocation.now in
     let words : laws.are_call_words (stored i.section.contents) r.place ≡ true =
     ap (λ l. laws.are_call_words l r.place) (sym c.stored-bytes.ensures) ∙ sym c.are_call_words.ensures ∙ c.if-not-are_call_words.false in
-    let target = c.in_ok-target.ensures i c.requires.laid refl c.requires.given.at in
+    let target = c.in_ok-target.ensures i refl c.requires.given.at in
     let inside = slice_get_within (object_of c.args.input.now.object.now).sections c.args.input.now.index (section_of c.args.input.now.section.now) c.requires.given.there in
     let entered = sym (c.is_entered.ensures (object_of c.args.input.now.object.now) c.requires.given.entries inside) ∙ c.if-is_entered.false in
     let link = c.link_register.ensures.value ∙ ap (λ l. laws.link_register l r.place) c.stored-bytes.ensures in
@@ -36,7 +36,7 @@ returns-else-input c =
     let r = relocation_of c.args.relocation.now in
     let words : laws.are_call_words (stored i.section.contents) r.place ≡ true =
     ap (λ l. laws.are_call_words l r.place) (sym c.stored-bytes.ensures) ∙ sym c.are_call_words.ensures ∙ c.if-not-are_call_words.false in
-    let target = c.in_ok-target.ensures i c.requires.laid refl c.requires.given.at in
+    let target = c.in_ok-target.ensures i refl c.requires.given.at in
     let inside = slice_get_within (object_of c.args.input.now.object.now).sections c.args.input.now.index (section_of c.args.input.now.section.now) c.requires.given.there in
     let entered = sym (c.is_entered.ensures (object_of c.args.input.now.object.now) c.requires.given.entries inside) ∙ c.if-is_entered.false in
     let rvc = c.args.input.now.object.now.rvc in

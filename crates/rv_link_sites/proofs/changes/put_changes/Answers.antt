@@ -1,8 +1,7 @@
-use Rattle.std.proofs.Common.{◌≤◌, ◌^◌, ◌++◌, map, take, refl, sym, ap, subst, ◌∙◌, arith, IsPermutation}
+use Rattle.std.proofs.Common.{◌++◌, map, take, refl, sym, ap, subst, ◌∙◌, IsPermutation}
 use Rattle.std.specs.Prelude.{filter}
 use Rattle.std.proofs.lemmas.List.{take_all}
 use Rattle.std.proofs.lemmas.List.Sorted.{IsPermutation-map}
-use Rattle.rv_object.specs.Object.{size_of}
 use Rattle.rv_object.specs.Parts.{relocation_of}
 use Rattle.rv_object.specs.Sections.{section_of}
 use Rattle.rv_object_laws.specs.CallSites as laws
@@ -19,9 +18,7 @@ pub and-before-requires : goal.and-before-requires
 and-before-requires c = λ some.
     let s = section_of c.args.input.now.section.now in
     let x = fine_at c.args.input.now.section.now c.args.sorted.now c.loop-i.i c.requires.given.text c.requires.same c.loop-i-test.true in
-    let low = c.requires.low in
-    let size : size_of s.contents ≤ 2 ^ 62 = omega (arith, low) in
-    field_low s _ x size some
+    field_low s _ x c.requires.sized some
 
 pub loop-i-preserved : goal.loop-i-preserved
 loop-i-preserved c =

@@ -1,13 +1,9 @@
-use Rattle.std.proofs.Common.{◌^◌, map}
-use Rattle.rv_object.specs.Sections.{section_of}
-use Rattle.rv_link_sites.specs.Line.{ended}
-use Rattle.rv_link_sites.proofs.StepsLemmas.{told, told_none, section_far, section_ends, section_firsts}
+use Rattle.std.proofs.Common.{arith}
+use Rattle.rv_link_sites.proofs.StepsLemmas.{low_more, section_ends, section_places}
 use Rattle.rv_link_sites.proofs.line.put_file.Goals as goal
 
-pub returns-in-None-clause-far : goal.returns-in-None-clause-far
-returns-in-None-clause-far c =
-    section_far c.loop-section.stop c.loop-section.section-index c.args.sections.now c.section-item.result c.loop-section-test.true c.section-item.is (2 ^ 62) (ended c.args.first (map section_of c.args.sections.now))
-    (told_none _ c.stand.result c.in-None.is c.stand.ensures.far) c.loop-section.invariant.1
+pub stand-start-requires : goal.stand-start-requires
+stand-start-requires c = omega (arith, c.loop-section.places.ok, c.loop-section.places.small, c.loop-section.invariant.low)
 
 pub loop-section-preserved : goal.loop-section-preserved
 loop-section-preserved c =
@@ -17,8 +13,10 @@ loop-section-preserved c =
     let x = c.section-item.result in
     let inside = c.loop-section-test.true in
     let is = c.section-item.is in
-    let found = told _ c.stand.result (c.in-Some.base, c.in-Some.end) c.in-Some.is c.stand.ensures.found in (
-      section_firsts stop i xs x inside is c.in-Some.end found.1 c.in-Some.base c.loop-section.bases.items _ _ c.in_ok-push-in-Some.ensures.items found.0 c.loop-section.invariant.0,
-      section_ends stop i xs x inside is c.in-Some.end found.1 _ c.loop-section.invariant.1,
-      found.2,
-    )
+    let first = c.stand-start.result.0 in
+    let end = c.stand-start.result.1 in
+    record {
+      places = section_places stop i xs x inside is end c.stand-start.ensures.end first c.loop-section.places.items _ _ _ c.in_ok-push.ensures.items c.in_ok-push-2.ensures.items c.stand-start.ensures.first c.loop-section.invariant.places;
+      ends = section_ends stop i xs x inside is end c.stand-start.ensures.end _ c.loop-section.invariant.ends;
+      low = low_more c.loop-section.places.items _ _ first end stop c.in_ok-push.ensures.items c.in_ok-push-2.ensures.items c.stand-start.ensures.near c.loop-section.invariant.low;
+    }

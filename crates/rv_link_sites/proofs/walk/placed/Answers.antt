@@ -1,4 +1,4 @@
-use Rattle.std.proofs.Common.{◌≡◌, ℕ, ◌≤◌, ◌^◌, ◌++◌, true, [], List, length, map, subst, sym, ap, ◌∙◌}
+use Rattle.std.proofs.Common.{◌≡◌, ℕ, ◌≤◌, ◌*◌, ◌^◌, ◌++◌, true, [], List, length, map, subst, sym, ap, ◌∙◌}
 use Rattle.rv_layout_laws.specs.declared.site.Site.{Site}
 use Rattle.rv_layout_laws.specs.declared.site.SiteKind.{SiteKind}
 use Rattle.rv_layout_laws.specs.declared.site.SiteKind.TheVariants.{Call, Padding}
@@ -12,15 +12,14 @@ use Rattle.rv_relax.specs.Placed.{is_aligning}
 use Rattle.rv_link_sites.specs.Line.{ended_files, starts_of}
 use Rattle.rv_link_sites.specs.Text.{objects_of}
 use Rattle.rv_link_sites.proofs.MarksLemmas.{aligning, same_length}
-use Rattle.rv_link_sites.proofs.StepsLemmas.{told}
-use Rattle.rv_link_sites.proofs.TargetsLemmas.{short_text, is_text, are_within}
+use Rattle.rv_link_sites.proofs.TargetsLemmas.{is_text, are_within}
 use Rattle.rv_link_sites.proofs.walk.placed.Goals as goal
 
-leads_low : (kind : SiteKind) → LeadsWithin (2 ^ 62) kind → LeadsLow kind
+leads_low : (kind : SiteKind) → LeadsWithin (9 * 2 ^ 123) kind → LeadsLow kind
 leads_low (Call call) h = h
 leads_low (Padding padding) h = tt
 
-input : (sites : List Site) → IsText sites → ((i : ℕ) → IsWithin (2 ^ 62) (site_at sites i)) → IsInput sites
+input : (sites : List Site) → IsText sites → ((i : ℕ) → IsWithin (9 * 2 ^ 123) (site_at sites i)) → IsInput sites
 input sites text within = record {
   text = text;
   ends = λ i. (within i).end;
@@ -31,60 +30,51 @@ input sites text within = record {
 all_of : {A : Type 0} (f : List Object → List A) (os own : List Object) (none new : List A) → none ≡ [] → new ≡ none ++ f own → own ≡ os → new ≡ f os
 all_of f os own none new empty is same = is ∙ ap (λ l. l ++ f own) empty ∙ ap f same
 
-pub of-requires-in-Some-clause-input : goal.of-requires-in-Some-clause-input
-of-requires-in-Some-clause-input c =
-    let os = map object_of c.args.objects.now in
-    let same = told _ c.in_ok-text.field-0 c.in-Some.text c.in-Some.is c.in_ok-text.ensures.same in
-    let laid = told _ c.in_ok-text.field-0 c.in-Some.text c.in-Some.is c.in_ok-text.ensures.laid in
-    let is : c.put_all.new.marked.sites.items ≡ sites_of os = all_of sites_of os (objects_of c.in-Some.text) c.new.result.items c.put_all.new.marked.sites.items c.new.ensures.items c.in_ok-put_all-in-Some.ensures.sites same in
-    input c.put_all.new.marked.sites.items (is_text c.args.objects.now _ is) (are_within c.args.objects.now _ is (short_text os (subst (λ l. ended_files 0 l ≤ 2 ^ 62) same laid.short)))
+low : (os own : List Object) → own ≡ os → ended_files 0 own ≤ 9 * 2 ^ 123 → ended_files 0 os ≤ 9 * 2 ^ 123
+low os own same h = subst (λ l. ended_files 0 l ≤ 9 * 2 ^ 123) same h
 
-pub of-requires-in-Some-clause-aligning : goal.of-requires-in-Some-clause-aligning
-of-requires-in-Some-clause-aligning c =
+pub of-requires-2-clause-input : goal.of-requires-2-clause-input
+of-requires-2-clause-input c =
     let os = map object_of c.args.objects.now in
-    let same = told _ c.in_ok-text.field-0 c.in-Some.text c.in-Some.is c.in_ok-text.ensures.same in
-    let is : c.put_all.new.marked.sites.items ≡ sites_of os = all_of sites_of os (objects_of c.in-Some.text) c.new.result.items c.put_all.new.marked.sites.items c.new.ensures.items c.in_ok-put_all-in-Some.ensures.sites same in
+    let same = c.in_ok-text.ensures.same in
+    let is : c.put_all.new.marked.sites.items ≡ sites_of os = all_of sites_of os (objects_of c.in_ok-text.text) c.new.result.items c.put_all.new.marked.sites.items c.new.ensures.items c.in_ok-put_all.ensures.sites same in
+    input c.put_all.new.marked.sites.items (is_text c.args.objects.now _ is) (are_within c.args.objects.now _ is (low os _ same c.in_ok-text.ensures.laid.low))
+
+pub of-requires-2-clause-aligning : goal.of-requires-2-clause-aligning
+of-requires-2-clause-aligning c =
+    let os = map object_of c.args.objects.now in
+    let is : c.put_all.new.marked.sites.items ≡ sites_of os = all_of sites_of os (objects_of c.in_ok-text.text) c.new.result.items c.put_all.new.marked.sites.items c.new.ensures.items c.in_ok-put_all.ensures.sites c.in_ok-text.ensures.same in
     subst (λ (sites : List Site). (i : ℕ) → is_aligning (site_at sites i).kind ≡ true) (sym is) (aligning os)
 
-pub of-requires-in-Some-clause-same_length : goal.of-requires-in-Some-clause-same_length
-of-requires-in-Some-clause-same_length c =
+pub of-requires-2-clause-same_length : goal.of-requires-2-clause-same_length
+of-requires-2-clause-same_length c =
     let os = map object_of c.args.objects.now in
-    let same = told _ c.in_ok-text.field-0 c.in-Some.text c.in-Some.is c.in_ok-text.ensures.same in
-    let is : c.put_all.new.marked.sites.items ≡ sites_of os = all_of sites_of os (objects_of c.in-Some.text) c.new.result.items c.put_all.new.marked.sites.items c.new.ensures.items c.in_ok-put_all-in-Some.ensures.sites same in
-    let starts : c.put_all.new.marked.starts.items ≡ starts_of os = all_of starts_of os (objects_of c.in-Some.text) c.new-in-Some.result.items c.put_all.new.marked.starts.items c.new-in-Some.ensures.items c.in_ok-put_all-in-Some.ensures.starts same in
+    let same = c.in_ok-text.ensures.same in
+    let is : c.put_all.new.marked.sites.items ≡ sites_of os = all_of sites_of os (objects_of c.in_ok-text.text) c.new.result.items c.put_all.new.marked.sites.items c.new.ensures.items c.in_ok-put_all.ensures.sites same in
+    let starts : c.put_all.new.marked.starts.items ≡ starts_of os = all_of starts_of os (objects_of c.in_ok-text.text) c.new-2.result.items c.put_all.new.marked.starts.items c.new-2.ensures.items c.in_ok-put_all.ensures.starts same in
     ap length starts ∙ same_length os ∙ sym (ap length is)
 
-pub returns-in_ok-put_all-in-Some-clause-sites : goal.returns-in_ok-put_all-in-Some-clause-sites
-returns-in_ok-put_all-in-Some-clause-sites c =
+pub returns-clause-sites : goal.returns-clause-sites
+returns-clause-sites c =
     let os = map object_of c.args.objects.now in
-    let same = told _ c.in_ok-text.field-0 c.in-Some.text c.in-Some.is c.in_ok-text.ensures.same in
-    let is : c.put_all.new.marked.sites.items ≡ sites_of os = all_of sites_of os (objects_of c.in-Some.text) c.new.result.items c.put_all.new.marked.sites.items c.new.ensures.items c.in_ok-put_all-in-Some.ensures.sites same in
-    c.of-in-Some.ensures.sites ∙ is
+    let is : c.put_all.new.marked.sites.items ≡ sites_of os = all_of sites_of os (objects_of c.in_ok-text.text) c.new.result.items c.put_all.new.marked.sites.items c.new.ensures.items c.in_ok-put_all.ensures.sites c.in_ok-text.ensures.same in
+    c.of-2.ensures.sites ∙ is
 
-pub returns-in_ok-put_all-in-Some-clause-starts : goal.returns-in_ok-put_all-in-Some-clause-starts
-returns-in_ok-put_all-in-Some-clause-starts c =
+pub returns-clause-starts : goal.returns-clause-starts
+returns-clause-starts c =
     let os = map object_of c.args.objects.now in
-    let same = told _ c.in_ok-text.field-0 c.in-Some.text c.in-Some.is c.in_ok-text.ensures.same in
-    let starts : c.put_all.new.marked.starts.items ≡ starts_of os = all_of starts_of os (objects_of c.in-Some.text) c.new-in-Some.result.items c.put_all.new.marked.starts.items c.new-in-Some.ensures.items c.in_ok-put_all-in-Some.ensures.starts same in
-    c.of-in-Some.ensures.starts ∙ starts
+    let starts : c.put_all.new.marked.starts.items ≡ starts_of os = all_of starts_of os (objects_of c.in_ok-text.text) c.new-2.result.items c.put_all.new.marked.starts.items c.new-2.ensures.items c.in_ok-put_all.ensures.starts c.in_ok-text.ensures.same in
+    c.of-2.ensures.starts ∙ starts
 
-pub returns-in_ok-put_all-in-Some-clause-text : goal.returns-in_ok-put_all-in-Some-clause-text
-returns-in_ok-put_all-in-Some-clause-text c =
+pub returns-clause-text : goal.returns-clause-text
+returns-clause-text c =
     let os = map object_of c.args.objects.now in
-    let same = told _ c.in_ok-text.field-0 c.in-Some.text c.in-Some.is c.in_ok-text.ensures.same in
-    let is : c.put_all.new.marked.sites.items ≡ sites_of os = all_of sites_of os (objects_of c.in-Some.text) c.new.result.items c.put_all.new.marked.sites.items c.new.ensures.items c.in_ok-put_all-in-Some.ensures.sites same in
-    is_text c.args.objects.now _ (c.of-in-Some.ensures.sites ∙ is)
+    let is : c.put_all.new.marked.sites.items ≡ sites_of os = all_of sites_of os (objects_of c.in_ok-text.text) c.new.result.items c.put_all.new.marked.sites.items c.new.ensures.items c.in_ok-put_all.ensures.sites c.in_ok-text.ensures.same in
+    is_text c.args.objects.now _ (c.of-2.ensures.sites ∙ is)
 
-pub returns-in_ok-put_all-in-Some-clause-within : goal.returns-in_ok-put_all-in-Some-clause-within
-returns-in_ok-put_all-in-Some-clause-within c =
+pub returns-clause-within : goal.returns-clause-within
+returns-clause-within c =
     let os = map object_of c.args.objects.now in
-    let same = told _ c.in_ok-text.field-0 c.in-Some.text c.in-Some.is c.in_ok-text.ensures.same in
-    let laid = told _ c.in_ok-text.field-0 c.in-Some.text c.in-Some.is c.in_ok-text.ensures.laid in
-    let is : c.put_all.new.marked.sites.items ≡ sites_of os = all_of sites_of os (objects_of c.in-Some.text) c.new.result.items c.put_all.new.marked.sites.items c.new.ensures.items c.in_ok-put_all-in-Some.ensures.sites same in
-    are_within c.args.objects.now _ (c.of-in-Some.ensures.sites ∙ is) (short_text os (subst (λ l. ended_files 0 l ≤ 2 ^ 62) same laid.short))
-
-pub returns-in_ok-put_all-in-Some-clause-short : goal.returns-in_ok-put_all-in-Some-clause-short
-returns-in_ok-put_all-in-Some-clause-short c =
-    let same = told _ c.in_ok-text.field-0 c.in-Some.text c.in-Some.is c.in_ok-text.ensures.same in
-    let laid = told _ c.in_ok-text.field-0 c.in-Some.text c.in-Some.is c.in_ok-text.ensures.laid in
-    short_text (map object_of c.args.objects.now) (subst (λ l. ended_files 0 l ≤ 2 ^ 62) same laid.short)
+    let same = c.in_ok-text.ensures.same in
+    let is : c.put_all.new.marked.sites.items ≡ sites_of os = all_of sites_of os (objects_of c.in_ok-text.text) c.new.result.items c.put_all.new.marked.sites.items c.new.ensures.items c.in_ok-put_all.ensures.sites same in
+    are_within c.args.objects.now _ (c.of-2.ensures.sites ∙ is) (low os _ same c.in_ok-text.ensures.laid.low)

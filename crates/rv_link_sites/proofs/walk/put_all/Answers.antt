@@ -1,4 +1,4 @@
-use Rattle.std.proofs.Common.{◌<◌, ◌≤◌, ◌+◌, ◌^◌, length, arith, rules}
+use Rattle.std.proofs.Common.{◌<◌, ◌≤◌, ◌+◌, ◌*◌, ◌^◌, length, arith, rules}
 use Rattle.rv_object.specs.View.{object_of}
 use Rattle.std.proofs.lemmas.List.{length-map}
 use Rattle.rv_link_sites.specs.Line.{ended_files}
@@ -12,7 +12,7 @@ put_object-requires-clause-low c =
     let os = objects_of c.args.text.now in
     let inside : c.loop-file.file < length c.args.text.now.objects.now = search rules in
     let there = mapped_at object_of c.args.text.now.objects.now c.loop-file.file c.index-text-file.result inside in
-    object_low c.loop-file.stop c.loop-file.file os _ there (2 ^ 62) (ended_files 0 os) c.requires.short c.loop-file.invariant.ends
+    object_low c.loop-file.stop c.loop-file.file os _ there (9 * 2 ^ 123) (ended_files 0 os) c.requires.low c.loop-file.invariant.ends
 
 pub loop-file-preserved : goal.loop-file-preserved
 loop-file-preserved c =

@@ -1,4 +1,4 @@
-use Rattle.std.proofs.Common.{◌+◌, ◌++◌, ◌≤◌, ◌^◌, sym, ap, subst, ◌∙◌}
+use Rattle.std.proofs.Common.{◌+◌, ◌*◌, ◌++◌, ◌≤◌, ◌^◌, sym, ap, subst, ◌∙◌}
 use Rattle.rv_object.specs.Object.{Section}
 use Rattle.rv_object.specs.Sections.{section_of}
 use Rattle.rv_object.specs.View.{object_of}
@@ -29,7 +29,7 @@ pub put_section-requires-clause-low : goal.put_section-requires-clause-low
 put_section-requires-clause-low c =
     let x = section_of c.index-section.result.now in
     let there = mapped_there section_of c.args.object.now.sections.items c.args.index c.index-section.result.now c.requires.inside c.index-section.ensures in
-    subst (λ n. n ≤ 2 ^ 62) (sym (next_text c.args.stop x (sym c.is_text.ensures ∙ c.if-not-is_text.false))) (c.requires.low x there)
+    subst (λ n. n ≤ 9 * 2 ^ 123) (sym (next_text c.args.stop x (sym c.is_text.ensures ∙ c.if-not-is_text.false))) (c.requires.low x there)
 
 pub returns-clause-end : goal.returns-clause-end
 returns-clause-end c = λ s at.

@@ -1,4 +1,4 @@
-use Rattle.std.proofs.Common.{◌<◌, ◌+◌, ◌^◌, length, rules}
+use Rattle.std.proofs.Common.{◌<◌, ◌+◌, ◌*◌, ◌^◌, length, rules}
 use Rattle.rv_object.specs.Sections.{section_of}
 use Rattle.rv_object.specs.View.{object_of}
 use Rattle.rv_link_sites.specs.Line.{ended}
@@ -10,7 +10,7 @@ use Rattle.rv_link_sites.proofs.walk.put_object.Goals as goal
 pub put_at-requires-clause-low : goal.put_at-requires-clause-low
 put_at-requires-clause-low c = λ s at.
     let o = object_of c.args.object.now in
-    section_low c.loop-index.stop c.loop-index.index o.sections s at (2 ^ 62) (ended c.args.first o.sections) c.requires.low c.loop-index.invariant.ends
+    section_low c.loop-index.stop c.loop-index.index o.sections s at (9 * 2 ^ 123) (ended c.args.first o.sections) c.requires.low c.loop-index.invariant.ends
 
 pub loop-index-preserved : goal.loop-index-preserved
 loop-index-preserved c =

@@ -1,4 +1,4 @@
-use Rattle.std.proofs.Common.{rules, arith, ◌≡◌, ◌≤◌, ◌<◌, ◌+◌, ◌^◌, refl}
+use Rattle.std.proofs.Common.{rules, arith, ◌≡◌, ◌≤◌, ◌<◌, ◌^◌, refl}
 use Rattle.rv_isa_laws.specs.Platform.{stack_start}
 use Rattle.rv_object.specs.Object.{size_of}
 use Rattle.rv_object_laws.specs.Moves.{moves}

@@ -1,4 +1,4 @@
-use Rattle.std.proofs.Common.{rules, arith, refl, ◌<◌, ◌+◌, ◌^◌}
+use Rattle.std.proofs.Common.{rules, arith, refl, ◌<◌, ◌^◌}
 use Rattle.rv_object.specs.Object.{size_of}
 use Rattle.rv_shorten.specs.Sections.{short_section_of}
 use Rattle.rv_placement.specs.Walk.{end_from}

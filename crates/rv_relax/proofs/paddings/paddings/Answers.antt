@@ -89,7 +89,7 @@ loop-rest-preserved c =
     let stands = start + (r.place - gone) in
     let wrapped = stands % 2 ^ 64 in
     let least_is : least ≡ least_of start gone r =
-    c.least_padding-least.ensures.value ∙ ap (λ a. aligned a wrapped - wrapped) above ∙ same_least r stands in
+    c.least_padding-least.ensures.value ∙ ap (λ n. aligned c.asked_alignment.result n - n) c.from.ensures ∙ ap (λ a. aligned a wrapped - wrapped) above ∙ same_least r stands in
     let items : c.push.new.self.items ≡ ps ++ record { place = r.place; gone = past; full = full_padding r; left = least - least % 2; detail = tt } ∷ [] =
     c.in_ok-push.ensures.items ∙ ap (λ n. ps ++ record { place = r.place; gone = past; full = n; left = least - least % 2; detail = tt } ∷ []) full in
     let more_gone : c.from-gone.result ≡ full_padding r - least = c.from-gone.ensures ∙ c.saturating_sub.ensures ∙ ap (λ n. n - least) full in

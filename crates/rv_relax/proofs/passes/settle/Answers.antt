@@ -1,7 +1,8 @@
-use Rattle.std.proofs.Common.{◌+◌, ◌*◌, ◌^◌, ◌<◌, ◌≤◌, ◌-◌, arith, sym, subst}
-use Rattle.rv_layout_laws.specs.Calls.{Rounds, Begins, whole_sizes, calls}
+use Rattle.std.proofs.Common.{◌+◌, ◌*◌, ◌<◌, ◌≤◌, ◌-◌, length, arith, sym, subst}
+use Rattle.std.proofs.lemmas.List.Sums.{count_by-le-length}
+use Rattle.rv_layout_laws.specs.declared.site.Site.{Site}
+use Rattle.rv_layout_laws.specs.Calls.{is_call, Rounds, Begins, whole_sizes, calls}
 use Rattle.rv_layout_laws.proofs.ShorteningLemmas.{rounds_end}
-use Rattle.rv_relax.proofs.DroppingLemmas.{calls_few}
 use Rattle.rv_relax.proofs.TablesLemmas.{first_table}
 use Rattle.rv_relax.proofs.GoingLemmas.{round_more, settled_greatest}
 use Rattle.rv_relax.proofs.passes.settle.Goals as goal
@@ -15,8 +16,8 @@ rounds-init c = record {
 pub overflow_add-rounds : goal.overflow_add-rounds
 overflow_add-rounds c =
     let few : c.rounds.rounds ≤ 2 * calls c.args.sites.now = rounds_end c.args.sites.now c.rounds.kept c.rounds.rounds c.rounds.invariant.rounds_done in
-    let all : 8 * calls c.args.sites.now ≤ 2 ^ 62 = calls_few (2 ^ 62) c.args.sites.now c.requires.input.text.in_order c.requires.input.ends in
-    omega arith
+    let all : calls c.args.sites.now ≤ length c.args.sites.now = count_by-le-length (λ (site : Site). is_call site.kind) c.args.sites.now in
+    omega (arith, c.requires.many)
 
 pub returns-then-shorten_forwards-eq0-clause-greatest : goal.returns-then-shorten_forwards-eq0-clause-greatest
 returns-then-shorten_forwards-eq0-clause-greatest c =
@@ -30,9 +31,11 @@ returns-then-shorten_forwards-eq0-clause-few c =
 
 pub overflow_add-rounds-in-rounds : goal.overflow_add-rounds-in-rounds
 overflow_add-rounds-in-rounds c =
-    let few : c.rounds.rounds ≤ 2 * calls c.args.sites.now = rounds_end c.args.sites.now c.rounds.kept c.rounds.rounds c.rounds.invariant.rounds_done in
-    let all : 8 * calls c.args.sites.now ≤ 2 ^ 62 = calls_few (2 ^ 62) c.args.sites.now c.requires.input.text.in_order c.requires.input.ends in
-    omega arith
+    let forwards = round_more c.args.sites.now c.rounds.kept c.shorten_forwards.new.kept c.rounds.rounds c.shorten_forwards.result c.rounds.invariant.rounds_done
+    c.shorten_forwards.ensures.shortenings (omega (arith, c.if-shorten_forwards-eq0.false)) in
+    let few : c.rounds.rounds + 1 ≤ 2 * calls c.args.sites.now = rounds_end c.args.sites.now c.shorten_forwards.new.kept (c.rounds.rounds + 1) forwards in
+    let all : calls c.args.sites.now ≤ length c.args.sites.now = count_by-le-length (λ (site : Site). is_call site.kind) c.args.sites.now in
+    omega (arith, c.requires.many)
 
 pub returns-then-shorten_backwards-eq0-clause-greatest : goal.returns-then-shorten_backwards-eq0-clause-greatest
 returns-then-shorten_backwards-eq0-clause-greatest c =

@@ -1,4 +1,5 @@
-use Rattle.std.proofs.Common.{◌≡◌, ◌+◌, ◌^◌, ◌≤◌, ◌-ℤ◌, ℕ, pos, length, slice_index, to_z, of_z, w64, ap, subst, sym, ◌∙◌, arith, List, slice_index_or, ◌<◌}
+use Rattle.std.proofs.Common.{◌≡◌, ◌+◌, ◌*◌, ◌^◌, ◌≤◌, ◌-ℤ◌, ℕ, pos, length, slice_index, to_z, of_z, ap, subst, sym, ◌∙◌, arith, List, slice_index_or, ◌<◌}
+use mir.Syntax.{w128}
 use Rattle.std.proofs.lemmas.Int.{ints}
 use Rattle.rv_layout_laws.specs.declared.site.Site.{Site}
 use Rattle.rv_layout_laws.specs.declared.site.Call.{Call as CallSite}
@@ -30,12 +31,12 @@ returns-else-is_shortest c =
     let place : IsPlace c.args.sites.now c.in-Call.call.target (slice_index c.args.targets.now c.args.i) =
     subst (λ kind. LeadsTo c.args.sites.now kind (slice_index c.args.targets.now c.args.i)) (kind_is c.args.sites.now c.args.i c.in-Call.call c.requires.within c.in-Call.is) (c.requires.targets.led c.args.i c.requires.within) in
     let is : (site_at c.args.sites.now c.args.i).kind ≡ Call c.in-Call.call = kind_is c.args.sites.now c.args.i c.in-Call.call c.requires.within c.in-Call.is in
-    let low : c.in-Call.call.target ≤ 2 ^ 62 = target_low c.args.sites.now c.args.i c.in-Call.call c.requires.input is in
-    let own : (site_at c.args.sites.now c.args.i).offset ≤ 2 ^ 62 = site_low c.args.sites.now c.args.i c.requires.input in
+    let low : c.in-Call.call.target ≤ 9 * 2 ^ 123 = target_low c.args.sites.now c.args.i c.in-Call.call c.requires.input is in
+    let own : (site_at c.args.sites.now c.args.i).offset ≤ 9 * 2 ^ 123 = site_low c.args.sites.now c.args.i c.requires.input in
     let between : c.between-far.result ≡ pos c.in-Call.call.target -ℤ pos (site_at c.args.sites.now c.args.i).offset = c.between-far.ensures ∙ ap (λ (site : Site). pos c.in-Call.call.target -ℤ pos site.offset) (site_read c.args.sites.now c.args.i c.requires.within) in
-    let far_is : to_z w64 (of_z w64 c.between-far.result) ≡ pos c.in-Call.call.target -ℤ pos (site_at c.args.sites.now c.args.i).offset = omega (arith, ints) in
-    let fits : to_z w64 (of_z w64 c.distance_backwards-distance.result) ≡ c.distance_backwards-distance.result = omega (arith, ints, c.distance_backwards-distance.ensures.low, c.distance_backwards-distance.ensures.high) in
-    turn_call c.args.sites.now c.args.kept.now c.args.i c.in-Call.call (to_z w64 (of_z w64 c.distance_backwards-distance.result)) c.judged_size.result is
+    let far_is : to_z w128 (of_z w128 c.between-far.result) ≡ pos c.in-Call.call.target -ℤ pos (site_at c.args.sites.now c.args.i).offset = omega (arith, ints) in
+    let fits : to_z w128 (of_z w128 c.distance_backwards-distance.result) ≡ c.distance_backwards-distance.result = omega (arith, ints, c.distance_backwards-distance.ensures.low, c.distance_backwards-distance.ensures.high) in
+    turn_call c.args.sites.now c.args.kept.now c.args.i c.in-Call.call (to_z w128 (of_z w128 c.distance_backwards-distance.result)) c.judged_size.result is
     (fits ∙ backward_is c.args.sites.now c.args.i c.args.kept.now c.args.stands.now c.args.left c.in-Call.call (slice_index c.args.targets.now c.args.i)
-    (to_z w64 (of_z w64 c.between-far.result)) c.distance_backwards-distance.result c.requires.input c.requires.within c.requires.table c.requires.left is place far_is c.distance_backwards-distance.ensures.value)
+    (to_z w128 (of_z w128 c.between-far.result)) c.distance_backwards-distance.result c.requires.input c.requires.within c.requires.table c.requires.left is place far_is c.distance_backwards-distance.ensures.value)
     c.judged_size.ensures

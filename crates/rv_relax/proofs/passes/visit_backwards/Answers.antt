@@ -11,7 +11,7 @@ pub overflow_add-left : goal.overflow_add-left
 overflow_add-left c =
     let left : c.args.after.now + c.from.result ≡ rest (drops c.args.sites.now c.args.kept.now) c.args.i =
     backward_left c.args.sites.now c.args.i c.args.kept.now c.args.after.now c.from.result c.requires.within c.requires.table.family.same_length c.requires.after (c.from.ensures ∙ c.dropped_bytes.ensures ∙ ap (λ (site : Site). bytes_of site.kind - slice_index c.args.kept.now c.args.i) (site_read c.args.sites.now c.args.i c.requires.within)) in
-    let low : rest (drops c.args.sites.now c.args.kept.now) c.args.i ≤ 3 * 2 ^ 60 = rest_low c.args.sites.now c.args.kept.now c.args.i c.requires.input c.requires.table.family in
+    let low : rest (drops c.args.sites.now c.args.kept.now) c.args.i ≤ 27 * 2 ^ 121 = rest_low c.args.sites.now c.args.kept.now c.args.i c.requires.input c.requires.table.family in
     omega arith
 
 pub size_backwards-shorter-requires-clause-left : goal.size_backwards-shorter-requires-clause-left
@@ -23,7 +23,7 @@ overflow_add-now c =
     let now : c.args.after.now + c.from-2.result ≡ rest (drops c.args.sites.now (set c.args.kept.now c.args.i c.size_backwards-shorter.result)) c.args.i =
     backward_after c.args.sites.now c.args.i c.args.kept.now c.args.after.now c.size_backwards-shorter.result c.from-2.result c.requires.within c.requires.table.family.same_length c.requires.after
     (c.from-2.ensures ∙ c.dropped_bytes-2.ensures ∙ ap (λ (site : Site). bytes_of site.kind - c.size_backwards-shorter.result) (site_read c.args.sites.now c.args.i c.requires.within)) in
-    let low : rest (drops c.args.sites.now (set c.args.kept.now c.args.i c.size_backwards-shorter.result)) c.args.i ≤ 3 * 2 ^ 60 =
+    let low : rest (drops c.args.sites.now (set c.args.kept.now c.args.i c.size_backwards-shorter.result)) c.args.i ≤ 27 * 2 ^ 121 =
     rest_low c.args.sites.now (set c.args.kept.now c.args.i c.size_backwards-shorter.result) c.args.i c.requires.input
     (set_family c.args.sites.now c.args.kept.now c.args.i c.size_backwards-shorter.result c.requires.table.family
     (turn_offered c.args.sites.now c.args.kept.now c.args.i c.size_backwards-shorter.result c.requires.table.family c.size_backwards-shorter.ensures)) in

@@ -13,7 +13,7 @@ overflow_add-before c =
     let next : c.args.before.now + c.from.result ≡ offset (drops c.args.sites.now (set c.args.kept.now c.args.i c.size_forwards-shorter.result)) (c.args.i + 1) =
     forward_before c.args.sites.now c.args.i c.args.kept.now c.args.before.now c.size_forwards-shorter.result c.from.result c.requires.within c.requires.table.family.same_length c.requires.before
     (c.from.ensures ∙ c.dropped_bytes.ensures ∙ ap (λ (site : Site). bytes_of site.kind - c.size_forwards-shorter.result) (site_read c.args.sites.now c.args.i c.requires.within)) in
-    let low : offset (drops c.args.sites.now (set c.args.kept.now c.args.i c.size_forwards-shorter.result)) (c.args.i + 1) ≤ 3 * 2 ^ 60 =
+    let low : offset (drops c.args.sites.now (set c.args.kept.now c.args.i c.size_forwards-shorter.result)) (c.args.i + 1) ≤ 27 * 2 ^ 121 =
     offset_low c.args.sites.now (set c.args.kept.now c.args.i c.size_forwards-shorter.result) (c.args.i + 1) c.requires.input
     (set_family c.args.sites.now c.args.kept.now c.args.i c.size_forwards-shorter.result c.requires.table.family
     (turn_offered c.args.sites.now c.args.kept.now c.args.i c.size_forwards-shorter.result c.requires.table.family c.size_forwards-shorter.ensures)) in

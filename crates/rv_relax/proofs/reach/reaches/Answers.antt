@@ -1,4 +1,5 @@
-use Rattle.std.proofs.Common.{arith, subst, sym, ◌≡◌, ◌↔◌, ◌+ℤ◌, ℤ, ℕ, IsTrue, Bool, to_z, of_z, w64}
+use Rattle.std.proofs.Common.{arith, subst, sym, ◌≡◌, ◌↔◌, ◌+ℤ◌, ℤ, ℕ, IsTrue, Bool, to_z, of_z}
+use mir.Syntax.{w128}
 use Rattle.std.proofs.lemmas.Int.{ints}
 use Rattle.rv_layout_laws.specs.Offsets.{IsImmediate, Reaches}
 use Rattle.rv_relax.proofs.reach.reaches.Goals as goal
@@ -12,10 +13,8 @@ both back addend distance x y r d e alone t = (
 
 pub returns-then-is_immediate : goal.returns-then-is_immediate
 returns-then-is_immediate c =
-    let fits : c.args.addend ≡ to_z w64 (of_z w64 c.args.addend) = omega (arith, ints) in
-    let alone : IsImmediate c.args.back (to_z w64 (of_z w64 c.args.addend)) = c.is_immediate.ensures.0 c.if-is_immediate.true in
-    let low = alone.low in
-    let high = alone.high in
-    both c.args.back c.args.addend c.args.distance (to_z w64 (of_z w64 c.args.addend))
-    (to_z w64 (of_z w64 (to_z w64 (of_z w64 c.args.distance) +ℤ to_z w64 (of_z w64 c.args.addend))))
-    c.is_immediate-then-is_immediate.result (sym fits) (omega (arith, ints)) alone c.is_immediate-then-is_immediate.ensures
+    let fits : to_z w128 (of_z w128 c.from-addend.result) ≡ c.args.addend = omega (arith, ints, c.from-addend.ensures) in
+    let alone : IsImmediate c.args.back (to_z w128 (of_z w128 c.from-addend.result)) = c.is_immediate.ensures.0 c.if-is_immediate.true in
+    both c.args.back c.args.addend c.args.distance (to_z w128 (of_z w128 c.from-addend.result))
+    (to_z w128 (of_z w128 (to_z w128 (of_z w128 c.args.distance) +ℤ to_z w128 (of_z w128 c.from-addend.result))))
+    c.is_immediate-then-is_immediate.result fits (omega (arith, ints, c.from-addend.ensures)) alone c.is_immediate-then-is_immediate.ensures

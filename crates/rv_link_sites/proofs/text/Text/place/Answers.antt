@@ -10,7 +10,7 @@ use Rattle.rv_link_sites.specs.Text.{objects_of}
 use Rattle.rv_link_sites.proofs.text.Text.place.Goals as goal
 
 pub returns : goal.returns
-returns c = λ o laid at.
+returns c = λ o at.
     let os = objects_of c.args.self.now in
     let xs = c.args.self.now.objects.now in
     let x = c.in_ok-object.object.now in
@@ -23,4 +23,4 @@ returns c = λ o laid at.
     let there : slice_get o.symbols i ≡ Some s =
     ap (λ (p : Object). slice_get p.symbols i) (sym own) ∙ ap (λ l. slice_get (map symbol_of l) i) (sym c.deref.ensures.value) ∙ slice_get-map symbol_of c.deref.result.now i
     ∙ ap (option_map symbol_of) (slice_get_read c.deref.result.now (length c.deref.result.now) i c.in_ok-symbol.symbol.now refl symbol.3.0 symbol.1) in
-    c.place_of.ensures o s laid.names at there refl refl ∙ ap (option_and_then (symbol_place os (c.args.file + 1))) (sym there)
+    c.place_of.ensures o s c.requires.names at there refl refl ∙ ap (option_and_then (symbol_place os (c.args.file + 1))) (sym there)
