@@ -32,9 +32,9 @@ use Rattle.rv_link.specs.declared.fault.LinkFault.{LinkFault}
 use Rattle.rv_link.specs.declared.fault.LinkFault.TheVariants as links
 use Rattle.rv_link.specs.Refusals.{IsTextStart, ArePast, HasNoProgram}
 use Rattle.rv_raw_link_laws.specs.Listed.{IsShortListing, listed, HaveNoFault, HaveAProgram}
-use Rattle.rv_chain.specs.declared.fault.Fault.{Fault}
-use Rattle.rv_chain.specs.declared.fault.Fault.TheVariants.{Source, File, Link, Memory}
-use Rattle.rv_chain.specs.Fault.{IsNamed}
+use Rattle.rv_fault.specs.declared.fault.Fault.{Fault}
+use Rattle.rv_fault.specs.declared.fault.Fault.TheVariants.{Source, File, Link, Memory}
+use Rattle.rv_fault.specs.Fault.{IsNamed}
 use Rattle.rv_chain.specs.Objects.{AreObjectsFrom}
 use Rattle.rv_chain.specs.Refusals.{IsFirstRefused, IsRefusedFor}
 use Rattle.rv_chain.specs.Reassembled.{IsTooLongFor, RawListingsAreAccepted}

@@ -7,8 +7,8 @@ use Rattle.std.specs.Result.{IsErrAnd}
 use Rattle.std.specs.Borrow.{Bor}
 use Rattle.rv_map.specs.declared.map.SectionId.{SectionId}
 use Rattle.rv_statement.specs.View.{now_of}
-use Rattle.rv_chain.specs.declared.fault.Fault.{Fault}
-use Rattle.rv_chain.specs.declared.fault.Fault.TheVariants as cases
+use Rattle.rv_fault.specs.declared.fault.Fault.{Fault}
+use Rattle.rv_fault.specs.declared.fault.Fault.TheVariants as cases
 use Rattle.rv_lexer.specs.declared.fault.SourceFault.{SourceFault}
 use Rattle.rv_statement.specs.Statement.{Statement}
 use Rattle.rv_object.specs.declared.object.Object.{Object as DeclaredObject}
@@ -22,7 +22,7 @@ use Rattle.rv_assemble.specs.FirstFault.{IsFirstFault}
 use Rattle.rv_chain.specs.Objects.{AreEach, AreObjectsFrom}
 use Rattle.rv_link.specs.declared.fault.LinkFault.{LinkFault}
 use Rattle.rv_link.specs.declared.fault.LinkFault.TheVariants as faults
-use Rattle.rv_chain.specs.Fault.{of_link}
+use Rattle.rv_fault.specs.Fault.{of_link}
 use Rattle.rv_link.specs.Refusals.{IsTextStart}
 use Rattle.rv_reach_laws.specs.Reach.{is_short_call, is_chosen_branch, ShortCallsReach, ShortBranchesReach, ShortFormsReach}
 use Rattle.rv_chain.specs.Refusals.{IsRefusedAt, IsFirstRefused, IsRefusedIn, AreUnlinked, IsRefusedFor}

@@ -16,8 +16,8 @@ use Rattle.rv_link.specs.Refusals.{AreWithin, ArePast, HasNoProgram}
 use Rattle.rv_link.proofs.LeftLemmas.{alike, past_unlinked}
 use Rattle.rv_unique_link_laws.specs.Asked.{IsSound}
 use Rattle.rv_unique_link_laws.specs.Same.{OneProgram, RefusedForMemory, name_in, IsSameFault, RefusedForOne, RowsArePlaced, RunsBeginEven}
-use Rattle.rv_chain.specs.declared.fault.Fault.TheVariants.{Link}
-use Rattle.rv_chain.specs.Fault.{IsNamed}
+use Rattle.rv_fault.specs.declared.fault.Fault.TheVariants.{Link}
+use Rattle.rv_fault.specs.Fault.{IsNamed}
 
 -- a fault that names its cause is not want of memory
 not_memory : (fault : LinkFault) → IsNamed (Link fault) → fault ≡ links.OutOfMemory → ⊥

@@ -22,8 +22,8 @@ use Rattle.rv_link.specs.declared.fault.LinkFault.{LinkFault}
 use Rattle.rv_link.specs.Refusals.{AreWithin, ArePast, HasNoProgram}
 use Rattle.rv_unique_link_laws.specs.Asked.{IsSound}
 use Rattle.rv_unique_link_laws.specs.Same.{IsSameFault}
-use Rattle.rv_chain.specs.declared.fault.Fault.TheVariants.{Source, File, Link, Memory}
-use Rattle.rv_chain.specs.Fault.{IsNamed}
+use Rattle.rv_fault.specs.declared.fault.Fault.TheVariants.{Source, File, Link, Memory}
+use Rattle.rv_fault.specs.Fault.{IsNamed}
 use Rattle.rv_chain.specs.Objects.{IsObjectFrom, AreEach, AreObjectsFrom}
 use Rattle.rv_chain.specs.Refusals.{IsFirstRefused, AreUnlinked}
 use Rattle.rv_chain.specs.OneFault.{SourcesForMemory, SourcesForOne, SourcesHaveOneFault}

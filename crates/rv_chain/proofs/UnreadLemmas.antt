@@ -7,9 +7,9 @@ use Rattle.rv_object.specs.Object.{Object}
 use Rattle.rv_object_file_laws.specs.FirstFault.{first_fault}
 use Rattle.rv_link.specs.declared.fault.LinkFault.{LinkFault}
 use Rattle.rv_link.specs.declared.fault.LinkFault.TheVariants as faults
-use Rattle.rv_chain.specs.declared.fault.Fault.{Fault}
-use Rattle.rv_chain.specs.declared.fault.Fault.TheVariants as cases
-use Rattle.rv_chain.specs.Fault.{of_link}
+use Rattle.rv_fault.specs.declared.fault.Fault.{Fault}
+use Rattle.rv_fault.specs.declared.fault.Fault.TheVariants as cases
+use Rattle.rv_fault.specs.Fault.{of_link}
 use Rattle.rv_chain.specs.Objects.{AreObjectsIn}
 use Rattle.rv_chain.specs.LinkRefusals.{IsUnreadAt, IsFirstUnread, AreUnread, AreReadUnlinked, AreUnlinkable}
 use Rattle.rv_chain.proofs.GatheredLemmas.{split_at, taken}

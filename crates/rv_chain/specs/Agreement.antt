@@ -1,8 +1,8 @@
 -- That texts are built as the files of their objects are linked.
 
 use Rattle.std.specs.Prelude.{◌≡◌, ℕ, ◌<◌, ◌^◌, Bool, ⊤, List, [], ◌∷◌, length}
-use Rattle.rv_chain.specs.declared.fault.Fault.{Fault}
-use Rattle.rv_chain.specs.declared.fault.Fault.TheVariants.{Memory}
+use Rattle.rv_fault.specs.declared.fault.Fault.{Fault}
+use Rattle.rv_fault.specs.declared.fault.Fault.TheVariants.{Memory}
 use Rattle.rv_chain.specs.Objects.{IsObjectFile}
 use Rattle.rv_chain.specs.Linking.{AreBuilt, AreLinked}
 use Rattle.rv_chain.specs.Refusals.{IsRefusedFor}

@@ -1,6 +1,5 @@
 pub mod Agreement
 pub mod Building
-pub mod Fault
 pub mod Linking
 pub mod Listed
 pub mod LinkRefusals

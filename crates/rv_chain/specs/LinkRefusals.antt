@@ -8,9 +8,9 @@ use Rattle.rv_object.specs.Object.{Object}
 use Rattle.rv_object_file_laws.specs.FirstFault.{first_fault}
 use Rattle.rv_link.specs.declared.fault.LinkFault.{LinkFault}
 use Rattle.rv_link.specs.Refusals.{AreWithin, ArePast, HasNoProgram}
-use Rattle.rv_chain.specs.declared.fault.Fault.{Fault}
-use Rattle.rv_chain.specs.declared.fault.Fault.TheVariants.{Source, File, Link, Memory}
-use Rattle.rv_chain.specs.Fault.{IsNamed}
+use Rattle.rv_fault.specs.declared.fault.Fault.{Fault}
+use Rattle.rv_fault.specs.declared.fault.Fault.TheVariants.{Source, File, Link, Memory}
+use Rattle.rv_fault.specs.Fault.{IsNamed}
 use Rattle.rv_chain.specs.Objects.{AreObjectsIn}
 
 -- a file of this number is refused, by its first fault; memory may run out

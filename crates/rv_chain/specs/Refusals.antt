@@ -13,9 +13,9 @@ use Rattle.rv_link.specs.declared.fault.LinkFault.{LinkFault}
 use Rattle.rv_link.specs.Refusals.{AreWithin, ArePast, HasNoProgram}
 use Rattle.rv_chain_laws.specs.Headline.{AllRead}
 use Rattle.rv_reach_laws.specs.Reach.{ShortFormsReach}
-use Rattle.rv_chain.specs.declared.fault.Fault.{Fault}
-use Rattle.rv_chain.specs.declared.fault.Fault.TheVariants.{Source, File, Link, Memory}
-use Rattle.rv_chain.specs.Fault.{IsNamed}
+use Rattle.rv_fault.specs.declared.fault.Fault.{Fault}
+use Rattle.rv_fault.specs.declared.fault.Fault.TheVariants.{Source, File, Link, Memory}
+use Rattle.rv_fault.specs.Fault.{IsNamed}
 use Rattle.rv_chain.specs.Objects.{AreObjectsFrom}
 
 -- a source of this number is refused, by its first fault; memory may run out

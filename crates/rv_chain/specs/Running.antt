@@ -10,9 +10,9 @@ use Rattle.rv_image.specs.FirstFault.{first_fault}
 use Rattle.rv_image.specs.Memory.{mem_of}
 use Rattle.rv_isa_laws.specs.Reader.{Reader}
 use Rattle.rv_isa_laws.specs.Run.{machine_run}
-use Rattle.rv_chain.specs.declared.fault.Fault.{Fault}
-use Rattle.rv_chain.specs.declared.fault.Fault.TheVariants.{Source, File, Link, Memory}
-use Rattle.rv_chain.specs.Fault.{IsNamed}
+use Rattle.rv_fault.specs.declared.fault.Fault.{Fault}
+use Rattle.rv_fault.specs.declared.fault.Fault.TheVariants.{Source, File, Link, Memory}
+use Rattle.rv_fault.specs.Fault.{IsNamed}
 
 -- the file has no fault, and the outcome is that of the machine's run over its image
 pub record RunsFile (reader : Reader Spells StandsFor) (file input : List ℕ) (limit : ℕ)

@@ -5,7 +5,7 @@ ghost use Rattle.rv_chain.specs.Objects.{IsObjectFile};
 ghost use Rattle.rv_chain.specs.Refusals.{IsRefusedAt};
 
 use crate::building::object;
-use crate::fault::Fault;
+use rv_fault::Fault;
 use rv_object_writer::write;
 use std::alloc::Global;
 

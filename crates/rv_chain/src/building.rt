@@ -14,8 +14,8 @@ ghost use Rattle.rv_chain.specs.Reassembled.{Reassembles};
 ghost use Rattle.rv_chain.specs.Refusals.{AreGood, IsRefusedFor, IsRefusedIn, IsRefusedAt};
 
 use crate::built::Built;
-use crate::fault::Fault;
 use rv_assemble::assemble;
+use rv_fault::Fault;
 use rv_image::{Linked, write_exec};
 use rv_link::{LinkOptions, link_with_rows, within_limits};
 use rv_object::Object;

@@ -4,9 +4,9 @@ ghost use Rattle.std.specs.Prelude.{◌≡◌, IfOk, IfErr};
 ghost use Rattle.rv_map.specs.Text.{map_text};
 ghost use Rattle.rv_image.specs.Executable.{exe_of};
 ghost use Rattle.rv_image.specs.Linked.{linked_of};
-ghost use Rattle.rv_chain.specs.declared.fault.Fault.TheVariants.{Memory};
+ghost use Rattle.rv_fault.specs.declared.fault.Fault.TheVariants.{Memory};
 
-use crate::fault::Fault;
+use rv_fault::Fault;
 use rv_image::{Linked, write_exec};
 use std::alloc::Global;
 

@@ -30,7 +30,6 @@
 mod assembling;
 mod building;
 mod built;
-mod fault;
 mod law;
 mod linking;
 mod running;
@@ -38,12 +37,12 @@ mod running;
 pub use assembling::assemble_object;
 pub use building::{build, build_exe};
 pub use built::Built;
-pub use fault::Fault;
 pub use law::{
     builds_as_it_links, files_have_one_fault, raw_listings_are_accepted, sources_have_one_fault,
 };
 pub use linking::{link_objects, link_objects_exe};
 pub use running::run_exec;
+pub use rv_fault::Fault;
 pub use rv_image::FileFault;
 pub use rv_link::{LinkFault, LinkOptions};
 pub use rv_machine::{End, Outcome};

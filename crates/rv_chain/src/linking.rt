@@ -10,7 +10,7 @@ ghost use Rattle.rv_chain.specs.LinkRefusals.{IsUnreadAt, AreUnread, AreUnlinkab
 ghost use Rattle.rv_chain.specs.Objects.{IsObjectIn, AreObjectsIn};
 
 use crate::built::Built;
-use crate::fault::Fault;
+use rv_fault::Fault;
 use rv_image::{FileFault, Linked, write_exec};
 use rv_link::{LinkOptions, link_with_rows, within_limits};
 use rv_object::Object;

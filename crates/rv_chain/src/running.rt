@@ -7,7 +7,7 @@ ghost use Rattle.rv_isa_laws.specs.Reader.{Reader};
 ghost use Rattle.rv_machine.specs.Outcome.{outcome_of};
 ghost use Rattle.rv_chain.specs.Running.{RunsFile, RefusesFile};
 
-use crate::fault::Fault;
+use rv_fault::Fault;
 use rv_image::{FileFault, load};
 use rv_machine::{Outcome, run};
 use std::alloc::Global;

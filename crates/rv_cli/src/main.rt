@@ -3,7 +3,9 @@
 //! All but the start of the process is in `rv_program`.
 #![tactic(auto)]
 
-use rv_program::{CliError, Host, exit_status, report};
+use rv_host::Host;
+use rv_job_words::CliError;
+use rv_program::{exit_status, report};
 use std::alloc::Global;
 use std::env;
 use std::io::ErrorKind;

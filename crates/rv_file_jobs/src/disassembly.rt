@@ -1,8 +1,9 @@
 //! What the program shows of files: the listings of an executable, and the bytes of any file.
 
-use rv_chain::Fault;
 use rv_disasm::{hex_dump, listing, raw_listing};
+use rv_fault::Fault;
 use rv_inspect::{Style, code_text};
+use rv_job::AskedCode;
 use rv_map::Map;
 use rv_system::{JobError, System, fault_line, file_bytes, image_in, map_in, print, print_listing};
 use std::alloc::Global;
@@ -40,18 +41,6 @@ pub fn raw<S: System>(system: &mut S, name: &str) -> Result<u8, JobError> {
         }
         None => Err(JobError::Line(format!(in alloc; "{name}: no raw listing")?)),
     }
-}
-
-/// A file whose instructions are asked for.
-#[derive(Clone, Copy, Debug, Drop)]
-pub struct AskedCode<'a> {
-    pub file: &'a str,
-    /// The map of an executable.
-    pub map: Option<&'a str>,
-    /// Whether the map comes before the file in the words.
-    pub map_first: bool,
-    /// Whether instructions are shown by their aliases.
-    pub aliases: bool,
 }
 
 /// Prints the instructions of an object or an executable; the exit status.

@@ -1,39 +1,10 @@
 //! Images of executables for programmers of flash memory and simulators of hardware.
 
-use rv_chain::Fault;
+use rv_fault::Fault;
 use rv_firmware::{Firmware, FirmwareFault, binary, intel_hex, memory_text, s_records};
+use rv_job::{AskedImage, ImageFormat, TextFormat};
 use rv_system::{JobError, Purpose, System, fault_line, file_bytes, write};
 use std::alloc::{AllocError, Global};
-
-/// How an image is written.
-#[derive(Clone, Copy, Debug, PartialEq, Eq, Drop)]
-pub enum ImageFormat {
-    /// The bytes themselves, from the lowest address on.
-    Binary,
-    /// Lines with addresses, as text.
-    Text(TextFormat),
-}
-
-/// The texts that have addresses.
-#[derive(Clone, Copy, Debug, PartialEq, Eq, Drop)]
-pub enum TextFormat {
-    /// Intel HEX.
-    IntelHex,
-    /// Motorola S-records.
-    SRecords,
-    /// What Verilog's `$readmemh` reads.
-    MemoryText,
-}
-
-/// An image that the words ask for.
-#[derive(Clone, Copy, Drop)]
-pub struct AskedImage<'a> {
-    pub exe: &'a str,
-    pub output: &'a str,
-    pub format: ImageFormat,
-    /// What gaps are filled with; where none is given, a text leaves them out, and a binary has zeros.
-    pub fill: Option<u8>,
-}
 
 /// Writes an image of an executable; the exit status.
 pub fn write_image<S: System>(system: &mut S, asked: &AskedImage<'_>) -> Result<u8, JobError> {

@@ -1,6 +1,7 @@
 //! What the program shows of files for people and scripts: sizes, names, headers and tables.
 
-use rv_chain::{Fault, FileFault};
+use rv_elf::FileFault;
+use rv_fault::Fault;
 use rv_inspect::{SizeTable, elf_text, map_names, symbol_names};
 use rv_system::{JobError, System, fault_line, file_bytes, image_in, map_in, print};
 use std::alloc::{AllocError, Global};

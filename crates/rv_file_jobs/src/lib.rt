@@ -14,6 +14,6 @@ mod disassembly;
 mod firmware;
 mod inspection;
 
-pub use disassembly::{AskedCode, code, dump, objdump, raw};
-pub use firmware::{AskedImage, ImageFormat, TextFormat, write_image};
+pub use disassembly::{code, dump, objdump, raw};
+pub use firmware::write_image;
 pub use inspection::{elf, names, sizes};

@@ -1,3 +1,1 @@
-pub mod AssemblerOptions
-pub mod Numbers
 pub mod Status

@@ -3,11 +3,9 @@
 //! It takes the words and a [`System`], which gives files and the standard streams, and gives the exit status, after
 //! it has written what the words ask for, or one line that says why not.
 //!
-//! Main function: `exit_status`. What it prints, and when, is tested. What runs, builds and links give is said by
-//! the clauses of `load`, `run_io`, `build`, `build_exe`, `assemble_object` and `link_objects`, of which it hands on the
-//! bytes as they are; which numbers its words write, by those of `decimal` and `text_start` (`specs/Numbers`); the
-//! status of an error, by `report` (`specs/Status`). The lines of faults and ends are those of `rv_system`. It does not know how statements are read or instructions executed, and of the system only what
-//! [`System`] has: [`Host`] is the real one, and a test stands in for it.
+//! Main function: `exit_status`. What it prints, and when, is tested; the status of an error is said by `report`
+//! (`specs/Status`). What the words mean is known to `rv_job_words`, and what a job does to the crates of jobs. Of the
+//! system it knows only what [`System`] has: `rv_host` has the real one, and a test stands in for it.
 //!
 //! ```text
 //! let mut host = Host { rt: &rt };
@@ -18,17 +16,7 @@
 //! ```
 #![tactic(auto)]
 
-mod assembler_options;
-mod error;
-mod host;
 mod jobs;
 mod status;
-mod words;
-mod words_of_assembling;
-mod words_of_images;
-mod words_of_runs;
 
-pub use error::CliError;
-pub use host::{Host, HostLines};
 pub use status::{exit_status, report};
-pub use words::{decimal, text_start};

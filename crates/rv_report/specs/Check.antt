@@ -1,7 +1,7 @@
 -- What a report begins with (this program's own).
 
 use Rattle.std.specs.Prelude.{◌≡◌, ℕ, Bool, List, Option, Some, None}
-use Rattle.rv_chain.specs.declared.fault.Fault.{Fault}
+use Rattle.rv_fault.specs.declared.fault.Fault.{Fault}
 use Rattle.rv_chain.specs.Refusals.{AreGood, IsRefusedFor}
 use Rattle.rv_report.specs.declared.report.Finding.{Finding}
 

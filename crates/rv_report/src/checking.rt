@@ -7,16 +7,18 @@ ghost use Rattle.std.specs.Prelude.{map, IfOk};
 ghost use Rattle.rv_statement.specs.View.{now_of};
 ghost use Rattle.rv_report.specs.Check.{BeginsWithFaultOf, HasFirst};
 
-use crate::blanking::{blank, is_of_macro, without_macro, without_sort};
-use crate::closing::closing_of;
-use crate::excerpt::put_excerpt;
 use crate::linking::put_link_fault;
-use crate::occurrences::section_before;
-use crate::place::{FaultPlace, is_loaded_by_li, place_of};
+use crate::placing::{is_loaded_by_li, place_of};
 use crate::report::{Finding, Report};
-use crate::sentences::put_sentence;
 use rv_assemble::assemble;
-use rv_chain::{Fault, LinkOptions, SourceCode, SourceFault, build};
+use rv_chain::build;
+use rv_fault::Fault;
+use rv_fault_texts::{
+    FaultPlace, blank, closing_of, is_of_macro, put_excerpt, put_sentence, section_before,
+    without_macro, without_sort,
+};
+use rv_lexer::{SourceCode, SourceFault};
+use rv_link::LinkOptions;
 use std::alloc::{AllocError, Global};
 
 /// The most faults that are shown.

@@ -1,6 +1,6 @@
 //! What a check finds.
 
-use rv_chain::Fault;
+use rv_fault::Fault;
 
 /// A fault, and what is said of it.
 #[derive(Debug, Drop)]

@@ -1,6 +1,6 @@
 //! What the program says of the codes of faults and of the ends of runs.
 
-use rv_report::titles;
+use rv_fault_texts::titles;
 use rv_system::{JobError, System, print};
 use std::alloc::Global;
 

@@ -20,8 +20,8 @@ use Rattle.rv_machine.specs.declared.running.RunFault.TheVariants as runs
 use Rattle.rv_link.specs.declared.fault.LinkFault.{LinkFault}
 use Rattle.rv_link.specs.declared.fault.LinkFault.TheVariants.{Undefined, Duplicate}
 use Rattle.rv_link.specs.Fault as links
-use Rattle.rv_chain.specs.declared.fault.Fault.{Fault}
-use Rattle.rv_chain.specs.declared.fault.Fault.TheVariants.{Source, File, Link, Memory}
+use Rattle.rv_fault.specs.declared.fault.Fault.{Fault}
+use Rattle.rv_fault.specs.declared.fault.Fault.TheVariants.{Source, File, Link, Memory}
 use Rattle.rv_system.specs.declared.error.JobError.{JobError}
 use Rattle.rv_system.specs.declared.error.JobError.TheVariants as errors
 

@@ -5,7 +5,7 @@ ghost use Rattle.rv_system.specs.Status.{run_status};
 
 use crate::messages::end_line;
 use crate::system::System;
-use rv_chain::End;
+use rv_machine::End;
 
 /// The exit status of a run that the guest did not end by an exit.
 const NOT_EXITED: u8 = 125;

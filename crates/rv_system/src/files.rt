@@ -3,7 +3,7 @@
 use crate::error::JobError;
 use crate::messages::fault_line;
 use crate::system::{FILE_LIMIT, Purpose, System};
-use rv_chain::Fault;
+use rv_fault::Fault;
 use rv_image::{Image, load};
 use rv_map::{Map, read};
 use rv_paint::painted;

@@ -6,15 +6,18 @@ ghost use Rattle.rv_system.specs.Messages.{Tells, end_text, fault_text, file_nam
 use crate::error::JobError;
 use crate::shown::shown_name;
 use arrayvec::ArrayString;
-use rv_chain::{End, Fault, FileFault, LinkFault, SourceFault};
-use rv_machine::RunFault;
+use rv_elf::FileFault;
+use rv_fault::Fault;
+use rv_lexer::SourceFault;
+use rv_link::LinkFault;
+use rv_machine::{End, RunFault};
 use std::alloc::{AllocError, Global};
 use std::str::from_utf8;
 
 /// The most bytes of the line of an end: the longest name, a blank and 16 digits.
 const LINE_BYTES: usize = 33;
 
-/// The line of a fault of a call of `rv_chain`; `names` are the files in their order.
+/// The line of a fault; `names` are the files in their order.
 pub fn fault_line(alloc: Global, fault: &Fault, names: &[&str]) -> Result<JobError, AllocError>
     ensures { IfOk result (λ error. Tells error (fault_text names.now fault.now)) }
 {

@@ -2,7 +2,7 @@
 
 ghost use Rattle.std.specs.Prelude.{◌≡◌, true, false};
 
-use rv_chain::LinkOptions;
+use rv_link::LinkOptions;
 
 /// Where the text of a program starts unless the words say otherwise.
 pub const TEXT_START: u64 = 0x1_0000;

@@ -1,14 +1,16 @@
 //! The jobs of the program that run a guest and look at it: reports of why it ended, traces, and counts.
 //!
 //! Main functions: `run_with_report`, `trace`, `stats`. That a run that is looked at is the run, and that the machine of a
-//! report is in its last state, is said by the clause of `run_watched`; the texts are those of `rv_trace`. It does not know the words of a command line.
+//! report is in its last state, is said by the clause of `run_watched`; the texts are those of `rv_trace`. It
+//! knows neither the words of a command line nor how a program is built.
 //!
 //! ```text
 //! // rv run --report a.s
-//! let status = run_with_report(system, &Asked { file: "a.s", map: None, map_first: false, limit })?;
+//! let asked = Asked { file: "a.s", map: None, map_first: false, limit };
+//! let status = run_with_report(system, &asked, program, image)?;
 //! ```
 #![tactic(auto)]
 
 mod watching;
 
-pub use watching::{Asked, Coverage, Shown, run_with_report, stats, trace};
+pub use watching::{Program, run_with_report, stats, trace};

@@ -1,16 +1,16 @@
 //! Runs that are looked at: reports of why they ended, traces, and counts.
 //!
-//! A source is built with its map, so that symbols, files and lines are at hand; an executable has those of the map that
-//! the words name for it, if any.
+//! Of a program that was built from a source the map and the text are at hand, so its symbols, files and lines are shown; of
+//! an executable those of the map that the words name for it, if any.
 
-use rv_chain::{End, Fault, build};
+use rv_fault::Fault;
 use rv_image::Image;
-use rv_machine::{WatchFault, Watched, Watcher};
+use rv_job::{Asked, Coverage, Shown};
+use rv_machine::{End, WatchFault, Watched, Watcher};
 use rv_map::Map;
 use rv_memory::Paged;
 use rv_system::{
-    GuestInput, JobError, Purpose, System, cannot, default_options, fault_line, file_bytes,
-    given_bytes, image_in, map_in, report_end, run_line, write,
+    GuestInput, JobError, Purpose, System, cannot, fault_line, report_end, run_line, write,
 };
 use rv_trace::{
     Counts, Latest, Places, Segments, Source, Trace, counts_text, lcov_text, lines_text,
@@ -19,45 +19,13 @@ use rv_trace::{
 use std::alloc::{AllocError, Global};
 use std::io::Write;
 
-/// What a run is of, as the words say it.
-#[derive(Clone, Copy, Drop)]
-pub struct Asked<'a> {
-    /// An executable, or a source; `-` is standard input.
-    pub file: &'a str,
-    /// The map of an executable.
-    pub map: Option<&'a str>,
-    /// Whether the map comes before the file in the words.
-    pub map_first: bool,
-    /// The most instructions to execute.
-    pub limit: u64,
-}
-
-/// Which lines of a trace are written, and where.
-#[derive(Clone, Copy, Drop)]
-pub struct Shown<'a> {
-    /// The number of the first instruction, from 1.
-    pub first: u64,
-    /// How many lines there are at most.
-    pub count: Option<u64>,
-    /// The file; standard error where none is named.
-    pub output: Option<&'a str>,
-}
-
-/// What counts are written beside those of all instructions.
-#[derive(Clone, Copy, Drop)]
-pub struct Coverage<'a> {
-    /// Whether those of each line are.
-    pub lines: bool,
-    /// The file for a tracefile of lcov.
-    pub lcov: Option<&'a str>,
-}
-
 /// What is known of a program.
 #[derive(Drop)]
-struct Program {
-    map: Option<Map>,
+pub struct Program {
+    /// Its map, where it was built from a source or the words name one.
+    pub map: Option<Map>,
     /// The text of its source, where it was built from one.
-    source: Option<Vec<u8>>,
+    pub source: Option<Vec<u8>>,
 }
 
 impl Program {
@@ -78,9 +46,13 @@ impl Program {
 }
 
 /// Runs a program, and says why the run ended where the guest did not exit; the exit status.
-pub fn run_with_report<S: System>(system: &mut S, asked: &Asked<'_>) -> Result<u8, JobError> {
+pub fn run_with_report<S: System>(
+    system: &mut S,
+    asked: &Asked<'_>,
+    program: Program,
+    image: Image,
+) -> Result<u8, JobError> {
     let alloc: Global = system.alloc();
-    let (program, image) = load_program(system, asked)?;
     let places = program.places(alloc, asked.file)?;
     let segments = Segments::of(alloc, &image)?;
     let mut latest = Latest::new();
@@ -101,9 +73,10 @@ pub fn stats<S: System>(
     system: &mut S,
     asked: &Asked<'_>,
     coverage: &Coverage<'_>,
+    program: Program,
+    image: Image,
 ) -> Result<u8, JobError> {
     let alloc: Global = system.alloc();
-    let (program, image) = load_program(system, asked)?;
     let places = program.places(alloc, asked.file)?;
     let mut counts = Counts::new(alloc, &image)?;
     let mut machine = machine_of(alloc, image)?;
@@ -141,9 +114,10 @@ pub fn trace<S: System>(
     system: &mut S,
     asked: &Asked<'_>,
     shown: &Shown<'_>,
+    program: Program,
+    image: Image,
 ) -> Result<u8, JobError> {
     let alloc: Global = system.alloc();
-    let (program, image) = load_program(system, asked)?;
     let places = program.places(alloc, asked.file)?;
     trace_by(system, asked, shown, image, &places)
 }
@@ -193,56 +167,6 @@ fn last_shown(shown: &Shown<'_>) -> u64 {
     match shown.count {
         Some(count) => shown.first.saturating_sub(1).saturating_add(count),
         None => u64::MAX,
-    }
-}
-
-/// Reads a program, and builds it where it is a source.
-fn load_program<S: System>(
-    system: &mut S,
-    asked: &Asked<'_>,
-) -> Result<(Program, Image), JobError> {
-    let alloc: Global = system.alloc();
-    let early = if asked.map_first {
-        map_text(system, asked)?
-    } else {
-        None
-    };
-    let bytes = given_bytes(system, asked.file)?;
-    let given = match early {
-        Some(text) => Some(text),
-        None => map_text(system, asked)?,
-    };
-    if bytes.as_slice().starts_with(b"\x7fELF") {
-        let map = match given {
-            Some(text) => Some(map_in(alloc, asked.map.unwrap_or("-"), text.as_slice())?),
-            None => None,
-        };
-        let image = image_in(alloc, asked.file, bytes.as_slice())?;
-        return Ok((Program { map, source: None }, image));
-    }
-    built_program(alloc, asked.file, bytes)
-}
-
-/// A source as a program, with its map.
-fn built_program(alloc: Global, name: &str, source: Vec<u8>) -> Result<(Program, Image), JobError> {
-    let built = match build(alloc, &[source.as_slice()], default_options()) {
-        Ok(built) => built,
-        Err(fault) => return Err(fault_line(alloc, &fault, &[name])?),
-    };
-    let map = map_in(alloc, name, built.map.as_slice())?;
-    let image = image_in(alloc, name, built.exe.as_slice())?;
-    let program = Program {
-        map: Some(map),
-        source: Some(source),
-    };
-    Ok((program, image))
-}
-
-/// The text of the map that the words name.
-fn map_text<S: System>(system: &mut S, asked: &Asked<'_>) -> Result<Option<Vec<u8>>, JobError> {
-    match asked.map {
-        Some(name) => Ok(Some(file_bytes(system, name)?)),
-        None => Ok(None),
     }
 }
 

@@ -7,11 +7,11 @@ use crate::excerpt::Place;
 use crate::names::{is_assignment, is_macro, is_section};
 use crate::place::FaultPlace;
 use crate::tokens::{LineToken, all_tokens, is_end, is_line_feed, part, span, text_of, unlabelled};
-use rv_chain::SourceCode;
+use rv_lexer::SourceCode;
 use std::alloc::{AllocError, Global};
 
 /// Blanks the statement of a fault; whether that changes a byte.
-pub(crate) fn blank(draft: &mut [u8], code: SourceCode, place: &FaultPlace) -> bool {
+pub fn blank(draft: &mut [u8], code: SourceCode, place: &FaultPlace) -> bool {
     let stop = place.statement.stop;
     let statement = part(draft, place.statement.start, stop);
     match value_of_assignment(statement, code) {
@@ -100,7 +100,7 @@ fn blank_bytes(draft: &mut [u8], place: Place) -> bool {
 }
 
 /// Whether a statement begins a macro, and its end comes after it.
-pub(crate) fn is_of_macro(draft: &[u8], place: &FaultPlace) -> bool {
+pub fn is_of_macro(draft: &[u8], place: &FaultPlace) -> bool {
     let rest = part(draft, place.statement.start, draft.len());
     is_macro(first_word(rest))
         && rest
@@ -121,7 +121,7 @@ fn first_word(line: &[u8]) -> &[u8] {
 }
 
 /// A source without a macro and the lines that use it.
-pub(crate) fn without_macro(
+pub fn without_macro(
     alloc: Global,
     draft: &[u8],
     place: &FaultPlace,
@@ -166,7 +166,7 @@ fn put_blanks(out: &mut Vec<u8>, bytes: &[u8]) -> Result<(), AllocError> {
 }
 
 /// A source without the statements from a line on, up to the next section, that are directives or instructions as one is.
-pub(crate) fn without_sort(
+pub fn without_sort(
     alloc: Global,
     draft: &[u8],
     line: u32,

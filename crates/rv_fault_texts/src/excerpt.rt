@@ -12,7 +12,7 @@ const MARGIN: &str = "    ";
 
 /// Bytes of a source, from an offset to another.
 #[derive(Clone, Copy, Drop)]
-pub(crate) struct Place {
+pub struct Place {
     pub start: usize,
     pub stop: usize,
 }
@@ -29,7 +29,7 @@ pub(crate) fn put_file_and_line(
 }
 
 /// Adds a line, from 1, with carets below a part of it. A byte that is not printed is shown as `?`, a tab as a blank.
-pub(crate) fn put_excerpt(
+pub fn put_excerpt(
     text: &mut String,
     source: &[u8],
     line: u32,

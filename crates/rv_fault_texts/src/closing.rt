@@ -9,7 +9,7 @@ use std::alloc::{AllocError, Global};
 use std::collections::HashMap;
 
 /// The sizes of a program by the text of its map, and the warnings of its sources.
-pub(crate) fn closing_of(
+pub fn closing_of(
     alloc: Global,
     names: &[&str],
     sources: &[&[u8]],

@@ -11,7 +11,7 @@ const TOO_LARGE: usize = 1 << 31;
 
 /// What a token is to the search.
 #[derive(Clone, Copy, PartialEq, Eq, Drop)]
-pub(crate) enum Sort {
+pub enum Sort {
     Name,
     Number,
     /// `1b` or `1f`.
@@ -39,7 +39,7 @@ pub(crate) enum Sort {
 
 /// A token: what it is, and its bytes in the source.
 #[derive(Clone, Copy, Drop)]
-pub(crate) struct LineToken {
+pub struct LineToken {
     pub sort: Sort,
     /// The offset of its first byte.
     pub start: usize,
@@ -52,7 +52,7 @@ pub(crate) struct LineToken {
 }
 
 /// The bytes between two offsets, where there are such.
-pub(crate) fn part(bytes: &[u8], start: usize, stop: usize) -> &[u8] {
+pub fn part(bytes: &[u8], start: usize, stop: usize) -> &[u8] {
     if start <= stop && stop <= bytes.len() {
         &bytes[start..stop]
     } else {
@@ -66,7 +66,7 @@ pub(crate) fn text_of<'a>(source: &'a [u8], token: &LineToken) -> &'a [u8] {
 }
 
 /// The tokens of a line, from 1; none of a line that there is not.
-pub(crate) fn tokens_of_line(
+pub fn tokens_of_line(
     alloc: Global,
     source: &[u8],
     line: u32,
@@ -129,7 +129,7 @@ pub(crate) fn place(token: &LineToken) -> Place {
 }
 
 /// From the first of some tokens to the last.
-pub(crate) fn span(tokens: &[LineToken]) -> Option<Place> {
+pub fn span(tokens: &[LineToken]) -> Option<Place> {
     let first = tokens.first()?;
     let last = tokens.last()?;
     Some(Place {
@@ -189,7 +189,7 @@ pub(crate) fn is_line_feed(byte: &u8) -> bool {
 }
 
 /// Whether a token ends a statement.
-pub(crate) fn is_end(token: &LineToken) -> bool {
+pub fn is_end(token: &LineToken) -> bool {
     token.sort == Sort::End
 }
 

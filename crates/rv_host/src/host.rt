@@ -1,7 +1,4 @@
-//! The system itself: the files of the disk and the standard streams of the process.
-//!
-//! The real system is in this library, and not in `rv_cli`, where one test of a real disk would have the whole program
-//! proved twice.
+//! The files of the disk and the standard streams of the process.
 
 use rv_image::Image;
 use rv_machine::{End, Io, RunFault, WatchFault, Watched, Watcher, run_io, run_watched};

@@ -4,19 +4,18 @@
 //! bounds and digits are promised (`decimal`, `text_start`).
 
 ghost use Rattle.std.specs.Prelude.{◌≡◌, ◌≤◌, ℕ, IfSome, IfNone};
-ghost use Rattle.rv_program.specs.Numbers.{IsNumber, IsStart};
+ghost use Rattle.rv_job_words.specs.Numbers.{IsNumber, IsStart};
 
 use crate::error::CliError;
-use crate::jobs::Job;
 use crate::words_of_assembling::parse_assemble;
 use crate::words_of_images::parse_image;
 use crate::words_of_runs::{parse_report, parse_stats, parse_trace};
 use clap::error::ErrorKind;
 use clap::{ArgMatches, Command};
-use rv_chain::LinkOptions;
 use rv_command_line::{Shell, command};
-use rv_file_jobs::AskedCode;
-use rv_report::explanation;
+use rv_fault_texts::explanation;
+use rv_job::{AskedCode, Job};
+use rv_link::LinkOptions;
 use rv_system::TEXT_START;
 use std::alloc::Global;
 
@@ -24,7 +23,7 @@ use std::alloc::Global;
 pub(crate) const LIMIT: u64 = 1_000_000_000_000;
 
 /// What the words ask for; the first word is the program's own name.
-pub(crate) fn parse_job<'a>(alloc: Global, words: &'a [&'a str]) -> Result<Job<'a>, CliError> {
+pub fn parse_job<'a>(alloc: Global, words: &'a [&'a str]) -> Result<Job<'a>, CliError> {
     let mut command = command(alloc, words.get(1).copied())?;
     let matches = command.try_get_matches_from_mut(words)?;
     match matches.subcommand() {

@@ -8,13 +8,11 @@ use crate::excerpt::Place;
 use crate::names::{is_alignment, is_assignment, is_register, is_zero};
 use crate::occurrences::definition_of;
 use crate::tokens::{
-    LineToken, Sort, all_tokens, is_end, is_label, part, place, span, text_of, tokens_of_line,
-    unlabelled,
+    LineToken, Sort, all_tokens, is_end, is_label, part, place, span, text_of, unlabelled,
 };
-use rv_assemble::assemble;
-use rv_chain::{Fault, SourceCode, SourceFault};
+use rv_lexer::{SourceCode, SourceFault};
 use rv_parse::parse;
-use std::alloc::Global;
+use std::alloc::{AllocError, Global};
 
 /// More halvings than any line has tokens.
 const HALVINGS: usize = 64;
@@ -23,7 +21,7 @@ const MOST_NAMES: usize = 16;
 
 /// What may stand in the place of a wrong token, where it is one phrase.
 #[derive(Clone, Copy, Drop)]
-pub(crate) enum Expected {
+pub enum Expected {
     Unknown,
     Register,
     OtherRegister,
@@ -42,7 +40,7 @@ pub(crate) enum Expected {
 
 /// Where a fault stands.
 #[derive(Clone, Copy, Drop)]
-pub(crate) struct FaultPlace {
+pub struct FaultPlace {
     /// The statement, from its first label on.
     pub whole: Place,
     /// The statement after its labels.
@@ -59,39 +57,25 @@ pub(crate) struct FaultPlace {
     pub first_line: u32,
 }
 
-/// The place of the first fault of a source at a line, with its code; none where the line has no token.
-pub(crate) fn place_of(
-    alloc: Global,
-    source: &[u8],
-    code: SourceCode,
-    line: u32,
-) -> Result<Option<FaultPlace>, Fault> {
-    let tokens = tokens_of_line(alloc, source, line)?;
-    // a line that is too long has no wrong token
-    if code != SourceCode::Limit {
-        if let Some(wrong) = wrong_token(alloc, source, tokens.as_slice())? {
-            let expected = expected_at(alloc, source, tokens.as_slice(), wrong, code)?;
-            return Ok(place_of_token(tokens.as_slice(), wrong, expected));
-        }
-    }
-    place_of_content(alloc, source, tokens.as_slice(), code)
-}
-
-/// The place of a fault in a line that is right as a text.
-fn place_of_content(
+/// The place of a fault of this code where the text of a line, with these tokens, shows it: its first wrong token, or a
+/// name that it defines again.
+pub fn place_by_text(
     alloc: Global,
     source: &[u8],
     tokens: &[LineToken],
     code: SourceCode,
-) -> Result<Option<FaultPlace>, Fault> {
-    if code == SourceCode::DuplicateLabel {
-        let repeated = repeated_in_line(alloc, source, tokens)?;
-        if repeated.is_some() {
-            return Ok(repeated);
+) -> Result<Option<FaultPlace>, AllocError> {
+    // a line that is too long has no wrong token
+    if code != SourceCode::Limit {
+        if let Some(wrong) = wrong_token(alloc, source, tokens)? {
+            let expected = expected_at(alloc, source, tokens, wrong, code)?;
+            return Ok(place_of_token(tokens, wrong, expected));
         }
     }
-    let group = faulty_group(alloc, source, tokens, code)?;
-    Ok(place_in_group(source, group, code))
+    if code == SourceCode::DuplicateLabel {
+        return repeated_in_line(alloc, source, tokens);
+    }
+    Ok(None)
 }
 
 /// The first token of a line that is wrong where it stands.
@@ -99,7 +83,7 @@ fn wrong_token(
     alloc: Global,
     source: &[u8],
     tokens: &[LineToken],
-) -> Result<Option<LineToken>, Fault> {
+) -> Result<Option<LineToken>, AllocError> {
     let Some(last) = tokens.last() else {
         return Ok(None);
     };
@@ -137,7 +121,7 @@ fn is_read(
     source: &[u8],
     tokens: &[LineToken],
     last: &LineToken,
-) -> Result<bool, Fault> {
+) -> Result<bool, AllocError> {
     if last.sort == Sort::BadByte || last.sort == Sort::BadToken {
         return Ok(false);
     }
@@ -154,11 +138,11 @@ fn is_read(
 }
 
 /// Whether a text that ends with a foreign byte is right up to that.
-fn is_right(alloc: Global, text: &[u8]) -> Result<bool, Fault> {
+fn is_right(alloc: Global, text: &[u8]) -> Result<bool, AllocError> {
     match parse(alloc, text) {
         Ok(_) => Ok(true),
         Err(SourceFault::At { code, .. }) => Ok(code == SourceCode::BadByte),
-        Err(SourceFault::OutOfMemory) => Err(Fault::Memory),
+        Err(SourceFault::OutOfMemory) => Err(AllocError),
     }
 }
 
@@ -196,7 +180,7 @@ fn expected_at(
     tokens: &[LineToken],
     wrong: LineToken,
     code: SourceCode,
-) -> Result<Expected, Fault> {
+) -> Result<Expected, AllocError> {
     if code != SourceCode::BadOperands || wrong.sort == Sort::End {
         return Ok(Expected::Unknown);
     }
@@ -236,7 +220,7 @@ fn expected_register(any: bool, number: bool, instead: bool) -> Expected {
 }
 
 /// What may stand where no name, number or other register than `sp` may.
-fn expected_sign(alloc: Global, front: &[u8]) -> Result<Expected, Fault> {
+fn expected_sign(alloc: Global, front: &[u8]) -> Result<Expected, AllocError> {
     if is_read_with(alloc, front, "sp")? {
         return Ok(Expected::Stack);
     }
@@ -253,7 +237,7 @@ fn expected_sign(alloc: Global, front: &[u8]) -> Result<Expected, Fault> {
 }
 
 /// Whether a word can be read after the bytes of a line.
-fn is_read_with(alloc: Global, front: &[u8], word: &str) -> Result<bool, Fault> {
+fn is_read_with(alloc: Global, front: &[u8], word: &str) -> Result<bool, AllocError> {
     let mut text = front.to_vec(alloc)?;
     text.extend_from_slice(b" ")?;
     text.extend_from_slice(word.as_bytes())?;
@@ -261,30 +245,12 @@ fn is_read_with(alloc: Global, front: &[u8], word: &str) -> Result<bool, Fault> 
     is_right(alloc, text.as_slice())
 }
 
-/// Whether `li` loads the number of an `addi` into its register.
-pub(crate) fn is_loaded_by_li(
-    alloc: Global,
-    source: &[u8],
-    place: &FaultPlace,
-) -> Result<bool, Fault> {
-    if !place.known {
-        return Ok(false);
-    }
-    let mut text = b"li a0, ".to_vec(alloc)?;
-    text.extend_from_slice(part(source, place.shown.start, place.shown.stop))?;
-    match assemble(alloc, text.as_slice()) {
-        Ok(_) => Ok(true),
-        Err(SourceFault::At { .. }) => Ok(false),
-        Err(SourceFault::OutOfMemory) => Err(Fault::Memory),
-    }
-}
-
 /// The place of a name that a line defines, and that is defined before.
 fn repeated_in_line(
     alloc: Global,
     source: &[u8],
     tokens: &[LineToken],
-) -> Result<Option<FaultPlace>, Fault> {
+) -> Result<Option<FaultPlace>, AllocError> {
     let all = all_tokens(alloc, source)?;
     for group in tokens.split(is_end) {
         let found = repeated_in(source, all.as_slice(), group);
@@ -351,67 +317,8 @@ fn group_at(tokens: &[LineToken], offset: usize) -> &[LineToken] {
     found
 }
 
-/// The statement of a line that has the fault: the only one, or the first that has it whatever the others are; else all of
-/// the line.
-fn faulty_group<'t>(
-    alloc: Global,
-    source: &[u8],
-    tokens: &'t [LineToken],
-    code: SourceCode,
-) -> Result<&'t [LineToken], Fault> {
-    let mut only = tokens;
-    let mut count = 0usize;
-    for group in tokens.split(is_end) {
-        if !group.is_empty() {
-            only = group;
-            count = count.saturating_add(1);
-        }
-    }
-    if count < 2 {
-        return Ok(only);
-    }
-    if !needs_no_other(code) {
-        return Ok(tokens);
-    }
-    for group in tokens.split(is_end) {
-        if is_faulty_alone(alloc, source, group, code)? {
-            return Ok(group);
-        }
-    }
-    Ok(tokens)
-}
-
-/// Whether a statement that has a fault of this code alone has it among others too.
-fn needs_no_other(code: SourceCode) -> bool {
-    matches!(
-        code,
-        SourceCode::DivisionByZero
-            | SourceCode::ShiftTooLarge
-            | SourceCode::ScratchRegister
-            | SourceCode::ImmediateRange
-            | SourceCode::Limit
-    )
-}
-
-/// Whether a statement without all others has a fault of this code.
-fn is_faulty_alone(
-    alloc: Global,
-    source: &[u8],
-    group: &[LineToken],
-    code: SourceCode,
-) -> Result<bool, Fault> {
-    let Some(place) = span(group) else {
-        return Ok(false);
-    };
-    match assemble(alloc, part(source, place.start, place.stop)) {
-        Ok(_) => Ok(false),
-        Err(SourceFault::At { code: found, .. }) => Ok(found == code),
-        Err(SourceFault::OutOfMemory) => Err(Fault::Memory),
-    }
-}
-
 /// The place of a fault in a statement that is right as a text, or in a line of several.
-fn place_in_group(source: &[u8], group: &[LineToken], code: SourceCode) -> Option<FaultPlace> {
+pub fn place_in_group(source: &[u8], group: &[LineToken], code: SourceCode) -> Option<FaultPlace> {
     let whole = span(group)?;
     if group.iter().any(is_end) {
         return Some(place_in_line(group, whole, code));

@@ -2,9 +2,9 @@
 
 use crate::assembler_options::{is_code_option, is_machine_option};
 use crate::error::CliError;
-use crate::jobs::Job;
 use clap::error::ErrorKind;
 use clap::{ArgMatches, Command};
+use rv_job::Job;
 use std::alloc::Global;
 
 pub(crate) fn parse_assemble<'a>(

@@ -79,7 +79,7 @@ fn makes_global(source: &[u8], statement: &[LineToken], name: &[u8]) -> bool {
 }
 
 /// The last line before another at which a source goes to a section, else 0.
-pub(crate) fn section_before(alloc: Global, source: &[u8], line: u32) -> Result<u32, AllocError> {
+pub fn section_before(alloc: Global, source: &[u8], line: u32) -> Result<u32, AllocError> {
     let tokens = all_tokens(alloc, source)?;
     let mut section = 0u32;
     for group in tokens.as_slice().split(is_end) {

@@ -1,10 +1,9 @@
 //! The words of runs that are looked at.
 
 use crate::error::CliError;
-use crate::jobs::Job;
 use crate::words::{LIMIT, decimal, number};
 use clap::{ArgMatches, Command};
-use rv_watched_jobs::{Asked, Coverage, Shown};
+use rv_job::{Asked, Coverage, Job, Shown};
 
 pub(crate) fn parse_report<'a>(found: &ArgMatches<'a>, limit: u64) -> Job<'a> {
     Job::Report(asked(found, limit))

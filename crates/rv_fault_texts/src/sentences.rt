@@ -5,7 +5,7 @@ use crate::names::{has_gaps, is_access, is_zero, range_of};
 use crate::parcel_numbers::{numbers_of, parcel_named};
 use crate::place::{Expected, FaultPlace};
 use crate::tokens::part;
-use rv_chain::SourceCode;
+use rv_lexer::SourceCode;
 use std::alloc::{AllocError, Global};
 
 /// Numbers of more digits may have the sign bit.
@@ -37,7 +37,7 @@ struct Subject<'a> {
 }
 
 /// Adds the sentence of a fault, as a line.
-pub(crate) fn put_sentence(
+pub fn put_sentence(
     alloc: Global,
     text: &mut String,
     source: &[u8],

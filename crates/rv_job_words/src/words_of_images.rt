@@ -1,11 +1,10 @@
 //! The words of images.
 
 use crate::error::CliError;
-use crate::jobs::Job;
 use crate::words::{number, text_start};
 use clap::error::ErrorKind;
 use clap::{ArgMatches, Command};
-use rv_file_jobs::{AskedImage, ImageFormat, TextFormat};
+use rv_job::{AskedImage, ImageFormat, Job, TextFormat};
 
 pub(crate) fn parse_image<'a>(
     command: &mut Command<'a>,

@@ -5,8 +5,8 @@ use Rattle.rv_lexer.specs.declared.fault.SourceFault.TheVariants as sources
 use Rattle.rv_elf.specs.declared.fault.FileFault.TheVariants as files
 use Rattle.rv_link.specs.declared.fault.LinkFault.{LinkFault}
 use Rattle.rv_link.specs.declared.fault.LinkFault.TheVariants as links
-use Rattle.rv_chain.specs.declared.fault.Fault.{Fault}
-use Rattle.rv_chain.specs.declared.fault.Fault.TheVariants.{Source, File, Link, Memory}
+use Rattle.rv_fault.specs.declared.fault.Fault.{Fault}
+use Rattle.rv_fault.specs.declared.fault.Fault.TheVariants.{Source, File, Link, Memory}
 
 -- want of memory, which is nobody's fault, is `Memory` alone: any other fault names its cause
 abbrev pub IsNamed : Fault → Type 0

@@ -2,9 +2,9 @@
 
 ghost use Rattle.std.specs.Prelude.{◌≡◌};
 
-use rv_image::FileFault;
+use rv_elf::FileFault;
+use rv_lexer::SourceFault;
 use rv_link::LinkFault;
-use rv_text::SourceFault;
 use std::alloc::{AllocError, AllocFailed};
 use thiserror::Error;
 
@@ -22,7 +22,7 @@ pub enum Fault {
 }
 
 impl From<LinkFault> for Fault {
-    ghost use Rattle.rv_chain.specs.Fault.{of_link};
+    ghost use Rattle.rv_fault.specs.Fault.{of_link};
 
     ghost from_gives = { λ fault e. e ≡ of_link fault };
 
@@ -36,7 +36,7 @@ impl From<LinkFault> for Fault {
 }
 
 impl From<AllocError> for Fault {
-    ghost use Rattle.rv_chain.specs.declared.fault.Fault.TheVariants.{Memory};
+    ghost use Rattle.rv_fault.specs.declared.fault.Fault.TheVariants.{Memory};
 
     ghost from_gives = { λ _ fault. fault ≡ Memory };
 
@@ -46,7 +46,7 @@ impl From<AllocError> for Fault {
 }
 
 impl<T: Drop> From<AllocFailed<T>> for Fault {
-    ghost use Rattle.rv_chain.specs.declared.fault.Fault.TheVariants.{Memory};
+    ghost use Rattle.rv_fault.specs.declared.fault.Fault.TheVariants.{Memory};
 
     ghost from_gives = { λ _ fault. fault ≡ Memory };
 

@@ -1,0 +1,62 @@
+//! The programs of runs that are looked at, as the words name them.
+//!
+//! A source is built with its map; an executable has the map that the words name for it, if any.
+
+use rv_chain::build;
+use rv_image::Image;
+use rv_job::Asked;
+use rv_system::{
+    JobError, System, default_options, fault_line, file_bytes, given_bytes, image_in, map_in,
+};
+use rv_watched_jobs::Program;
+use std::alloc::Global;
+
+/// Reads a program, and builds it where it is a source.
+pub fn load_program<S: System>(
+    system: &mut S,
+    asked: &Asked<'_>,
+) -> Result<(Program, Image), JobError> {
+    let alloc: Global = system.alloc();
+    let early = if asked.map_first {
+        map_text(system, asked)?
+    } else {
+        None
+    };
+    let bytes = given_bytes(system, asked.file)?;
+    let given = match early {
+        Some(text) => Some(text),
+        None => map_text(system, asked)?,
+    };
+    if bytes.as_slice().starts_with(b"\x7fELF") {
+        let map = match given {
+            Some(text) => Some(map_in(alloc, asked.map.unwrap_or("-"), text.as_slice())?),
+            None => None,
+        };
+        let image = image_in(alloc, asked.file, bytes.as_slice())?;
+        return Ok((Program { map, source: None }, image));
+    }
+    built_program(alloc, asked.file, bytes)
+}
+
+/// A source as a program, with its map.
+fn built_program(alloc: Global, name: &str, source: Vec<u8>) -> Result<(Program, Image), JobError> {
+    let built = match build(alloc, &[source.as_slice()], default_options()) {
+        Ok(built) => built,
+        Err(fault) => return Err(fault_line(alloc, &fault, &[name])?),
+    };
+    let map = map_in(alloc, name, built.map.as_slice())?;
+    let image = image_in(alloc, name, built.exe.as_slice())?;
+    let program = Program {
+        map: Some(map),
+        source: Some(source),
+    };
+    Ok((program, image))
+}
+
+/// The text of the map that the words name.
+fn map_text<S: System>(system: &mut S, asked: &Asked<'_>) -> Result<Option<Vec<u8>>, JobError> {
+    match asked.map {
+        Some(name) => Ok(Some(file_bytes(system, name)?)),
+        None => Ok(None),
+    }
+}

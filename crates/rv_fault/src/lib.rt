@@ -1,0 +1,17 @@
+//! Why a build, a link or a run is refused, whoever says so.
+//!
+//! It takes the fault of a layer, of a source, of a file or of the link, and gives it as one of all layers, with the file's
+//! number.
+//!
+//! Main contract: want of memory is `Fault::Memory` alone, whichever layer wanted it (`of_link`), so any other fault names
+//! its cause (`IsNamed` in `specs/Fault`). It must not know who finds a fault, nor how one is told.
+//!
+//! ```text
+//! Fault::from(LinkFault::EntryMissing)   // Fault::Link(LinkFault::EntryMissing)
+//! Fault::from(LinkFault::OutOfMemory)    // Fault::Memory
+//! ```
+#![tactic(auto)]
+
+mod fault;
+
+pub use fault::Fault;

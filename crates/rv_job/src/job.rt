@@ -1,0 +1,98 @@
+//! What the program can be asked for.
+
+use crate::files::{AskedCode, AskedImage};
+use crate::runs::{Asked, Coverage, Shown};
+use rv_command_line::Shell;
+use rv_link::LinkOptions;
+
+/// What the command line asks for.
+#[derive(Drop)]
+pub enum Job<'a> {
+    /// Runs an executable, or a source; `-` is standard input.
+    Run {
+        file: &'a str,
+        limit: u64,
+    },
+    /// Runs, and says why a run ended where the guest did not exit.
+    Report(Asked<'a>),
+    /// Runs, and writes a line for each instruction.
+    Trace(Asked<'a>, Shown<'a>),
+    /// Runs, and counts what is executed.
+    Stats(Asked<'a>, Coverage<'a>),
+    /// Writes the executable, and the map where a file is named for it.
+    Build {
+        exe: &'a str,
+        map: Option<&'a str>,
+        options: LinkOptions,
+        sources: Vec<&'a str>,
+    },
+    /// Writes the object of a source.
+    Assemble {
+        object: &'a str,
+        source: &'a str,
+        /// Whether calls may be shortened.
+        relax: bool,
+    },
+    /// Links objects: writes the executable, and the map where a file is named for it.
+    Link {
+        exe: &'a str,
+        map: Option<&'a str>,
+        options: LinkOptions,
+        objects: Vec<&'a str>,
+    },
+    /// Prints the map.
+    Map {
+        options: LinkOptions,
+        sources: Vec<&'a str>,
+    },
+    /// Prints the listing; the files are read in the order of the words.
+    Objdump {
+        map: &'a str,
+        exe: &'a str,
+        map_first: bool,
+    },
+    /// Prints a source that builds the text of an executable again.
+    Raw {
+        exe: &'a str,
+    },
+    /// Prints the instructions of a file.
+    Code(AskedCode<'a>),
+    /// Prints the lines of sources with what they become.
+    List {
+        all: bool,
+        options: LinkOptions,
+        sources: Vec<&'a str>,
+    },
+    /// Prints the bytes of a file.
+    Dump {
+        file: &'a str,
+    },
+    /// Prints the sizes of files.
+    Size {
+        files: Vec<&'a str>,
+    },
+    /// Prints the names of a file, or of the map of an executable.
+    Names {
+        map: Option<&'a str>,
+        file: &'a str,
+    },
+    /// Prints the headers and tables of a file.
+    Elf {
+        file: &'a str,
+    },
+    /// Prints what is wrong with sources, or what they come to.
+    Check {
+        options: LinkOptions,
+        sources: Vec<&'a str>,
+    },
+    /// Prints the entry of a code, or the list of codes.
+    Explain {
+        entry: Option<&'static str>,
+    },
+    /// Writes an image of an executable.
+    Image(AskedImage<'a>),
+    /// Prints what a shell completes words by.
+    Completions {
+        shell: Shell,
+    },
+}

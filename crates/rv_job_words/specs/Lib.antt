@@ -1,0 +1,2 @@
+pub mod AssemblerOptions
+pub mod Numbers
