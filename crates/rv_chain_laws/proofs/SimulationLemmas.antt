@@ -1,20 +1,20 @@
 -- Whenever memory holds a program, the run of the machine over it agrees with the run of the sources.
 
-use Rattle.std.proofs.Common.{◌≡◌, ◌⊎◌, inl, inr, ℕ, zero, suc, ◌+◌, ◌-◌, ◌%◌, ◌^◌, ◌<◌, ◌≤◌, Bool, true, false, List, [], ◌∷◌, ◌++◌, length, get_or, set, replicate, Option, Some, None, refl, sym, ap, ◌∙◌, subst, arith, append_assoc, cond}
+use Rattle.std.proofs.Common.{◌≡◌, ◌⊎◌, inl, inr, ℕ, zero, suc, ◌+◌, ◌-◌, ◌%◌, ◌^◌, ◌<◌, ◌≤◌, Bool, true, false, List, [], ◌∷◌, length, get_or, set, replicate, Option, Some, None, refl, sym, ap, ◌∙◌, subst, arith, cond}
 use Rattle.std.specs.Prelude.{◌&&◌, ◌==◌, nat_lt, nat_le, if◌then◌else◌}
 use Rattle.std.specs.List.{AllByRecursion, find}
 use Rattle.std.proofs.lemmas.Bool.{cases_Bool, and_parts, ltb-true, eqb-true, leb-true, leb-false, le-leb}
-use Rattle.std.proofs.lemmas.List.{append-nil, length-set, get_or-set_same, get_or-set_other, set_past}
+use Rattle.std.proofs.lemmas.List.{length-set, get_or-set_same, get_or-set_other, set_past}
 use Rattle.rv_isa.specs.declared.instruction.Inst.{Inst}
 use Rattle.rv_isa_laws.specs.Memory.{Mem, Execute}
 use Rattle.rv_isa_laws.specs.Platform.{stack_end}
 use Rattle.rv_isa_laws.specs.Hart.{Hart, Outcome, Limit, stop, start, register}
 use Rattle.rv_isa_laws.specs.Effect.{Next, On, Over, apply, follow}
 use Rattle.rv_isa_laws.specs.Meaning.{effect}
-use Rattle.rv_isa_laws.specs.Kept.{GoesOn, Kept, InRange}
-use Rattle.rv_isa_laws.proofs.EffectLawsLemmas.{effect_keeps}
+use Rattle.rv_isa_laws.specs.Kept.{GoesOn, InRange}
+use Rattle.rv_isa_laws.proofs.ConsoleLemmas.{run_adds}
 use Rattle.rv_isa_laws.specs.Reader.{Reader}
-use Rattle.rv_isa_laws.specs.Run.{Fetched, Got, NoRight, NoInstruction, fetch, step, run, done, machine_run}
+use Rattle.rv_isa_laws.specs.Run.{NoInstruction, run, done, machine_run}
 use Rattle.rv_statement.specs.Statement.{Statement}
 use Rattle.rv_map.specs.Map.{Map}
 use Rattle.rv_source_laws.specs.Program.{Mapped, Program, program}
@@ -22,7 +22,7 @@ use Rattle.rv_source_laws.specs.Meaning.{meaning, cost}
 use Rattle.rv_source_laws.specs.Start.{right_at, is_in, first_memory}
 use Rattle.rv_source_laws.specs.SourceRun.{Place, Starts, Inside, Gap, Outside, starts_or_inside, found, place, step_at, cost_at, steps, source_run}
 use Rattle.rv_chain_laws.specs.Realizes.{Realizes, HoldsLines, StandsIn}
-use Rattle.rv_chain_laws.specs.Agrees.{IsFront, Agrees}
+use Rattle.rv_chain_laws.specs.Agrees.{Agrees}
 use Rattle.rv_chain_laws.specs.Walks.{Walked, Ready, Does}
 use Rattle.rv_chain_laws.proofs.EvenLemmas.{IsEven}
 use Rattle.rv_chain_laws.proofs.AlikeLemmas.{Beside, Alike, apply_alike}
@@ -30,18 +30,6 @@ use Rattle.rv_chain_laws.proofs.OnwardLemmas.{OnNext, IsAnswer, IsKept, apply_on
 use Rattle.rv_chain_laws.proofs.FetchLemmas.{Text, no_right, fetched}
 use Rattle.rv_chain_laws.proofs.WalkLemmas.{Steady, short_lines, walk_one, walk_steady, walk_runs, walk_limits}
 use Rattle.rv_chain_laws.proofs.ObligationsLemmas.{does}
-
-front_self : (xs : List ℕ) → IsFront xs xs
-front_self xs = record { rest = []; joined = append-nil xs }
-
-front_more : (xs ys : List ℕ) (bytes : List ℕ) → IsFront xs ys → IsFront xs (ys ++ bytes)
-front_more xs ys bytes f = record { rest = f.rest ++ bytes; joined = sym (append_assoc xs f.rest bytes) ∙ ap (λ l. l ++ bytes) f.joined }
-
-front_of_front : (xs ys zs : List ℕ) → IsFront xs ys → IsFront ys zs → IsFront xs zs
-front_of_front xs ys zs f g = record { rest = f.rest ++ g.rest; joined = sym (append_assoc xs f.rest g.rest) ∙ ap (λ l. l ++ g.rest) f.joined ∙ g.joined }
-
-front_kept : (xs : List ℕ) → IsKept (λ g. IsFront xs g.console)
-front_kept xs = record { answers = λ g value small f. f; takes = λ g input f. f; writes = λ g bytes f. front_more xs g.console bytes f }
 
 -- a hart as it is on the way of a run: 32 registers in range, and an even address
 pub record IsGood (g : Hart) : Type 0 where
@@ -103,22 +91,6 @@ agree_if true x y o e a = a
 agree_if false x y o e a = absurd (cc)
 
 module _ {Spells StandsFor : ℕ → Inst → Type 0} (reader : Reader Spells StandsFor) where
-  adds_step : (f : Fetched) (h : Hart) (m : Mem) → OnNext (λ g. IsFront h.console g.console) (done f h m)
-  adds_step NoRight h m = tt
-  adds_step NoInstruction h m = tt
-  adds_step (Got i b) h m =
-      apply_on (λ g. IsFront h.console g.console) (front_kept h.console) (effect i b h) m
-      (both_goes (Kept h) (Kept h) (λ g. IsFront h.console g.console) (λ g k l. subst (λ c. IsFront h.console c) (sym k.console) (front_self h.console)) (effect i b h) (effect_keeps i b h) (effect_keeps i b h))
-
-  adds_next : (x : Next) (h : Hart) (go : Hart → Mem → Outcome) → ((g : Hart) (m : Mem) → IsFront g.console (go g m).console) → OnNext (λ g. IsFront h.console g.console) x → IsFront h.console (follow x h go).console
-  adds_next (On g m) h go all f = front_of_front h.console g.console (go g m).console f (all g m)
-  adds_next (Over e) h go all f = front_self h.console
-
-  -- a run writes after what is on the console
-  pub run_adds : (n : ℕ) (h : Hart) (m : Mem) → IsFront h.console (run reader n h m).console
-  run_adds zero h m = front_self h.console
-  run_adds (suc n) h m = adds_next (step reader h m) h (run reader n) (run_adds n) (adds_step (fetch reader m h.pc) h m)
-
   module _ (p : Program) (first : Mem) (r : Realizes reader first p) where
     abbrev Follows : Mem → Mem → Type 0
     Follows m s = Beside (right_at p.map) first m s
@@ -155,7 +127,7 @@ module _ {Spells StandsFor : ℕ → Inst → Type 0} (reader : Reader Spells St
 
     inside_turn : (most left : ℕ) (h : Hart) (m s : Mem) → Agrees (turn most Inside left h s) (run reader left h m)
     inside_turn most zero h m s = inl refl
-    inside_turn most (suc left) h m s = agree_if (nat_le 1 (suc left)) _ _ _ (one_left left) (inr (refl, run_adds (suc left) h m))
+    inside_turn most (suc left) h m s = agree_if (nat_le 1 (suc left)) _ _ _ (one_left left) (inr (refl, run_adds reader (suc left) h m))
 
     follow_alike : (most left : ℕ) → left ≤ most → AgreeWithin most → (h : Hart) (x y : Next) → Alike (right_at p.map) first x y → OnNext IsGood x → Agrees (follow y h (steps most p left)) (follow x h (run reader left))
     follow_alike most left le ih h (On g m) (On k s) a good =

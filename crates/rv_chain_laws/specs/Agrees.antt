@@ -1,12 +1,8 @@
 -- When a source run and a run of the machine agree.
 
-use Rattle.std.specs.Prelude.{◌≡◌, ℕ, ◌++◌, List, ◌⊎◌}
+use Rattle.std.specs.Prelude.{◌≡◌, ◌⊎◌}
 use Rattle.rv_isa_laws.specs.Hart.{Outcome, Astray}
-
--- the first bytes of a list
-pub record IsFront (front whole : List ℕ) : Type 0 where
-  pub rest : List ℕ
-  pub joined : front ++ rest ≡ whole
+use Rattle.rv_isa_laws.specs.Console.{IsFront}
 
 -- they are equal; or the source run went to the inside of a statement, and so far the console is
 -- the same

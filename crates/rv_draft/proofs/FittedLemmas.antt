@@ -31,7 +31,7 @@ use Rattle.rv_assemble_laws.specs.Fields.{Field, fields_from, fields_at}
 use Rattle.rv_instruction.specs.declared.encoded.Coded.{Coded as CodedPart}
 use Rattle.rv_instruction.specs.Code.{coded_by, instructions_of, IsCodeOf}
 use Rattle.rv_draft.specs.declared.item.Item.{Item}
-use Rattle.rv_layout.specs.Code.{value_at, statement_padding, padding_at, IsCoded}
+use Rattle.rv_layout.specs.Code.{statement_padding, padding_at, IsCoded}
 use Rattle.rv_draft.specs.Code.{code_bytes as bytes_of_code, code_size, sizes_of}
 use Rattle.rv_draft.specs.Coded.{AreCoded}
 use Rattle.rv_draft.specs.DataParts.{is_filled, data_said, fields_said, data_parts, code_said, open_fields}
@@ -89,7 +89,7 @@ module _ (all : Tables) (s : Located) (x : Item) (begins : ℕ) (found : List Co
   laid_statement = laid_of s x found
 
   abbrev worth : Expression → Value
-  worth = λ e. value_at all s e
+  worth = λ e. form all s e
 
   abbrev bytes : List ℕ
   bytes = joined (coded_by found)
@@ -472,10 +472,10 @@ pub record Fit (t : Tables) (s : LaidStatement) : Type 0 where
   pub fields : open_fields t s ≡ fields_at t s
 
 pub fit_one : (all : Tables) (s : Located) (x : Item) (found : List CodedPart) → PlacedAs s.placed s.kind → (s.placed ≡ false → x.bytes ≡ 0) → x.section ≡ s.section
-    → (s.placed ≡ true → IsSized (λ e. value_at all s e) s.home.executable x (slice_index_or (alignments_of all) x.section 1) (code_size (padding_at all s) found) s.kind)
-    → IsCoded (λ e. value_at all s e) s.options.rvc s.kind found → Held s → HaveFields all s → IsSpare all s → Fit all (laid_of s x found)
+    → (s.placed ≡ true → IsSized (λ e. form all s e) s.home.executable x (slice_index_or (alignments_of all) x.section 1) (code_size (padding_at all s) found) s.kind)
+    → IsCoded (λ e. form all s e) s.options.rvc s.kind found → Held s → HaveFields all s → IsSpare all s → Fit all (laid_of s x found)
 fit_one all s x found is absent at size own held fields spare =
-    let v : Expression → Value = λ e. value_at all s e in
+    let v : Expression → Value = λ e. form all s e in
     let begins = slice_index_or (alignments_of all) s.section 1 in
     let size' : s.placed ≡ true → IsSized v s.home.executable x begins (code_size (padding_at all s) found) s.kind =
     λ e. subst (λ n. IsSized v s.home.executable x (slice_index_or (alignments_of all) n 1) (code_size (padding_at all s) found) s.kind) at (size e) in

@@ -6,7 +6,6 @@ use Rattle.std.proofs.lemmas.List.{get_or-set_same, get_or-set_other}
 use Rattle.std.proofs.lemmas.Bool.{eqb-true, eqb-false, cases_eq}
 use Rattle.rv_statement.specs.View.{statement_of, statement_kind}
 use Rattle.rv_statement.specs.declared.statement.Statement.{Statement}
-use Rattle.rv_statement.specs.declared.statement.StatementKind.TheVariants as kinds
 use Rattle.rv_unit_laws.specs.Sections.{Section}
 use Rattle.rv_unit_laws.specs.Tables.{Tables, SectionOffset as Standing, tables, value, stood, alignments_of}
 use Rattle.rv_unit_tables.specs.declared.section_offset.SectionOffset.{SectionOffset}
@@ -16,11 +15,12 @@ use Rattle.rv_unit_tables.specs.Sections.{offset_of, extent_section}
 use Rattle.rv_unit_tables.proofs.LookupsLemmas.{alignments_are}
 use Rattle.rv_unit.specs.Unit.{said, passed, IsFilled}
 use Rattle.rv_source_laws.specs.Located.{is_placed}
+use Rattle.rv_assemble_laws.specs.LaidStatements.{form}
 use Rattle.rv_draft.specs.declared.item.CodeSize.{CodeSize}
 use Rattle.rv_draft.specs.declared.item.Item.{Item}
 use Rattle.rv_draft.specs.Items.{IsItem, grown}
 use Rattle.rv_draft.specs.Sized.{IsSized}
-use Rattle.rv_layout.specs.Code.{value_at, IsExtentAt}
+use Rattle.rv_layout.specs.Code.{IsExtentAt}
 use Rattle.rv_layout.proofs.ExtentsLemmas.{home_at}
 use Rattle.rv_draft.specs.Measured.{HasRoom}
 use Rattle.rv_draft.proofs.RoomyLemmas.{IsRoomy}
@@ -87,7 +87,7 @@ sized_at u i s p e size x filled at there section h shown =
 -- a statement that has a size, and for which its section has room
 pub room_at : (u : SourceUnit) (i : ℕ) (s : Statement) (p : SectionOffset) (e : Extent) (size : CodeSize) (ends : ℕ → ℕ) (stop : ℕ) → IsFilled u → StandsAt u i s p → IsExtentAt u.tables.extents.items p.section e
     → (let st = located_at (said u) i (statement_of s) in
-    IsRoomy (λ t. value_at (tables (said u)) st t) st.home.executable (slice_index_or (alignments_of (tables (said u))) st.section 1) (ends st.section) stop size (statement_of s).kind)
+    IsRoomy (λ t. form (tables (said u)) st t) st.home.executable (slice_index_or (alignments_of (tables (said u))) st.section 1) (ends st.section) stop size (statement_of s).kind)
     → HasRoom (λ t. value (tables (said u)) true (i + 1) (offset_of p) t) e.section.executable e.alignment (ends p.section) size (statement_kind s.kind)
 room_at u i s p e size ends stop filled at there roomy =
     let all = tables (said u) in

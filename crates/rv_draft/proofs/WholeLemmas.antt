@@ -16,17 +16,17 @@ use Rattle.rv_unit_laws.specs.Faults.{StatementFault}
 use Rattle.rv_unit_laws.specs.Tables.{Tables, SectionOffset as Standing, at_start, tables, value, stood}
 use Rattle.rv_unit_tables.specs.declared.section_offset.SectionOffset.{SectionOffset}
 use Rattle.rv_unit.specs.declared.unit.Unit.{Unit as SourceUnit}
-use Rattle.rv_unit_tables.specs.declared.section.Extent.{Extent}
 use Rattle.rv_unit_tables.specs.Sections.{offset_of}
 use Rattle.rv_unit.specs.Unit.{said, passed}
 use Rattle.rv_source_laws.specs.Located.{Located, located, located_from}
 use Rattle.rv_source_laws.specs.Sizes.{AreLeast}
 use Rattle.rv_assemble_laws.specs.Refusals.{code_faults_at, code_fault_from}
+use Rattle.rv_assemble_laws.specs.LaidStatements.{form}
 use Rattle.rv_draft.specs.Added.{IsAdded, IsAllCode, IsCodeFault, IsCodeSoFar, IsSourceCode, Adds}
 use Rattle.rv_draft.specs.declared.code.Coder.{Coder}
 use Rattle.rv_draft.specs.declared.code.SectionCode.{SectionCode}
 use Rattle.rv_draft.proofs.SoFarLemmas.{next_code, wrong_code}
-use Rattle.rv_layout.specs.Code.{value_at, padding_at}
+use Rattle.rv_layout.specs.Code.{padding_at}
 use Rattle.rv_draft.specs.Code.{code_size, bytes_of_sizes}
 use Rattle.rv_draft.specs.Lengths.{HasLengthAt}
 use Rattle.rv_layout.specs.Measure.{IsSize, AreSizes}
@@ -69,7 +69,7 @@ told_more u i wanted x p rvc b c d faults at same on home added told =
     let size : CodeSize = code_size (padding_at t st) a.coded in
     ap bytes_of_sizes a.counts ∙ map-append (λ (size : CodeSize). size.bytes) c.sizes.items (size ∷ [])
     ∙ ap (λ n. bytes_of_sizes c.sizes.items ++ n ∷ [])
-    (added_length (λ e. value_at t st e) st.options.rvc st.home.executable (code_faults_at t st) wanted st.kind a.coded a.sound a.is a.asked told)
+    (added_length (λ e. form t st e) st.options.rvc st.home.executable (code_faults_at t st) wanted st.kind a.coded a.sound a.is a.asked told)
 
 -- the size of a statement
 pub size_here : (t : Tables) (ls : List Located) (ns : List ℕ) (i : ℕ) (l : Located) (rest : List Located) → AreSizes t ls ns → drop i ls ≡ l ∷ rest → IsSize t l (slice_index ns i)

@@ -1,6 +1,6 @@
 -- A statement that names a parcel: the form that it names is its code, whatever its bytes, and it has no fault.
 
-use Rattle.std.proofs.Common.{◌≡◌, ℕ, ℤ, pos, Bool, true, false, List, [], ◌∷◌, ◌++◌, map, Option, Some, None, option_map, Ok, refl, sym, ap, ◌∙◌, subst}
+use Rattle.std.proofs.Common.{◌≡◌, ℕ, ℤ, Bool, true, false, List, [], ◌∷◌, ◌++◌, map, Option, Some, None, option_map, Ok, refl, sym, ap, ◌∙◌, subst}
 use Rattle.std.specs.Prelude.{◌&&◌, not, if◌then◌else◌, flat_map, length, take, is_some}
 use Rattle.std.specs.List.{AllByRecursion}
 use Rattle.arrayvec.specs.ArrayVec.{ArrayVec}
@@ -27,7 +27,7 @@ use Rattle.rv_statement.specs.Statement.{Expression, Statement, StatementKind, L
 use Rattle.rv_statement.specs.View.{plain_of, parcel_registers, parcel_operands, shaped}
 use Rattle.rv_pseudo_laws.specs.Code.{Part, Closed, Constants, number_of, by_form, parcel_form, named_form, code}
 use Rattle.rv_pseudo_laws.specs.Filled.{are_closed}
-use Rattle.rv_pseudo_laws.specs.InstructionFaults.{Worth, Number, number_faults, low_faults, operand_faults, own_faults, else_unplaced, has_row, faults}
+use Rattle.rv_pseudo_laws.specs.InstructionFaults.{Worth, Number, number_faults, low_faults, operand_faults, else_unplaced, has_row, faults}
 use Rattle.rv_pseudo_laws.proofs.ParcelsLemmas.{named_code}
 use Rattle.rv_pseudo.specs.Templates.{statement_with, operand, asked_bytes}
 use Rattle.rv_source_laws.specs.Lines.{constant_of, form_in}

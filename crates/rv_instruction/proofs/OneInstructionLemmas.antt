@@ -1,6 +1,6 @@
 -- A statement that is one instruction.
 
-use Rattle.std.proofs.Common.{◌≡◌, ℕ, Bool, true, false, refl, sym, ap, ◌∙◌, subst, ℤ, List, [], ◌∷◌, map, Option, Some, None, Ok}
+use Rattle.std.proofs.Common.{◌≡◌, ℕ, Bool, true, false, refl, sym, ap, ◌∙◌, subst, ℤ, List, [], ◌∷◌, Option, Some, None, Ok}
 use Rattle.std.specs.Prelude.{IfSome, ◌&&◌, is_some}
 use Rattle.arrayvec.specs.ArrayVec.{ArrayVec}
 use Rattle.rv_isa.specs.declared.instruction.Inst.{Inst}
@@ -27,7 +27,7 @@ use Rattle.rv_pseudo.specs.Templates.{plain, says_more, parts_of, statement_with
 use Rattle.rv_pseudo.proofs.TableLemmas.{has_rows, plain_faults, some_of}
 use Rattle.rv_assemble_laws.specs.Coded.{IsCodedPart, AreCodedParts}
 use Rattle.rv_instruction.specs.declared.encoded.Encoded.{Encoded}
-use Rattle.rv_instruction.specs.Code.{encoded_bytes, encoded_instructions, shape_by, shape_in, shape_of, alone, whole, worth_for, AreCodable, AreInRange, IsExpanded, IsOneOf}
+use Rattle.rv_instruction.specs.Code.{encoded_bytes, alone, worth_for, AreCodable, AreInRange, IsExpanded, IsOneOf}
 use Rattle.rv_instruction.proofs.RangesLemmas.{plain_codable, constant_codable}
 use Rattle.rv_instruction.proofs.StatementKindsLemmas.{AreAnswers, answered, operand_found}
 

@@ -1,2 +1,3 @@
 pub mod EffectLawsLemmas
+pub mod ConsoleLemmas
 pub mod ReadingsLemmas

@@ -9,3 +9,4 @@ pub mod Kept
 pub mod Reader
 pub mod Run
 pub mod Platform
+pub mod Console

@@ -1,6 +1,6 @@
 -- Statements that name a parcel: two bytes, whatever their operands and the option.
 
-use Rattle.std.proofs.Common.{◌≡◌, ℕ, Bool, true, false, List, [], ◌∷◌, length, Option, Some, None, refl, ap, ◌∙◌, subst}
+use Rattle.std.proofs.Common.{◌≡◌, ℕ, Bool, true, false, List, [], ◌∷◌, length, Option, Some, None, refl, ◌∙◌, subst}
 use Rattle.std.specs.Prelude.{⊤, ◌&&◌, if◌then◌else◌}
 use Rattle.rv_isa.specs.declared.operation.BranchOperation.{BranchOperation}
 use Rattle.rv_isa.specs.declared.operation.BranchOperation.TheVariants.{Beq, Bne}
@@ -18,7 +18,7 @@ use Rattle.rv_statement.specs.declared.statement.Plain.{Plain}
 use Rattle.rv_statement.specs.declared.statement.Plain.TheVariants as plains
 use Rattle.rv_statement.specs.Statement.{Instruction, Operand, Register, Applied, Target}
 use Rattle.rv_statement.specs.View.{parcel_registers, parcel_operands, shaped, plain_of}
-use Rattle.rv_pseudo_laws.specs.Code.{Part, Closed, Open, Joined, Constants, code, named_form, branch, short_branch}
+use Rattle.rv_pseudo_laws.specs.Code.{Part, Closed, Open, Joined, Constants, code, named_form, branch}
 use Rattle.rv_pseudo_laws.specs.Filled.{are_closed}
 use Rattle.rv_assemble_laws.specs.Coded.{AreCodedParts, constants, joined}
 use Rattle.rv_instruction.specs.Code.{coded_by}

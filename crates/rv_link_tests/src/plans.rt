@@ -43,12 +43,12 @@ const SHORT: &[u8] = b"\x82\x80\x13\0\0\0";
 
 const SHORT_PADDING: [[u64; 3]; 1] = [[2, ALIGN, 4]];
 
-/// The text of objects; none where a name has two definitions, or where it is too long.
+/// The text of objects; none where a name has two definitions.
 pub(crate) fn text(alloc: Global, objects: &[Object<'_>]) -> Result<Option<Placed>, AllocError> {
     let Ok(names) = Names::of(alloc, objects) else {
         return Ok(None);
     };
-    placed(alloc, objects, &names)
+    Ok(Some(placed(alloc, objects, &names)?))
 }
 
 /// The bytes of each call.

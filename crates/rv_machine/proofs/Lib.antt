@@ -1,5 +1,4 @@
 pub mod CallLemmas
-pub mod ConsoleLemmas
 pub mod FetchLemmas
 pub mod KnownLemmas
 pub mod NumberLemmas

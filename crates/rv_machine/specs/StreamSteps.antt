@@ -4,12 +4,13 @@ use Rattle.std.specs.Prelude.{◌≡◌, ◌≢◌, ◌⊎◌, ℕ, Bool, true, 
 use Rattle.std.specs.Io.KnownBytes.{Consumes}
 use Rattle.rv_isa_laws.specs.Memory.{Mem}
 use Rattle.rv_isa_laws.specs.Hart as laws
+use Rattle.rv_isa_laws.specs.Console.{IsFront}
 use Rattle.rv_isa_laws.specs.Effect.{Next, On, Over}
 use Rattle.rv_machine.specs.declared.end.End.{End}
 use Rattle.rv_machine.specs.declared.running.RunFault.{RunFault}
 use Rattle.rv_machine.specs.declared.running.RunFault.TheVariants.{InputFault, OutputFault, OutOfMemory}
 use Rattle.rv_machine.specs.Machine.{Comes}
-use Rattle.rv_machine.specs.Streams.{IsFront, MayFollow}
+use Rattle.rv_machine.specs.Streams.{MayFollow}
 
 -- what is known of a run's input between two steps: whether a take of the run gave nothing, the
 -- reader's number that tells it, and what the reader will give

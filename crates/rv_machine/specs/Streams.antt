@@ -1,8 +1,9 @@
 -- The streams of a run: what takes and puts move, and what a run over them comes to.
 
-use Rattle.std.specs.Prelude.{◌≡◌, ◌≢◌, ◌⊎◌, ℕ, ◌==◌, Bool, true, List, [], ◌++◌, take, Option, Result, Ok, Err, MatchResult, MatchBool}
+use Rattle.std.specs.Prelude.{◌≡◌, ◌≢◌, ◌⊎◌, ℕ, ◌==◌, Bool, true, List, [], take, Option, Result, Ok, Err, MatchResult, MatchBool}
 use Rattle.std.specs.Io.KnownBytes.{Consumes, Keeps}
 use Rattle.rv_isa_laws.specs.Hart as laws
+use Rattle.rv_isa_laws.specs.Console.{IsFront}
 use Rattle.rv_machine.specs.declared.end.End.{End}
 use Rattle.rv_machine.specs.declared.running.RunFault.{RunFault}
 use Rattle.rv_machine.specs.declared.running.RunFault.TheVariants.{InputFault, OutputFault, OutOfMemory}
@@ -21,11 +22,6 @@ NotesEnd result old new =
 -- a stream has failed where it had failed before, or has failed now
 abbrev pub Fails : {A E : Type 0} → Result A E → Bool → Bool → Type 0
 Fails result old new = MatchResult result (λ _. new ≡ old) (λ _. new ≡ true)
-
--- bytes at the front of others
-pub record IsFront (front whole : List ℕ) : Type 0 where
-  pub rest : List ℕ
-  pub joined : front ++ rest ≡ whole
 
 -- what may follow the bytes that were read, for all that the guest can tell: nothing, and where no
 -- take of the run gave nothing, any bytes

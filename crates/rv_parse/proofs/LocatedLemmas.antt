@@ -1,6 +1,6 @@
 -- Where a load or a store goes, by what is read there.
 
-use Rattle.std.proofs.Common.{◌≡◌, ℕ, Bool, true, false, cond, List, [], ◌∷◌, ◌++◌, Option, Some, None, Ok, Err, refl, sym, ◌∙◌, ap}
+use Rattle.std.proofs.Common.{◌≡◌, ℕ, Bool, true, false, cond, List, [], ◌∷◌, ◌++◌, Option, Some, None, Ok, Err, refl, ◌∙◌, ap}
 use Rattle.rv_text_laws.specs.Lexing.{Token}
 use Rattle.rv_text_laws.specs.Codes.{unsupported_here}
 use Rattle.rv_text_laws.specs.SyntaxError.{SyntaxError, wrong, Read}
@@ -11,7 +11,6 @@ use Rattle.rv_statement.specs.Statement.{Expression, Operand, Register, Value, T
 use Rattle.rv_parse_laws.specs.declared.role.Role.TheVariants as roles
 use Rattle.rv_parse_laws.specs.Syntax.{is_number, A_register, A_target, An_address, A_comma, Slots, Locates, and_then, slots}
 use Rattle.rv_parse_laws.specs.Parsing.{◌>>=◌, seen_as, operand_at, operands_at, ended_at, taking, value_at, value_in, base_at, base_next, target_behind, target_next}
-use Rattle.rv_parse_laws.proofs.FailingLemmas.{never}
 use Rattle.rv_parse_laws.proofs.StepsLemmas.{pair_parts}
 use Rattle.rv_parse_laws.proofs.AddressesLemmas.{value_read, target_read, unread_no_target, base_no_target}
 use Rattle.rv_parse_laws.proofs.LocatedLemmas.{target_at, target_parts}

@@ -1,7 +1,7 @@
 -- The places of a parcel's operands: those of its registers, of which it has two at most, and what stands beside them.
 
-use Rattle.std.proofs.Common.{◌≡◌, ℕ, Bool, true, List, [], ◌∷◌, ◌++◌, append_assoc, map, length, Option, Some, None, Ok, Err, refl, sym, ◌∙◌, ap}
-use Rattle.std.specs.Prelude.{nat_le, slice_get, take}
+use Rattle.std.proofs.Common.{◌≡◌, ℕ, List, [], ◌∷◌, ◌++◌, append_assoc, map, length, Option, Some, None, Ok, Err, refl, sym, ◌∙◌, ap}
+use Rattle.std.specs.Prelude.{slice_get, take}
 use Rattle.rv_text_laws.specs.Lexing.{Token}
 use Rattle.rv_text_laws.specs.SyntaxError.{SyntaxError, Read}
 use Rattle.rv_compress.specs.Mnemonics.{register_sets, shape_of}
@@ -15,7 +15,7 @@ use Rattle.rv_statement.specs.Statement.{Expression, Operand, Register, Target, 
 use Rattle.rv_statement.specs.View.{parcel_registers, parcel_operands, shaped, with_operand, with_expression}
 use Rattle.rv_parse_laws.specs.declared.role.Role.TheVariants as roles
 use Rattle.rv_parse_laws.specs.Syntax.{A_register_of, A_comma, A_value, A_target, An_address_by, Slot, Slots, last, slots, parcel_slots, registers_alone, registers_and_base, registers_before}
-use Rattle.rv_parse_laws.specs.Parsing.{◌>>=◌, seen_as, operand_at, operands_at}
+use Rattle.rv_parse_laws.specs.Parsing.{seen_as, operand_at, operands_at}
 use Rattle.rv_lexer.specs.declared.syntax_error.ReadError.{ReadError}
 use Rattle.rv_lexer.specs.declared.syntax_error.ReadError.TheVariants as refusals
 use Rattle.rv_lexer.specs.Cursor.{Fails}

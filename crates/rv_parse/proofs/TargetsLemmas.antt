@@ -1,7 +1,6 @@
 -- Expressions of numbers alone.
 
-use Rattle.std.proofs.Common.{◌≡◌, ℕ, Bool, true, false, ◌&&◌, List, [], ◌∷◌, ◌++◌, Ok, refl, sym, ◌∙◌, ap}
-use Rattle.std.specs.List.{list_all}
+use Rattle.std.proofs.Common.{◌≡◌, Bool, true, false, ◌&&◌, List, [], ◌∷◌, ◌++◌, Ok, refl, sym, ◌∙◌, ap}
 use Rattle.rv_text_laws.specs.Lexing.{Token}
 use Rattle.rv_text_laws.specs.Expression.{Tree, Leaf, Unary, Paren, Binary, Literal, Node, postfix, tree_of, bare}
 use Rattle.rv_text_laws.specs.ExpressionAt.{expression_at}

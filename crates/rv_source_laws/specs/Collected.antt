@@ -12,7 +12,7 @@ use Rattle.rv_collect_laws.specs.Graph.{Graph}
 use Rattle.rv_text_laws.specs.Expression.{Primary}
 use Rattle.rv_text_laws.specs.Values.{Value, Symbolic, Difference}
 use Rattle.rv_statement.specs.declared.pseudo.Function.TheVariants.{PcrelLo}
-use Rattle.rv_statement.specs.Statement.{StatementKind, Label, Numbered, Instruction, Directs, Statement, Expression, Operand, Value as Of_value, Applied, Target}
+use Rattle.rv_statement.specs.Statement.{StatementKind, Instruction, Directs, Statement, Operand, Value as Of_value, Applied, Target}
 use Rattle.rv_unit_laws.specs.Contributions.{Numbers, Contribution, Bytes, contribution}
 use Rattle.rv_unit_laws.specs.Sections.{Section, goes_to_text}
 use Rattle.rv_unit_laws.specs.Tables.{Definition, tables, definition, opened_of}

@@ -1,6 +1,6 @@
 -- What the statements of the code stand for.
 
-use Rattle.std.specs.Prelude.{ℕ, Bool, true, false, List, [], ◌∷◌, ◌++◌, map, Option, option_map, box_value}
+use Rattle.std.specs.Prelude.{ℕ, true, false, List, [], ◌∷◌, ◌++◌, map, option_map, box_value}
 use Rattle.std.specs.Borrow.{Bor}
 use Rattle.rv_text_laws.specs.Bytes.{value}
 use Rattle.rv_text_laws.specs.Expression.{Tree}

@@ -9,14 +9,15 @@ use Rattle.rv_object.specs.Object.{Symbol}
 use Rattle.rv_symbols.specs.Numbers.{last_index, is_named, is_at_place}
 use Rattle.rv_symbols.specs.Found.{same_place}
 
-abbrev pub NameIndices : Type 0
-NameIndices = HashMap (Bor (List ℕ)) ℕ (BuildHasherDefault FoldHasher)
+-- numbers by name
+abbrev pub NumbersByName : Type 0
+NumbersByName = HashMap (Bor (List ℕ)) ℕ (BuildHasherDefault FoldHasher)
 
 abbrev pub PlaceIndices : Type 0
 PlaceIndices = HashMap (ℕ × ℕ) ℕ (BuildHasherDefault FoldHasher)
 
 -- a name has the index of the last symbol of that name
-abbrev pub AreNameIndices : NameIndices → List Symbol → Type 0
+abbrev pub AreNameIndices : NumbersByName → List Symbol → Type 0
 AreNameIndices m xs =
     (q : Bor (List ℕ)) → get_by (λ k. bytes_eq q.now k.now) m ≡ last_index (is_named q.now) xs
 

@@ -3,13 +3,9 @@
 use Rattle.std.specs.Prelude.{◌≡◌, ℕ, min, Option, Some, None, List, [], ◌∷◌, if◌then◌else◌}
 use Rattle.std.specs.Str.{bytes_eq}
 use Rattle.std.specs.Borrow.{Bor}
-use Rattle.std.specs.HashMap.{HashMap, get_by}
-use Rattle.std.specs.declared.hash.FoldHasher.{FoldHasher}
-use Rattle.std.specs.declared.hash.BuildHasherDefault.{BuildHasherDefault}
+use Rattle.std.specs.HashMap.{get_by}
 use Rattle.rv_unit_laws.specs.Tables.{Assignment}
-
-abbrev pub OrdinalMap : Type 0
-OrdinalMap = HashMap (Bor (List ℕ)) ℕ (BuildHasherDefault FoldHasher)
+use Rattle.rv_symbols.specs.Indices.{NumbersByName}
 
 abbrev pub least : ℕ → Option ℕ → ℕ
 least n None = n
@@ -24,6 +20,6 @@ first_ordinal (s ∷ ss) name =
     else first_ordinal ss name
 
 -- the map has it for each name
-abbrev pub AreFirsts : OrdinalMap → List Assignment → Type 0
+abbrev pub AreFirsts : NumbersByName → List Assignment → Type 0
 AreFirsts map assignments =
     (q : Bor (List ℕ)) → get_by (λ k. bytes_eq q.now k.now) map ≡ first_ordinal assignments q.now

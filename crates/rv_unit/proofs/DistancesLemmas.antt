@@ -1,6 +1,6 @@
 -- What values are where each name is open, and where each has a place: a difference there has no fault here.
 
-use Rattle.std.proofs.Common.{◌≡◌, ◌==◌, ℕ, Bool, true, false, cond, List, [], nat_lt, refl, sym, ◌∙◌, ap, subst, ◌⊎◌, inl, inr}
+use Rattle.std.proofs.Common.{◌≡◌, ◌==◌, ℕ, Bool, true, false, cond, [], nat_lt, refl, sym, ◌∙◌, ap, subst, ◌⊎◌, inl, inr}
 use Rattle.rv_text_laws.specs.declared.operator.UnaryOperator.{UnaryOperator}
 use Rattle.rv_text_laws.specs.declared.operator.UnaryOperator.TheVariants.{Negate, Complement, Keep}
 use Rattle.rv_text_laws.specs.declared.operator.BinaryOperator.{BinaryOperator}

@@ -9,7 +9,7 @@ use Rattle.rv_text.proofs.EvalsLemmas.{lone_value}
 use Rattle.rv_statement.specs.declared.directive.Binding.{Binding}
 use Rattle.rv_unit_laws.specs.Bindings.{is_weak}
 use Rattle.rv_unit_laws.specs.Sections.{Opened, section_at}
-use Rattle.rv_unit_laws.specs.Tables.{Tables, SectionOffset, Labelled, Assignment, stands, labelled, label_of, assigned_first, assigned_before, assigned_later, assigned_ever, own_named, weakened, named, opened_of, meaning, value}
+use Rattle.rv_unit_laws.specs.Tables.{Tables, SectionOffset, Labelled, Assignment, labelled, label_of, assigned_first, assigned_before, assigned_later, assigned_ever, own_named, weakened, named, opened_of, meaning, value}
 
 -- a meaning that is no number and no fault
 abbrev is_place : Meaning → Bool

@@ -1,8 +1,7 @@
-use Rattle.std.proofs.Common.{ap, ◌∙◌, None}
+use Rattle.std.proofs.Common.{ap, ◌∙◌}
 use Rattle.rv_text.specs.Expr.{tree_of_expr}
 use Rattle.rv_pseudo.specs.Faults.{constant_in}
-use Rattle.rv_instruction.specs.Code.{asks_label}
-use Rattle.rv_instruction.specs.Scoped.{values_at, labels_at}
+use Rattle.rv_instruction.specs.Scoped.{values_at}
 use Rattle.rv_instruction.proofs.WorthsLemmas.{constant_worth}
 use Rattle.rv_instruction.proofs.named.number_worth.Goals as goal
 

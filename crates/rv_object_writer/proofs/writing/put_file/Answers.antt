@@ -1,6 +1,4 @@
-use Rattle.std.proofs.Common.{◌≡◌, ◌∙◌, ◌≤◌, ◌^◌, ◌<◌, ◌+◌, arith, length, map}
-use Rattle.rv_elf.specs.Fields.{file_header_size}
-use Rattle.rv_object_file_laws.specs.Written.{headers_offset}
+use Rattle.std.proofs.Common.{◌∙◌, arith, map}
 use Rattle.rv_object_writer.specs.Pieces.{piece_of, header_by}
 use Rattle.rv_object_writer.proofs.StepsLemmas.{whole_file, length_so_far, not_below, begins_below}
 use Rattle.rv_object_writer.proofs.writing.put_file.Goals as goal

@@ -8,7 +8,7 @@ use Rattle.rv_unit.specs.Unit.{said}
 use Rattle.rv_assemble_laws.specs.ShownNames.{said_names, are_shown}
 use Rattle.std.proofs.lemmas.List.{length-map, map-append}
 use Rattle.rv_assemble_laws.specs.LaidStatements.{LaidStatement}
-use Rattle.rv_assemble_laws.specs.Symbols.{references, is_meant, local_symbols, exports_of, exports}
+use Rattle.rv_assemble_laws.specs.Symbols.{references, is_meant, local_symbols, exports_of}
 use Rattle.rv_symbols.specs.Source.{tables_of, place_in}
 use Rattle.rv_symbols.specs.Found.{same_place, is_seen, any_means}
 use Rattle.rv_symbols.proofs.StandsLemmas.{ordinal_is, kind_at, laid_inside, laid_past, said_at}

@@ -1,4 +1,4 @@
-use Rattle.std.proofs.Common.{ℕ, ◌++◌, sym, ap, ◌∙◌}
+use Rattle.std.proofs.Common.{◌++◌, sym, ap, ◌∙◌}
 use Rattle.std.specs.List.{list_any}
 use Rattle.rv_object_checks.specs.Stretches.{starts_in}
 use Rattle.rv_object_checks.proofs.EntriesLemmas.{met_late}

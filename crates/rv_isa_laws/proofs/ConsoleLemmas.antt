@@ -12,7 +12,7 @@ use Rattle.rv_isa_laws.specs.Meaning.{effect}
 use Rattle.rv_isa_laws.specs.Reader.{Reader}
 use Rattle.rv_isa_laws.specs.Run.{Fetched, Got, NoRight, NoInstruction, fetch, done, step, run}
 use Rattle.rv_isa_laws.proofs.EffectLawsLemmas.{effect_keeps}
-use Rattle.rv_machine.specs.Streams.{IsFront}
+use Rattle.rv_isa_laws.specs.Console.{IsFront}
 
 pub front_self : (xs : List ℕ) → IsFront xs xs
 front_self xs = record { rest = []; joined = append-nil xs }
