@@ -31,7 +31,7 @@ use Rattle.rv_object.specs.Valid.{is_align}
 use Rattle.rv_assemble_laws.specs.CodeFields.{symbol_field, low_field, low_field_at, label_field, field_of, relax_fields, part_fields}
 use Rattle.rv_assemble_laws.specs.Coded.{constants, IsCodedPart, AreCodedParts}
 use Rattle.rv_assemble_laws.specs.Templates.{Template, Datum, Open, absolute_kind, add_kind, subtract_kind, value_bytes, value_fields, template_fields, IsWide, IsWidth, HasField, IsTemplate, align_field, padding_templates, contribution_templates}
-use Rattle.rv_assemble_laws.specs.LaidStatements.{LaidStatement, Part, part_of, part_bytes, parts_of, parts, form as values, coded_templates, templates, HasSize}
+use Rattle.rv_assemble_laws.specs.LaidStatements.{LaidStatement, Part, part_of, part_bytes, parts_of, parts, expression_value as values, coded_templates, templates, HasSize}
 use Rattle.rv_assemble.proofs.SettledLemmas.{IsIn}
 use Rattle.rv_assemble.proofs.RoomLemmas.{nops_long, IsRoom, HasRoom, directive_room}
 use Rattle.rv_assemble.proofs.FieldListsLemmas.{all_split, all_join}

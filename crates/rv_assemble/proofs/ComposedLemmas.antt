@@ -22,7 +22,7 @@ use Rattle.rv_object.specs.Object.{Contents, Relocation, Section, Symbol, size_o
 use Rattle.rv_object.specs.Valid.{are_paddings, is_below, is_even, is_loaded_alone, fit_inside, are_indexed, are_defined, is_row_in, are_rows, is_alignment}
 use Rattle.rv_assemble_laws.specs.Refusals.{statements_fault}
 use Rattle.rv_assemble_laws.proofs.FaultlessLemmas.{no_first_fault}
-use Rattle.rv_assemble_laws.specs.LaidStatements.{LaidStatement, form, HasSize, part_bytes, parts, laid_in, end_of}
+use Rattle.rv_assemble_laws.specs.LaidStatements.{LaidStatement, expression_value, HasSize, part_bytes, parts, laid_in, end_of}
 use Rattle.rv_assemble_laws.specs.Symbols.{references, symbols_of}
 use Rattle.rv_assemble_laws.specs.IsObjectOf.{IsObjectOf, ArePartsNumbered, Numbering, relocations_from, contents_of, IsNumbered, IsSectionOf, AreSectionsOf, row_of, rows_at}
 use Rattle.rv_assemble_laws.specs.Fields.{Field}
@@ -275,7 +275,7 @@ module _ (ss : List Statement) (d : Draft) (extents : List Extent) (lists : List
       code = drafted.code;
       relocations = relocations;
       numbered = are_numbered;
-      sizes = subst (λ n. AllByRecursion (λ s. s.located.placed ≡ true → HasSize (form t s.located) s n s.located.kind) laid) alignment drafted.sizes;
+      sizes = subst (λ n. AllByRecursion (λ s. s.located.placed ≡ true → HasSize (expression_value t s.located) s n s.located.kind) laid) alignment drafted.sizes;
       fields = drafted.templates;
       short = λ code. drafted.short;
     }

@@ -17,7 +17,7 @@ use Rattle.rv_unit_laws.specs.Tables.{Tables}
 use Rattle.rv_assemble_laws.specs.CodeFields.{part_fields}
 use Rattle.rv_assemble_laws.specs.Coded.{constants, IsCodedPart, AreCodedParts}
 use Rattle.rv_assemble_laws.specs.Templates.{Open, padding_templates, contribution_templates}
-use Rattle.rv_assemble_laws.specs.LaidStatements.{LaidStatement, Part, form, part_of, part_bytes, parts_of, parts, coded_templates, templates, Tile, end_of, HasSize}
+use Rattle.rv_assemble_laws.specs.LaidStatements.{LaidStatement, Part, expression_value, part_of, part_bytes, parts_of, parts, coded_templates, templates, Tile, end_of, HasSize}
 use Rattle.rv_assemble_laws.proofs.FilledLemmas.{filled}
 use Rattle.rv_source_laws.proofs.HeldLemmas.{ContributionHeld, IsHeld}
 use Rattle.rv_assemble.proofs.SettledLemmas.{IsIn}
@@ -62,18 +62,18 @@ contribution_even home executable ordinal bytes v (Bytes contents) code here hel
 contribution_even home executable ordinal bytes v (Zero_bytes count) code here held room = absurd (cc)
 contribution_even home executable ordinal bytes v (Alignment f number) code here held room = padding_even executable ordinal bytes here room
 
-kind_even : (t : Tables) (home : Section) (s : LaidStatement) (multiple : ℕ) (kind : StatementKind) → home.executable ≡ true → s.located.home.executable ≡ true → IsHeld home kind → HasSize (form t s.located) s multiple kind
+kind_even : (t : Tables) (home : Section) (s : LaidStatement) (multiple : ℕ) (kind : StatementKind) → home.executable ≡ true → s.located.home.executable ≡ true → IsHeld home kind → HasSize (expression_value t s.located) s multiple kind
     → AllByRecursion IsEvenPart (map (part_of s.located.ordinal) (templates t s kind))
 kind_even t home s multiple (Label name) code here held size = tt
 kind_even t home s multiple (Numbered number) code here held size = tt
 kind_even t home s multiple (Instruction mnemonic operands) code here held size =
-    subst (λ o. AllByRecursion IsEvenPart (map (part_of s.located.ordinal) (coded_templates (part_fields t (form t s.located) s.located) (unwrap_or o []) s.coded))) (sym size.parts)
-    (code_even (named_form (constants (form t s.located)) mnemonic operands) (s.located.options.rvc && are_closed size.ps) s.located.ordinal (part_fields t (form t s.located) s.located) size.ps s.coded size.coded_as)
+    subst (λ o. AllByRecursion IsEvenPart (map (part_of s.located.ordinal) (coded_templates (part_fields t (expression_value t s.located) s.located) (unwrap_or o []) s.coded))) (sym size.parts)
+    (code_even (named_form (constants (expression_value t s.located)) mnemonic operands) (s.located.options.rvc && are_closed size.ps) s.located.ordinal (part_fields t (expression_value t s.located) s.located) size.ps s.coded size.coded_as)
 kind_even t home s multiple (Directs d) code here held size =
-    contribution_even home s.located.home.executable s.located.ordinal s.bytes (form t s.located) (contribution d) code here held (directive_room (form t s.located) s multiple d here size)
+    contribution_even home s.located.home.executable s.located.ordinal s.bytes (expression_value t s.located) (contribution d) code here held (directive_room (expression_value t s.located) s multiple d here size)
 
 abbrev pub IsSized : Tables → ℕ → LaidStatement → Type 0
-IsSized t multiple s = s.located.placed ≡ true → HasSize (form t s.located) s multiple s.located.kind
+IsSized t multiple s = s.located.placed ≡ true → HasSize (expression_value t s.located) s multiple s.located.kind
 
 laid_even : (t : Tables) (home : Section) (s : LaidStatement) (multiple : ℕ) → home.executable ≡ true → IsIn home s → IsSized t multiple s → AllByRecursion IsEvenPart (parts_of t s)
 laid_even t home s multiple code h sized = go s.located.placed refl

@@ -15,7 +15,7 @@ use Rattle.rv_unit_laws.specs.Tables.{Tables}
 use Rattle.rv_object.specs.Object.{Contents, Relocation, size_of}
 use Rattle.rv_object.specs.Valid.{is_align, is_padding, is_padding_of, padding_of, held, are_apart, are_all_apart, are_paddings}
 use Rattle.rv_assemble_laws.specs.Templates.{Open, template_fields, padding_templates, contribution_templates}
-use Rattle.rv_assemble_laws.specs.LaidStatements.{LaidStatement, Part, form, templates, part_of, part_bytes, parts_of, parts, Tile}
+use Rattle.rv_assemble_laws.specs.LaidStatements.{LaidStatement, Part, expression_value, templates, part_of, part_bytes, parts_of, parts, Tile}
 use Rattle.rv_assemble_laws.specs.IsObjectOf.{Numbering, relocation_at, relocations_from}
 use Rattle.rv_assemble_laws.proofs.FilledLemmas.{bytes_append}
 use Rattle.rv_source_laws.proofs.HeldLemmas.{ContributionHeld, IsHeld, none_left}
@@ -47,7 +47,7 @@ statement_bare : (home : Section) (t : Tables) (s : LaidStatement) (kind : State
 statement_bare home t s (Label name) e h none = tt
 statement_bare home t s (Numbered number) e h none = tt
 statement_bare home t s (Instruction mnemonic operands) e h none = absurd (let f : is_nobits home ≡ false = h.1 in cc)
-statement_bare home t s (Directs d) e h none = contribution_bare home s.located.home.executable (form t s.located) s.located.ordinal s.bytes (contribution d) e h none
+statement_bare home t s (Directs d) e h none = contribution_bare home s.located.home.executable (expression_value t s.located) s.located.ordinal s.bytes (contribution d) e h none
 
 -- in a section of code without bytes no statement has any
 parts_bare : (t : Tables) (home : Section) (offset : ℕ) (laid : List LaidStatement) → is_nobits home ≡ true → AllByRecursion (IsIn home) laid → Tile t offset laid

@@ -22,7 +22,7 @@ use Rattle.rv_source_laws.specs.Lines.{other_operand, operand_of, is_low_part}
 use Rattle.rv_assemble_laws.specs.CodeFields.{symbol_field, low_field, low_field_at, label_field, field_of, relax_fields, part_fields}
 use Rattle.rv_assemble_laws.specs.Coded.{constants}
 use Rattle.rv_assemble_laws.specs.Templates.{Datum, Open, padding_templates, contribution_templates}
-use Rattle.rv_assemble_laws.specs.LaidStatements.{LaidStatement, form, part_of, parts_of, coded_templates, templates}
+use Rattle.rv_assemble_laws.specs.LaidStatements.{LaidStatement, expression_value, part_of, parts_of, coded_templates, templates}
 use Rattle.rv_assemble_laws.specs.Symbols.{SymbolUse, use_of, references_in, references_of, references}
 use Rattle.rv_assemble_laws.specs.ShownNames.{primary_names, tree_names, own_names, said_names, are_shown, HasNames, is_shown_use, AreShown}
 use Rattle.rv_symbols.specs.SymbolUse.{is_meant_use, AreMeant}
@@ -80,12 +80,12 @@ module _ (t : Tables) where
   all_append xs ys h k = list_all-append is_known xs ys ∙ and_join (list_all is_known xs) (list_all is_known ys) h k
 
   of_values : (l : Located) (width : ℕ) (es : List Expression) → are_shown (flat_map tree_names es) ≡ true
-      → list_all is_known (flat_map references_in (map (part_of l.ordinal) (map (λ e. Datum width (form t l e)) es))) ≡ true
+      → list_all is_known (flat_map references_in (map (part_of l.ordinal) (map (λ e. Datum width (expression_value t l e)) es))) ≡ true
   of_values l width [] h = refl
   of_values l width (e ∷ es) h =
       let both = both_shown (tree_names e) (flat_map tree_names es) h in
-      all_append (references_in (part_of l.ordinal (Datum width (form t l e)))) (flat_map references_in (map (part_of l.ordinal) (map (λ e. Datum width (form t l e)) es)))
-      (of_value l.ordinal width (form t l e) (by_value (λ q. meaning t true l.ordinal (place_of l) q) (λ p. is_known (used l.ordinal p)) e (leaves_known l.ordinal (place_of l) e both.0)))
+      all_append (references_in (part_of l.ordinal (Datum width (expression_value t l e)))) (flat_map references_in (map (part_of l.ordinal) (map (λ e. Datum width (expression_value t l e)) es)))
+      (of_value l.ordinal width (expression_value t l e) (by_value (λ q. meaning t true l.ordinal (place_of l) q) (λ p. is_known (used l.ordinal p)) e (leaves_known l.ordinal (place_of l) e both.0)))
       (of_values l width es both.1)
 
   of_padding : (executable : Bool) (ordinal bytes : ℕ) → list_all is_known (flat_map references_in (map (part_of ordinal) (padding_templates executable ordinal bytes))) ≡ true
@@ -94,7 +94,7 @@ module _ (t : Tables) where
   of_padding false ordinal bytes = refl
 
   of_contribution : (l : Located) (bytes : ℕ) (c : Contribution) → are_shown (flat_map tree_names (in_contribution c)) ≡ true
-      → list_all is_known (flat_map references_in (map (part_of l.ordinal) (contribution_templates l.home.executable l.ordinal (form t l) c bytes))) ≡ true
+      → list_all is_known (flat_map references_in (map (part_of l.ordinal) (contribution_templates l.home.executable l.ordinal (expression_value t l) c bytes))) ≡ true
   of_contribution l bytes Nothing h = refl
   of_contribution l bytes (Bytes (Numbers width values)) h = of_values l width values h
   of_contribution l bytes (Bytes (Texts ended strings)) h = refl
@@ -108,12 +108,12 @@ module _ (t : Tables) where
 
   -- the value of an operand
   abbrev IsKnown : Located → Option Operand → Type 0
-  IsKnown l (Some (Of_value e)) = Known l.ordinal (form t l e)
-  IsKnown l (Some (Applied function e)) = Known l.ordinal (form t l e)
-  IsKnown l (Some (Target e)) = Known l.ordinal (form t l e)
+  IsKnown l (Some (Of_value e)) = Known l.ordinal (expression_value t l e)
+  IsKnown l (Some (Applied function e)) = Known l.ordinal (expression_value t l e)
+  IsKnown l (Some (Target e)) = Known l.ordinal (expression_value t l e)
   IsKnown l _ = ⊤
 
-  of_expression : (l : Located) (e : Expression) → are_shown (tree_names e) ≡ true → Known l.ordinal (form t l e)
+  of_expression : (l : Located) (e : Expression) → are_shown (tree_names e) ≡ true → Known l.ordinal (expression_value t l e)
   of_expression l e h = by_value (λ q. meaning t true l.ordinal (place_of l) q) (λ p. is_known (used l.ordinal p)) e (leaves_known l.ordinal (place_of l) e h)
 
   of_operands : (l : Located) (operands : List Operand) → are_shown (flat_map tree_names (flat_map in_operand operands)) ≡ true → IsKnown l (other_operand operands)
@@ -149,15 +149,15 @@ module _ (t : Tables) where
   of_target k ordinal v true h = refl
   of_target k ordinal v false h = of_symbol k ordinal v h
 
-  of_operand : (l : Located) (o : Option Operand) (k : Kind) → IsKnown l o → list_all is_known (uses (field_of t (form t l) l.ordinal o k)) ≡ true
+  of_operand : (l : Located) (o : Option Operand) (k : Kind) → IsKnown l o → list_all is_known (uses (field_of t (expression_value t l) l.ordinal o k)) ≡ true
   of_operand l None k h = refl
   of_operand l (Some (Register number)) k h = refl
-  of_operand l (Some (Of_value e)) k h = of_symbol k l.ordinal (form t l e) h
-  of_operand l (Some (Applied Hi e)) k h = of_symbol k l.ordinal (form t l e) h
-  of_operand l (Some (Applied Lo e)) k h = of_symbol k l.ordinal (form t l e) h
-  of_operand l (Some (Applied PcrelHi e)) k h = of_symbol k l.ordinal (form t l e) h
-  of_operand l (Some (Applied PcrelLo e)) k h = of_label k l.ordinal (form t l e)
-  of_operand l (Some (Target e)) k h = of_target k l.ordinal (form t l e) (is_low_part k) h
+  of_operand l (Some (Of_value e)) k h = of_symbol k l.ordinal (expression_value t l e) h
+  of_operand l (Some (Applied Hi e)) k h = of_symbol k l.ordinal (expression_value t l e) h
+  of_operand l (Some (Applied Lo e)) k h = of_symbol k l.ordinal (expression_value t l e) h
+  of_operand l (Some (Applied PcrelHi e)) k h = of_symbol k l.ordinal (expression_value t l e) h
+  of_operand l (Some (Applied PcrelLo e)) k h = of_label k l.ordinal (expression_value t l e)
+  of_operand l (Some (Target e)) k h = of_target k l.ordinal (expression_value t l e) (is_low_part k) h
   of_operand l (Some (Accesses set)) k h = refl
   of_operand l (Some (Word name)) k h = refl
   of_operand l (Some (Quoted bytes)) k h = refl
@@ -166,19 +166,19 @@ module _ (t : Tables) where
   of_relax true ordinal = refl
   of_relax false ordinal = refl
 
-  of_part : (l : Located) (p : CodePart) → IsKnown l (operand_of l.kind) → list_all is_known (uses (part_fields t (form t l) l p)) ≡ true
+  of_part : (l : Located) (p : CodePart) → IsKnown l (operand_of l.kind) → list_all is_known (uses (part_fields t (expression_value t l) l p)) ≡ true
   of_part l (Closed i) h = refl
   of_part l (OpenPart k i) h = of_operand l (operand_of l.kind) k h
   of_part l (Joined k i j) h =
-      ap (list_all is_known) (flat_map-append (λ (f : Open). use_of f.ordinal f.symbol) (field_of t (form t l) l.ordinal (operand_of l.kind) k) (relax_fields l.options.relax l.ordinal))
-      ∙ all_append (uses (field_of t (form t l) l.ordinal (operand_of l.kind) k)) (uses (relax_fields l.options.relax l.ordinal)) (of_operand l (operand_of l.kind) k h) (of_relax l.options.relax l.ordinal)
+      ap (list_all is_known) (flat_map-append (λ (f : Open). use_of f.ordinal f.symbol) (field_of t (expression_value t l) l.ordinal (operand_of l.kind) k) (relax_fields l.options.relax l.ordinal))
+      ∙ all_append (uses (field_of t (expression_value t l) l.ordinal (operand_of l.kind) k)) (uses (relax_fields l.options.relax l.ordinal)) (of_operand l (operand_of l.kind) k h) (of_relax l.options.relax l.ordinal)
 
   of_code : (l : Located) (ordinal : ℕ) (ps : List CodePart) (coded : List (List ℕ)) → IsKnown l (operand_of l.kind)
-      → list_all is_known (flat_map references_in (map (part_of ordinal) (coded_templates (part_fields t (form t l) l) ps coded))) ≡ true
+      → list_all is_known (flat_map references_in (map (part_of ordinal) (coded_templates (part_fields t (expression_value t l) l) ps coded))) ≡ true
   of_code l ordinal [] coded h = refl
   of_code l ordinal (p ∷ ps) [] h = refl
   of_code l ordinal (p ∷ ps) (bytes ∷ coded) h =
-      all_append (uses (part_fields t (form t l) l p)) (flat_map references_in (map (part_of ordinal) (coded_templates (part_fields t (form t l) l) ps coded)))
+      all_append (uses (part_fields t (expression_value t l) l p)) (flat_map references_in (map (part_of ordinal) (coded_templates (part_fields t (expression_value t l) l) ps coded)))
       (of_part l p h) (of_code l ordinal ps coded h)
 
   of_statement : (s : LaidStatement) (kind : StatementKind) → kind ≡ s.located.kind → are_shown (said_names kind) ≡ true
@@ -186,7 +186,7 @@ module _ (t : Tables) where
   of_statement s (Label name) e h = refl
   of_statement s (Numbered number) e h = refl
   of_statement s (Instruction mnemonic operands) e h =
-      of_code s.located s.located.ordinal (unwrap_or (code (constants (form t s.located)) s.located.options.rvc s.bytes mnemonic operands) []) s.coded
+      of_code s.located s.located.ordinal (unwrap_or (code (constants (expression_value t s.located)) s.located.options.rvc s.bytes mnemonic operands) []) s.coded
       (subst (λ k. IsKnown s.located (operand_of k)) e (of_operands s.located operands h))
   of_statement s (Directs d) e h = of_contribution s.located s.bytes (contribution d) (both_shown (own_names (Directs d)) (flat_map tree_names (in_contribution (contribution d))) h).1
 

@@ -34,7 +34,7 @@ use Rattle.rv_source_laws.specs.Program.{place_of, in_operand, in_contribution, 
 use Rattle.rv_assemble_laws.specs.CodeFields.{symbol_field, low_field, low_field_at, label_field, field_of, relax_fields, part_fields}
 use Rattle.rv_assemble_laws.specs.Coded.{constants}
 use Rattle.rv_assemble_laws.specs.ShownNames.{primary_names, tree_names, own_names, said_names, used_names}
-use Rattle.rv_assemble_laws.specs.LaidStatements.{LaidStatement, form, part_of, coded_templates, templates, parts_of}
+use Rattle.rv_assemble_laws.specs.LaidStatements.{LaidStatement, expression_value, part_of, coded_templates, templates, parts_of}
 use Rattle.rv_assemble_laws.specs.Symbols.{SymbolUse, use_of, references_in, references_of, references}
 use Rattle.rv_assemble_laws.specs.Templates.{Open, Template, value_fields, padding_templates, contents_templates, contribution_templates}
 use Rattle.rv_assemble_laws.specs.Small.{weight, all_said}
@@ -225,24 +225,24 @@ module _ (t : Tables) (s : Located) where
   label_light k o n (Difference q r plus) = omega arith
   label_light k o n (Faulty c) = omega arith
 
-  value_light : (k : Kind) (e : Expression) → use_heft (uses (symbol_field k s.ordinal (form t s e))) ≤ weight (tree_names e)
+  value_light : (k : Kind) (e : Expression) → use_heft (uses (symbol_field k s.ordinal (expression_value t s e))) ≤ weight (tree_names e)
   value_light k e =
-      let a = symbol_light k s.ordinal (form t s e) in
+      let a = symbol_light k s.ordinal (expression_value t s e) in
       let b = by_value (λ q. meaning t true s.ordinal (place_of s) q) e in
       omega (arith, a, b)
 
-  target_light : (b : Bool) (k : Kind) (e : Expression) → use_heft (uses (if b then low_field k s.ordinal 0 else symbol_field k s.ordinal (form t s e))) ≤ weight (tree_names e)
+  target_light : (b : Bool) (k : Kind) (e : Expression) → use_heft (uses (if b then low_field k s.ordinal 0 else symbol_field k s.ordinal (expression_value t s e))) ≤ weight (tree_names e)
   target_light true k e = omega arith
   target_light false k e = value_light k e
 
-  field_light : (o : Option Operand) (k : Kind) → use_heft (uses (field_of t (form t s) s.ordinal o k)) ≤ operand_heft o
+  field_light : (o : Option Operand) (k : Kind) → use_heft (uses (field_of t (expression_value t s) s.ordinal o k)) ≤ operand_heft o
   field_light None k = omega arith
   field_light (Some (Register n)) k = omega arith
   field_light (Some (Of_value e)) k = value_light k e
   field_light (Some (Applied Hi e)) k = value_light k e
   field_light (Some (Applied Lo e)) k = value_light k e
   field_light (Some (Applied PcrelHi e)) k = value_light k e
-  field_light (Some (Applied PcrelLo e)) k = label_light k s.ordinal (weight (tree_names e)) (form t s e)
+  field_light (Some (Applied PcrelLo e)) k = label_light k s.ordinal (weight (tree_names e)) (expression_value t s e)
   field_light (Some (Target e)) k = target_light (is_low_part k) k e
   field_light (Some (Accesses set)) k = omega arith
   field_light (Some (Word name)) k = omega arith
@@ -258,12 +258,12 @@ module _ (t : Tables) (s : Located) where
   abbrev Parts : List Template → ℕ
   Parts ts = use_heft (flat_map references_in (map (part_of s.ordinal) ts))
 
-  part_light : (ps : List CodePart) (coded : List (List ℕ)) → Parts (coded_templates (part_fields t (form t s) s) ps coded) ≤ opens ps * heft
+  part_light : (ps : List CodePart) (coded : List (List ℕ)) → Parts (coded_templates (part_fields t (expression_value t s) s) ps coded) ≤ opens ps * heft
   part_light [] coded = omega arith
   part_light (p ∷ ps) [] = omega arith
   part_light (Closed i ∷ ps) (bytes ∷ coded) = part_light ps coded
   part_light (OpenPart k i ∷ ps) (bytes ∷ coded) =
-      let a = use_append (uses (field_of t (form t s) s.ordinal (operand_of s.kind) k)) (flat_map references_in (map (part_of s.ordinal) (coded_templates (part_fields t (form t s) s) ps coded))) in
+      let a = use_append (uses (field_of t (expression_value t s) s.ordinal (operand_of s.kind) k)) (flat_map references_in (map (part_of s.ordinal) (coded_templates (part_fields t (expression_value t s) s) ps coded))) in
       let b = field_light (operand_of s.kind) k in
       let c = part_light ps coded in
       more (opens ps) _ _ _ a b c
@@ -271,9 +271,9 @@ module _ (t : Tables) (s : Located) where
       more : (n x y z : ℕ) → z ≡ x + y → x ≤ heft → y ≤ n * heft → z ≤ (1 + n) * heft
       more n x y z a b c = omega (arith, a, b, c)
   part_light (Joined k i j ∷ ps) (bytes ∷ coded) =
-      let fields = field_of t (form t s) s.ordinal (operand_of s.kind) k in
+      let fields = field_of t (expression_value t s) s.ordinal (operand_of s.kind) k in
       let relax = relax_fields s.options.relax s.ordinal in
-      let a = use_append (uses (fields ++ relax)) (flat_map references_in (map (part_of s.ordinal) (coded_templates (part_fields t (form t s) s) ps coded))) in
+      let a = use_append (uses (fields ++ relax)) (flat_map references_in (map (part_of s.ordinal) (coded_templates (part_fields t (expression_value t s) s) ps coded))) in
       let d = uses_append fields relax in
       let e = relax_light s.options.relax in
       let b = field_light (operand_of s.kind) k in
@@ -291,11 +291,11 @@ module _ (t : Tables) (s : Located) where
   data_light width (Difference q r plus) = omega arith
   data_light width (Faulty c) = omega arith
 
-  numbers_light : (width : ℕ) (es : List Expression) → Parts (contents_templates (form t s) (Numbers width es)) ≤ weight (flat_map tree_names es)
+  numbers_light : (width : ℕ) (es : List Expression) → Parts (contents_templates (expression_value t s) (Numbers width es)) ≤ weight (flat_map tree_names es)
   numbers_light width [] = omega arith
   numbers_light width (e ∷ es) =
-      let a = use_append (uses (value_fields s.ordinal width (form t s e))) (flat_map references_in (map (part_of s.ordinal) (contents_templates (form t s) (Numbers width es)))) in
-      let b = data_light width (form t s e) in
+      let a = use_append (uses (value_fields s.ordinal width (expression_value t s e))) (flat_map references_in (map (part_of s.ordinal) (contents_templates (expression_value t s) (Numbers width es)))) in
+      let b = data_light width (expression_value t s e) in
       let c = by_value (λ q. meaning t true s.ordinal (place_of s) q) e in
       let d = numbers_light width es in
       let f = weight_append (tree_names e) (flat_map tree_names es) in
@@ -306,7 +306,7 @@ module _ (t : Tables) (s : Located) where
   padding_light true (suc bytes) = refl
   padding_light false bytes = refl
 
-  contribution_light : (code : Bool) (c : Contribution) (bytes : ℕ) → Parts (contribution_templates code s.ordinal (form t s) c bytes) ≤ weight (flat_map tree_names (in_contribution c))
+  contribution_light : (code : Bool) (c : Contribution) (bytes : ℕ) → Parts (contribution_templates code s.ordinal (expression_value t s) c bytes) ≤ weight (flat_map tree_names (in_contribution c))
   contribution_light code Nothing bytes = omega arith
   contribution_light code (Bytes (Numbers width es)) bytes = numbers_light width es
   contribution_light code (Bytes (Texts ended strings)) bytes = omega arith
@@ -338,9 +338,9 @@ kind_light : (t : Tables) (s : LaidStatement) (kind : StatementKind) → s.locat
 kind_light t s (Label name) is = omega arith
 kind_light t s (Numbered number) is = omega arith
 kind_light t s (Instruction mnemonic operands) is =
-    let ps = unwrap_or (code (constants (form t s.located)) s.located.options.rvc s.bytes mnemonic operands) [] in
+    let ps = unwrap_or (code (constants (expression_value t s.located)) s.located.options.rvc s.bytes mnemonic operands) [] in
     let a = part_light t s.located ps s.coded in
-    let b = few_code (constants (form t s.located)) s.located.options.rvc s.bytes mnemonic operands in
+    let b = few_code (constants (expression_value t s.located)) s.located.options.rvc s.bytes mnemonic operands in
     let c : operand_heft (operand_of s.located.kind) ≡ operand_heft (other_operand operands) = ap (λ k. operand_heft (operand_of k)) is in
     let d = other_light operands in
     let e = said_more (Instruction mnemonic operands) in

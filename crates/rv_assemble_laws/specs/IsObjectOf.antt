@@ -15,7 +15,7 @@ use Rattle.rv_object.specs.declared.row.Row.{Row}
 use Rattle.rv_object.specs.Object.{Contents, Progbits, Note, Nobits, Relocation, Section, Symbol, Object}
 use Rattle.rv_assemble_laws.specs.Refusals.{statements_fault}
 use Rattle.rv_assemble_laws.specs.Templates.{Open, template_fields, IsTemplate}
-use Rattle.rv_assemble_laws.specs.LaidStatements.{LaidStatement, Part, form, part_bytes, parts, laid_in, Tile, end_of, HasSize}
+use Rattle.rv_assemble_laws.specs.LaidStatements.{LaidStatement, Part, expression_value, part_bytes, parts, laid_in, Tile, end_of, HasSize}
 use Rattle.rv_source_laws.specs.Sizes.{AreLeast}
 use Rattle.rv_assemble_laws.specs.Symbols.{SymbolUse, references_in, laid_at, symbols_of, StandsFor}
 
@@ -98,7 +98,7 @@ pub record IsSectionOf (t : Tables) (all : List LaidStatement) (number : Numberi
   pub numbered : section.loaded ≡ true → ArePartsNumbered t all number symbols (parts t laid)
   -- the sizes of its statements
   pub sizes : AllByRecursion
-      (λ s. s.located.placed ≡ true → HasSize (form t s.located) s x.alignment s.located.kind) laid
+      (λ s. s.located.placed ≡ true → HasSize (expression_value t s.located) s x.alignment s.located.kind) laid
   pub fields : AllByRecursion (λ p. IsTemplate p.template) (parts t laid)
   -- a section of code is not too long
   pub short : section.executable ≡ true → end_of 0 laid ≤ longest_section

@@ -25,8 +25,8 @@ pub record LaidStatement : Type 0 where
   pub coded : List (List ℕ)
 
 -- what an expression of a statement is in its file
-abbrev pub form : Tables → Located → Expression → Value
-form t s e = value t true s.ordinal (place_of s) e
+abbrev pub expression_value : Tables → Located → Expression → Value
+expression_value t s e = value t true s.ordinal (place_of s) e
 
 -- a part of a section's bytes, with the ordinal of the statement that says it
 pub record Part : Type 0 where
@@ -47,11 +47,11 @@ abbrev pub templates : Tables → LaidStatement → StatementKind → List Templ
 templates t s (Label name) = []
 templates t s (Numbered number) = []
 templates t s (Instruction mnemonic operands) =
-    let v = form t s.located in
+    let v = expression_value t s.located in
     coded_templates (part_fields t v s.located)
     (unwrap_or (code (constants v) s.located.options.rvc s.bytes mnemonic operands) []) s.coded
 templates t s (Directs directive) =
-    contribution_templates s.located.home.executable s.located.ordinal (form t s.located)
+    contribution_templates s.located.home.executable s.located.ordinal (expression_value t s.located)
     (contribution directive) s.bytes
 
 abbrev pub parts_of : Tables → LaidStatement → List Part

@@ -9,9 +9,8 @@ use Rattle.rv_isa.specs.declared.instruction.Format.{Format}
 use Rattle.rv_isa.specs.declared.instruction.Format.TheVariants.{Registers, Immediate, Shift, Upper, Load, Store, Branch, Jal, Jalr, LoadReserved, Atomic, Fence, Ecall, Ebreak}
 use Rattle.rv_isa.specs.Operations.{atomic_name}
 use Rattle.rv_parse_laws.specs.Names.{word_of}
-use Rattle.rv_parse_laws.specs.Names as names
 use Rattle.rv_parse_laws.proofs.NamesLemmas.{means}
-use Rattle.rv_disasm.specs.Instruction.{register, in_parentheses, based, target, operands, accesses, load_reserved_name, ordering, is_tso, is_between, text_of}
+use Rattle.rv_disasm.specs.Instruction.{register, in_parentheses, based, target, operands, accesses, is_tso, is_between, text_of}
 use Rattle.rv_disasm.specs.Numbers.{prefixed}
 use Rattle.rv_chain_laws.specs.Named.{IsNamedAlike, ListingsNameAlike}
 
@@ -24,15 +23,6 @@ before f text first others e = record { word = word_of f; means = means f; begin
 
 lone : (f : Format) (text : List ℕ) → text ≡ word_of f ++ [] → IsNamedAlike f text
 lone f text e = record { word = word_of f; means = means f; begins = record { rest = []; whole = e; apart = inl refl } }
-
-same_ordering : (acquire release : Bool) → ordering acquire release ≡ names.ordering acquire release
-same_ordering false false = refl
-same_ordering true false = refl
-same_ordering false true = refl
-same_ordering true true = refl
-
-ordered : (name : List ℕ) (acquire release : Bool) (rest : List ℕ) → name ++ ordering acquire release ++ rest ≡ name ++ names.ordering acquire release ++ rest
-ordered name acquire release rest = ap (λ o. name ++ o ++ rest) (same_ordering acquire release)
 
 fence : (address : ℕ) (x : FenceOperands) → IsNamedIn address (Fence x)
 fence address x = go (is_tso x) (is_between x) refl refl
@@ -70,9 +60,9 @@ named_alike address (Store o x) = inl (before (Store o x) _ (register x.rs2) (ba
 named_alike address (Branch o x) = inl (before (Branch o x) _ (register x.rs1) (register x.rs2 ∷ target address x.offset ∷ []) refl)
 named_alike address (Jal x) = inl (before (Jal x) _ (register x.rd) (target address x.offset ∷ []) refl)
 named_alike address (Jalr x) = inl (before (Jalr x) _ (register x.rd) (based x.immediate x.rs1 ∷ []) refl)
-named_alike address (LoadReserved false x) = inl (before (LoadReserved false x) _ (register x.rd) (in_parentheses x.rs1 ∷ []) (ordered (load_reserved_name false) x.acquire x.release _))
-named_alike address (LoadReserved true x) = inl (before (LoadReserved true x) _ (register x.rd) (in_parentheses x.rs1 ∷ []) (ordered (load_reserved_name true) x.acquire x.release _))
-named_alike address (Atomic o double x) = inl (before (Atomic o double x) _ (register x.rd) (register x.rs2 ∷ in_parentheses x.rs1 ∷ []) (ordered (atomic_name o double) x.acquire x.release _))
+named_alike address (LoadReserved false x) = inl (before (LoadReserved false x) _ (register x.rd) (in_parentheses x.rs1 ∷ []) refl)
+named_alike address (LoadReserved true x) = inl (before (LoadReserved true x) _ (register x.rd) (in_parentheses x.rs1 ∷ []) refl)
+named_alike address (Atomic o double x) = inl (before (Atomic o double x) _ (register x.rd) (register x.rs2 ∷ in_parentheses x.rs1 ∷ []) refl)
 named_alike address (Fence x) = fence address x
 named_alike address Ecall = inl (lone Ecall _ refl)
 named_alike address Ebreak = inl (lone Ebreak _ refl)

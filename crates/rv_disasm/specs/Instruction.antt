@@ -7,6 +7,7 @@ use Rattle.std.specs.Fmt.{signed_decimal}
 use Rattle.rv_isa.specs.declared.instruction.Fence.{Fence as FenceOperands}
 use Rattle.rv_isa.specs.declared.instruction.Format.{Format}
 use Rattle.rv_isa.specs.declared.instruction.Format.TheVariants.{Registers, Immediate, Shift, Upper, Load, Store, Branch, Jal, Jalr, LoadReserved, Atomic, Fence, Ecall, Ebreak}
+use Rattle.rv_isa.specs.Mnemonics.{ordering}
 use Rattle.rv_isa.specs.Operations.{register_name, immediate_name, shift_name, upper_name, load_name, store_name, branch_name, atomic_name}
 use Rattle.rv_isa.specs.RegisterNames.{abi_names}
 use Rattle.rv_isa_laws.specs.Arithmetic.{wrapped, sum_of}
@@ -47,17 +48,11 @@ abbrev pub operands : List (List ℕ) → List ℕ
 operands [] = []
 operands (first ∷ others) = 32 ∷ first ++ flat_map (λ operand. 44 ∷ operand) others
 
--- ---- atomics: the end of the mnemonic that its bits aq and rl have (ISA, 8.1)
+-- ---- atomics (ISA, 8.1)
 
 abbrev pub load_reserved_name : Bool → List ℕ
 load_reserved_name false = codes "lr.w"
 load_reserved_name true = codes "lr.d"
-
-abbrev pub ordering : Bool → Bool → List ℕ
-ordering false false = []
-ordering true false = codes ".aq"
-ordering false true = codes ".rl"
-ordering true true = codes ".aqrl"
 
 -- ---- fences (ISA, 2.7)
 

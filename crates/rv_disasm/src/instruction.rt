@@ -5,6 +5,7 @@
 ghost use Rattle.std.specs.Prelude.{◌≡◌, ◌++◌, ◌∷◌, [], OnOk, codes, decimal};
 ghost use Rattle.std.specs.Fmt.{signed_decimal};
 ghost use Rattle.rv_isa.specs.Operations.{format_of};
+ghost use Rattle.rv_isa.specs.Mnemonics.{ordering as order};
 ghost use Rattle.rv_isa_laws.specs.Arithmetic.{wrapped, sum_of};
 ghost use Rattle.rv_disasm.specs.Numbers.{prefixed};
 ghost use Rattle.rv_disasm.specs.Instruction as shows;
@@ -181,7 +182,7 @@ fn put_jump(text: &mut Vec<u8>, targets: Targets, x: JType) -> Result<(), AllocE
 
 /// The end of an atomic's mnemonic.
 fn ordering(acquire: bool, release: bool) -> &'static str
-    ensures { result.now ≡ shows.ordering acquire release }
+    ensures { result.now ≡ order acquire release }
 {
     match (acquire, release) {
         (false, false) => "",
@@ -204,7 +205,7 @@ fn put_ordered(text: &mut Vec<u8>, name: &str, order: &str, reg: Reg) -> Result<
 
 fn put_load_reserved(text: &mut Vec<u8>, double: bool, x: Reserve) -> Result<(), AllocError>
     ensures { OnOk result (text.new.items ≡ text.old.items
-        ++ shows.load_reserved_name double ++ shows.ordering x.acquire x.release
+        ++ shows.load_reserved_name double ++ order x.acquire x.release
         ++ shows.operands (shows.register x.rd ∷ shows.in_parentheses x.rs1 ∷ [])) }
 {
     let name = if double { "lr.d" } else { "lr.w" };
@@ -216,7 +217,7 @@ fn put_load_reserved(text: &mut Vec<u8>, double: bool, x: Reserve) -> Result<(),
 
 fn put_atomic(text: &mut Vec<u8>, name: &str, x: Atomic) -> Result<(), AllocError>
     ensures { OnOk result (text.new.items ≡ text.old.items
-        ++ name.now ++ shows.ordering x.acquire x.release
+        ++ name.now ++ order x.acquire x.release
         ++ shows.operands
         (shows.register x.rd ∷ shows.register x.rs2 ∷ shows.in_parentheses x.rs1 ∷ [])) }
 {

@@ -19,7 +19,7 @@ use Rattle.rv_source_laws.specs.Lines.{operand_of}
 use Rattle.rv_assemble_laws.specs.CodeFields.{field_of, relax_fields, part_fields}
 use Rattle.rv_assemble_laws.specs.Coded.{AreCodedParts, constants}
 use Rattle.rv_assemble_laws.specs.Templates.{Open, align_field}
-use Rattle.rv_assemble_laws.specs.LaidStatements.{LaidStatement, part_of, coded_templates, form}
+use Rattle.rv_assemble_laws.specs.LaidStatements.{LaidStatement, part_of, coded_templates, expression_value}
 use Rattle.rv_assemble_laws.specs.Fields.{Field, field_at, fields_from}
 use Rattle.rv_instruction.specs.declared.encoded.Coded.{Coded}
 use Rattle.rv_instruction.specs.Code.{IsCodeOf, coded_by, encoded_bytes, shape_in, shape_of}
@@ -82,14 +82,14 @@ no_fields fields more section place (c ∷ cs) e = absurd (cc)
 
 -- the fields of a statement whose code was found once more
 located_fields : (t : Tables) (l : Located) (x : Item) (found coded : List Coded) (section : ℕ) (says : StatementKind)
-    → is_alignment says ≡ false → HasBytesOf coded x says → IsCoded (λ e. form t l e) l.options.rvc says coded → IsCoded (λ e. form t l e) l.options.rvc says found → HasBytes found x.bytes says
-    → coded_fields (λ k. field_of t (λ e. form t l e) l.ordinal (operand_of l.kind) k) (relax_fields l.options.relax l.ordinal) section x.offset found
+    → is_alignment says ≡ false → HasBytesOf coded x says → IsCoded (λ e. expression_value t l e) l.options.rvc says coded → IsCoded (λ e. expression_value t l e) l.options.rvc says found → HasBytes found x.bytes says
+    → coded_fields (λ k. field_of t (λ e. expression_value t l e) l.ordinal (operand_of l.kind) k) (relax_fields l.options.relax l.ordinal) section x.offset found
     ≡ fields_from section x.offset (code_said t (laid_of l x coded) says)
 located_fields t l x found coded section (Label name) plain size a b long = no_fields _ _ section x.offset found b.1
 located_fields t l x found coded section (Numbered number) plain size a b long = no_fields _ _ section x.offset found b.1
 located_fields t l x found coded section (Instruction mnemonic operands) plain size a b long =
-    code_fields_of (λ e. form t l e) l.options.rvc b.0 a.0 x.bytes mnemonic operands found coded b.1 a.1 (sym long) size _ _ (part_fields t (λ e. form t l e) l) section x.offset l.ordinal
-    (own_parts t (λ e. form t l e) l)
+    code_fields_of (λ e. expression_value t l e) l.options.rvc b.0 a.0 x.bytes mnemonic operands found coded b.1 a.1 (sym long) size _ _ (part_fields t (λ e. expression_value t l e) l) section x.offset l.ordinal
+    (own_parts t (λ e. expression_value t l e) l)
 located_fields t l x found coded section (Directs directive) plain size a b long =
     no_fields _ _ section x.offset found b.1 ∙ ap (λ c. fields_from section x.offset (if c then padding_said l.ordinal x.bytes else [])) (sym plain)
 
@@ -103,7 +103,7 @@ spot_fields spot index says choices l x found coded at plain size coded_as is lo
     let t = tables (said spot.scope.now.unit.now) in
     let section = spot.place.section in
     let here : Expression → Value = λ e. value_in spot index e in
-    let there : Expression → Value = λ e. form t l e in
+    let there : Expression → Value = λ e. expression_value t l e in
     let same : here ≡ there =
     ap (λ q. λ e. value t true (index + 1) q e) (sym at.place) ∙ ap (λ n. λ e. value t true n (place_of l) e) (sym at.own) in
     let ordinal : spot.ordinal ≡ l.ordinal = at.ordinal ∙ sym at.own in
@@ -135,7 +135,7 @@ pub free_fields : (t : Tables) (l : Located) (x : Item) (coded : List Coded) (se
 free_fields t l x coded section (Label name) plain free = refl
 free_fields t l x coded section (Numbered number) plain free = refl
 free_fields t l x coded section (Instruction mnemonic operands) plain free =
-    let v : Expression → Value = λ e. form t l e in
+    let v : Expression → Value = λ e. expression_value t l e in
     closed_fields (part_fields t v l) section x.offset l.ordinal (λ i. refl) (unwrap_or (code (constants v) l.options.rvc x.bytes mnemonic operands) []) (coded_by coded)
     (free_row (code (constants v) l.options.rvc x.bytes mnemonic operands) (free (constants v) l.options.rvc x.bytes))
 free_fields t l x coded section (Directs directive) plain free = ap (λ c. fields_from section x.offset (if c then padding_said l.ordinal x.bytes else [])) plain

@@ -12,7 +12,7 @@ use Rattle.rv_source_laws.specs.Sizes.{AreLeast}
 use Rattle.rv_source_laws.proofs.HeldLemmas.{all_held}
 use Rattle.rv_source_laws.proofs.HomesLemmas.{homes_from}
 use Rattle.rv_assemble_laws.specs.Refusals.{code_faults_at}
-use Rattle.rv_assemble_laws.specs.LaidStatements.{form}
+use Rattle.rv_assemble_laws.specs.LaidStatements.{expression_value}
 use Rattle.rv_instruction.specs.Code.{near_forms_of, MayHave}
 use Rattle.rv_layout.specs.Code.{statement_padding, data_of, beside_of}
 use Rattle.rv_layout.specs.Measure.{HasLength, IsSize, AreSizes}
@@ -42,13 +42,13 @@ told_length v rvc false faults offset kind n h = λ sound none found is.
     omega (arith, whole, nothing)
 
 pub near_same : (t : Tables) (s : Located) (rvc b : Bool) (n : ℕ) (kind : StatementKind) → is_some (near_forms_of rvc kind) ≡ true
-    → ◌≡◌ {A = ℕ} (if b then n else n - data_of (λ e. form t s e) s.offset kind) n
+    → ◌≡◌ {A = ℕ} (if b then n else n - data_of (λ e. expression_value t s e) s.offset kind) n
 near_same t s rvc b n (Label name) near = absurd (cc)
 near_same t s rvc b n (Numbered number) near = absurd (cc)
 near_same t s rvc b n (Instruction mnemonic operands) near = no_data b n
 near_same t s rvc b n (Directs directive) near = absurd (cc)
 
-offered_length : (t : Tables) (s : Located) (rvc b : Bool) (n : ℕ) (kind : StatementKind) → MayHave rvc kind n → MayHave rvc kind (if b then n else n - data_of (λ e. form t s e) s.offset kind)
+offered_length : (t : Tables) (s : Located) (rvc b : Bool) (n : ℕ) (kind : StatementKind) → MayHave rvc kind n → MayHave rvc kind (if b then n else n - data_of (λ e. expression_value t s e) s.offset kind)
 offered_length t s rvc b n (Label name) h = tt
 offered_length t s rvc b n (Numbered number) h = tt
 offered_length t s rvc b n (Instruction mnemonic operands) h = subst (MayHave rvc (Instruction mnemonic operands)) (sym (no_data b n)) h
@@ -57,7 +57,7 @@ offered_length t s rvc b n (Directs directive) h = tt
 pub length_of_size : (t : Tables) (s : Located) (n : ℕ) → IsSize t s n → IsLength t s (code_length t s n)
 length_of_size t s n h = record {
   offered = offered_length t s s.options.rvc s.home.executable n s.kind h.offered;
-  told = told_length (λ e. form t s e) s.options.rvc s.home.executable (code_faults_at t s) s.offset s.kind n h.told;
+  told = told_length (λ e. expression_value t s e) s.options.rvc s.home.executable (code_faults_at t s) s.offset s.kind n h.told;
 }
 
 -- ---- all of them
@@ -91,7 +91,7 @@ lengths_agree : (t : Tables) (ss : List Located) (ns : List ℕ) → AreSizes t 
 lengths_agree t [] [] h = tt
 lengths_agree t [] (n ∷ ns) h = absurd h
 lengths_agree t (s ∷ ss) [] h = absurd h
-lengths_agree t (s ∷ ss) (n ∷ ns) (h, hs) = (λ e. code_same s.home.executable n (n - data_of (λ x. form t s x) s.offset s.kind) e, lengths_agree t ss ns hs)
+lengths_agree t (s ∷ ss) (n ∷ ns) (h, hs) = (λ e. code_same s.home.executable n (n - data_of (λ x. expression_value t s x) s.offset s.kind) e, lengths_agree t ss ns hs)
 
 -- the least sizes are the least lengths of code
 pub least_lengths : (ss : List Statement) (ns : List ℕ) → first_fault ss ≡ None → AreSizes (tables ss) (located_from 1 1 (at_start ss) ss) ns → AreLeast (tables ss) (located_from 1 1 (at_start ss) ss) ns

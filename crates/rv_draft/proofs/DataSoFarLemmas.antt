@@ -10,7 +10,7 @@ use Rattle.rv_unit_laws.specs.Sections.{Section, is_nobits}
 use Rattle.rv_unit_laws.specs.Tables.{Tables, SectionOffset as Standing, at_start, after, after_all, tables, stood, value, alignments_of, longest_section}
 use Rattle.rv_unit.specs.Unit.{passed}
 use Rattle.rv_source_laws.specs.Located.{Located, located_now, located_from, is_placed}
-use Rattle.rv_assemble_laws.specs.LaidStatements.{LaidStatement, Part, part_bytes, laid_in, form}
+use Rattle.rv_assemble_laws.specs.LaidStatements.{LaidStatement, Part, part_bytes, laid_in, expression_value}
 use Rattle.rv_assemble_laws.specs.Fields.{Field}
 use Rattle.rv_instruction.specs.declared.encoded.Coded.{Coded}
 use Rattle.rv_assemble_laws.proofs.FilledLemmas.{bytes_append}
@@ -76,7 +76,7 @@ drop_none (x ∷ xs) = refl
 
 -- with this size of its code
 record SizedAt (all : Tables) (k : ℕ) (t : Tables) (s : Statement) (x : Item) (code : CodeSize) : Type 0 where
-  sized : (located_now 1 k t s).placed ≡ true → IsSized (λ e. form all (located_now 1 k t s) e) (located_now 1 k t s).home.executable x (slice_index_or (alignments_of all) x.section 1) code s.kind
+  sized : (located_now 1 k t s).placed ≡ true → IsSized (λ e. expression_value all (located_now 1 k t s) e) (located_now 1 k t s).home.executable x (slice_index_or (alignments_of all) x.section 1) code s.kind
 
 sizes_left : (i : ℕ) (sizes : List CodeSize) → drop i (other_sizes sizes) ≡ drop (suc i) sizes
 sizes_left zero [] = refl
@@ -110,7 +110,7 @@ room_for ss is i s x laid here item w vs says =
     let size = sized_left (tables ss) 1 i (at_start ss) ss is laid.sizes s (drop (i + 1) ss) x (drop (i + 1) is) laid.sized here item in
     let st = located_at ss i s in
     let placed : is_placed (passed ss i) (i + 1) s.kind ≡ true = ap (is_placed (passed ss i) (i + 1)) says in
-    let sized = subst (λ k. IsSized (λ e. form (tables ss) st e) st.home.executable x (slice_index_or (alignments_of (tables ss)) x.section 1) (first_size (drop i laid.sizes)) k) says (size.sized placed) in
+    let sized = subst (λ k. IsSized (λ e. expression_value (tables ss) st e) st.home.executable x (slice_index_or (alignments_of (tables ss)) x.section 1) (first_size (drop i laid.sizes)) k) says (size.sized placed) in
     let bytes : x.bytes ≡ w * length vs = sized.1 in
     omega (arith, ends, low, bytes)
 
@@ -164,8 +164,8 @@ bytes_here ss is codes i s x have here item =
     let all = located_from 1 1 (at_start ss) ss in
     let size = sized_left (tables ss) 1 i (at_start ss) ss is (sizes_of (tables ss) all codes) s (drop (i + 1) ss) x (drop (i + 1) is) have.sized here item in
     let st = located_at ss i s in
-    bytes_by_kind (passed ss i) (i + 1) (λ e. form (tables ss) st e) st.home.executable x (slice_index_or (alignments_of (tables ss)) x.section 1) (code_of i codes) s.kind
-    (subst (λ c. st.placed ≡ true → IsSized (λ e. form (tables ss) st e) st.home.executable x (slice_index_or (alignments_of (tables ss)) x.section 1) c s.kind)
+    bytes_by_kind (passed ss i) (i + 1) (λ e. expression_value (tables ss) st e) st.home.executable x (slice_index_or (alignments_of (tables ss)) x.section 1) (code_of i codes) s.kind
+    (subst (λ c. st.placed ≡ true → IsSized (λ e. expression_value (tables ss) st e) st.home.executable x (slice_index_or (alignments_of (tables ss)) x.section 1) c s.kind)
     (size_left (tables ss) all codes i st (drop (i + 1) all) have.coded (stated_next ss i s (drop (i + 1) ss) here)) size.sized)
 
 -- ---- laid statements

@@ -10,7 +10,7 @@ use Rattle.rv_unit_laws.proofs.GrownLemmas.{AlignsToPower, directive_aligned}
 use Rattle.rv_source_laws.specs.Located.{Located}
 use Rattle.rv_object.specs.Padding.{no_operations}
 use Rattle.rv_source_laws.specs.Sizes.{code_padding}
-use Rattle.rv_assemble_laws.specs.LaidStatements.{form}
+use Rattle.rv_assemble_laws.specs.LaidStatements.{expression_value}
 use Rattle.rv_instruction.specs.declared.encoded.Coded.{Coded}
 use Rattle.rv_layout.specs.Code.{statement_padding, padding_at, bytes_coded}
 use Rattle.rv_draft.specs.Code.{code_bytes}
@@ -38,4 +38,4 @@ none_more n = omega arith
 pub code_long : (t : Tables) (s : Located) (found : List Coded) → length (code_bytes (padding_at t s) found) ≡ padding_at t s + length (bytes_coded found)
 code_long t s found =
     length-append (no_operations (padding_at t s)) (bytes_coded found)
-    ∙ ap (λ n. n + length (bytes_coded found)) (length_even (padding_at t s) (padding_of_even s.home.executable (λ e. form t s e) s.kind))
+    ∙ ap (λ n. n + length (bytes_coded found)) (length_even (padding_at t s) (padding_of_even s.home.executable (λ e. expression_value t s e) s.kind))

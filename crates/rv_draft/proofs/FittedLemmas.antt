@@ -26,7 +26,7 @@ use Rattle.rv_assemble_laws.specs.Coded.{joined, constants, AreCodedParts, IsCod
 use Rattle.rv_source_laws.specs.Sizes.{code_padding}
 use Rattle.rv_source_laws.proofs.HeldLemmas.{Held, IsHeld, DirectiveHeld, none_left, no_test}
 use Rattle.rv_assemble_laws.specs.Templates.{Datum, Open, value_bytes, HasField, IsWide, IsWidth, IsTemplate, padding_templates, contribution_templates}
-use Rattle.rv_assemble_laws.specs.LaidStatements.{LaidStatement, Part, form, part_of, coded_templates, templates, part_bytes, parts_of, IsMultiple, IsPaddedIn, HasSize}
+use Rattle.rv_assemble_laws.specs.LaidStatements.{LaidStatement, Part, expression_value, part_of, coded_templates, templates, part_bytes, parts_of, IsMultiple, IsPaddedIn, HasSize}
 use Rattle.rv_assemble_laws.specs.Fields.{Field, fields_from, fields_at}
 use Rattle.rv_instruction.specs.declared.encoded.Coded.{Coded as CodedPart}
 use Rattle.rv_instruction.specs.Code.{coded_by, instructions_of, IsCodeOf}
@@ -89,7 +89,7 @@ module _ (all : Tables) (s : Located) (x : Item) (begins : ℕ) (found : List Co
   laid_statement = laid_of s x found
 
   abbrev worth : Expression → Value
-  worth = λ e. form all s e
+  worth = λ e. expression_value all s e
 
   abbrev bytes : List ℕ
   bytes = joined (coded_by found)
@@ -347,7 +347,7 @@ module _ (all : Tables) (s : Located) (x : Item) (begins : ℕ) (found : List Co
 
 abbrev pub HaveFields : Tables → Located → Type 0
 HaveFields all l =
-    (w : ℕ) (vs : List Expression) → l.kind ≡ Directs (Values w vs) → AllByRecursion (λ e. HasField w (form all l e)) vs
+    (w : ℕ) (vs : List Expression) → l.kind ≡ Directs (Values w vs) → AllByRecursion (λ e. HasField w (expression_value all l e)) vs
 
 abbrev pub IsWideKind : StatementKind → Type 0
 IsWideKind says = (w : ℕ) (vs : List Expression) → says ≡ Directs (Values w vs) → IsWidth w
@@ -461,7 +461,7 @@ abbrev pub code_at : Tables → LaidStatement → List ℕ
 code_at t s = no_operations (padding_at t s.located) ++ joined s.coded
 
 pub record Fit (t : Tables) (s : LaidStatement) : Type 0 where
-  pub size : s.located.placed ≡ true → HasSize (form t s.located) s (slice_index_or (alignments_of t) s.located.section 1) s.located.kind
+  pub size : s.located.placed ≡ true → HasSize (expression_value t s.located) s (slice_index_or (alignments_of t) s.located.section 1) s.located.kind
   pub bytes : s.bytes ≡ length (flat_map part_bytes (parts_of t s))
   pub code : s.located.home.executable ≡ true → flat_map part_bytes (parts_of t s) ≡ code_at t s
   pub other : s.located.home.executable ≡ false → code_at t s ≡ []
@@ -472,10 +472,10 @@ pub record Fit (t : Tables) (s : LaidStatement) : Type 0 where
   pub fields : open_fields t s ≡ fields_at t s
 
 pub fit_one : (all : Tables) (s : Located) (x : Item) (found : List CodedPart) → PlacedAs s.placed s.kind → (s.placed ≡ false → x.bytes ≡ 0) → x.section ≡ s.section
-    → (s.placed ≡ true → IsSized (λ e. form all s e) s.home.executable x (slice_index_or (alignments_of all) x.section 1) (code_size (padding_at all s) found) s.kind)
-    → IsCoded (λ e. form all s e) s.options.rvc s.kind found → Held s → HaveFields all s → IsSpare all s → Fit all (laid_of s x found)
+    → (s.placed ≡ true → IsSized (λ e. expression_value all s e) s.home.executable x (slice_index_or (alignments_of all) x.section 1) (code_size (padding_at all s) found) s.kind)
+    → IsCoded (λ e. expression_value all s e) s.options.rvc s.kind found → Held s → HaveFields all s → IsSpare all s → Fit all (laid_of s x found)
 fit_one all s x found is absent at size own held fields spare =
-    let v : Expression → Value = λ e. form all s e in
+    let v : Expression → Value = λ e. expression_value all s e in
     let begins = slice_index_or (alignments_of all) s.section 1 in
     let size' : s.placed ≡ true → IsSized v s.home.executable x begins (code_size (padding_at all s) found) s.kind =
     λ e. subst (λ n. IsSized v s.home.executable x (slice_index_or (alignments_of all) n 1) (code_size (padding_at all s) found) s.kind) at (size e) in

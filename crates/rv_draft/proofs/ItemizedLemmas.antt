@@ -15,7 +15,7 @@ use Rattle.rv_unit_tables.specs.Sections.{offset_of, extent_section}
 use Rattle.rv_unit_tables.proofs.LookupsLemmas.{alignments_are}
 use Rattle.rv_unit.specs.Unit.{said, passed, IsFilled}
 use Rattle.rv_source_laws.specs.Located.{is_placed}
-use Rattle.rv_assemble_laws.specs.LaidStatements.{form}
+use Rattle.rv_assemble_laws.specs.LaidStatements.{expression_value}
 use Rattle.rv_draft.specs.declared.item.CodeSize.{CodeSize}
 use Rattle.rv_draft.specs.declared.item.Item.{Item}
 use Rattle.rv_draft.specs.Items.{IsItem, grown}
@@ -87,7 +87,7 @@ sized_at u i s p e size x filled at there section h shown =
 -- a statement that has a size, and for which its section has room
 pub room_at : (u : SourceUnit) (i : ℕ) (s : Statement) (p : SectionOffset) (e : Extent) (size : CodeSize) (ends : ℕ → ℕ) (stop : ℕ) → IsFilled u → StandsAt u i s p → IsExtentAt u.tables.extents.items p.section e
     → (let st = located_at (said u) i (statement_of s) in
-    IsRoomy (λ t. form (tables (said u)) st t) st.home.executable (slice_index_or (alignments_of (tables (said u))) st.section 1) (ends st.section) stop size (statement_of s).kind)
+    IsRoomy (λ t. expression_value (tables (said u)) st t) st.home.executable (slice_index_or (alignments_of (tables (said u))) st.section 1) (ends st.section) stop size (statement_of s).kind)
     → HasRoom (λ t. value (tables (said u)) true (i + 1) (offset_of p) t) e.section.executable e.alignment (ends p.section) size (statement_kind s.kind)
 room_at u i s p e size ends stop filled at there roomy =
     let all = tables (said u) in

@@ -28,7 +28,7 @@ use Rattle.rv_assemble_laws.specs.CodeFields.{relax_fields}
 use Rattle.rv_assemble_laws.specs.Coded.{constants}
 use Rattle.rv_assemble_laws.specs.Fields.{field_at, fields_from}
 use Rattle.rv_assemble_laws.specs.Templates.{Open as OpenField}
-use Rattle.rv_assemble_laws.specs.LaidStatements.{form}
+use Rattle.rv_assemble_laws.specs.LaidStatements.{expression_value}
 use Rattle.rv_instruction.specs.declared.encoded.Coded.{Coded}
 use Rattle.rv_instruction.specs.Code.{Shape, shape_in, shape_of}
 use Rattle.rv_layout.specs.Code.{IsCoded}
@@ -132,7 +132,7 @@ pub lone_said : (spot : Spot) (index : ℕ) (says : StatementKind) (choices : Ch
 lone_said spot index says choices l x coded k at plain size coded_as lone =
     let t = tables (said spot.scope.now.unit.now) in
     let here : Expression → Value = λ e. value_in spot index e in
-    let there : Expression → Value = λ e. form t l e in
+    let there : Expression → Value = λ e. expression_value t l e in
     let same : here ≡ there =
     ap (λ q. λ e. value t true (index + 1) q e) (sym at.place) ∙ ap (λ n. λ e. value t true n (place_of l) e) (sym at.own) in
     let is = subst (λ v. IsCoded v choices.compressed says coded) (sym same) (subst (λ r. IsCoded there r says coded) at.compressed (subst (λ m. IsCoded there l.options.rvc m coded) at.kind coded_as)) in

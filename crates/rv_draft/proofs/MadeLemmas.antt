@@ -14,7 +14,7 @@ use Rattle.rv_unit.specs.Unit.{said, IsFilled, IsScope}
 use Rattle.rv_source_laws.specs.Located.{Located, located, located_now, located_from, is_placed}
 use Rattle.rv_source_laws.proofs.HeldLemmas.{no_lowest, no_fault}
 use Rattle.rv_assemble_laws.specs.Refusals.{code_faults_at, code_fault_from}
-use Rattle.rv_assemble_laws.specs.LaidStatements.{form}
+use Rattle.rv_assemble_laws.specs.LaidStatements.{expression_value}
 use Rattle.rv_instruction.specs.declared.encoded.Coded.{Coded}
 use Rattle.rv_instruction.specs.Code.{MayHave}
 use Rattle.rv_draft.specs.declared.data.Spot.{Spot}
@@ -68,7 +68,7 @@ made_from all k t (s ∷ ss) (x ∷ is) (c ∷ codes) (n ∷ lengths) sound (cod
     let st = located_now 1 k t s in
     let left = located_from 1 (suc k) (after t k s.kind) ss in
     let parts = no_fault s.line (lowest (code_faults_at all st)) (code_fault_from all left) sound in
-    let v : Expression → Value = λ e. form all st e in
+    let v : Expression → Value = λ e. expression_value all st e in
     let size : ℕ = padding_at all st + length (bytes_coded c) in
     let here : size ≡ n = first_of size n (bytes_of_codes all left codes) lengths told in (
       record {

@@ -17,7 +17,7 @@ use Rattle.rv_source_laws.specs.Located.{Located, located, located_from, is_plac
 use Rattle.rv_source_laws.proofs.HeldLemmas.{no_fault}
 use Rattle.rv_source_laws.proofs.HomesLemmas.{IsHomeIn, homes_from}
 use Rattle.rv_assemble_laws.specs.Refusals.{grown as grown_by, size_fault_from}
-use Rattle.rv_assemble_laws.specs.LaidStatements.{form}
+use Rattle.rv_assemble_laws.specs.LaidStatements.{expression_value}
 use Rattle.rv_draft.specs.declared.item.CodeSize.{CodeSize}
 use Rattle.rv_draft.specs.declared.item.Item.{Item}
 use Rattle.rv_draft.specs.Items.{IsItem, grown}
@@ -150,7 +150,7 @@ module _ (ss : List Statement) (i : ℕ) (s : Statement) (here_is : drop i ss �
 
     pub roomy_at : (offset : ℕ) → offset ≤ longest_section → is_placed t k s.kind ≡ true → (st.home.executable ≡ true → offset + own.bytes ≤ longest_section)
         → (st.home.executable ≡ false → offset ≤ slice_index_or (ends_of t) st.section 0)
-        → IsRoomy (λ e. form all st e) st.home.executable (slice_index_or (alignments_of all) st.section 1) offset (slice_index_or (ends_of (after t k s.kind)) st.section 0) own s.kind
+        → IsRoomy (λ e. expression_value all st e) st.home.executable (slice_index_or (alignments_of all) st.section 1) offset (slice_index_or (ends_of (after t k s.kind)) st.section 0) own s.kind
     roomy_at offset low placed fits before =
         let (place, opened) = stood_here t k s.kind placed in
         let home = home_here placed in
@@ -182,16 +182,16 @@ module _ (ss : List Statement) (i : ℕ) (s : Statement) (here_is : drop i ss �
 
       -- the next statement has a size, and its section has room for it
       pub roomy_now : is_placed t k s.kind ≡ true
-          → IsRoomy (λ e. form all st e) st.home.executable (slice_index_or (alignments_of all) st.section 1) (ends st.section) (slice_index_or (ends_of (after t k s.kind)) st.section 0) own s.kind
+          → IsRoomy (λ e. expression_value all st e) st.home.executable (slice_index_or (alignments_of all) st.section 1) (ends st.section) (slice_index_or (ends_of (after t k s.kind)) st.section 0) own s.kind
       roomy_now placed = roomy_at (ends st.section) (low st.section) placed fits (λ e. left.stored st.section (ap (λ (h : Section). h.executable) home_is ∙ e))
 
       module _ (x : Item) (one : IsItem st ends x) (sized : IsSizedAt all ss i s own x) where
         -- the size of an item that has a place
-        placed_size : is_placed t k s.kind ≡ true → IsSize (λ e. form all st e) st.home.executable (slice_index_or (alignments_of all) st.section 1) (ends st.section) own s.kind x.bytes
+        placed_size : is_placed t k s.kind ≡ true → IsSize (λ e. expression_value all st e) st.home.executable (slice_index_or (alignments_of all) st.section 1) (ends st.section) own s.kind x.bytes
         placed_size e =
-            subst (λ n. IsSize (λ e. form all st e) st.home.executable (slice_index_or (alignments_of all) st.section 1) n own s.kind x.bytes) one.offset
-            (subst (λ n. IsSize (λ e. form all st e) st.home.executable (slice_index_or (alignments_of all) n 1) x.offset own s.kind x.bytes) one.section
-            (size_as (λ e. form all st e) st.home.executable x (slice_index_or (alignments_of all) x.section 1) own s.kind (sized e)))
+            subst (λ n. IsSize (λ e. expression_value all st e) st.home.executable (slice_index_or (alignments_of all) st.section 1) n own s.kind x.bytes) one.offset
+            (subst (λ n. IsSize (λ e. expression_value all st e) st.home.executable (slice_index_or (alignments_of all) n 1) x.offset own s.kind x.bytes) one.section
+            (size_as (λ e. expression_value all st e) st.home.executable x (slice_index_or (alignments_of all) x.section 1) own s.kind (sized e)))
 
         in_code : (b : Bool) → is_placed t k s.kind ≡ b → st.home.executable ≡ true → x.bytes ≤ own.bytes
         in_code true e code = (roomy_now e).code code x.bytes (placed_size e)

@@ -12,7 +12,7 @@ use Rattle.rv_unit_laws.proofs.GrownLemmas.{grown_all}
 use Rattle.rv_source_laws.specs.Located.{Located, located_now, located_from}
 use Rattle.rv_source_laws.proofs.HomesLemmas.{IsHomeIn, all_join}
 use Rattle.rv_assemble_laws.specs.Templates.{IsTemplate}
-use Rattle.rv_assemble_laws.specs.LaidStatements.{LaidStatement, Part, form, part_bytes, parts, parts_of, laid_in, Tile, end_of, HasSize}
+use Rattle.rv_assemble_laws.specs.LaidStatements.{LaidStatement, Part, expression_value, part_bytes, parts, parts_of, laid_in, Tile, end_of, HasSize}
 use Rattle.rv_assemble_laws.specs.Fields.{fields_at, fields}
 use Rattle.rv_assemble_laws.proofs.FilledLemmas.{bytes_append}
 use Rattle.rv_draft.specs.declared.item.Item.{Item}
@@ -206,10 +206,10 @@ module _ (t : Tables) (j : ℕ) (home : Section) where
   code_bytes laid h e f = sym (coded laid (and_parts home.loaded home.executable e).1 h) ∙ empty_code laid f h
 
   pub all_sizes : (laid : List LaidStatement) → AllByRecursion Of laid
-      → AllByRecursion (λ (s : LaidStatement). s.located.placed ≡ true → HasSize (form t s.located) s (slice_index_or (alignments_of t) j 1) s.located.kind) laid
+      → AllByRecursion (λ (s : LaidStatement). s.located.placed ≡ true → HasSize (expression_value t s.located) s (slice_index_or (alignments_of t) j 1) s.located.kind) laid
   all_sizes [] h = tt
   all_sizes (s ∷ ss) h =
-      ((λ e. subst (λ n. HasSize (form t s.located) s (slice_index_or (alignments_of t) n 1) s.located.kind) h.0.index (h.0.fit.size e)), all_sizes ss h.1)
+      ((λ e. subst (λ n. HasSize (expression_value t s.located) s (slice_index_or (alignments_of t) n 1) s.located.kind) h.0.index (h.0.fit.size e)), all_sizes ss h.1)
 
   pub section_templates : (laid : List LaidStatement) → AllByRecursion Of laid → AllByRecursion (λ (p : Part). IsTemplate p.template) (parts t laid)
   section_templates [] h = tt

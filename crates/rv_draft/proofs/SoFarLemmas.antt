@@ -12,7 +12,7 @@ use Rattle.rv_instruction.specs.declared.encoded.Coded.{Coded}
 use Rattle.rv_instruction.specs.Code.{coded_by, instructions_of}
 use Rattle.rv_assemble_laws.specs.Coded.{IsCode}
 use Rattle.rv_assemble_laws.specs.Refusals.{code_faults_at, code_fault_from, size_fault_from, else_fault, grown, HasCodeSize, AreCodeSizes}
-use Rattle.rv_assemble_laws.specs.LaidStatements.{form}
+use Rattle.rv_assemble_laws.specs.LaidStatements.{expression_value}
 use Rattle.rv_draft.specs.Code.{bytes_in, code_bytes, code_size, sizes_of, bytes_of_sizes, bytes_of_codes, section_code, full_fault, full_at}
 use Rattle.rv_layout.specs.Code.{bytes_coded, statement_padding, padding_at, IsCoded}
 use Rattle.rv_draft.specs.Coded.{AreCoded}
@@ -51,7 +51,7 @@ joined_by true old code rest = append_assoc old code rest
 joined_by false old code rest = refl
 
 pub next_code : (t : Tables) (all : List Located) (s : Located) (next : List Located) (old new : Coder) (wanted : ℕ) → IsCodeSoFar t all (s ∷ next) old
-    → IsAdded old new s.section s.home.executable (code_faults_at t s) (λ e. form t s e) s.options.rvc wanted (record { line = s.line; kind = s.kind }) → IsCodeSoFar t all next new
+    → IsAdded old new s.section s.home.executable (code_faults_at t s) (λ e. expression_value t s e) s.options.rvc wanted (record { line = s.line; kind = s.kind }) → IsCodeSoFar t all next new
 next_code t all s next old new wanted h a =
     let f = λ (j : ℕ). length (bytes_in old.sections.items j) in
     let g = λ (j : ℕ). length (bytes_in new.sections.items j) in
@@ -138,7 +138,7 @@ have_sizes : (t : Tables) (ss : List Located) (codes : List (List Coded)) → Ar
 have_sizes t [] [] h = tt
 have_sizes t [] (coded ∷ codes) h = absurd h
 have_sizes t (s ∷ ss) [] h = absurd h
-have_sizes t (s ∷ ss) (coded ∷ codes) h = (has_size s.home.executable (λ e. form t s e) s.options.rvc s.kind coded h.0, have_sizes t ss codes h.1)
+have_sizes t (s ∷ ss) (coded ∷ codes) h = (has_size s.home.executable (λ e. expression_value t s e) s.options.rvc s.kind coded h.0, have_sizes t ss codes h.1)
 
 -- each statement has a code, and each code a size
 coded_count : (t : Tables) (ss : List Located) (codes : List (List Coded)) → AreCoded t ss codes → length (sizes_of t ss codes) ≡ length ss

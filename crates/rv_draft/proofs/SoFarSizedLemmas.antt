@@ -5,7 +5,7 @@ use Rattle.std.specs.Prelude.{slice_index_or}
 use Rattle.rv_statement.specs.Statement.{Statement}
 use Rattle.rv_unit_laws.specs.Tables.{Tables, at_start, after, alignments_of}
 use Rattle.rv_unit.specs.Unit.{passed}
-use Rattle.rv_assemble_laws.specs.LaidStatements.{form}
+use Rattle.rv_assemble_laws.specs.LaidStatements.{expression_value}
 use Rattle.rv_draft.specs.declared.item.CodeSize.{CodeSize}
 use Rattle.rv_draft.specs.declared.item.Item.{Item}
 use Rattle.rv_draft.specs.Sized.{IsSized, AreSized}
@@ -28,7 +28,7 @@ sized_begin all (s ∷ ss) sizes rest h = subst (λ l. AreSized all 1 (at_start 
 -- the item of a statement has its size where it has a place
 abbrev pub IsSizedAt : Tables → List Statement → ℕ → Statement → CodeSize → Item → Type 0
 IsSizedAt all ss i s size x =
-    (located_at ss i s).placed ≡ true → IsSized (λ e. form all (located_at ss i s) e) (located_at ss i s).home.executable x (slice_index_or (alignments_of all) x.section 1) size s.kind
+    (located_at ss i s).placed ≡ true → IsSized (λ e. expression_value all (located_at ss i s) e) (located_at ss i s).home.executable x (slice_index_or (alignments_of all) x.section 1) size s.kind
 
 pub sized_more : (all : Tables) (ss : List Statement) (sizes : List CodeSize) (i : ℕ) (s : Statement) (size : CodeSize) (so_far : List Item) (x : Item) → drop i ss ≡ s ∷ drop (i + 1) ss → drop i sizes ≡ size ∷ drop (i + 1) sizes
     → IsSizedAt all ss i s size x → AreSizedSoFar all ss sizes i so_far → AreSizedSoFar all ss sizes (i + 1) (so_far ++ x ∷ [])

@@ -21,7 +21,7 @@ use Rattle.rv_unit.specs.Unit.{said, passed}
 use Rattle.rv_source_laws.specs.Located.{Located, located, located_from}
 use Rattle.rv_source_laws.specs.Sizes.{AreLeast}
 use Rattle.rv_assemble_laws.specs.Refusals.{code_faults_at, code_fault_from}
-use Rattle.rv_assemble_laws.specs.LaidStatements.{form}
+use Rattle.rv_assemble_laws.specs.LaidStatements.{expression_value}
 use Rattle.rv_draft.specs.Added.{IsAdded, IsAllCode, IsCodeFault, IsCodeSoFar, IsSourceCode, Adds}
 use Rattle.rv_draft.specs.declared.code.Coder.{Coder}
 use Rattle.rv_draft.specs.declared.code.SectionCode.{SectionCode}
@@ -69,7 +69,7 @@ told_more u i wanted x p rvc b c d faults at same on home added told =
     let size : CodeSize = code_size (padding_at t st) a.coded in
     ap bytes_of_sizes a.counts ∙ map-append (λ (size : CodeSize). size.bytes) c.sizes.items (size ∷ [])
     ∙ ap (λ n. bytes_of_sizes c.sizes.items ++ n ∷ [])
-    (added_length (λ e. form t st e) st.options.rvc st.home.executable (code_faults_at t st) wanted st.kind a.coded a.sound a.is a.asked told)
+    (added_length (λ e. expression_value t st e) st.options.rvc st.home.executable (code_faults_at t st) wanted st.kind a.coded a.sound a.is a.asked told)
 
 -- the size of a statement
 pub size_here : (t : Tables) (ls : List Located) (ns : List ℕ) (i : ℕ) (l : Located) (rest : List Located) → AreSizes t ls ns → drop i ls ≡ l ∷ rest → IsSize t l (slice_index ns i)

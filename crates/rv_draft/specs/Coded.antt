@@ -4,13 +4,13 @@ use Rattle.std.specs.Prelude.{◌≡◌, ℕ, ⊤, List, [], ◌∷◌, length}
 use Rattle.rv_statement.specs.Statement.{StatementKind, Instruction}
 use Rattle.rv_unit_laws.specs.Tables.{Tables}
 use Rattle.rv_source_laws.specs.Located.{Located}
-use Rattle.rv_assemble_laws.specs.LaidStatements.{form}
+use Rattle.rv_assemble_laws.specs.LaidStatements.{expression_value}
 use Rattle.rv_instruction.specs.declared.encoded.Coded.{Coded}
 use Rattle.rv_layout.specs.Code.{bytes_coded, IsCoded}
 
 -- the code of a statement where it stands
 abbrev pub IsCodedAt : Tables → Located → List Coded → Type 0
-IsCodedAt t s found = IsCoded (λ e. form t s e) s.options.rvc s.kind found
+IsCodedAt t s found = IsCoded (λ e. expression_value t s e) s.options.rvc s.kind found
 
 -- of statements, one after the other
 abbrev pub AreCoded : Tables → List Located → List (List Coded) → Type 0

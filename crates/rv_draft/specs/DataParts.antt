@@ -10,7 +10,7 @@ use Rattle.rv_unit_laws.specs.Tables.{Tables, at_start, tables, longest_section}
 use Rattle.rv_source_laws.specs.Located.{Located, located_from}
 use Rattle.rv_assemble_laws.specs.Refusals.{code_faults_at}
 use Rattle.rv_assemble_laws.specs.Templates.{Template, padding_templates, contribution_templates}
-use Rattle.rv_assemble_laws.specs.LaidStatements.{LaidStatement, Part, form, part_of, part_bytes, laid_in, templates}
+use Rattle.rv_assemble_laws.specs.LaidStatements.{LaidStatement, Part, expression_value, part_of, part_bytes, laid_in, templates}
 use Rattle.rv_assemble_laws.specs.Fields.{Field, fields_from}
 use Rattle.rv_draft.specs.declared.field.OpenField.{OpenField}
 use Rattle.rv_draft.specs.declared.item.CodeSize.{CodeSize}
@@ -56,7 +56,7 @@ HasRoomFor says offset =
 abbrev pub data_parts : Tables → LaidStatement → List Part
 data_parts t s =
     if is_filled s.located.home
-    then data_said s.located.ordinal (λ e. form t s.located e) s.located.kind s.bytes
+    then data_said s.located.ordinal (λ e. expression_value t s.located e) s.located.kind s.bytes
     else []
 
 -- whether a statement is an alignment

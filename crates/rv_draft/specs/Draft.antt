@@ -14,7 +14,7 @@ use Rattle.rv_source_laws.specs.Located.{located_from, has_row}
 use Rattle.rv_source_laws.specs.Compressed.{is_compressed_code}
 use Rattle.rv_assemble_laws.specs.Templates.{IsTemplate}
 use Rattle.rv_source_laws.specs.Sizes.{AreLeast}
-use Rattle.rv_assemble_laws.specs.LaidStatements.{LaidStatement, form, part_bytes, parts, laid_in, Tile, end_of, HasSize}
+use Rattle.rv_assemble_laws.specs.LaidStatements.{LaidStatement, expression_value, part_bytes, parts, laid_in, Tile, end_of, HasSize}
 use Rattle.rv_assemble_laws.specs.IsObjectOf.{StandsInData}
 use Rattle.rv_assemble_laws.specs.Fields.{Field, fields}
 pub use Rattle.rv_draft.specs.Code.{bytes_in}
@@ -59,7 +59,7 @@ pub record IsDrafted (t : Tables) (index : ℕ) (home : Section) (laid : List La
   -- the sizes of its statements
   pub sizes : AllByRecursion
       (λ s. s.located.placed ≡ true →
-      HasSize (form t s.located) s (alignment_at t index) s.located.kind) laid
+      HasSize (expression_value t s.located) s (alignment_at t index) s.located.kind) laid
   pub templates : AllByRecursion (λ p. IsTemplate p.template) (parts t laid)
   pub some : 1 ≤ alignment_at t index
 

@@ -4,7 +4,7 @@ use Rattle.std.specs.Prelude.{ℕ, ◌-◌, ⊤, List, [], ◌∷◌, if◌then�
 use Rattle.rv_unit_laws.specs.Tables.{Tables}
 use Rattle.rv_source_laws.specs.Located.{Located}
 use Rattle.rv_assemble_laws.specs.Refusals.{code_faults_at}
-use Rattle.rv_assemble_laws.specs.LaidStatements.{form}
+use Rattle.rv_assemble_laws.specs.LaidStatements.{expression_value}
 use Rattle.rv_instruction.specs.Code.{MayHave}
 use Rattle.rv_layout.specs.Code.{padding_at, data_of}
 use Rattle.rv_layout.specs.Measure.{HasLength}
@@ -12,7 +12,7 @@ use Rattle.rv_layout.specs.Measure.{HasLength}
 -- a statement without forms of several lengths has so many bytes of code and padding
 abbrev pub HasLengthAt : Tables → Located → ℕ → Type 0
 HasLengthAt t s bytes =
-    HasLength (λ e. form t s e) s.options.rvc (code_faults_at t s) (padding_at t s) s.kind bytes
+    HasLength (λ e. expression_value t s e) s.options.rvc (code_faults_at t s) (padding_at t s) s.kind bytes
 
 -- and each may be asked to be so long
 pub record IsLength (t : Tables) (s : Located) (bytes : ℕ) : Type 0 where
@@ -29,7 +29,7 @@ AreLengths t (s ∷ ss) (bytes ∷ lengths) = IsLength t s bytes × AreLengths t
 abbrev pub code_length : Tables → Located → ℕ → ℕ
 code_length t s size =
     if s.home.executable then size
-    else size - data_of (λ e. form t s e) s.offset s.kind
+    else size - data_of (λ e. expression_value t s e) s.offset s.kind
 
 abbrev pub code_lengths : Tables → List Located → List ℕ → List ℕ
 code_lengths t [] sizes = []

@@ -8,7 +8,7 @@ use Rattle.rv_source_laws.specs.Located.{located_now}
 use Rattle.rv_assemble_laws.specs.Coded.{is_constant}
 use Rattle.rv_draft.specs.declared.item.CodeSize.{CodeSize}
 use Rattle.rv_draft.specs.declared.item.Item.{Item}
-use Rattle.rv_assemble_laws.specs.LaidStatements.{IsMultiple, form}
+use Rattle.rv_assemble_laws.specs.LaidStatements.{IsMultiple, expression_value}
 pub use Rattle.rv_draft.specs.Code.{bytes_of_sizes}
 
 -- the padding of an alignment, in a section that asks for a multiple of it: in code that of its
@@ -62,7 +62,7 @@ other_sizes (size ∷ sizes) = sizes
 -- the statement
 abbrev pub AreSized : Tables → ℕ → Tables → List Statement → List Item → List CodeSize → Type 0
 AreSized all k t (s ∷ ss) (i ∷ is) sizes =
-    ((located_now 1 k t s).placed ≡ true → IsSized (λ e. form all (located_now 1 k t s) e)
+    ((located_now 1 k t s).placed ≡ true → IsSized (λ e. expression_value all (located_now 1 k t s) e)
     (located_now 1 k t s).home.executable i (alignment_at all i.section) (first_size sizes) s.kind)
     × AreSized all (suc k) (after t k s.kind) ss is (other_sizes sizes)
 AreSized all k t ss is sizes = ⊤

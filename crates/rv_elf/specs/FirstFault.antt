@@ -2,9 +2,9 @@
 
 use Rattle.std.specs.Prelude.{◌≡◌, ℕ, Result, MatchResult, ◌*◌, ◌%◌, ◌/◌, ◌==◌, nat_lt, nat_le, Bool, not, ◌&&◌, if◌then◌else◌, List, [], ◌∷◌, ◌++◌, length, Option, Some, None}
 use Rattle.rv_elf.specs.declared.fault.FileFault.{FileFault}
-use Rattle.rv_elf.specs.declared.fault.FileFault.TheVariants.{Truncated, BadMagic, WrongClass, WrongMachine, BadTable}
-use Rattle.rv_elf.specs.Fields.{number_in, file_header_size, program_header_size, section_header_size, ei_magic, ei_class, ei_data, ei_version, e_machine, e_flags, e_phoff, e_shoff, e_phentsize, e_shentsize}
-use Rattle.rv_elf.specs.Numbers.{elfmag, elfclass64, elfdata2lsb, ev_current, em_riscv, shn_loreserve, pn_xnum}
+use Rattle.rv_elf.specs.declared.fault.FileFault.TheVariants.{Truncated, BadMagic, WrongClass, WrongMachine, NotExecutable, BadTable}
+use Rattle.rv_elf.specs.Fields.{number_in, file_header_size, program_header_size, section_header_size, ei_magic, ei_class, ei_data, ei_version, e_type, e_machine, e_flags, e_phoff, e_shoff, e_phentsize, e_shentsize}
+use Rattle.rv_elf.specs.Numbers.{elfmag, elfclass64, elfdata2lsb, ev_current, et_exec, em_riscv, shn_loreserve, pn_xnum}
 use Rattle.rv_elf.specs.Sections.{is_past, program_count, section_count, names_section}
 
 abbrev pub first_true : List (Bool × FileFault) → Option FileFault
@@ -24,6 +24,10 @@ header_tests file = (nat_lt (length file) file_header_size, Truncated)
     -- a float ABI, in the flags 2 and 4, or the smaller register file, in the flag 8
     ∷ (not (number_in e_flags 0 file / 2 % 8 == 0), WrongMachine)
     ∷ []
+
+-- an executable
+unfoldable pub type_tests : List ℕ → List (Bool × FileFault)
+type_tests file = (not (number_in e_type 0 file == et_exec), NotExecutable) ∷ []
 
 -- the tables of program headers and section headers; nothing is asked of one without entries
 unfoldable pub table_tests : List ℕ → List (Bool × FileFault)

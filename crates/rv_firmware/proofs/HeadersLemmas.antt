@@ -7,11 +7,11 @@ use Rattle.std.proofs.lemmas.List.Elements.{filter-append}
 use Rattle.rv_elf.specs.declared.fault.FileFault.TheVariants.{Truncated}
 use Rattle.rv_elf.specs.declared.program_header.ProgramHeader.{ProgramHeader}
 use Rattle.rv_elf.specs.Records.{program_header_at}
-use Rattle.rv_elf.specs.FirstFault.{first_true, header_tests, open_tests}
+use Rattle.rv_elf.specs.FirstFault.{first_true, header_tests, open_tests, type_tests}
 use Rattle.rv_elf.specs.FirstTrue.{no_fault_parts}
 use Rattle.rv_elf.specs.Sections.{records, program_headers}
 use Rattle.rv_firmware.specs.Blocks.{Block}
-use Rattle.rv_firmware.specs.FirmwareOf.{is_kept, is_cut, block_in, firmware_tests, type_tests, contents_tests}
+use Rattle.rv_firmware.specs.FirmwareOf.{is_kept, is_cut, block_in, firmware_tests, contents_tests}
 
 abbrev pub headers_from : ℕ → ℕ → List ℕ → List ProgramHeader
 headers_from count place file = records program_header_at 56 count place file

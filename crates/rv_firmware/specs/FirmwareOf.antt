@@ -3,11 +3,10 @@
 use Rattle.std.specs.Prelude.{ℕ, ◌+◌, ◌^◌, ◌==◌, ◌≡◌, nat_le, nat_lt, Bool, false, not, ◌&&◌, ◌||◌, ⊤, List, [], ◌∷◌, ◌++◌, Some, None, take, drop, map, filter}
 use Rattle.std.specs.List.{list_any, list_all}
 use Rattle.rv_elf.specs.declared.fault.FileFault.{FileFault}
-use Rattle.rv_elf.specs.declared.fault.FileFault.TheVariants.{NotExecutable, Truncated}
+use Rattle.rv_elf.specs.declared.fault.FileFault.TheVariants.{Truncated}
 use Rattle.rv_elf.specs.declared.program_header.ProgramHeader.{ProgramHeader}
-use Rattle.rv_elf.specs.Fields.{number_in, e_type, e_entry}
-use Rattle.rv_elf.specs.FirstFault.{first_true, header_tests, open_tests}
-use Rattle.rv_elf.specs.Numbers.{et_exec}
+use Rattle.rv_elf.specs.Fields.{number_in, e_entry}
+use Rattle.rv_elf.specs.FirstFault.{first_true, header_tests, type_tests, open_tests}
 use Rattle.rv_elf.specs.Sections.{program_headers, is_load, is_past}
 use Rattle.rv_firmware.specs.declared.fault.FirmwareFault.{FirmwareFault}
 use Rattle.rv_firmware.specs.declared.fault.FirmwareFault.TheVariants.{File, Address, Memory}
@@ -38,9 +37,6 @@ firmware_in file = record {
 -- the contents of a segment lie past the end of the file
 abbrev pub is_cut : List ℕ → ProgramHeader → Bool
 is_cut file p = is_load p && is_past file p.p_offset p.p_filesz
-
-unfoldable pub type_tests : List ℕ → List (Bool × FileFault)
-type_tests file = (not (number_in e_type 0 file == et_exec), NotExecutable) ∷ []
 
 unfoldable pub contents_tests : List ℕ → List (Bool × FileFault)
 contents_tests file = (list_any (is_cut file) (program_headers file), Truncated) ∷ []

@@ -68,7 +68,7 @@ impl<'a> Firmware<'a> {
 }
 
 /// What of a file is to be looked at, or its first fault.
-#[tactic(auto, using(rv_elf::specs::FirstTrue::first_true_some, rv_elf::specs::FirstTrue::first_true_none), unfolding(crate::specs::FirmwareOf::firmware_tests, crate::specs::FirmwareOf::type_tests, crate::specs::FirmwareOf::contents_tests))]
+#[tactic(auto, using(rv_elf::specs::FirstTrue::first_true_some, rv_elf::specs::FirstTrue::first_true_none), unfolding(crate::specs::FirmwareOf::firmware_tests, rv_elf::specs::FirstFault::type_tests, crate::specs::FirmwareOf::contents_tests))]
 fn open(file: &[u8]) -> Result<ElfView<'_>, FileFault>
     ensures faults { Finds (firmware_tests file.now) result }
     ensures file { IfOk result (λ view. view.file.now ≡ file.now) }

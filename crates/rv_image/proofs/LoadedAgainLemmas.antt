@@ -16,9 +16,9 @@ use Rattle.rv_elf.specs.Sections.{program_count, section_count, names_section, i
 use Rattle.rv_isa_laws.specs.Platform.{stack_start, memory_limit}
 use Rattle.rv_image.specs.Image.{Image}
 use Rattle.rv_image.specs.ImageOf.{ImageOf, segment_in}
-use Rattle.rv_elf.specs.FirstFault.{first_true, header_tests, table_tests}
+use Rattle.rv_elf.specs.FirstFault.{first_true, header_tests, table_tests, type_tests}
 use Rattle.rv_elf.specs.Sections.{is_past}
-use Rattle.rv_image.specs.FirstFault.{first_fault, load_tests, type_tests, programs_tests, whole_tests, loaded_size, programs_from}
+use Rattle.rv_image.specs.FirstFault.{first_fault, load_tests, programs_tests, whole_tests, loaded_size, programs_from}
 use Rattle.rv_image.specs.Executable.{Part, all_parts, parts, has_memory, memory_size_of, header_of, program_of, program_bytes, exe_of, linked_image}
 use Rattle.rv_elf.specs.FirstTrue.{first_true_none}
 use Rattle.rv_image.proofs.PartsLemmas.{AllFit, programs_read, length-programs}

@@ -4,10 +4,10 @@ use Rattle.std.specs.Prelude.{◌≡◌, ℕ, ◌+◌, ◌-◌, ◌%◌, ◌^◌
 use Rattle.std.specs.List.{list_any}
 use Rattle.rv_elf.specs.declared.program_header.ProgramHeader.{ProgramHeader}
 use Rattle.rv_elf.specs.declared.fault.FileFault.{FileFault}
-use Rattle.rv_elf.specs.declared.fault.FileFault.TheVariants.{Truncated, BadTable, NotExecutable, Dynamic, Overlap, MemoryLimit}
-use Rattle.rv_elf.specs.Fields.{number_in, e_type, e_entry, e_phoff, program_header_size}
-use Rattle.rv_elf.specs.FirstFault.{first_true, header_tests, table_tests}
-use Rattle.rv_elf.specs.Numbers.{et_exec, pt_load, pt_dynamic, pt_interp, pt_tls}
+use Rattle.rv_elf.specs.declared.fault.FileFault.TheVariants.{Truncated, BadTable, Dynamic, Overlap, MemoryLimit}
+use Rattle.rv_elf.specs.Fields.{number_in, e_entry, e_phoff, program_header_size}
+use Rattle.rv_elf.specs.FirstFault.{first_true, header_tests, type_tests, table_tests}
+use Rattle.rv_elf.specs.Numbers.{pt_load, pt_dynamic, pt_interp, pt_tls}
 use Rattle.rv_elf.specs.Records.{program_header_at}
 use Rattle.rv_elf.specs.Sections.{is_past, is_load, records, program_headers}
 use Rattle.rv_image.specs.Segment.{do_meet}
@@ -61,10 +61,6 @@ unfoldable pub whole_tests : List ℕ → List (Bool × FileFault)
 whole_tests file = (not (number_in e_entry 0 file % 2 == 0), BadTable)
     ∷ (nat_lt memory_limit (loaded_size (program_headers file)), MemoryLimit)
     ∷ []
-
--- e_type: an executable
-unfoldable pub type_tests : List ℕ → List (Bool × FileFault)
-type_tests file = (not (number_in e_type 0 file == et_exec), NotExecutable) ∷ []
 
 -- all that an executable is tested for, in order
 unfoldable pub load_tests : List ℕ → List (Bool × FileFault)

@@ -34,7 +34,7 @@ pub fn load(alloc: Global, file: &[u8]) -> Result<Image, FileFault>
 }
 
 /// A view of a file without a fault, or its first fault.
-#[tactic(auto, using(rv_elf::specs::FirstTrue::first_true_some, rv_elf::specs::FirstTrue::first_true_none), unfolding(crate::specs::FirstFault::load_tests, crate::specs::FirstFault::type_tests))]
+#[tactic(auto, using(rv_elf::specs::FirstTrue::first_true_some, rv_elf::specs::FirstTrue::first_true_none), unfolding(crate::specs::FirstFault::load_tests, rv_elf::specs::FirstFault::type_tests))]
 fn check(file: &[u8]) -> Result<ElfView<'_>, FileFault>
     ensures faults { Finds (load_tests file.now) result }
     ensures file { IfOk result (λ view. view.file.now ≡ file.now) }

@@ -1,6 +1,6 @@
 -- The names of instructions (RISC-V Unprivileged ISA 20191213, chapter 24).
 
-use Rattle.std.specs.Prelude.{ℕ, true, false, List, codes}
+use Rattle.std.specs.Prelude.{ℕ, Bool, true, false, List, [], codes}
 use Rattle.rv_isa.specs.declared.instruction.Inst.{Inst}
 use Rattle.rv_isa.specs.declared.instruction.Format.{Format}
 use Rattle.rv_isa.specs.declared.instruction.Format.TheVariants.{Registers, Immediate, Shift, Upper, Load, Store, Branch, Jal, Jalr, LoadReserved, Atomic, Fence, Ecall, Ebreak}
@@ -26,3 +26,10 @@ name_of Ebreak = codes "ebreak"
 -- an instruction's mnemonic; the ordering bits of an atomic are no part of it
 abbrev pub mnemonic_of : Inst → List ℕ
 mnemonic_of i = name_of (format_of i)
+
+-- the end of an atomic's mnemonic that its bits aq and rl have (ISA, 8.1)
+abbrev pub ordering : Bool → Bool → List ℕ
+ordering false false = []
+ordering true false = codes ".aq"
+ordering false true = codes ".rl"
+ordering true true = codes ".aqrl"

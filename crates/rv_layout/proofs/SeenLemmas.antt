@@ -28,7 +28,7 @@ use Rattle.rv_source_laws.specs.Located.{Located, located_from, located_now}
 use Rattle.rv_source_laws.specs.Program.{place_of}
 use Rattle.rv_source_laws.specs.Sizes.{near_forms, near_at, near_value, near_target, target_in, settled, branch_item, item_by_kind, items_of, AreLeast}
 use Rattle.rv_source_laws.specs.Sizes as sizes
-use Rattle.rv_assemble_laws.specs.LaidStatements.{form}
+use Rattle.rv_assemble_laws.specs.LaidStatements.{expression_value}
 use Rattle.rv_instruction.specs.Near.{section_in, near_by, near_in, near_value_in, near_target_in, branch_in, item_by, item_in}
 
 -- ---- the section of a statement, by its ordinal
@@ -297,8 +297,8 @@ long_there u i x p rvc b bytes at on home h =
     let s = located_at (said u) i (statement_of x) in
     let kind = (statement_of x).kind in
     let there = subst (λ (q : Standing). HasLength (λ e. value t true (i + 1) q e) rvc (faults_in t (i + 1) q (statement_of x)) (beside_of b (λ e. value t true (i + 1) q e) q.offset kind) kind bytes) at.place h in
-    subst (λ c. HasLength (λ e. form t s e) s.options.rvc (code_faults_at t s) (beside_of c (λ e. form t s e) s.offset kind) kind bytes) home
-    (subst (λ r. HasLength (λ e. form t s e) r (code_faults_at t s) (beside_of b (λ e. form t s e) s.offset kind) kind bytes) on there)
+    subst (λ c. HasLength (λ e. expression_value t s e) s.options.rvc (code_faults_at t s) (beside_of c (λ e. expression_value t s e) s.offset kind) kind bytes) home
+    (subst (λ r. HasLength (λ e. expression_value t s e) r (code_faults_at t s) (beside_of b (λ e. expression_value t s e) s.offset kind) kind bytes) on there)
 
 -- what sizes see of a statement of a unit, by its ordinal and its place
 abbrev pub SeenThere : SourceUnit → ℕ → Standing → ℕ → List SectionOffset → Bool → Bool → Statement → Item → Type 0

@@ -11,7 +11,7 @@ use Rattle.rv_unit_tables.specs.Sections.{extent_section}
 use Rattle.rv_source_laws.specs.Located.{Located}
 use Rattle.rv_source_laws.specs.Sizes.{code_padding}
 use Rattle.rv_assemble_laws.specs.Coded.{joined}
-use Rattle.rv_assemble_laws.specs.LaidStatements.{form}
+use Rattle.rv_assemble_laws.specs.LaidStatements.{expression_value}
 use Rattle.rv_instruction.specs.declared.encoded.Coded.{Coded}
 use Rattle.rv_instruction.specs.Code.{coded_by, HasCode}
 
@@ -46,7 +46,7 @@ statement_padding executable v (Directs directive) =
 statement_padding executable v kind = 0
 
 abbrev pub padding_at : Tables → Located → ℕ
-padding_at t s = statement_padding s.home.executable (λ e. form t s e) s.kind
+padding_at t s = statement_padding s.home.executable (λ e. expression_value t s e) s.kind
 
 -- the bytes of data at an offset, with the padding of an alignment there
 abbrev pub data_of : (Expression → Value) → ℕ → StatementKind → ℕ
@@ -59,4 +59,4 @@ beside_of executable v offset kind =
     if executable then statement_padding true v kind else data_of v offset kind
 
 abbrev pub beside_at : Tables → Located → ℕ
-beside_at t s = beside_of s.home.executable (λ e. form t s e) s.offset s.kind
+beside_at t s = beside_of s.home.executable (λ e. expression_value t s e) s.offset s.kind

@@ -17,7 +17,7 @@ use Rattle.rv_unit.specs.Unit.{said}
 use Rattle.rv_source_laws.specs.Located.{Located, located_from}
 use Rattle.rv_source_laws.specs.Sizes.{items_of}
 use Rattle.rv_assemble_laws.specs.Refusals.{code_faults_at}
-use Rattle.rv_assemble_laws.specs.LaidStatements.{form}
+use Rattle.rv_assemble_laws.specs.LaidStatements.{expression_value}
 use Rattle.rv_instruction.specs.declared.encoded.Coded.{Coded}
 use Rattle.rv_instruction.specs.Code.{near_forms_of, MayHave}
 use Rattle.rv_instruction.specs.Near.{section_in, item_in}
@@ -52,7 +52,7 @@ HasLength v rvc faults beside kind bytes =
 -- a statement that is no branch, jump or call has the bytes of its code, its padding or its data
 abbrev pub HasSizeAt : Tables → Located → ℕ → Type 0
 HasSizeAt t s bytes =
-    HasLength (λ e. form t s e) s.options.rvc (code_faults_at t s) (beside_at t s) s.kind bytes
+    HasLength (λ e. expression_value t s e) s.options.rvc (code_faults_at t s) (beside_at t s) s.kind bytes
 
 -- of statements, one after the other
 abbrev pub HaveSizes : Tables → List Located → List ℕ → Type 0

@@ -2,13 +2,17 @@
 -- (ISA manual, "Unconditional Jumps", "Conditional Branches" and "Compressed Control Transfer
 -- Instructions").
 
-use Rattle.std.specs.Prelude.{◌≡◌, ℕ, ◌+◌, ◌*◌, ◌%◌, ◌≤◌, List, take, slice_index, sum, ℤ, pos, ◌+ℤ◌, ◌-ℤ◌, neg_ℤ, ◌≤ℤ◌, ◌<ℤ◌, unsigned_abs}
+use Rattle.std.specs.Prelude.{◌≡◌, ℕ, ◌+◌, ◌*◌, ◌%◌, ◌≤◌, List, take, drop, slice_index, sum, ℤ, pos, ◌+ℤ◌, ◌-ℤ◌, neg_ℤ, ◌≤ℤ◌, ◌<ℤ◌, unsigned_abs}
 
 -- A family gives each part its bytes, in the order of the parts. Past its end a part has none.
 
 -- the bytes before a part
 abbrev pub offset : List ℕ → ℕ → ℕ
 offset sizes i = sum (take i sizes)
+
+-- the bytes of a part and of all behind it
+abbrev pub rest : List ℕ → ℕ → ℕ
+rest sizes i = sum (drop i sizes)
 
 -- from one part to another, negative where that stands before it
 abbrev pub distance : List ℕ → ℕ → ℕ → ℤ

@@ -1,20 +1,13 @@
 -- The words of base instructions: the names that rv_isa gives to them, as listings show them
 -- (RISC-V Unprivileged ISA 20191213, chapter 24; 2.7 and 8.1 for what stands after a name).
 
-use Rattle.std.specs.Prelude.{ℕ, Bool, true, false, ◌==◌, if◌then◌else◌, List, [], ◌++◌, codes}
+use Rattle.std.specs.Prelude.{ℕ, ◌==◌, if◌then◌else◌, List, ◌++◌, codes}
 use Rattle.rv_isa.specs.declared.instruction.Format.{Format}
 use Rattle.rv_isa.specs.declared.instruction.Format.TheVariants as formats
-use Rattle.rv_isa.specs.Mnemonics.{name_of}
+use Rattle.rv_isa.specs.Mnemonics.{name_of, ordering}
 use Rattle.rv_statement.specs.declared.mnemonic.Mnemonic.{Mnemonic}
 use Rattle.rv_statement.specs.declared.mnemonic.Mnemonic.TheVariants as mnemonics
 use Rattle.rv_parse_laws.specs.Words.{form_with}
-
--- the bits aq and rl of an atomic
-abbrev pub ordering : Bool → Bool → List ℕ
-ordering false false = []
-ordering true false = codes ".aq"
-ordering false true = codes ".rl"
-ordering true true = codes ".aqrl"
 
 -- the word of an instruction, by its format: its name, then an atomic's ordering or a fence's mode
 abbrev pub word_of : Format → List ℕ

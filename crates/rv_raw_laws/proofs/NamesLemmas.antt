@@ -14,11 +14,12 @@ use Rattle.rv_isa.specs.declared.operation.LoadOperation.{LoadOperation}
 use Rattle.rv_isa.specs.declared.operation.StoreOperation.{StoreOperation}
 use Rattle.rv_isa.specs.declared.operation.BranchOperation.{BranchOperation}
 use Rattle.rv_isa.specs.declared.operation.AtomicOperation.{AtomicOperation}
+use Rattle.rv_isa.specs.Mnemonics.{ordering}
 use Rattle.rv_statement.specs.declared.mnemonic.Mnemonic.{Mnemonic}
 use Rattle.rv_statement.specs.declared.mnemonic.Mnemonic.TheVariants as words
 use Rattle.rv_parse_laws.specs.declared.beginning.Beginning.TheVariants as beginnings
 use Rattle.rv_parse_laws.specs.Words.{beginning, names_of, register, mnemonic_named, directive_named, instruction_words, atomic_operations, atomic_forms, directive_words, form_with}
-use Rattle.rv_disasm.specs.Instruction.{register as abi, ordering, load_reserved_name}
+use Rattle.rv_disasm.specs.Instruction.{register as abi, load_reserved_name}
 use Rattle.rv_raw_laws.proofs.LexemesLemmas.{is_name}
 
 -- ---- registers

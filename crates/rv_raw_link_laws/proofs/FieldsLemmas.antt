@@ -30,7 +30,7 @@ use Rattle.rv_object.specs.Bindings.{is_weak}
 use Rattle.rv_object.specs.Object.{Relocation, Symbol, Object}
 use Rattle.rv_assemble_laws.specs.CodeFields.{symbol_field, low_field, field_of, part_fields}
 use Rattle.rv_assemble_laws.specs.Coded.{constants}
-use Rattle.rv_assemble_laws.specs.LaidStatements.{LaidStatement, Part, form, part_of, coded_templates, templates, parts_of, part_bytes, parts, Tile, end_of}
+use Rattle.rv_assemble_laws.specs.LaidStatements.{LaidStatement, Part, expression_value, part_of, coded_templates, templates, parts_of, part_bytes, parts, Tile, end_of}
 use Rattle.rv_assemble_laws.specs.Symbols.{laid_at, after_statement, references_in, StandsFor}
 use Rattle.rv_assemble_laws.specs.Templates.{Template, Coded, Open, open_at, template_fields}
 use Rattle.rv_assemble_laws.specs.IsObjectOf.{Numbering, relocation_at, relocations_from, IsNumbered, ArePartsNumbered}
@@ -120,9 +120,9 @@ module _ (labels : List Labelled) (b : Bindings) (all : List LaidStatement) (num
   AreLeading rs = AllByRecursion (IsLeading symbols) rs
 
   templates_are : (z : LaidStatement) (kind : StatementKind) → IsInstruction kind
-      → templates t z kind ≡ coded_templates (part_fields t (form t z.located) z.located) (unwrap_or (code_of_kind (constants (form t z.located)) z.located.options.rvc z.bytes kind) []) z.coded
+      → templates t z kind ≡ coded_templates (part_fields t (expression_value t z.located) z.located) (unwrap_or (code_of_kind (constants (expression_value t z.located)) z.located.options.rvc z.bytes kind) []) z.coded
   templates_are z kind i =
-      subst (λ k. templates t z k ≡ coded_templates (part_fields t (form t z.located) z.located) (unwrap_or (code_of_kind (constants (form t z.located)) z.located.options.rvc z.bytes k) []) z.coded) (sym i.is) refl
+      subst (λ k. templates t z k ≡ coded_templates (part_fields t (expression_value t z.located) z.located) (unwrap_or (code_of_kind (constants (expression_value t z.located)) z.located.options.rvc z.bytes k) []) z.coded) (sym i.is) refl
 
   -- the symbol of a relocation stands where the statement stands
   own_symbol : (z : LaidStatement) (k : Kind) (x : ℤ) → laid_at all z.located.ordinal ≡ Some z → z.located.section ≡ 0 → z.offset ≤ longest_section → leads k ≡ true → Takes k x → IsSmall x → (o : Option Symbol)
@@ -155,13 +155,13 @@ module _ (labels : List Labelled) (b : Bindings) (all : List LaidStatement) (num
 
     -- the field of a part that stays open
     field_is : (k : Kind) (i : Inst) (l : IsLed (operand_of z.located.kind) k)
-        → part_fields t (form t z.located) z.located (Open_part k i) ≡ open_at k z.located.ordinal (Some Here) (wrapped l.away) ∷ []
+        → part_fields t (expression_value t z.located) z.located (Open_part k i) ≡ open_at k z.located.ordinal (Some Here) (wrapped l.away) ∷ []
     field_is k i l =
         ap (λ o. field_of t (value_of m) z.located.ordinal o k) l.operand
         ∙ ap (λ b. if b then low_field k z.located.ordinal 0 else symbol_field k z.located.ordinal (value_of m (distance l.away))) (never_low k l.leads_there)
         ∙ ap (symbol_field k z.located.ordinal) (distance_value m 0 0 l.away l.small (inr here) ∙ ap (λ at. Symbolic Here at (wrapped l.away)) here)
 
-    one_field : (k : Kind) (i : Inst) (l : IsLed (operand_of z.located.kind) k) (fs : List Open) → part_fields t (form t z.located) z.located (Open_part k i) ≡ fs → (bytes : List ℕ)
+    one_field : (k : Kind) (i : Inst) (l : IsLed (operand_of z.located.kind) k) (fs : List Open) → part_fields t (expression_value t z.located) z.located (Open_part k i) ≡ fs → (bytes : List ℕ)
         → AreNumbered (part_of z.located.ordinal (Coded bytes fs) ∷ []) → AreLeading (relocations_from number z.offset (part_of z.located.ordinal (Coded bytes fs) ∷ []))
     one_field k i l fs e bytes h =
         let is : fs ≡ open_at k z.located.ordinal (Some Here) (wrapped l.away) ∷ [] = sym e ∙ field_is k i l in
@@ -172,11 +172,11 @@ module _ (labels : List Labelled) (b : Bindings) (all : List LaidStatement) (num
           tt,
         )) h
 
-    one_part : (p : CodePart) → IsCalm (operand_of z.located.kind) p → (coded : List (List ℕ)) → AreNumbered (map (part_of z.located.ordinal) (coded_templates (part_fields t (form t z.located) z.located) (p ∷ []) coded))
-        → AreLeading (relocations_from number z.offset (map (part_of z.located.ordinal) (coded_templates (part_fields t (form t z.located) z.located) (p ∷ []) coded)))
+    one_part : (p : CodePart) → IsCalm (operand_of z.located.kind) p → (coded : List (List ℕ)) → AreNumbered (map (part_of z.located.ordinal) (coded_templates (part_fields t (expression_value t z.located) z.located) (p ∷ []) coded))
+        → AreLeading (relocations_from number z.offset (map (part_of z.located.ordinal) (coded_templates (part_fields t (expression_value t z.located) z.located) (p ∷ []) coded)))
     one_part p calm [] h = tt
     one_part (Closed i) calm (bytes ∷ coded) h = tt
-    one_part (Open_part k i) calm (bytes ∷ coded) h = one_field k i calm (part_fields t (form t z.located) z.located (Open_part k i)) refl bytes h
+    one_part (Open_part k i) calm (bytes ∷ coded) h = one_field k i calm (part_fields t (expression_value t z.located) z.located (Open_part k i)) refl bytes h
     one_part (Joined k i j) calm (bytes ∷ coded) h = absurd calm
 
     head_none : (kind : StatementKind) → IsHead kind → templates t z kind ≡ []
@@ -191,9 +191,9 @@ module _ (labels : List Labelled) (b : Bindings) (all : List LaidStatement) (num
     of_code c size =
         let i : IsInstruction z.located.kind = record { mnemonic = (code_instruction c.code).mnemonic; operands = (code_instruction c.code).operands; is = c.kind ∙ (code_instruction c.code).is } in
         let (p, is, calm) = code_one m c.code c.sourced z.bytes size in
-        let row : code_of_kind (constants (form t z.located)) z.located.options.rvc z.bytes z.located.kind ≡ Some (p ∷ []) =
-        ap (code_of_kind (constants (form t z.located)) z.located.options.rvc z.bytes) c.kind ∙ ap (λ r. code_of_kind (constants (form t z.located)) r z.bytes (code_statement c.code)) c.rvc ∙ is in
-        subst Goal (sym (templates_are z z.located.kind i ∙ ap (λ o. coded_templates (part_fields t (form t z.located) z.located) (unwrap_or o []) z.coded) row))
+        let row : code_of_kind (constants (expression_value t z.located)) z.located.options.rvc z.bytes z.located.kind ≡ Some (p ∷ []) =
+        ap (code_of_kind (constants (expression_value t z.located)) z.located.options.rvc z.bytes) c.kind ∙ ap (λ r. code_of_kind (constants (expression_value t z.located)) r z.bytes (code_statement c.code)) c.rvc ∙ is in
+        subst Goal (sym (templates_are z z.located.kind i ∙ ap (λ o. coded_templates (part_fields t (expression_value t z.located) z.located) (unwrap_or o []) z.coded) row))
         (one_part p (subst (λ k. IsCalm (operand_of k) p) (sym c.kind) calm) z.coded)
 
     pub own : z.bytes ≡ kind_size z.located.kind → Goal (templates t z z.located.kind)

@@ -19,7 +19,7 @@ use Rattle.rv_disasm.specs.Raw.{bytes_of}
 use Rattle.rv_raw_laws.specs.Statements.{code_statement, raw_statements, numbered}
 use Rattle.rv_object.specs.Object.{Section, Symbol, Object}
 use Rattle.rv_assemble_laws.specs.Coded.{constants}
-use Rattle.rv_assemble_laws.specs.LaidStatements.{LaidStatement, form, part_of, templates, parts_of, part_bytes, laid_in, Tile, end_of, HasSize}
+use Rattle.rv_assemble_laws.specs.LaidStatements.{LaidStatement, expression_value, part_of, templates, parts_of, part_bytes, laid_in, Tile, end_of, HasSize}
 use Rattle.rv_assemble_laws.specs.Symbols.{laid_at, symbols_of}
 use Rattle.rv_assemble_laws.specs.IsObjectOf.{Numbering, IsSectionOf, AreSectionsOf, IsObjectOf}
 use Rattle.rv_raw_link_laws.specs.Listed.{listed, IsShortListing}
@@ -118,7 +118,7 @@ module _ (labels : List Labelled) (b : Bindings) where
   head_bytes z kind (inr (inr (binding, (names, e)))) same bytes = bytes ∙ ap (λ k. length (flat_map part_bytes (map (part_of z.located.ordinal) (templates (table labels quiet b) z k)))) (same ∙ e) ∙ ap kind_size (sym e)
 
   -- the code of one
-  pub code_of : (z : LaidStatement) (multiple : ℕ) (c : IsOfCode z.located) → (z.located.placed ≡ true → HasSize (form (table labels quiet b) z.located) z multiple z.located.kind)
+  pub code_of : (z : LaidStatement) (multiple : ℕ) (c : IsOfCode z.located) → (z.located.placed ≡ true → HasSize (expression_value (table labels quiet b) z.located) z multiple z.located.kind)
       → IsCodeOf (constants (value_of (λ q. meaning (table labels quiet b) true z.located.ordinal (place_of z.located) q))) (code_statement c.code) false z.bytes z.coded
   code_of z multiple c size =
       let v = value_of (λ q. meaning (table labels quiet b) true z.located.ordinal (place_of z.located) q) in
@@ -126,7 +126,7 @@ module _ (labels : List Labelled) (b : Bindings) where
       (of_laid_statement v z multiple (code_statement c.code) (code_instruction c.code) (subst (HasSize v z multiple) c.kind (size c.placed)))
 
   own_bytes : (all : List Located) (multiple : ℕ) (z : LaidStatement) → IsPlain z.located → IsFound all z.located → IsSmallest all z → z.bytes ≡ length (flat_map part_bytes (parts_of (table labels quiet b) z))
-      → (z.located.placed ≡ true → HasSize (form (table labels quiet b) z.located) z multiple z.located.kind) → z.bytes ≡ kind_size z.located.kind
+      → (z.located.placed ≡ true → HasSize (expression_value (table labels quiet b) z.located) z multiple z.located.kind) → z.bytes ≡ kind_size z.located.kind
   own_bytes all multiple z plain found least bytes size = by plain.says
     where
       by : IsOfCode z.located ⊎ IsHead z.located.kind → z.bytes ≡ kind_size z.located.kind
@@ -137,7 +137,7 @@ module _ (labels : List Labelled) (b : Bindings) where
 
   all_bytes : (all : List Located) (multiple : ℕ) (zs : List LaidStatement) → AllByRecursion (λ (z : LaidStatement). IsPlain z.located) zs → AllByRecursion (λ (z : LaidStatement). IsFound all z.located) zs → AllByRecursion (IsSmallest all) zs
       → AllByRecursion (λ (z : LaidStatement). z.bytes ≡ length (flat_map part_bytes (parts_of (table labels quiet b) z))) zs
-      → AllByRecursion (λ (z : LaidStatement). z.located.placed ≡ true → HasSize (form (table labels quiet b) z.located) z multiple z.located.kind) zs → AllByRecursion (λ (z : LaidStatement). z.bytes ≡ kind_size z.located.kind) zs
+      → AllByRecursion (λ (z : LaidStatement). z.located.placed ≡ true → HasSize (expression_value (table labels quiet b) z.located) z multiple z.located.kind) zs → AllByRecursion (λ (z : LaidStatement). z.bytes ≡ kind_size z.located.kind) zs
   all_bytes all multiple [] p f l b s = tt
   all_bytes all multiple (z ∷ zs) (p, ps) (f, fs) (l, ls) (b, bs) (s, ss) = (own_bytes all multiple z p f l b s, all_bytes all multiple zs ps fs ls bs ss)
 

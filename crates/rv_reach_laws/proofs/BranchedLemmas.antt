@@ -39,7 +39,7 @@ use Rattle.rv_placement.specs.Placement.{starts_of, IsPlacement}
 use Rattle.rv_resolve.specs.Shown.{outer_in}
 use Rattle.rv_link.specs.Refusals.{IsTextStart}
 use Rattle.rv_link.specs.Filled.{IsTaken}
-use Rattle.rv_assemble_laws.specs.LaidStatements.{LaidStatement, form, parts, laid_in, end_of, HasSize}
+use Rattle.rv_assemble_laws.specs.LaidStatements.{LaidStatement, expression_value, parts, laid_in, end_of, HasSize}
 use Rattle.rv_assemble_laws.specs.IsObjectOf.{Numbering, row_of, relocations_from, IsSectionOf, IsObjectOf}
 use Rattle.rv_source_laws.proofs.HomesLemmas.{all_filter}
 use Rattle.rv_sources_link_laws.specs.Joins.{AreObjectsOf}
@@ -93,7 +93,7 @@ in_section j x (y ∷ ys) (inr i) e = by (y.located.section == j) (in_section j 
     by false h = h
 
 evens_in : (t : Tables) (number : Numbering) (j : ℕ) (s : SourceSection) (code : s.executable ≡ true) (multiple q : ℕ) (zs : List LaidStatement) → q % 2 ≡ 0 → AllByRecursion (IsLaidIn j s) zs → assembled.Tile t q zs
-    → AllByRecursion (λ z. z.located.placed ≡ true → HasSize (form t z.located) z multiple z.located.kind) zs → AllByRecursion (λ (z : LaidStatement). z.offset % 2 ≡ 0) zs
+    → AllByRecursion (λ z. z.located.placed ≡ true → HasSize (expression_value t z.located) z multiple z.located.kind) zs → AllByRecursion (λ (z : LaidStatement). z.offset % 2 ≡ 0) zs
 evens_in t number j s code multiple q [] even inside tile sizes = tt
 evens_in t number j s code multiple q (z ∷ zs) even (i, inside) (off, bytes, tile) (size, sizes) =
     let own = even_bytes t number j s code multiple z i bytes size in
@@ -179,11 +179,11 @@ module _ (ss : List Statement) (o : Object) (is : IsObjectOf ss o) (index : ℕ)
       low : AllByRecursion (λ (z : LaidStatement). z.offset ≤ end_of 0 (laid_in index is.laid)) (laid_in index is.laid)
       low = (offsets_low (tables ss) 0 (laid_in index is.laid) whole.2.tile).1
 
-      fine_from : (ys : List LaidStatement) → AllByRecursion IsUncut ys → AllByRecursion (IsLaidIn index s) ys → AllByRecursion (λ z. z.located.placed ≡ true → HasSize (form (tables ss) z.located) z x.alignment z.located.kind) ys
+      fine_from : (ys : List LaidStatement) → AllByRecursion IsUncut ys → AllByRecursion (IsLaidIn index s) ys → AllByRecursion (λ z. z.located.placed ≡ true → HasSize (expression_value (tables ss) z.located) z x.alignment z.located.kind) ys
           → AllByRecursion (IsFine (tables ss) is.laid is.number o.symbols (laid_in index is.laid)) ys
       fine_from [] u i k = tt
       fine_from (y ∷ ys) (u, us) (i, is') (k, ks) = (
-        record { uncut = u; sized = λ m os e. subst (HasSize (form (tables ss) y.located) y x.alignment) e (k (i.instructed m os e)) },
+        record { uncut = u; sized = λ m os e. subst (HasSize (expression_value (tables ss) y.located) y x.alignment) e (k (i.instructed m os e)) },
         fine_from ys us is' ks,
       )
 

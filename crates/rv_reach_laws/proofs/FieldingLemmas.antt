@@ -24,7 +24,7 @@ use Rattle.rv_assemble_laws.specs.CodeFields.{symbol_field, low_field, low_field
 use Rattle.rv_compress.specs.declared.form.Compressed.{Compressed}
 use Rattle.rv_assemble_laws.specs.Coded.{constants, AreCodedParts, joined, IsCode}
 use Rattle.rv_assemble_laws.specs.Templates.{Template, Fixed, Datum, Coded, Open, open_at, value_fields, template_fields, absolute_kind, add_kind, subtract_kind, padding_templates, contribution_templates}
-use Rattle.rv_assemble_laws.specs.LaidStatements.{LaidStatement, Part, form, part_of, part_bytes, coded_templates, templates, parts_of, parts, Tile}
+use Rattle.rv_assemble_laws.specs.LaidStatements.{LaidStatement, Part, expression_value, part_of, part_bytes, coded_templates, templates, parts_of, parts, Tile}
 use Rattle.rv_assemble_laws.specs.Symbols.{use_of, references_in}
 use Rattle.rv_assemble_laws.specs.IsObjectOf.{Numbering, relocation_at, relocations_from, IsNumbered, ArePartsNumbered}
 use Rattle.rv_sources_link_laws.proofs.moves.WalkLemmas.{relocations_join}
@@ -154,7 +154,7 @@ module _ (t : Tables) (all : List LaidStatement) (number : Numbering) (symbols :
     pub name : Primary
     pub plus : ℕ
     pub at : Meaning
-    pub value_is : form t z.located branching.to ≡ Symbolic name at plus
+    pub value_is : expression_value t z.located branching.to ≡ Symbolic name at plus
     pub numbered : IsNumbered t all number symbols (record { ordinal = z.located.ordinal; symbol = name })
     pub is : r ≡ relocation_at number z.offset (open_at r.kind z.located.ordinal (Some name) plus)
 
@@ -191,7 +191,7 @@ module _ (t : Tables) (all : List LaidStatement) (number : Numbering) (symbols :
 
   module _ (z : LaidStatement) (inside : In z zs) (m : Mnemonic) (os : List Operand) (is_kind : z.located.kind ≡ Instruction m os) where
     abbrev v : Expression → Value
-    v = form t z.located
+    v = expression_value t z.located
 
     module _ (k : Kind) (branching : IsBranching z.located.options.rvc z.bytes m os k) where
       abbrev ordinal : ℕ
@@ -272,7 +272,7 @@ module _ (t : Tables) (all : List LaidStatement) (number : Numbering) (symbols :
   -- what is owed to it
   pub record IsFine (z : LaidStatement) : Type 0 where
     pub uncut : IsUncut z
-    pub sized : (m : Mnemonic) (os : List Operand) → z.located.kind ≡ Instruction m os → IsCode (form t z.located) z.located.options.rvc m os z.bytes z.coded z.instructions
+    pub sized : (m : Mnemonic) (os : List Operand) → z.located.kind ≡ Instruction m os → IsCode (expression_value t z.located) z.located.options.rvc m os z.bytes z.coded z.instructions
 
   -- its bytes
   part_some : (named : Option Compressed) (c : Bool) (k : Kind) (i : Inst) (coded : List (List ℕ)) → AreCodedParts named c (Open_part k i ∷ []) coded → 0 < length (joined coded)
@@ -281,9 +281,9 @@ module _ (t : Tables) (all : List LaidStatement) (number : Numbering) (symbols :
   part_some named c k i (bytes ∷ []) ((open_one, inl (four, is)), h) = let e : length (bytes ++ []) ≡ 4 = ap (λ l. length (l ++ [])) is in omega (arith, e)
   part_some named c k i (bytes ∷ []) ((open_one, inr (two, (q, short, is))), h) = let e : length (bytes ++ []) ≡ 2 = ap (λ l. length (l ++ [])) is in omega (arith, e)
 
-  parcel_some : (z : LaidStatement) (m : Mnemonic) (os : List Operand) (c : IsCode (form t z.located) z.located.options.rvc m os z.bytes z.coded z.instructions) → IsParcelled m c.ps → 0 < z.bytes
+  parcel_some : (z : LaidStatement) (m : Mnemonic) (os : List Operand) (c : IsCode (expression_value t z.located) z.located.options.rvc m os z.bytes z.coded z.instructions) → IsParcelled m c.ps → 0 < z.bytes
   parcel_some z m os c h =
-      let named = named_form (constants (form t z.located)) m os in
+      let named = named_form (constants (expression_value t z.located)) m os in
       let compressed = z.located.options.rvc && are_closed c.ps in
       let some : 0 < length (joined z.coded) = part_some named compressed h.kind h.instruction z.coded (subst (λ ps. AreCodedParts named compressed ps z.coded) h.is c.coded_as) in
       let size = c.size in omega (arith, some, size)
@@ -293,13 +293,13 @@ module _ (t : Tables) (all : List LaidStatement) (number : Numbering) (symbols :
   own z inside fine (Label name) e h = tt
   own z inside fine (Numbered digits) e h = tt
   own z inside fine (Directs d) e h =
-      calm_parts z.offset z.located.ordinal (contribution_templates z.located.home.executable z.located.ordinal (form t z.located) (contribution d) z.bytes)
-      (directive_calm z.located.home.executable z.located.ordinal (form t z.located) (contribution d) z.bytes)
+      calm_parts z.offset z.located.ordinal (contribution_templates z.located.home.executable z.located.ordinal (expression_value t z.located) (contribution d) z.bytes)
+      (directive_calm z.located.home.executable z.located.ordinal (expression_value t z.located) (contribution d) z.bytes)
   own z inside fine (Instruction m os) e h =
       let c = fine.sized m os e in
-      subst (λ o. AreNumbered (map (part_of z.located.ordinal) (coded_templates (part_fields t (form t z.located) z.located) (unwrap_or o []) z.coded))
-      → Goal (relocations_from number z.offset (map (part_of z.located.ordinal) (coded_templates (part_fields t (form t z.located) z.located) (unwrap_or o []) z.coded)))) (sym c.parts)
-      (by_sort z inside m os e c.ps (sorted (constants (form t z.located)) z.located.options.rvc z.bytes m os c.ps (λ call. fine.uncut (ap calls e ∙ call)) c.parts) (parcel_some z m os c) z.coded) h
+      subst (λ o. AreNumbered (map (part_of z.located.ordinal) (coded_templates (part_fields t (expression_value t z.located) z.located) (unwrap_or o []) z.coded))
+      → Goal (relocations_from number z.offset (map (part_of z.located.ordinal) (coded_templates (part_fields t (expression_value t z.located) z.located) (unwrap_or o []) z.coded)))) (sym c.parts)
+      (by_sort z inside m os e c.ps (sorted (constants (expression_value t z.located)) z.located.options.rvc z.bytes m os c.ps (λ call. fine.uncut (ap calls e ∙ call)) c.parts) (parcel_some z m os c) z.coded) h
 
   pub branches : (q : ℕ) (ys : List LaidStatement) → ((z : LaidStatement) → In z ys → In z zs) → Tile t q ys → AllByRecursion IsFine ys → AreNumbered (parts t ys) → Goal (relocations_from number q (parts t ys))
   branches q [] inside tile fine h = tt

@@ -23,7 +23,7 @@ use Rattle.rv_source_laws.specs.Sizes.{Near, near_forms, near_at, near_value, ne
 use Rattle.rv_object.specs.declared.symbol.Definition.TheVariants as definitions
 use Rattle.rv_object.specs.Object.{Relocation, Symbol, Object}
 use Rattle.rv_object.specs.Bindings.{is_weak}
-use Rattle.rv_assemble_laws.specs.LaidStatements.{LaidStatement, form, laid_in, Tile}
+use Rattle.rv_assemble_laws.specs.LaidStatements.{LaidStatement, expression_value, laid_in, Tile}
 use Rattle.rv_assemble_laws.specs.Symbols.{laid_at, after_statement, IsOwn, IsDefinedBy, StandsFor}
 use Rattle.rv_assemble_laws.specs.IsObjectOf.{IsObjectOf}
 use Rattle.rv_sources_link_laws.proofs.moves.MovedLemmas.{AddsInData, adds}
@@ -368,7 +368,7 @@ module _ (ss : List Statement) (o : Object) (is : IsObjectOf ss o) (j : ℕ) (se
 
       target : IsTarget all b.z.located.section (sure_definition t b.z.located.ordinal b.name) b.plus reach.n
       target = target_of all b.z.located.section (sure_definition t b.z.located.ordinal b.name) b.plus reach.n
-          (sym (ap (λ x. elim x [ None ↦ None | Some e ↦ near_value t all b.z.located (form t b.z.located e) ]) b.branching.target ∙ ap (near_value t all b.z.located) b.value_is) ∙ reach.near_is)
+          (sym (ap (λ x. elim x [ None ↦ None | Some e ↦ near_value t all b.z.located (expression_value t b.z.located e) ]) b.branching.target ∙ ap (near_value t all b.z.located) b.value_is) ∙ reach.near_is)
 
       sure : (definition t b.z.located.ordinal b.name ≡ Some target.it) × (gives_way t b.name ≡ false)
       sure = sure_is t b.z.located.ordinal b.name target.it target.is

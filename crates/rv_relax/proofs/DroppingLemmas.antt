@@ -7,11 +7,11 @@ use Rattle.std.proofs.lemmas.List.Sums.{sum_by-append, sum_by-cons}
 use Rattle.rv_layout_laws.specs.declared.site.Site.{Site}
 use Rattle.rv_layout_laws.specs.declared.site.SiteKind.{SiteKind}
 use Rattle.rv_layout_laws.specs.declared.site.SiteKind.TheVariants.{Call, Padding}
-use Rattle.rv_layout_laws.specs.Offsets.{offset}
+use Rattle.rv_layout_laws.specs.Offsets.{offset, rest}
 use Rattle.rv_layout_laws.specs.Calls.{bytes_of, Offers, is_call, site_at, dropped_of, dropped, whole_sizes, IsFamily, InOrder, IsOutside}
 use Rattle.rv_layout_laws.proofs.ShorteningLemmas.{IsOpen, offers_most, before_all}
 use Rattle.rv_shorten.specs.Walk.{site_end}
-use Rattle.rv_relax.specs.Passes.{IsPlace, drops, rest}
+use Rattle.rv_relax.specs.Passes.{IsPlace, drops}
 
 -- what the code has past the end of a text
 abbrev pub zeros_site : Site

@@ -7,14 +7,14 @@ use Rattle.std.proofs.lemmas.List.{length-set, get_or-set_same, get_or-set_other
 use Rattle.rv_layout_laws.specs.declared.site.Site.{Site}
 use Rattle.rv_layout_laws.specs.declared.site.Call.{Call as CallSite}
 use Rattle.rv_layout_laws.specs.declared.site.SiteKind.TheVariants.{Call}
-use Rattle.rv_layout_laws.specs.Offsets.{offset}
+use Rattle.rv_layout_laws.specs.Offsets.{offset, rest}
 use Rattle.rv_layout_laws.specs.Calls.{bytes_of, Offers, site_at, dropped, new_offset, whole_sizes, IsFamily, LeadsOutside}
 use Rattle.rv_layout_laws.proofs.ReachingLemmas.{offset_more}
 use Rattle.rv_layout_laws.proofs.WideningLemmas.{set_holds}
 use Rattle.rv_layout_laws.proofs.DroppingLemmas.{dropped_most}
 use Rattle.rv_layout_laws.proofs.ShorteningLemmas.{IsOpen, whole_family}
 use Rattle.rv_shorten.specs.Walk.{site_end}
-use Rattle.rv_relax.specs.Passes.{IsInput, IsPlace, IsTable, LeadsLow, drops, rest}
+use Rattle.rv_relax.specs.Passes.{IsInput, IsPlace, IsTable, LeadsLow, drops}
 use Rattle.rv_relax.proofs.DroppingLemmas.{take_kept, drop_kept, drop_at, rest_more, parts, sum_low, none_at_first, dropped_before_site, dropped_outside}
 
 -- at first nothing is dropped

@@ -1,12 +1,12 @@
 -- What the tables hold while a pass goes over the sites of a text: the bytes that are dropped before
 -- each site, or from it on.
 
-use Rattle.std.specs.Prelude.{◌≡◌, ◌⊎◌, ℕ, ◌+◌, ◌-◌, ◌*◌, ◌^◌, ◌≤◌, ◌<◌, nat_le, Bool, true, false, ◌&&◌, List, [], ◌∷◌, length, drop, set, slice_index, sum, ℤ, ⊤, MatchBool}
+use Rattle.std.specs.Prelude.{◌≡◌, ◌⊎◌, ℕ, ◌+◌, ◌-◌, ◌*◌, ◌^◌, ◌≤◌, ◌<◌, nat_le, Bool, true, false, ◌&&◌, List, [], ◌∷◌, length, set, slice_index, sum, ℤ, ⊤, MatchBool}
 use Rattle.rv_layout_laws.specs.declared.site.Site.{Site}
 use Rattle.rv_layout_laws.specs.declared.site.Call.{Call as CallSite}
 use Rattle.rv_layout_laws.specs.declared.site.SiteKind.{SiteKind}
 use Rattle.rv_layout_laws.specs.declared.site.SiteKind.TheVariants.{Call, Padding}
-use Rattle.rv_layout_laws.specs.Offsets.{offset, Reaches}
+use Rattle.rv_layout_laws.specs.Offsets.{offset, rest, Reaches}
 use Rattle.rv_layout_laws.specs.Calls.{bytes_of, Offers, half, site_at, IsFamily, IsText, MayShorten}
 use Rattle.rv_shorten.specs.Walk.{site_end}
 
@@ -45,10 +45,6 @@ abbrev pub drops : List Site → List ℕ → List ℕ
 drops [] kept = []
 drops (site ∷ sites) [] = []
 drops (site ∷ sites) (k ∷ kept) = (bytes_of site.kind - k) ∷ drops sites kept
-
--- the sum of numbers from one on
-abbrev pub rest : List ℕ → ℕ → ℕ
-rest numbers i = sum (drop i numbers)
 
 -- sites before i have in the table what is dropped before them, those from i on what is dropped from
 -- them on, and so has the end

@@ -5,9 +5,9 @@
 //! forwards sees what the calls before a site have become, and one backwards what those after it have.
 
 ghost use Rattle.std.specs.Prelude.{◌≡◌, ℕ, ◌+◌, ◌-◌, ◌*◌, ◌^◌, ◌<◌, ◌≤◌, ◌≤ℤ◌, pos, neg_ℤ, ◌+ℤ◌, ◌-ℤ◌, ltb, length, slice_index, if◌then◌else◌, IsTrue};
-ghost use Rattle.rv_layout_laws.specs.Offsets.{offset};
+ghost use Rattle.rv_layout_laws.specs.Offsets.{offset, rest};
 ghost use Rattle.rv_layout_laws.specs.Calls.{IsClosed, IsGreatestClosed, Shortenings, calls, whole_sizes};
-ghost use Rattle.rv_relax.specs.Passes.{AreTargets, CannotShrink, HasForm, IsInput, IsTable, IsTurn, IsVisit, drops, rest};
+ghost use Rattle.rv_relax.specs.Passes.{AreTargets, CannotShrink, HasForm, IsInput, IsTable, IsTurn, IsVisit, drops};
 
 use crate::places::dropped_bytes;
 use crate::reach::judged_size;

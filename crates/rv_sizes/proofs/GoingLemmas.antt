@@ -7,7 +7,8 @@ use Rattle.rv_layout_laws.specs.declared.item.Item.{Item}
 use Rattle.rv_layout_laws.specs.Branches.{item_at, is_branch, largest, of_section, IsFamily, IsGood, Widenings, Unchanged, Widens, branches, Rounds, Widens_some, smallest_sizes, IsLeastGood}
 use Rattle.rv_layout_laws.proofs.WideningLemmas.{widened_least, rounds_widen, rounds_end, widenings_joined}
 use Rattle.std.proofs.lemmas.List.Sums.{count_by-le-length}
-use Rattle.rv_sizes.specs.Passes.{IsInput, rest, around, AreRests, Stays, IsVisit}
+use Rattle.rv_layout_laws.specs.Offsets.{rest}
+use Rattle.rv_sizes.specs.Passes.{IsInput, around, AreRests, Stays, IsVisit}
 use Rattle.rv_sizes.proofs.PlacesLemmas.{own_size, rest_more, backward_ends}
 
 -- so many widenings, and where there were none, each statement from low on and below high stays

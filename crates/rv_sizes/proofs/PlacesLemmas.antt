@@ -8,11 +8,11 @@ use Rattle.std.proofs.lemmas.List.Sums.{sum_by-append, sum_by-cons}
 use Rattle.rv_layout_laws.specs.declared.item.Forms.{Forms}
 use Rattle.rv_layout_laws.specs.declared.item.Forms.TheVariants.{Settled, CompressedBranch, Branch, CompressedJump}
 use Rattle.rv_layout_laws.specs.declared.item.Item.{Item}
-use Rattle.rv_layout_laws.specs.Offsets.{offset, Reaches}
+use Rattle.rv_layout_laws.specs.Offsets.{offset, Reaches, rest}
 use Rattle.rv_layout_laws.specs.Branches.{Offers, half, is_branch, item_at, largest, of_section, distance_of, IsFamily, MayWiden, ReachesBy}
 use Rattle.rv_layout_laws.proofs.ReachingLemmas.{offset_more}
 use Rattle.rv_layout_laws.proofs.WideningLemmas.{set_holds, doubled, none_between, offered_positive}
-use Rattle.rv_sizes.specs.Passes.{IsInput, rest, around, IsTable, AreStarts, AreRests, IsJudged, Stays, IsVisit}
+use Rattle.rv_sizes.specs.Passes.{IsInput, around, IsTable, AreStarts, AreRests, IsJudged, Stays, IsVisit}
 
 -- ---- one section's sizes
 

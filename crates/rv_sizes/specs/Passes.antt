@@ -1,9 +1,9 @@
 -- What the tables hold while a pass goes over the statements: each statement's start, or what is
 -- left from it on.
 
-use Rattle.std.specs.Prelude.{◌≡◌, ◌⊎◌, ℕ, ◌*◌, ◌^◌, ◌≤◌, ◌<◌, Bool, true, List, length, drop, set, slice_index, sum, ℤ, MatchBool}
+use Rattle.std.specs.Prelude.{◌≡◌, ◌⊎◌, ℕ, ◌*◌, ◌^◌, ◌≤◌, ◌<◌, Bool, true, List, length, set, slice_index, ℤ, MatchBool}
 use Rattle.rv_layout_laws.specs.declared.item.Item.{Item}
-use Rattle.rv_layout_laws.specs.Offsets.{offset, Reaches}
+use Rattle.rv_layout_laws.specs.Offsets.{offset, rest, Reaches}
 use Rattle.rv_layout_laws.specs.Branches.{half, is_branch, item_at, largest, of_section, IsFamily, MayWiden, ReachesBy}
 
 -- a statement stands in one of so many sections, and its target is a statement of that section
@@ -17,10 +17,6 @@ pub record TargetsItsSection (items : List Item) (sections : ℕ) (item : Item) 
 pub record IsInput (items : List Item) (sections : ℕ) : Type 0 where
   pub few : length items < 2 ^ 30
   pub within : (i : ℕ) → i < length items → TargetsItsSection items sections (item_at items i)
-
--- the bytes from a part on
-abbrev pub rest : List ℕ → ℕ → ℕ
-rest sizes i = sum (drop i sizes)
 
 -- the sizes in a statement's section
 abbrev pub around : List Item → List ℕ → ℕ → List ℕ

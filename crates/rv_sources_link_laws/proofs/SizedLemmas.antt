@@ -14,7 +14,7 @@ use Rattle.rv_source_laws.specs.Sized.{statement_size, HasSizeBy, HaveSizes, sta
 use Rattle.rv_object.specs.Object.{Object}
 use Rattle.rv_object_laws.specs.Inputs.{Starts}
 use Rattle.rv_object_laws.specs.Shortened.{Sizes}
-use Rattle.rv_assemble_laws.specs.LaidStatements.{LaidStatement, form}
+use Rattle.rv_assemble_laws.specs.LaidStatements.{LaidStatement, expression_value}
 use Rattle.rv_sources_link_laws.proofs.sections.KeptLemmas.{AreKept}
 use Rattle.rv_sources_link_laws.proofs.calls.FinalsLemmas.{IsFinal, AreFinal}
 use Rattle.rv_sources_link_laws.proofs.moves.ShrunkLemmas as shrunk
@@ -63,7 +63,7 @@ module _ (starts : Starts) where
         go : (b : Bool) → has_row z.located ≡ b → HasSizeBy p (renumbered file z.located) (if b then Some row else None) z.bytes
         go true e =
             h.placed (and_parts z.located.placed z.located.home.loaded e).0
-            ∙ ap (λ u. statement_size z.located.home.executable (λ x. form u z.located x) z.located.kind (final z).bytes) (sym same)
+            ∙ ap (λ u. statement_size z.located.home.executable (λ x. expression_value u z.located x) z.located.kind (final z).bytes) (sym same)
         go false e = h.unplaced
 
     pub sized_from : (sizes : ℕ → ℕ → Sizes) (file : ℕ) (sources : List (List Statement)) (os : List Object) (h : AreKept sources os) (ws : List Object) (k : shrunk.AreObjectsOf sources ws)

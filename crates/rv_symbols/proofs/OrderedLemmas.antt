@@ -17,7 +17,7 @@ use Rattle.rv_source_laws.specs.Lines.{operand_of, is_low_part}
 use Rattle.rv_assemble_laws.specs.CodeFields.{symbol_field, low_field, low_field_at, label_field, field_of, relax_fields, part_fields}
 use Rattle.rv_assemble_laws.specs.Coded.{constants}
 use Rattle.rv_assemble_laws.specs.Templates.{Template, Open, value_fields, padding_templates, contents_templates, contribution_templates}
-use Rattle.rv_assemble_laws.specs.LaidStatements.{LaidStatement, part_of, parts_of, form, coded_templates, templates}
+use Rattle.rv_assemble_laws.specs.LaidStatements.{LaidStatement, part_of, parts_of, expression_value, coded_templates, templates}
 use Rattle.rv_assemble_laws.specs.Symbols.{SymbolUse, use_of, references_in, references_of, references}
 use Rattle.rv_symbols.specs.Found.{is_here, Rises}
 
@@ -124,8 +124,8 @@ of_kind : (t : Tables) (s : LaidStatement) (kind : StatementKind) → Parts t s.
 of_kind t s (Label name) = tt
 of_kind t s (Numbered number) = tt
 of_kind t s (Instruction mnemonic operands) =
-    of_code t (form t s.located) s.located (unwrap_or (code (constants (form t s.located)) s.located.options.rvc s.bytes mnemonic operands) []) s.coded
-of_kind t s (Directs d) = of_contribution t s.located.home.executable s.located.ordinal (form t s.located) (contribution d) s.bytes
+    of_code t (expression_value t s.located) s.located (unwrap_or (code (constants (expression_value t s.located)) s.located.options.rvc s.bytes mnemonic operands) []) s.coded
+of_kind t s (Directs d) = of_contribution t s.located.home.executable s.located.ordinal (expression_value t s.located) (contribution d) s.bytes
 
 pub of_laid_statement : (t : Tables) (s : LaidStatement) → AreOf t s.located.ordinal (references_of t s)
 of_laid_statement t s = go s.located.home.loaded

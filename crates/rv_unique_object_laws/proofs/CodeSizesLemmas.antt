@@ -10,7 +10,7 @@ use Rattle.rv_layout_laws.proofs.WideningLemmas.{one_least_good}
 use Rattle.rv_unit_laws.specs.Tables.{Tables}
 use Rattle.rv_source_laws.specs.Located.{Located}
 use Rattle.rv_source_laws.specs.Sizes.{near_forms, item_by, item_by_kind, items_of, settled, AreLeast}
-use Rattle.rv_assemble_laws.specs.LaidStatements.{form}
+use Rattle.rv_assemble_laws.specs.LaidStatements.{expression_value}
 use Rattle.rv_assemble_laws.specs.Refusals.{HasCodeSize, AreCodeSizes}
 use Rattle.rv_layout.proofs.FixedLemmas.{code_fixed}
 use Rattle.rv_unique_object_laws.proofs.OneCodeLemmas.{code_one}
@@ -24,13 +24,13 @@ module _ (t : Tables) (all : List Located) where
   form_one l n m os (Some CompressedJump) f = refl
 
   -- to the search for sizes a statement in either size is one item
-  item_one : (l : Located) (n m : ℕ) (kind : StatementKind) → HasCodeSize l.home.executable (form t l) l.options.rvc kind n → HasCodeSize l.home.executable (form t l) l.options.rvc kind m
+  item_one : (l : Located) (n m : ℕ) (kind : StatementKind) → HasCodeSize l.home.executable (expression_value t l) l.options.rvc kind n → HasCodeSize l.home.executable (expression_value t l) l.options.rvc kind m
       → item_by_kind t all l n kind ≡ item_by_kind t all l m kind
   item_one l n m (Label name) h k = ap (settled l) (h ∙ sym k)
   item_one l n m (Numbered number) h k = ap (settled l) (h ∙ sym k)
   item_one l n m (Instruction mnemonic os) (c, (i, h)) (d, (j, k)) =
       form_one l n m os (near_forms l.options.rvc mnemonic os)
-      (λ none. (code_one (form t l) l.options.rvc mnemonic os n m c d i j (code_fixed _ l.options.rvc n m mnemonic os none) h k).bytes)
+      (λ none. (code_one (expression_value t l) l.options.rvc mnemonic os n m c d i j (code_fixed _ l.options.rvc n m mnemonic os none) h k).bytes)
   item_one l n m (Directs directive) h k = ap (settled l) (h ∙ sym k)
 
   items_one : (ls : List Located) (ns ms : List ℕ) → AreCodeSizes t ls ns → AreCodeSizes t ls ms → items_of t all ls ns ≡ items_of t all ls ms

@@ -10,7 +10,7 @@ use Rattle.rv_unit_laws.specs.Tables.{Tables, alignment_of, padding}
 use Rattle.rv_object.specs.Padding.{operations_in}
 use Rattle.rv_source_laws.specs.Located.{Located}
 use Rattle.rv_source_laws.proofs.HeldLemmas.{IsHeld}
-use Rattle.rv_assemble_laws.specs.LaidStatements.{LaidStatement, form, Tile, IsPaddedIn, DirectiveSize, HasSize}
+use Rattle.rv_assemble_laws.specs.LaidStatements.{LaidStatement, expression_value, Tile, IsPaddedIn, DirectiveSize, HasSize}
 use Rattle.rv_unique_object_laws.proofs.PairsLemmas.{Pairs, SameBy, SameBytes}
 use Rattle.rv_unique_object_laws.proofs.SaidLemmas.{IsSaid, bare_size, code_bytes, in_code}
 
@@ -47,10 +47,10 @@ SameCode x y = SameBy code_bytes x y
 
 module _ (t : Tables) where
   abbrev SizeOf : LaidStatement → ℕ → LaidStatement → StatementKind → Type 0
-  SizeOf z multiple s kind = HasSize (form t z.located) s multiple kind
+  SizeOf z multiple s kind = HasSize (expression_value t z.located) s multiple kind
 
-  same_size : (s q : LaidStatement) (b : ℕ) → s.located ≡ q.located → HasSize (form t q.located) q b q.located.kind → SizeOf s b q s.located.kind
-  same_size s q b l k = subst (λ (z : Located). HasSize (form t z) q b z.kind) (sym l) k
+  same_size : (s q : LaidStatement) (b : ℕ) → s.located ≡ q.located → HasSize (expression_value t q.located) q b q.located.kind → SizeOf s b q s.located.kind
+  same_size s q b l k = subst (λ (z : Located). HasSize (expression_value t z) q b z.kind) (sym l) k
 
   -- in data a statement's bytes go by where it stands
   data_by : (s q : LaidStatement) (a b : ℕ) (kind : StatementKind) → s.located ≡ q.located → s.located.home.executable ≡ false → IsHeld s.located.home kind → s.offset ≡ q.offset
@@ -58,7 +58,7 @@ module _ (t : Tables) where
   data_by s q a b (Label name) l outside held at (n, i) (m, j) = n ∙ sym m
   data_by s q a b (Numbered number) l outside held at (n, i) (m, j) = n ∙ sym m
   data_by s q a b (Instruction mnemonic os) l outside (code, stored) at h k = absurd (let both : true ≡ false = sym code ∙ outside in cc)
-  data_by s q a b (Directs d) l outside held at h k = (directive_one (form t s.located) s q a b d l (λ e. at) h k).0
+  data_by s q a b (Directs d) l outside held at h k = (directive_one (expression_value t s.located) s q a b d l (λ e. at) h k).0
 
   data_one : (s q : LaidStatement) (a b : ℕ) (placed : Bool) → s.located.placed ≡ placed → s.located ≡ q.located → s.located.home.executable ≡ false → s.offset ≡ q.offset
       → IsSaid t a s → IsSaid t b q → s.bytes ≡ q.bytes

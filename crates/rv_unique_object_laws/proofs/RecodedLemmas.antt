@@ -11,7 +11,7 @@ use Rattle.rv_source_laws.specs.Located.{Located}
 use Rattle.rv_source_laws.specs.Compressed.{is_compressed_code}
 use Rattle.rv_assemble_laws.specs.CodeFields.{part_fields}
 use Rattle.rv_assemble_laws.specs.Coded.{constants}
-use Rattle.rv_assemble_laws.specs.LaidStatements.{LaidStatement, form, coded_templates, templates, parts_of, parts, part_of, laid_in, Tile, end_of, HasSize}
+use Rattle.rv_assemble_laws.specs.LaidStatements.{LaidStatement, expression_value, coded_templates, templates, parts_of, parts, part_of, laid_in, Tile, end_of, HasSize}
 use Rattle.rv_assemble_laws.specs.IsObjectOf.{row_of, rows_at}
 use Rattle.rv_unique_object_laws.proofs.OneCodeLemmas.{IsOneCode, code_one}
 use Rattle.rv_unique_object_laws.proofs.OneSizeLemmas.{directive_one}
@@ -54,17 +54,17 @@ module _ (t : Tables) where
   abbrev IsSameCode : LaidStatement → ℕ → List (List ℕ) → StatementKind → Type 0
   IsSameCode s instructions coded kind = (templates t (recode s instructions coded) kind ≡ templates t s kind) × (instructions ≡ s.instructions)
 
-  same_code : (s : LaidStatement) (i : ℕ) (c : List (List ℕ)) (a b : ℕ) (kind : StatementKind) → HasSize (form t s.located) s a kind → HasSize (form t s.located) (recode s i c) b kind
+  same_code : (s : LaidStatement) (i : ℕ) (c : List (List ℕ)) (a b : ℕ) (kind : StatementKind) → HasSize (expression_value t s.located) s a kind → HasSize (expression_value t s.located) (recode s i c) b kind
       → IsSameCode s i c kind
   same_code s i c a b (Label name) (n, x) (m, y) = (refl, y ∙ sym x)
   same_code s i c a b (Numbered number) (n, x) (m, y) = (refl, y ∙ sym x)
   same_code s i c a b (Instruction mnemonic os) h k =
       let one : IsOneCode s.bytes s.bytes c s.coded i s.instructions =
-      code_one (form t s.located) s.located.options.rvc mnemonic os s.bytes s.bytes c s.coded i s.instructions refl k h in (
-        ap (coded_templates (part_fields t (form t s.located) s.located) (unwrap_or (code (constants (form t s.located)) s.located.options.rvc s.bytes mnemonic os) [])) one.coded,
+      code_one (expression_value t s.located) s.located.options.rvc mnemonic os s.bytes s.bytes c s.coded i s.instructions refl k h in (
+        ap (coded_templates (part_fields t (expression_value t s.located) s.located) (unwrap_or (code (constants (expression_value t s.located)) s.located.options.rvc s.bytes mnemonic os) [])) one.coded,
         one.instructions,
       )
-  same_code s i c a b (Directs d) h k = (refl, sym (directive_one (form t s.located) s (recode s i c) a b d refl (λ e. refl) h k).1)
+  same_code s i c a b (Directs d) h k = (refl, sym (directive_one (expression_value t s.located) s (recode s i c) a b d refl (λ e. refl) h k).1)
 
   unplaced_row : (placed loaded : Bool) (x y : Row) → placed ≡ false → ◌≡◌ {A = List Row} (if placed && loaded then x ∷ [] else []) (if placed && loaded then y ∷ [] else [])
   unplaced_row true loaded x y e = absurd (cc)

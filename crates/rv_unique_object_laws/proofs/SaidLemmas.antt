@@ -13,7 +13,7 @@ use Rattle.rv_source_laws.proofs.HeldLemmas.{IsHeld, Held, all_held}
 use Rattle.rv_source_laws.proofs.HomesLemmas.{all_map, homes_from}
 use Rattle.rv_object.specs.Object.{Section, Symbol, Object}
 use Rattle.rv_assemble_laws.specs.Coded.{IsCode}
-use Rattle.rv_assemble_laws.specs.LaidStatements.{LaidStatement, form, templates, part_of, parts_of, part_bytes, laid_in, Tile, IsPaddedIn, DirectiveSize, HasSize}
+use Rattle.rv_assemble_laws.specs.LaidStatements.{LaidStatement, expression_value, templates, part_of, parts_of, part_bytes, laid_in, Tile, IsPaddedIn, DirectiveSize, HasSize}
 use Rattle.rv_assemble_laws.specs.Refusals.{HasCodeSize, HasSizeAt, AreCodeSizes}
 use Rattle.rv_assemble_laws.specs.IsObjectOf.{Numbering, IsSectionOf, AreSectionsOf, IsObjectOf}
 use Rattle.rv_assemble_laws.proofs.FaultlessLemmas.{no_first_fault}
@@ -67,7 +67,7 @@ of_located P (s ∷ ss) (h, hs) = (h, of_located P ss hs)
 
 pub record IsSaid (t : Tables) (multiple : ℕ) (s : LaidStatement) : Type 0 where
   pub bytes : s.bytes ≡ length (flat_map part_bytes (parts_of t s))
-  pub size : s.located.placed ≡ true → HasSize (form t s.located) s multiple s.located.kind
+  pub size : s.located.placed ≡ true → HasSize (expression_value t s.located) s multiple s.located.kind
   pub held : IsHeld s.located.home s.located.kind
   pub bare : s.located.placed ≡ false → templates t s s.located.kind ≡ []
   pub idle : s.located.placed ≡ false → HasSizeAt t s.located 0
@@ -113,15 +113,15 @@ module _ (t : Tables) where
   directive_code v s a (Aligns_to_bytes x) held (c, m, h) code = (subst (λ b. IsPaddedIn b s (alignment_of v (Aligns_to_bytes x))) code h).0
   directive_code v s a d held h code = h.0
 
-  code_size : (s : LaidStatement) (a : ℕ) (kind : StatementKind) → IsHeld s.located.home kind → HasSize (form t s.located) s a kind
-      → HasCodeSize s.located.home.executable (form t s.located) s.located.options.rvc kind (code_bytes s)
+  code_size : (s : LaidStatement) (a : ℕ) (kind : StatementKind) → IsHeld s.located.home kind → HasSize (expression_value t s.located) s a kind
+      → HasCodeSize s.located.home.executable (expression_value t s.located) s.located.options.rvc kind (code_bytes s)
   code_size s a (Label name) held h = none_of_none s.located.home.executable s.bytes h.0
   code_size s a (Numbered number) held h = none_of_none s.located.home.executable s.bytes h.0
   code_size s a (Instruction mnemonic os) held h =
       let whole : code_bytes s ≡ s.bytes = in_code s.located.home.executable s.bytes held.0 in
-      (s.coded, (s.instructions, subst (λ n. IsCode (form t s.located) s.located.options.rvc mnemonic os n s.coded s.instructions) (sym whole) h))
+      (s.coded, (s.instructions, subst (λ n. IsCode (expression_value t s.located) s.located.options.rvc mnemonic os n s.coded s.instructions) (sym whole) h))
   code_size s a (Directs d) held h =
-      either_size s.located.home.executable s.bytes (code_padding (alignment_of (form t s.located) d)) (directive_code (form t s.located) s a d held h)
+      either_size s.located.home.executable s.bytes (code_padding (alignment_of (expression_value t s.located) d)) (directive_code (expression_value t s.located) s a d held h)
 
   said_code : (a : ℕ) (s : LaidStatement) → IsSaid t a s → HasSizeAt t s.located (code_bytes s)
   said_code a s h = go s.located.placed refl
@@ -137,11 +137,11 @@ module _ (t : Tables) where
   -- ---- the statements of a section
 
   said_all : (a o : ℕ) (home : SourceSection) (xs : List LaidStatement) → Tile t o xs
-      → AllByRecursion (λ s. s.located.placed ≡ true → HasSize (form t s.located) s a s.located.kind) xs
+      → AllByRecursion (λ s. s.located.placed ≡ true → HasSize (expression_value t s.located) s a s.located.kind) xs
       → AllByRecursion (λ s. (s.located.home ≡ home) × Facts s) xs → AllByRecursion (λ s. (s.located.home ≡ home) × IsSaid t a s) xs
   said_all a o home [] f h k = tt
   said_all a o home (s ∷ xs) (at, n, f) (h, hs) ((is, (held, un)), ks) = (
-    (is, record { bytes = n; size = h; held = held; bare = λ e. un.bare e t s; idle = λ e. un.idle e s.located.home.executable (form t s.located) s.located.options.rvc }),
+    (is, record { bytes = n; size = h; held = held; bare = λ e. un.bare e t s; idle = λ e. un.idle e s.located.home.executable (expression_value t s.located) s.located.options.rvc }),
     said_all a (o + s.bytes) home xs f hs ks,
   )
 

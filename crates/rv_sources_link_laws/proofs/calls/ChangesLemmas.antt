@@ -34,7 +34,7 @@ use Rattle.rv_object_laws.specs.Moves.{full_padding, alignment_of}
 use Rattle.rv_object_laws.specs.Names.{Place, symbol_place}
 use Rattle.rv_assemble_laws.specs.CodeFields.{relax_fields}
 use Rattle.rv_assemble_laws.specs.Templates.{Template, Coded, Open, template_fields, align_field, padding_templates}
-use Rattle.rv_assemble_laws.specs.LaidStatements.{LaidStatement, form, part_of, part_bytes, IsPaddedIn}
+use Rattle.rv_assemble_laws.specs.LaidStatements.{LaidStatement, expression_value, part_of, part_bytes, IsPaddedIn}
 use Rattle.rv_assemble_laws.specs.Symbols.{StandsFor}
 use Rattle.rv_assemble_laws.specs.IsObjectOf.{Numbering, relocation_at, relocations_from}
 use Rattle.rv_sources_link_laws.proofs.sections.AssembledLemmas.{assembled_templates, parts_of}
@@ -180,7 +180,7 @@ module _ (p : Program) (starts : Starts) (os : List Object) (text : List Placed)
   module _ (z : LaidStatement) (d : Directive) (is_kind : z.located.kind ≡ Directs d) (home : z.located.home ≡ s)
       (padded : assembled_templates t z (Directs d) ≡ padding_templates z.located.home.executable z.located.ordinal z.bytes) where
     v : Expression → Value
-    v e = form t z.located e
+    v e = expression_value t z.located e
 
     in_code : z.located.home.executable ≡ true
     in_code = ap (λ y. y.executable) home ∙ code
@@ -189,17 +189,17 @@ module _ (p : Program) (starts : Starts) (os : List Object) (text : List Placed)
     pads = ap (assembled_templates t z) is_kind ∙ padded ∙ ap (λ b. padding_templates b z.located.ordinal z.bytes) in_code
 
     -- what the source has of it
-    says : (first : ℕ) → alignment_sites (first + z.offset) (source_alignment (form t z.located) d) ≡ sites_by p text (placed_at first z) z.located.kind
+    says : (first : ℕ) → alignment_sites (first + z.offset) (source_alignment (expression_value t z.located) d) ≡ sites_by p text (placed_at first z) z.located.kind
     says first =
-        ap (λ u. alignment_sites (first + z.offset) (source_alignment (form u z.located) d)) (sym same_tables)
+        ap (λ u. alignment_sites (first + z.offset) (source_alignment (expression_value u z.located) d)) (sym same_tables)
         ∙ sym (located_as first z (Directs d)) ∙ ap (sites_by p text (placed_at first z)) (sym is_kind)
 
-    without : z.bytes ≡ 0 → ((first : ℕ) → [] ≡ alignment_sites (first + z.offset) (source_alignment (form t z.located) d)) → IsOne z
+    without : z.bytes ≡ 0 → ((first : ℕ) → [] ≡ alignment_sites (first + z.offset) (source_alignment (expression_value t z.located) d)) → IsOne z
     without none made =
         let empty : assembled_templates t z z.located.kind ≡ [] = pads ∙ ap (padding_templates true z.located.ordinal) none in
         stay z (subst (λ l. AllByRecursion IsCalm l) (sym empty) tt) (subst (λ l. AllByRecursion IsPlain l) (sym empty) tt) (λ first. made first ∙ says first)
 
-    with_padding : (a : ℕ) → IsPower a → source_alignment (form t z.located) d ≡ Some a → z.bytes ≡ a - 2 → IsOne z
+    with_padding : (a : ℕ) → IsPower a → source_alignment (expression_value t z.located) d ≡ Some a → z.bytes ≡ a - 2 → IsOne z
     with_padding a power al bytes = record {
       change = Some (align_at z.offset z.bytes);
       is = ap (λ l. filter may (relocations_from number z.offset (map (part_of z.located.ordinal) l))) (pads ∙ padding_was z.located.ordinal z.bytes some)
@@ -226,10 +226,10 @@ module _ (p : Program) (starts : Starts) (os : List Object) (text : List Placed)
         padding_was ordinal zero h = absurd (omega (arith, h))
         padding_was ordinal (suc n) h = refl
 
-    pub aligns : (al : Option ℕ) → source_alignment (form t z.located) d ≡ al → IsValidAlignment al → IsPaddedIn z.located.home.executable z al → IsOne z
+    pub aligns : (al : Option ℕ) → source_alignment (expression_value t z.located) d ≡ al → IsValidAlignment al → IsPaddedIn z.located.home.executable z al → IsOne z
     aligns al e valid size = go al e valid (subst (λ b. IsPaddedIn b z al) in_code size)
       where
-        go : (al : Option ℕ) → source_alignment (form t z.located) d ≡ al → IsValidAlignment al → IsPaddedIn true z al → IsOne z
+        go : (al : Option ℕ) → source_alignment (expression_value t z.located) d ≡ al → IsValidAlignment al → IsPaddedIn true z al → IsOne z
         go None e valid (bytes, count) = without bytes (λ first. ap (alignment_sites (first + z.offset)) (sym e))
         go (Some a) e (inl low) (bytes, count) =
             without (bytes ∙ (let g : a - 2 ≡ 0 = omega (arith, low) in g))
@@ -296,7 +296,7 @@ module _ (p : Program) (starts : Starts) (os : List Object) (text : List Placed)
     says_call : (first : ℕ) → (if relax then shortenable (first + z.offset) aimed h.plus compressed else []) ≡ sites_by p text (placed_at first z) z.located.kind
     says_call first =
         let y : Placed = record { site = record { located = renumbered f z.located; row = row_in starts f (final z) }; offset = first + z.offset } in
-        ap (λ v. if relax then call_sites p text y compressed (Some v) else []) (sym (ap (λ u. form u z.located h.goes.to) same_tables ∙ h.symbolic))
+        ap (λ v. if relax then call_sites p text y compressed (Some v) else []) (sym (ap (λ u. expression_value u z.located h.goes.to) same_tables ∙ h.symbolic))
         ∙ ap (λ e. if relax then call_sites p text y compressed (option_map (program_form p (renumbered f z.located)) e) else []) (sym h.goes.target)
         ∙ ap (λ b. if b && relax then call_sites p text y compressed (option_map (program_form p (renumbered f z.located)) (target_in ops)) else []) (sym call)
         ∙ sym (located_as first z (Instruction m ops)) ∙ ap (sites_by p text (placed_at first z)) (sym is_kind)

@@ -26,7 +26,7 @@ use Rattle.rv_object_laws.specs.Inputs.{Starts, InputSection}
 use Rattle.rv_object_laws.specs.Names.{symbol_place}
 use Rattle.rv_assemble_laws.specs.CodeFields.{relax_fields}
 use Rattle.rv_assemble_laws.specs.Coded.{constants}
-use Rattle.rv_assemble_laws.specs.LaidStatements.{LaidStatement, form, part_of, part_bytes, coded_templates, HasSize}
+use Rattle.rv_assemble_laws.specs.LaidStatements.{LaidStatement, expression_value, part_of, part_bytes, coded_templates, HasSize}
 use Rattle.rv_assemble_laws.specs.Templates.{Coded}
 use Rattle.rv_assemble_laws.specs.Symbols.{StandsFor, references_in}
 use Rattle.rv_assemble_laws.specs.IsObjectOf.{Numbering, IsNumbered, relocation_at, relocations_from, ArePartsNumbered}
@@ -79,7 +79,7 @@ module _ (p : Program) (starts : Starts) (os : List Object) (text : List Placed)
   -- ---- one statement
 
   module _ (z : LaidStatement) (inside : IsLaidIn j s z) (uncut : IsUncut z) (sound : IsSound t z.located) (bytes : z.bytes ≡ length (flat_map part_bytes (parts_of t z)))
-      (size : z.located.placed ≡ true → HasSize (form t z.located) z multiple z.located.kind) where
+      (size : z.located.placed ≡ true → HasSize (expression_value t z.located) z multiple z.located.kind) where
     -- what a call owes by where it stands
     pub record IsSeated (m : Mnemonic) (ops : List Operand) (h : IsLongCall t z m ops) : Type 0 where
       pub relaxed : has_relax z.offset x.relocations ≡ z.located.options.relax
@@ -105,7 +105,7 @@ module _ (p : Program) (starts : Starts) (os : List Object) (text : List Placed)
       no_data : {A : Type 0} → s.executable ≡ false → A
       no_data aside = let e : true ≡ false = sym code ∙ aside in absurd (cc)
 
-      one_placed : (kind : StatementKind) → z.located.kind ≡ kind → IsHeld s kind → HasSize (form t z.located) z multiple kind → One z
+      one_placed : (kind : StatementKind) → z.located.kind ≡ kind → IsHeld s kind → HasSize (expression_value t z.located) z multiple kind → One z
       one_placed (Label name) e held size' = bare (Label name) e refl (λ first. refl)
       one_placed (Numbered digits) e held size' = bare (Numbered digits) e refl (λ first. refl)
       one_placed (Instruction m ops) e held size' = go (is_call m) refl
@@ -118,10 +118,10 @@ module _ (p : Program) (starts : Starts) (os : List Object) (text : List Placed)
           go false call =
               stay
               (subst (λ k. AllByRecursion IsCalm (assembled_templates t z k)) (sym e)
-              (subst (λ q. AllByRecursion IsCalm (coded_templates (part_fields t (form t z.located) z.located) (unwrap_or q []) z.coded)) (sym size'.parts)
-              (code_calm t (form t z.located) z size'.ps z.coded (uncalled (constants (form t z.located)) z.located.options.rvc z.bytes m ops size'.ps call size'.parts))))
+              (subst (λ q. AllByRecursion IsCalm (coded_templates (part_fields t (expression_value t z.located) z.located) (unwrap_or q []) z.coded)) (sym size'.parts)
+              (code_calm t (expression_value t z.located) z size'.ps z.coded (uncalled (constants (expression_value t z.located)) z.located.options.rvc z.bytes m ops size'.ps call size'.parts))))
               (subst (λ k. AllByRecursion IsPlain (assembled_templates t z k)) (sym e)
-              (sized_each IsPlain (λ bytes. tt) (λ width value. tt) t z multiple (plain_part t (form t z.located) z.located) (Instruction m ops) size'))
+              (sized_each IsPlain (λ bytes. tt) (λ width value. tt) t z multiple (plain_part t (expression_value t z.located) z.located) (Instruction m ops) size'))
               (λ first. quiet_call (change.placed_at p starts os text f t same_tables o j x s code number all multiple flag meant final stays first z) m ops call
               ∙ ap (sites_by p text (change.placed_at p starts os text f t same_tables o j x s code number all multiple flag meant final stays first z)) (sym e))
             where
@@ -132,10 +132,10 @@ module _ (p : Program) (starts : Starts) (os : List Object) (text : List Placed)
       one_placed (Directs (Zeros count)) e held size' = no_data held
       one_placed (Directs (Aligns_to_power w)) e held (constant, divides, size') =
           change.aligns p starts os text f t same_tables o j x s code number all multiple flag meant final stays z (Aligns_to_power w) e inside.home refl
-          (source_alignment (form t z.located) (Aligns_to_power w)) refl (power_valid (form t z.located w)) size'
+          (source_alignment (expression_value t z.located) (Aligns_to_power w)) refl (power_valid (expression_value t z.located w)) size'
       one_placed (Directs (Aligns_to_bytes w)) e held (constant, divides, size') =
           change.aligns p starts os text f t same_tables o j x s code number all multiple flag meant final stays z (Aligns_to_bytes w) e inside.home refl
-          (source_alignment (form t z.located) (Aligns_to_bytes w)) refl (byte_valid (form t z.located w)) size'
+          (source_alignment (expression_value t z.located) (Aligns_to_bytes w)) refl (byte_valid (expression_value t z.located w)) size'
       one_placed (Directs (Enters opened)) e held size' = bare (Directs (Enters opened)) e refl (λ first. refl)
       one_placed (Directs (Opens name flags k)) e held size' = bare (Directs (Opens name flags k)) e refl (λ first. refl)
       one_placed (Directs (Binds binding names)) e held size' = bare (Directs (Binds binding names)) e refl (λ first. refl)
@@ -297,7 +297,7 @@ module _ (p : Program) (starts : Starts) (os : List Object) (text : List Placed)
         let own = (split (λ w. AllByRecursion (IsNumbered t all number o.symbols) (references_in w)) (parts_of t z) (parts t ys) numbered).0 in
         ((subst (λ l. AllByRecursion (λ w. AllByRecursion (IsNumbered t all number o.symbols) (references_in w)) l) own_parts own).0).0
 
-    pub seated_at : (inside : IsLaidIn j s z) (uncut : IsUncut z) (sound : IsSound t z.located) (size : z.located.placed ≡ true → HasSize (form t z.located) z multiple z.located.kind)
+    pub seated_at : (inside : IsLaidIn j s z) (uncut : IsUncut z) (sound : IsSound t z.located) (size : z.located.placed ≡ true → HasSize (expression_value t z.located) z multiple z.located.kind)
         → IsSeated z inside uncut sound bytes size m ops h
     seated_at inside uncut sound size = record {
       relaxed = subst (λ n. has_relax n x.relocations ≡ z.located.options.relax) (sym off) relaxed;
@@ -311,7 +311,7 @@ module _ (p : Program) (starts : Starts) (os : List Object) (text : List Placed)
   dones : (front : List ℕ) (R : List Relocation) (pre : List LaidStatement) (q : ℕ) (ys : List LaidStatement) → q ≡ length front → q % 2 ≡ 0 → zs ≡ pre ++ ys → AllByRecursion (λ (y : LaidStatement). y.offset ≤ q) pre
       → x.relocations ≡ R ++ rels q ys → AllByRecursion (IsBefore q) R → stored x.contents ≡ front ++ flat_map part_bytes (parts t ys) → Tile t q ys
       → AllByRecursion (IsLaidIn j s) ys → AllByRecursion IsUncut ys → AllByRecursion (λ z. IsSound t z.located) ys
-      → AllByRecursion (λ z. z.located.placed ≡ true → HasSize (form t z.located) z multiple z.located.kind) ys → ArePartsNumbered t all number o.symbols (parts t ys) → AllByRecursion Done ys
+      → AllByRecursion (λ z. z.located.placed ≡ true → HasSize (expression_value t z.located) z multiple z.located.kind) ys → ArePartsNumbered t all number o.symbols (parts t ys) → AllByRecursion Done ys
   dones front R pre q [] long_front q_even sites_are low rels_are before stored_are tile i u k h n = tt
   dones front R pre q (z ∷ ys) long_front q_even sites_are low rels_are before stored_are (off, bytes, tile) (i, is) (u, us) (k, ks) (h, hs) n =
       let own = flat_map part_bytes (parts_of t z) in
@@ -417,7 +417,7 @@ module _ (p : Program) (starts : Starts) (os : List Object) (text : List Placed)
   -- ---- the section
 
   module _ (tile : Tile t 0 zs) (inside : AllByRecursion (IsLaidIn j s) zs) (uncut : AllByRecursion IsUncut zs) (sound : AllByRecursion (λ z. IsSound t z.located) zs)
-      (sizes_are : AllByRecursion (λ z. z.located.placed ≡ true → HasSize (form t z.located) z multiple z.located.kind) zs) (numbered : ArePartsNumbered t all number o.symbols (parts t zs)) where
+      (sizes_are : AllByRecursion (λ z. z.located.placed ≡ true → HasSize (expression_value t z.located) z multiple z.located.kind) zs) (numbered : ArePartsNumbered t all number o.symbols (parts t zs)) where
     all_done : AllByRecursion Done zs
     all_done = dones [] [] [] 0 zs refl refl refl tt whole tt bytes_are tile inside uncut sound sizes_are numbered
 

@@ -16,7 +16,7 @@ use Rattle.rv_object_laws.specs.Inputs.{goes_to_text}
 use Rattle.rv_object_laws.specs.Shortened.{Sizes, is_shortened, cut, cuts, cuts_at, cuts_in, shortened_text, shortened_section, shortened_sections, shortened_definition, shortened_symbol, shortened_row, shortened_object}
 use Rattle.rv_source_laws.specs.Shortened.{calls}
 use Rattle.rv_source_laws.proofs.HomesLemmas.{all_filter}
-use Rattle.rv_assemble_laws.specs.LaidStatements.{LaidStatement, Part, form, laid_in, HasSize}
+use Rattle.rv_assemble_laws.specs.LaidStatements.{LaidStatement, Part, expression_value, laid_in, HasSize}
 use Rattle.rv_assemble_laws.specs.Symbols.{references_in, exports}
 use Rattle.rv_assemble_laws.specs.IsObjectOf.{IsNumbered, ArePartsNumbered, row_of, rows_at}
 use Rattle.rv_sources_link_laws.proofs.sections.MaskedLemmas.{source_sections}
@@ -146,7 +146,7 @@ module _ (ss : List Statement) (o : Object) (is : IsAssembled ss o) (uncut : All
           (all_filter (Fitting sizes) (λ z. z.located.section == j) is.laid fitting) h.sizes
         where
           go : (ys : List LaidStatement) → AllByRecursion (IsLaidIn j s) ys → AllByRecursion IsUncut ys → AllByRecursion (λ z. IsSound t z.located) ys → AllByRecursion (Fitting sizes) ys
-              → AllByRecursion (λ z. z.located.placed ≡ true → HasSize (form t z.located) z x.alignment z.located.kind) ys → AllByRecursion (λ z. walk.Sorted t is.number (sizes j) x.alignment z) ys
+              → AllByRecursion (λ z. z.located.placed ≡ true → HasSize (expression_value t z.located) z x.alignment z.located.kind) ys → AllByRecursion (λ z. walk.Sorted t is.number (sizes j) x.alignment z) ys
           go [] a b c d e = tt
           go (y ∷ ys) (a, as') (b, bs) (c, cs) (d, ds) (e, es) = (
             sort_of t is.number (sizes j) x.alignment s code y a.home b c

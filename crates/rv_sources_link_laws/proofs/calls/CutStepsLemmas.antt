@@ -16,7 +16,7 @@ use Rattle.rv_object_laws.specs.Shortened.{Sizes, short_call, is_shortened, shor
 use Rattle.rv_source_laws.specs.Shortened.{calls, link_register}
 use Rattle.rv_assemble_laws.specs.CodeFields.{relax_fields}
 use Rattle.rv_assemble_laws.specs.Templates.{Open, Coded, template_fields}
-use Rattle.rv_assemble_laws.specs.LaidStatements.{LaidStatement, Part, form, part_of, part_bytes, end_of, HasSize}
+use Rattle.rv_assemble_laws.specs.LaidStatements.{LaidStatement, Part, expression_value, part_of, part_bytes, end_of, HasSize}
 use Rattle.rv_assemble_laws.specs.IsObjectOf.{Numbering, relocation_at, relocations_from}
 use Rattle.rv_assemble_laws.proofs.FilledLemmas.{bytes_append}
 use Rattle.rv_sources_link_laws.proofs.sections.AssembledLemmas.{assembled_templates, parts_of, parts, Tile}
@@ -469,16 +469,16 @@ module _ (t : Tables) (number : Numbering) (sizes : Sizes) (multiple : ℕ) wher
 
     -- sizes
     pub sizes_kept : (o gone : ℕ) (zs : List LaidStatement) → Steps o gone zs
-        → AllByRecursion (λ (y : LaidStatement). y.located.placed ≡ true → HasSize (form t y.located) y multiple y.located.kind) (map S zs)
+        → AllByRecursion (λ (y : LaidStatement). y.located.placed ≡ true → HasSize (expression_value t y.located) y multiple y.located.kind) (map S zs)
     sizes_kept o gone [] st = tt
     sizes_kept o gone (z ∷ zs) (off, bytes, low, inl (s, st)) = (
-      subst (λ (y : LaidStatement). y.located.placed ≡ true → HasSize (form t y.located) y multiple y.located.kind) (sym s.is) (λ placed. s.still.sized (o - gone) placed),
+      subst (λ (y : LaidStatement). y.located.placed ≡ true → HasSize (expression_value t y.located) y multiple y.located.kind) (sym s.is) (λ placed. s.still.sized (o - gone) placed),
       sizes_kept (o + z.bytes) gone zs st,
     )
     sizes_kept o gone (z ∷ zs) (off, bytes, low, inr (s, st)) =
         let h = s.cut in (
-          subst (λ (y : LaidStatement). y.located.placed ≡ true → HasSize (form t y.located) y multiple y.located.kind) (sym s.is)
-              (λ placed. subst (λ k. HasSize (form t z.located) (cut_at (o - gone) z h) multiple k) (sym h.is_kind)
+          subst (λ (y : LaidStatement). y.located.placed ≡ true → HasSize (expression_value t y.located) y multiple y.located.kind) (sym s.is)
+              (λ placed. subst (λ k. HasSize (expression_value t z.located) (cut_at (o - gone) z h) multiple k) (sym h.is_kind)
               (long.sized t z multiple h.m h.os h.is_kind h.call h.long (sizes z.offset) h.short (o - gone))),
           sizes_kept (o + z.bytes) (gone + (8 - sizes z.offset)) zs st,
         )

@@ -20,7 +20,7 @@ use Rattle.rv_object_laws.specs.Shortened.{Sizes, is_shortened}
 use Rattle.rv_assemble_laws.specs.CodeFields.{relax_fields}
 use Rattle.rv_assemble_laws.specs.Coded.{constants}
 use Rattle.rv_assemble_laws.specs.Templates.{Template, Fixed, Datum, Coded, Open, value_fields, template_fields, absolute_kind, add_kind, subtract_kind, padding_templates}
-use Rattle.rv_assemble_laws.specs.LaidStatements.{LaidStatement, form, part_of, part_bytes, coded_templates, HasSize, IsPadded, IsPaddedIn}
+use Rattle.rv_assemble_laws.specs.LaidStatements.{LaidStatement, expression_value, part_of, part_bytes, coded_templates, HasSize, IsPadded, IsPaddedIn}
 use Rattle.rv_assemble_laws.specs.IsObjectOf.{Numbering, relocation_at, relocations_from}
 use Rattle.rv_sources_link_laws.proofs.sections.AssembledLemmas.{assembled_templates}
 use Rattle.rv_sources_link_laws.proofs.calls.CalledLemmas.{IsForm, IsUncalled, uncalled}
@@ -53,7 +53,7 @@ pub record IsStill (t : Tables) (number : Numbering) (sizes : Sizes) (multiple :
   pub whole : calls kind ≡ true → z.bytes ≡ sizes z.offset
   pub same : (n : ℕ) → assembled_templates t (at n z) kind ≡ assembled_templates t z kind
   pub none : AreCalm sizes (relocations_from number z.offset (map (part_of z.located.ordinal) (assembled_templates t z kind)))
-  pub sized : (n : ℕ) → z.located.placed ≡ true → HasSize (form t z.located) (at n z) multiple kind
+  pub sized : (n : ℕ) → z.located.placed ≡ true → HasSize (expression_value t z.located) (at n z) multiple kind
 
 -- a call that is cut
 pub record IsCutCall (t : Tables) (sizes : Sizes) (z : LaidStatement) : Type 0 where
@@ -146,7 +146,7 @@ module _ (number : Numbering) (sizes : Sizes) where
 module _ (t : Tables) (number : Numbering) (sizes : Sizes) (multiple : ℕ) (section : SourceSection) (code : section.executable ≡ true) (z : LaidStatement) (home : z.located.home ≡ section) (uncut : IsUncut z)
     (sound : IsSound t z.located) (fits : calls z.located.kind ≡ true → IsForm (link_of z.located.kind) (sizes z.offset)) where
   abbrev v : Expression → Value
-  v = form t z.located
+  v = expression_value t z.located
 
   abbrev Still : StatementKind → Type 0
   Still kind = IsStill t number sizes multiple z kind

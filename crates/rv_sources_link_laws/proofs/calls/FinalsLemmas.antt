@@ -16,7 +16,7 @@ use Rattle.rv_object_laws.specs.Moves.{Move}
 use Rattle.rv_object_laws.specs.Shortened.{Sizes}
 use Rattle.rv_source_laws.specs.Sized.{statement_size}
 use Rattle.rv_source_laws.specs.Shortened.{calls}
-use Rattle.rv_assemble_laws.specs.LaidStatements.{LaidStatement, form}
+use Rattle.rv_assemble_laws.specs.LaidStatements.{LaidStatement, expression_value}
 use Rattle.rv_sources_link_laws.proofs.sections.KeptLemmas.{IsKept, AreKept, AreMasked}
 use Rattle.rv_sources_link_laws.proofs.sections.MaskedLemmas.{source_sections}
 use Rattle.rv_sources_link_laws.proofs.sections.AssembledLemmas.{IsAssembled, AreAssembled}
@@ -55,7 +55,7 @@ AreCut sizes file (ss ∷ sources) (o ∷ os) (is, h) (u ∷ us) (js, k) = IsCut
 
 pub record IsFinal (t : Tables) (sizes : ℕ → Sizes) (z y : LaidStatement) : Type 0 where
   -- its size before anything is taken out, by its bytes in the program
-  pub placed : z.located.placed ≡ true → z.bytes ≡ statement_size z.located.home.executable (form t z.located) z.located.kind y.bytes
+  pub placed : z.located.placed ≡ true → z.bytes ≡ statement_size z.located.home.executable (expression_value t z.located) z.located.kind y.bytes
   pub unplaced : z.located.placed ≡ false → z.bytes ≡ 0
   pub call : source_text z.located.home ≡ true → calls z.located.kind ≡ true → y.bytes ≡ sizes z.located.section z.offset
 
@@ -108,10 +108,10 @@ module _ (t : Tables) (sizes : ℕ → Sizes) (sections : List SourceSection) (z
   x = z.located.home.executable
 
   abbrev v : Expression → Value
-  v = form t z.located
+  v = expression_value t z.located
 
   counted_here : z.located.placed ≡ true → y.bytes ≡ size_before x v z.located.kind (bytes_with ms y)
-  counted_here = subst (λ l. l.placed ≡ true → y.bytes ≡ size_before l.home.executable (form t l) l.kind (bytes_with ms y)) stays count.placed
+  counted_here = subst (λ l. l.placed ≡ true → y.bytes ≡ size_before l.home.executable (expression_value t l) l.kind (bytes_with ms y)) stays count.placed
 
   uncounted : z.located.placed ≡ false → y.bytes ≡ 0
   uncounted = subst (λ l. l.placed ≡ false → y.bytes ≡ 0) stays count.unplaced

@@ -24,7 +24,7 @@ use Rattle.rv_object_laws.specs.Inputs.{InputSection, goes_to_text, inputs_from,
 use Rattle.rv_object_laws.specs.Moves.{full_padding, has_padding, alignment_of}
 use Rattle.rv_object_laws.specs.Names.{object_at}
 use Rattle.rv_object_laws.specs.Shortened.{sizes_by}
-use Rattle.rv_assemble_laws.specs.LaidStatements.{LaidStatement, form, part_of, part_bytes, laid_in, end_of, HasSize}
+use Rattle.rv_assemble_laws.specs.LaidStatements.{LaidStatement, expression_value, part_of, part_bytes, laid_in, end_of, HasSize}
 use Rattle.rv_assemble_laws.specs.IsObjectOf.{Numbering, relocations_from}
 use Rattle.rv_assemble_laws.proofs.FilledLemmas.{bytes_append}
 use Rattle.rv_sources_link_laws.proofs.sections.KeptLemmas.{IsKept, AreKept}
@@ -217,7 +217,7 @@ module _ (t : Tables) (number : Numbering) (j : ℕ) (s : SourceSection) (code :
   end_high q (z ∷ zs) = let h = end_high (q + z.bytes) zs in let e = end_of (q + z.bytes) zs in let k : q + z.bytes ≤ e = h in let g : q ≤ e = omega (arith, k) in g
 
   places_low : (q : ℕ) (zs : List LaidStatement) → Tile t q zs → AllByRecursion (IsLaidIn j s) zs
-      → AllByRecursion (λ z. z.located.placed ≡ true → HasSize (form t z.located) z multiple z.located.kind) zs
+      → AllByRecursion (λ z. z.located.placed ≡ true → HasSize (expression_value t z.located) z multiple z.located.kind) zs
       → AllByRecursion (λ (r : Relocation). r.place < end_of q zs) (relocations_from number q (parts t zs))
   places_low q [] tile i h = tt
   places_low q (z ∷ zs) (off, bytes, tile) (i, is) (h, hs) =
@@ -233,7 +233,7 @@ module _ (t : Tables) (number : Numbering) (j : ℕ) (s : SourceSection) (code :
   IsLinking bytes end z = calls z.located.kind ≡ true → (linked_by bytes z.offset ≡ link_of z.located.kind) × (z.offset < end)
 
   linking : (bytes front : List ℕ) (q : ℕ) (zs : List LaidStatement) → q ≡ length front → bytes ≡ front ++ flat_map part_bytes (parts t zs) → Tile t q zs → AllByRecursion (IsLaidIn j s) zs → AllByRecursion IsUncut zs
-      → AllByRecursion (λ z. IsSound t z.located) zs → AllByRecursion (λ z. z.located.placed ≡ true → HasSize (form t z.located) z multiple z.located.kind) zs → AllByRecursion (IsLinking bytes (end_of q zs)) zs
+      → AllByRecursion (λ z. IsSound t z.located) zs → AllByRecursion (λ z. z.located.placed ≡ true → HasSize (expression_value t z.located) z multiple z.located.kind) zs → AllByRecursion (IsLinking bytes (end_of q zs)) zs
   linking bytes front q [] begins whole tile i u k h = tt
   linking bytes front q (z ∷ zs) begins whole (off, size, tile) (i, is) (u, us) (k, ks) (h, hs) =
       let own = flat_map part_bytes (parts_of t z) in
@@ -247,7 +247,7 @@ module _ (t : Tables) (number : Numbering) (j : ℕ) (s : SourceSection) (code :
       by : (kind : StatementKind) → z.located.kind ≡ kind → IsLinking bytes (end_of (q + z.bytes) zs) z
       by (Instruction m ops) e c =
           let call : is_call m ≡ true = sym (ap calls e) ∙ c in
-          let size_here = subst (HasSize (form t z.located) z multiple) e (h (i.instructed m ops e)) in
+          let size_here = subst (HasSize (expression_value t z.located) z multiple) e (h (i.instructed m ops e)) in
           let w : IsLongCall t z m ops = long_call t z multiple m ops e call size_here (u c) k in
           let rest = flat_map part_bytes (parts t zs) in
           let own_is : flat_map part_bytes (parts_of t z) ≡ w.first ++ w.second =

@@ -26,7 +26,7 @@ use Rattle.rv_assemble_laws.specs.Coded.{constants, AreCodedParts, joined, instr
 use Rattle.rv_pseudo_laws.specs.InstructionFaults.{operand_faults, scratch_faults, own_faults, has_row as has_operands_row}
 use Rattle.rv_assemble_laws.specs.InstructionFaults.{instruction_faults, worths, is_label}
 use Rattle.rv_assemble_laws.specs.Templates.{Open, Coded, open_at}
-use Rattle.rv_assemble_laws.specs.LaidStatements.{LaidStatement, form, coded_templates, HasSize}
+use Rattle.rv_assemble_laws.specs.LaidStatements.{LaidStatement, expression_value, coded_templates, HasSize}
 use Rattle.rv_sources_link_laws.proofs.sections.AssembledLemmas.{assembled_templates}
 use Rattle.rv_sources_link_laws.proofs.calls.CalledLemmas.{IsCalled, called, short_part, short_coded, short_one}
 use Rattle.rv_sources_link_laws.proofs.statements.MarkedLemmas.{is_jump, marked, part_fields}
@@ -35,11 +35,11 @@ use Rattle.rv_sources_link_laws.proofs.fields.UppersLemmas.{none_of_its_own}
 use Rattle.rv_sources_link_laws.proofs.fields.WholesLemmas.{IsSound}
 
 pub record IsLongCall (t : Tables) (z : LaidStatement) (m : Mnemonic) (os : List Operand) : Type 0 where
-  pub goes : IsCalled (constants (form t z.located)) z.located.options.rvc m os
+  pub goes : IsCalled (constants (expression_value t z.located)) z.located.options.rvc m os
   pub symbol : Primary
   pub meaning : Meaning
   pub plus : ℕ
-  pub symbolic : form t z.located goes.to ≡ Symbolic symbol meaning plus
+  pub symbolic : expression_value t z.located goes.to ≡ Symbolic symbol meaning plus
   pub first : List ℕ
   pub second : List ℕ
   pub coded : z.coded ≡ (first ++ second) ∷ []
@@ -59,7 +59,7 @@ some_same ps qs e = cc
 
 module _ (t : Tables) (z : LaidStatement) (multiple : ℕ) (m : Mnemonic) (os : List Operand) (is_kind : z.located.kind ≡ Instruction m os) (call : is_call m ≡ true) where
   abbrev v : Expression → Value
-  v = form t z.located
+  v = expression_value t z.located
 
   abbrev rvc : Bool
   rvc = z.located.options.rvc

@@ -20,7 +20,7 @@ use Rattle.rv_source_laws.specs.Shortened.{calls, link_register}
 use Rattle.rv_assemble_laws.specs.CodeFields.{part_fields as plain_fields}
 use Rattle.rv_assemble_laws.specs.Coded.{constants}
 use Rattle.rv_assemble_laws.specs.Templates.{Open, Coded, IsTemplate}
-use Rattle.rv_assemble_laws.specs.LaidStatements.{LaidStatement, form, part_of, part_bytes, coded_templates, laid_in, end_of, templates as plain_templates, parts_of as plain_parts_of, parts as plain_parts, Tile as PlainTile}
+use Rattle.rv_assemble_laws.specs.LaidStatements.{LaidStatement, expression_value, part_of, part_bytes, coded_templates, laid_in, end_of, templates as plain_templates, parts_of as plain_parts_of, parts as plain_parts, Tile as PlainTile}
 use Rattle.rv_assemble_laws.specs.IsObjectOf.{Numbering, relocations_from, contents_of, ArePartsNumbered, IsSectionOf as IsPlainSectionOf, AreSectionsOf as ArePlainSectionsOf, IsObjectOf}
 use Rattle.rv_sources_link_laws.proofs.sections.KeptLemmas.{IsKept, AreKept}
 use Rattle.rv_sources_link_laws.proofs.sections.MaskedLemmas.{source_sections, none_masked}
@@ -68,31 +68,31 @@ all_uncut ss o is =
 
 -- no part of another statement is
 unmarked : (t : Tables) (s : Located) → calls s.kind ≡ false → (ps : List CodePart) (coded : List (List ℕ))
-    → coded_templates (part_fields t (form t s) s) ps coded ≡ coded_templates (plain_fields t (form t s) s) ps coded
+    → coded_templates (part_fields t (expression_value t s) s) ps coded ≡ coded_templates (plain_fields t (expression_value t s) s) ps coded
 unmarked t s e [] coded = refl
 unmarked t s e (p ∷ ps) [] = refl
 unmarked t s e (p ∷ ps) (bytes ∷ coded) =
-    ap (λ (fs : List Open). Coded bytes fs ∷ coded_templates (part_fields t (form t s) s) ps coded) (own p)
-    ∙ ap (λ l. Coded bytes (plain_fields t (form t s) s p) ∷ l) (unmarked t s e ps coded)
+    ap (λ (fs : List Open). Coded bytes fs ∷ coded_templates (part_fields t (expression_value t s) s) ps coded) (own p)
+    ∙ ap (λ l. Coded bytes (plain_fields t (expression_value t s) s p) ∷ l) (unmarked t s e ps coded)
   where
     never : (b : Bool) → (b && calls s.kind) ≡ false
     never true = e
     never false = refl
 
-    own : (p : CodePart) → part_fields t (form t s) s p ≡ plain_fields t (form t s) s p
+    own : (p : CodePart) → part_fields t (expression_value t s) s p ≡ plain_fields t (expression_value t s) s p
     own (Closed i) = refl
-    own (Open_part k i) = ap (λ b. marked b s (plain_fields t (form t s) s (Open_part k i))) (never (is_jump k))
+    own (Open_part k i) = ap (λ b. marked b s (plain_fields t (expression_value t s) s (Open_part k i))) (never (is_jump k))
     own (Joined k i j) = refl
 
 -- a whole call is one part
 whole : (t : Tables) (s : Located) (link by : ℕ) (coded : List (List ℕ))
-    → coded_templates (part_fields t (form t s) s) (far 8 link by) coded ≡ coded_templates (plain_fields t (form t s) s) (far 8 link by) coded
+    → coded_templates (part_fields t (expression_value t s) s) (far 8 link by) coded ≡ coded_templates (plain_fields t (expression_value t s) s) (far 8 link by) coded
 whole t s link by [] = refl
 whole t s link by (bytes ∷ coded) = refl
 
 module _ (t : Tables) (z : LaidStatement) (eight : IsUncut z) where
   abbrev v : Expression → Value
-  v = form t z.located
+  v = expression_value t z.located
 
   by_code : (m : Mnemonic) (os : List Operand) → z.located.kind ≡ Instruction m os → (ps : Option (List CodePart)) → code (constants v) z.located.options.rvc z.bytes m os ≡ ps
       → coded_templates (part_fields t v z.located) (unwrap_or ps []) z.coded ≡ coded_templates (plain_fields t v z.located) (unwrap_or ps []) z.coded

@@ -18,7 +18,7 @@ use Rattle.rv_object.specs.Object.{Section, Object}
 use Rattle.rv_object_laws.specs.Names as objects
 use Rattle.rv_object_laws.specs.Names.{Place, is_in_text, can_begin, place_in}
 use Rattle.rv_object_laws.specs.Collects.{run_place, lies_in}
-use Rattle.rv_assemble_laws.specs.LaidStatements.{LaidStatement, form, laid_in, HasSize}
+use Rattle.rv_assemble_laws.specs.LaidStatements.{LaidStatement, expression_value, laid_in, HasSize}
 use Rattle.rv_assemble_laws.specs.Symbols.{laid_at, after_found, assigned_definition, statement_definition}
 use Rattle.rv_assemble_laws.specs.IsObjectOf.{IsInData, StandsInData, IsObjectOf}
 use Rattle.rv_sources_link_laws.proofs.calls.UncutLemmas.{uncut, sections_same}
@@ -69,7 +69,7 @@ module _ (ss : List Statement) (o : Object) (is : IsObjectOf ss o) where
   -- ---- statements of text stand at even offsets
 
   in_code : (j : ℕ) (s : SourceSection) (code : s.executable ≡ true) (multiple offset : ℕ) (zs : List LaidStatement) → offset % 2 ≡ 0 → AllByRecursion (IsLaidIn j s) zs → Tile t offset zs
-      → AllByRecursion (λ z. z.located.placed ≡ true → HasSize (form t z.located) z multiple z.located.kind) zs → AllByRecursion IsEven zs
+      → AllByRecursion (λ z. z.located.placed ≡ true → HasSize (expression_value t z.located) z multiple z.located.kind) zs → AllByRecursion IsEven zs
   in_code j s code multiple offset [] even h tile sizes = tt
   in_code j s code multiple offset (z ∷ zs) even (h, hs) (at, bytes, tile) (size, sizes) =
       let own = even_bytes t is.number j s code multiple z h bytes size in (

@@ -21,7 +21,7 @@ use Rattle.rv_source_laws.specs.Collected.{means, value_refers, operand_refers, 
 use Rattle.rv_assemble_laws.specs.Coded.{constants, AreCodedParts}
 use Rattle.rv_assemble_laws.specs.CodeFields.{part_fields}
 use Rattle.rv_assemble_laws.specs.Templates.{Open as Field, Template, Datum, template_fields, value_fields, padding_templates, contribution_templates}
-use Rattle.rv_assemble_laws.specs.LaidStatements.{LaidStatement, Part, form, part_of, coded_templates, templates, HasSize}
+use Rattle.rv_assemble_laws.specs.LaidStatements.{LaidStatement, Part, expression_value, part_of, coded_templates, templates, HasSize}
 use Rattle.rv_sources_link_laws.proofs.collected.NamedLemmas.{names, fields, Row, rows_same}
 use Rattle.rv_sources_link_laws.proofs.statements.StatementsLemmas.{renumbered}
 
@@ -72,9 +72,9 @@ module _ (p : Program) (T : SectionId) (f : ℕ) where
     padding_none true (suc m) = refl
     padding_none false bytes = refl
 
-    contribution_is : (x : Bool) (c : Contribution) (bytes : ℕ) → in_templates n (contribution_templates x n (form (tables_in p f) l) c bytes) ≡ contribution_refers p T s c
+    contribution_is : (x : Bool) (c : Contribution) (bytes : ℕ) → in_templates n (contribution_templates x n (expression_value (tables_in p f) l) c bytes) ≡ contribution_refers p T s c
     contribution_is x Nothing bytes = refl
-    contribution_is x (Bytes (Numbers width values)) bytes = data_are width (form (tables_in p f) l) values
+    contribution_is x (Bytes (Numbers width values)) bytes = data_are width (expression_value (tables_in p f) l) values
     contribution_is x (Bytes (Texts ended strings)) bytes = refl
     contribution_is x (Zero_bytes count) bytes = refl
     contribution_is x (Alignment form number) bytes = padding_none x bytes
@@ -87,7 +87,7 @@ module _ (p : Program) (T : SectionId) (f : ℕ) where
     own o q = fields p T it z.located.options.relax no_self o q
 
     abbrev v : Expression → Value
-    v e = form (tables_in p f) z.located e
+    v e = expression_value (tables_in p f) z.located e
 
     own_same : (o : Option Operand) → operand_of z.located.kind ≡ o → (ps : List CodePart) → flat_map (part_fields (tables_in p f) v z.located) ps ≡ flat_map (own o) ps
     own_same o e [] = refl
@@ -113,10 +113,10 @@ module _ (p : Program) (T : SectionId) (f : ℕ) where
     by_kind (Instruction m ops) e given = code_is m ops e (given m ops refl)
 
     -- by the tables of its file
-    pub statement_is : (t : Tables) → tables_in p f ≡ t → ((m : Mnemonic) (ops : List Operand) → z.located.kind ≡ Instruction m ops → HasSize (form t z.located) z multiple z.located.kind)
+    pub statement_is : (t : Tables) → tables_in p f ≡ t → ((m : Mnemonic) (ops : List Operand) → z.located.kind ≡ Instruction m ops → HasSize (expression_value t z.located) z multiple z.located.kind)
         → in_templates z.located.ordinal (templates t z z.located.kind) ≡ statement_refers p T it z.located.kind
     statement_is t same =
         subst
-        (λ t. ((m : Mnemonic) (ops : List Operand) → z.located.kind ≡ Instruction m ops → HasSize (form t z.located) z multiple z.located.kind)
+        (λ t. ((m : Mnemonic) (ops : List Operand) → z.located.kind ≡ Instruction m ops → HasSize (expression_value t z.located) z multiple z.located.kind)
         → in_templates z.located.ordinal (templates t z z.located.kind) ≡ statement_refers p T it z.located.kind)
         same (by_kind z.located.kind refl)

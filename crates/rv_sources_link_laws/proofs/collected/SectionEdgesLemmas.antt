@@ -19,7 +19,7 @@ use Rattle.rv_object_laws.specs.Inputs.{InputSection}
 use Rattle.rv_object_laws.specs.Names.{symbol_place}
 use Rattle.rv_object_laws.specs.Collects.{lies_in, leads_to}
 use Rattle.rv_assemble_laws.specs.Templates.{Open as Field, template_fields}
-use Rattle.rv_assemble_laws.specs.LaidStatements.{LaidStatement, Part, form, part_bytes, templates, parts_of, parts, laid_in, HasSize}
+use Rattle.rv_assemble_laws.specs.LaidStatements.{LaidStatement, Part, expression_value, part_bytes, templates, parts_of, parts, laid_in, HasSize}
 use Rattle.rv_assemble_laws.specs.Symbols.{SymbolUse, use_of, StandsFor}
 use Rattle.rv_assemble_laws.specs.IsObjectOf.{relocation_at, relocations_from, IsNumbered, ArePartsNumbered, IsSectionOf, IsObjectOf}
 use Rattle.rv_sources_link_laws.proofs.collected.HereLemmas.{laid_home, IsHere}
@@ -94,7 +94,7 @@ module _ (p : Program) (os : List Object) (T : SectionId) (f : ℕ) (ss : List S
         ap (is_in T) (here.found z.located.ordinal ∙ ap (option_map (laid_home f)) found) ∙ ap (λ m. (f == T.file) && (suc m == T.section)) e ∙ apart
 
     laid_lead : (zs : List LaidStatement) → AllByRecursion (λ z. z.located.section ≡ j) zs → AllByRecursion IsKnown zs
-        → AllByRecursion (λ z. z.located.placed ≡ true → HasSize (form t z.located) z multiple z.located.kind) zs
+        → AllByRecursion (λ z. z.located.placed ≡ true → HasSize (expression_value t z.located) z multiple z.located.kind) zs
         → list_any (in_part p T f) (parts t zs) ≡ list_any refers_by zs
     laid_lead [] e k h = refl
     laid_lead (z ∷ zs) (e, es) (k, ks) (h, hs) =

@@ -17,7 +17,7 @@ use Rattle.rv_object_laws.specs.Moves.{alignments_of, moves, new_offset}
 use Rattle.rv_object_laws.specs.Inputs.{Starts, InputSection}
 use Rattle.rv_object_laws.specs.Values.{target, value, IsRelocated}
 use Rattle.rv_assemble_laws.specs.Templates.{Open, template_fields}
-use Rattle.rv_assemble_laws.specs.LaidStatements.{LaidStatement, Part, form, part_bytes, laid_in}
+use Rattle.rv_assemble_laws.specs.LaidStatements.{LaidStatement, Part, expression_value, part_bytes, laid_in}
 use Rattle.rv_assemble_laws.specs.Symbols.{use_of, references_in, laid_at}
 use Rattle.rv_assemble_laws.specs.IsObjectOf.{Numbering, relocation_at, relocations_from, IsNumbered}
 use Rattle.rv_sources_link_laws.proofs.fields.PatchesLemmas.{is_data, IsKnownIn}
@@ -122,7 +122,7 @@ module _ (p : Program) (os : List Object) (starts : Starts) (file : ℕ) (laid :
 
     pub record Facts (z : LaidStatement) : Type 0 where
       pub inside : IsLaidIn index section z
-      pub sized : z.located.placed ≡ true → HasShrunkSize (form t z.located) z x.alignment z.located.kind
+      pub sized : z.located.placed ≡ true → HasShrunkSize (expression_value t z.located) z x.alignment z.located.kind
       pub knows : AllByRecursion Known (parts_of t z)
       pub related : AtOffsets (AreAt Q number) z.offset (parts_of t z)
       pub uses : AllByRecursion (λ q. AllByRecursion (IsNumbered t laid number o.symbols) (references_in q)) (parts_of t z)
@@ -131,7 +131,7 @@ module _ (p : Program) (os : List Object) (starts : Starts) (file : ℕ) (laid :
       pub itself : laid_at laid z.located.ordinal ≡ Some z
 
     facts_from : (zs : List LaidStatement) → AllByRecursion (IsLaidIn index section) zs
-        → AllByRecursion (λ z. z.located.placed ≡ true → HasShrunkSize (form t z.located) z x.alignment z.located.kind) zs
+        → AllByRecursion (λ z. z.located.placed ≡ true → HasShrunkSize (expression_value t z.located) z x.alignment z.located.kind) zs
         → AllByRecursion (λ z. AllByRecursion Known (parts_of t z)) zs
         → AllByRecursion (λ z. AtOffsets (AreAt Q number) z.offset (parts_of t z)) zs
         → AllByRecursion (λ z. AllByRecursion (λ q. AllByRecursion (IsNumbered t laid number o.symbols) (references_in q)) (parts_of t z)) zs

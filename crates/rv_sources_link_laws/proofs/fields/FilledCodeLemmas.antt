@@ -35,7 +35,7 @@ use Rattle.rv_sources_link_laws.proofs.statements.MarkedLemmas.{marks, is_marked
 use Rattle.rv_assemble_laws.specs.Coded.{constants, AreCodedParts, IsCode}
 use Rattle.rv_assemble_laws.specs.InstructionFaults.{is_label}
 use Rattle.rv_assemble_laws.specs.Templates.{Open, open_at}
-use Rattle.rv_assemble_laws.specs.LaidStatements.{LaidStatement, form, part_of, coded_templates, laid_in}
+use Rattle.rv_assemble_laws.specs.LaidStatements.{LaidStatement, expression_value, part_of, coded_templates, laid_in}
 use Rattle.rv_assemble_laws.specs.Symbols.{use_of, references_in, laid_at}
 use Rattle.rv_assemble_laws.specs.IsObjectOf.{Numbering, relocation_at, IsNumbered}
 use Rattle.rv_sources_link_laws.proofs.statements.StatementsLemmas.{row_in, row_address}
@@ -131,9 +131,9 @@ module _ (p : Program) (os : List Object) (starts : Starts) (file : ℕ) (laid :
     module _ (there : slice_get o.sections index ≡ Some x) (z : LaidStatement) (h : Facts p os starts file laid number o sections low are settled all_worths whole plain address index section x is at none loaded relocated z) (shown : has_row z.located ≡ true) (own : IsOwn p os starts file laid number o sections low are settled all_worths whole plain address index section x is at none loaded relocated 0 (laid_in index laid) z)
         (w : ℕ → Open → ℤ) (w_is : (n : ℕ) (f : Open) → w n f ≡ worth_at (outer_in p os) starts os file o index x none number n f)
         (mnemonic : Mnemonic) (os' : List Operand) (e : z.located.kind ≡ Instruction mnemonic os')
-        (c : IsCode (form (tables_in p file) z.located) z.located.options.rvc mnemonic os' z.bytes z.coded z.instructions) where
+        (c : IsCode (expression_value (tables_in p file) z.located) z.located.options.rvc mnemonic os' z.bytes z.coded z.instructions) where
       abbrev V : Expression → Value
-      V = form T z.located
+      V = expression_value T z.located
 
       abbrev ordinal : ℕ
       ordinal = z.located.ordinal
@@ -287,17 +287,17 @@ module _ (p : Program) (os : List Object) (starts : Starts) (file : ℕ) (laid :
       -- ---- what stands in the first part
 
       pub record IsFirst (q : CodePart) : Type 0 where
-        pub related_first : AllByRecursion (λ (f : Open). Q p os starts file laid number o sections low are settled all_worths whole plain address index section x is at none loaded relocated (relocation_at number z.offset f)) (part_fields (tables_in p file) (form (tables_in p file) z.located) z.located q)
-        pub known_first : AllByRecursion (λ (f : Open). K p os starts file laid number o sections low are settled all_worths whole plain address index section x is at none loaded relocated f.ordinal f.symbol) (part_fields (tables_in p file) (form (tables_in p file) z.located) z.located q)
+        pub related_first : AllByRecursion (λ (f : Open). Q p os starts file laid number o sections low are settled all_worths whole plain address index section x is at none loaded relocated (relocation_at number z.offset f)) (part_fields (tables_in p file) (expression_value (tables_in p file) z.located) z.located q)
+        pub known_first : AllByRecursion (λ (f : Open). K p os starts file laid number o sections low are settled all_worths whole plain address index section x is at none loaded relocated f.ordinal f.symbol) (part_fields (tables_in p file) (expression_value (tables_in p file) z.located) z.located q)
         pub used_first : AllByRecursion (IsNumbered (tables_in p file) laid number o.symbols)
-            (flat_map (λ (f : Open). use_of f.ordinal f.symbol) (part_fields (tables_in p file) (form (tables_in p file) z.located) z.located q))
+            (flat_map (λ (f : Open). use_of f.ordinal f.symbol) (part_fields (tables_in p file) (expression_value (tables_in p file) z.located) z.located q))
 
       first : (q : CodePart) (rest : List CodePart) → c.ps ≡ q ∷ rest → IsFirst q
       first q rest ps_are =
-          go z.coded (subst (λ ps. AreCodedParts (named_form (constants (form (tables_in p file) z.located)) mnemonic os') (z.located.options.rvc && are_closed c.ps) ps z.coded) ps_are c.coded_as)
+          go z.coded (subst (λ ps. AreCodedParts (named_form (constants (expression_value (tables_in p file) z.located)) mnemonic os') (z.located.options.rvc && are_closed c.ps) ps z.coded) ps_are c.coded_as)
           (ap (λ ps. map (part_of ordinal) (coded_templates fields ps z.coded)) ps_are)
         where
-          go : (coded : List (List ℕ)) → AreCodedParts (named_form (constants (form (tables_in p file) z.located)) mnemonic os') (z.located.options.rvc && are_closed c.ps) (q ∷ rest) coded
+          go : (coded : List (List ℕ)) → AreCodedParts (named_form (constants (expression_value (tables_in p file) z.located)) mnemonic os') (z.located.options.rvc && are_closed c.ps) (q ∷ rest) coded
               → map (part_of ordinal) (coded_templates fields c.ps z.coded) ≡ map (part_of ordinal) (coded_templates fields (q ∷ rest) coded) → IsFirst q
           go [] a are_same = absurd a
           go (bytes ∷ coded) a are_same = record {
@@ -375,7 +375,7 @@ module _ (p : Program) (os : List Object) (starts : Starts) (file : ℕ) (laid :
         )
 
         -- one of its parts has the field
-        far_known : (ps : List CodePart) (coded : List (List ℕ)) → AreCodedParts (named_form (constants (form (tables_in p file) z.located)) mnemonic os') (z.located.options.rvc && are_closed c.ps) ps coded → AllByRecursion IsFar ps → are_closed ps ≡ false
+        far_known : (ps : List CodePart) (coded : List (List ℕ)) → AreCodedParts (named_form (constants (expression_value (tables_in p file) z.located)) mnemonic os') (z.located.options.rvc && are_closed c.ps) ps coded → AllByRecursion IsFar ps → are_closed ps ≡ false
             → AllByRecursion (Known p os starts file laid number o sections low are settled all_worths whole plain address index section x is at none loaded relocated) (map (part_of ordinal) (coded_templates fields ps coded)) → is_some (value_in_map p s ex) ≡ true
         far_known [] coded a h' open_one k = absurd (cc)
         far_known (q' ∷ ps) [] a h' open_one k = absurd a

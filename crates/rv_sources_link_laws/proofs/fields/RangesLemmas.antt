@@ -18,7 +18,7 @@ use Rattle.rv_object.specs.Padding.{no_operations}
 use Rattle.rv_compress.specs.declared.form.Compressed.{Compressed}
 use Rattle.rv_assemble_laws.specs.Coded.{IsCodedPart, AreCodedParts}
 use Rattle.rv_assemble_laws.specs.Templates.{Template, Fixed, Datum, Coded, Open, template_fields, padding_templates}
-use Rattle.rv_assemble_laws.specs.LaidStatements.{LaidStatement, form, part_of, part_bytes, coded_templates, HasSize}
+use Rattle.rv_assemble_laws.specs.LaidStatements.{LaidStatement, expression_value, part_of, part_bytes, coded_templates, HasSize}
 use Rattle.rv_assemble_laws.specs.IsObjectOf.{Numbering, relocation_at, relocations_from}
 use Rattle.rv_sources_link_laws.proofs.sections.AssembledLemmas.{assembled_templates, parts_of}
 use Rattle.rv_sources_link_laws.proofs.statements.CodingLemmas.{encoded_long, encoded_two_or_four, joined_long}
@@ -122,12 +122,12 @@ module _ (t : Tables) (section : SourceSection) (multiple : ℕ) (z : LaidStatem
   no_data : {A : Type 0} → section.executable ≡ false → A
   no_data aside = let e : true ≡ false = sym code ∙ aside in absurd (cc)
 
-  pub solid : (kind : StatementKind) → IsHeld section kind → HasSize (form t z.located) z multiple kind → z.bytes % 2 ≡ 0 → AllByRecursion IsSolid (assembled_templates t z kind)
+  pub solid : (kind : StatementKind) → IsHeld section kind → HasSize (expression_value t z.located) z multiple kind → z.bytes % 2 ≡ 0 → AllByRecursion IsSolid (assembled_templates t z kind)
   solid (Label name) held size even = tt
   solid (Numbered number) held size even = tt
   solid (Instruction m os) held size even =
-      subst (λ o. AllByRecursion IsSolid (coded_templates (part_fields t (form t z.located) z.located) (unwrap_or o []) z.coded)) (sym size.parts)
-      (coded_solid t (form t z.located) z _ (z.located.options.rvc && are_closed size.ps) size.ps z.coded size.coded_as)
+      subst (λ o. AllByRecursion IsSolid (coded_templates (part_fields t (expression_value t z.located) z.located) (unwrap_or o []) z.coded)) (sym size.parts)
+      (coded_solid t (expression_value t z.located) z _ (z.located.options.rvc && are_closed size.ps) size.ps z.coded size.coded_as)
   solid (Directs (Values width es)) held size even = no_data held.0
   solid (Directs (Strings ended strings)) held size even = no_data held.0
   solid (Directs (Zeros count)) held size even = no_data held
@@ -143,7 +143,7 @@ module _ (t : Tables) (section : SourceSection) (multiple : ℕ) (z : LaidStatem
 -- ---- a statement of a section of text
 
 module _ (t : Tables) (number : Numbering) (j : ℕ) (s : SourceSection) (code : s.executable ≡ true) (multiple : ℕ) (z : LaidStatement) (inside : IsLaidIn j s z) (bytes : z.bytes ≡ length (flat_map part_bytes (parts_of t z)))
-    (size : z.located.placed ≡ true → HasSize (form t z.located) z multiple z.located.kind) where
+    (size : z.located.placed ≡ true → HasSize (expression_value t z.located) z multiple z.located.kind) where
   pub even_bytes : z.bytes % 2 ≡ 0
   even_bytes = go (sort_of t s multiple z inside.home j inside bytes size)
     where

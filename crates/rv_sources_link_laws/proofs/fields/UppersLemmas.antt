@@ -34,7 +34,7 @@ use Rattle.rv_assemble_laws.specs.Coded.{constants, AreCodedParts, IsCode, part_
 use Rattle.rv_pseudo_laws.specs.InstructionFaults.{operand_faults, scratch_faults, own_faults, else_unplaced, has_row as has_operands_row}
 use Rattle.rv_assemble_laws.specs.InstructionFaults.{instruction_faults, worths, is_label}
 use Rattle.rv_assemble_laws.specs.Templates.{Template, Fixed, Datum, Coded, Open, open_at, value_fields, template_fields}
-use Rattle.rv_assemble_laws.specs.LaidStatements.{LaidStatement, Part, form, part_of, part_bytes, coded_templates, laid_in}
+use Rattle.rv_assemble_laws.specs.LaidStatements.{LaidStatement, Part, expression_value, part_of, part_bytes, coded_templates, laid_in}
 use Rattle.rv_assemble_laws.specs.Symbols.{laid_at}
 use Rattle.rv_assemble_laws.specs.IsObjectOf.{Numbering, relocation_at, relocations_from}
 use Rattle.rv_sources_link_laws.proofs.statements.StatementsLemmas.{mapped_at, mapped_from, row_address}
@@ -187,7 +187,7 @@ module _ (p : Program) (os : List Object) (starts : Starts) (file : ℕ) (laid :
     T = tables_in p file
 
     abbrev v : LaidStatement → Expression → Value
-    v z = form T z.located
+    v z = expression_value T z.located
 
     abbrev fields : LaidStatement → CodePart → List Open
     fields z q = part_fields T (v z) z.located q

@@ -17,7 +17,7 @@ use Rattle.rv_object.specs.Object.{size_of}
 use Rattle.rv_object_laws.specs.CallSites.{start_padding, base_in}
 use Rattle.rv_object_laws.specs.Inputs.{Starts, InputSection, begins_at}
 use Rattle.rv_object_laws.specs.Shortened.{Sizes}
-use Rattle.rv_assemble_laws.specs.LaidStatements.{LaidStatement, form, laid_in, end_of}
+use Rattle.rv_assemble_laws.specs.LaidStatements.{LaidStatement, expression_value, laid_in, end_of}
 use Rattle.rv_sources_link_laws.proofs.sections.AssembledLemmas.{Tile}
 use Rattle.rv_sources_link_laws.proofs.calls.FinalsLemmas.{IsFinal}
 use Rattle.rv_sources_link_laws.proofs.sections.SectionsLemmas.{join}
@@ -80,7 +80,7 @@ module _ (p : Program) (starts : Starts) (at : ℕ → List LaidStatement) (size
       full_is : (z : LaidStatement) → IsFinal t its z (final z) → has_row z.located ≡ true → full_size p (mapped_at starts file (final z)) ≡ z.bytes
       full_is z h e =
           ap (λ (l : Located). statement_size l.home.executable (λ x. program_form p (renumbered file l) x) l.kind (final z).bytes) (stays z)
-          ∙ ap (λ u. statement_size z.located.home.executable (λ x. form u z.located x) z.located.kind (final z).bytes) same
+          ∙ ap (λ u. statement_size z.located.home.executable (λ x. expression_value u z.located x) z.located.kind (final z).bytes) same
           ∙ sym (h.placed (and_parts z.located.placed z.located.home.loaded e).0)
 
       none_is : (z : LaidStatement) → IsFinal t its z (final z) → z.located.home ≡ s → has_row z.located ≡ false → z.bytes ≡ 0

@@ -25,7 +25,7 @@ use Rattle.rv_collect_laws.specs.Graph.{is_dropped}
 use Rattle.rv_sources_link_laws.proofs.sections.MaskedLemmas.{source_sections}
 use Rattle.rv_sources_link_laws.proofs.statements.MarkedLemmas.{part_fields}
 use Rattle.rv_sources_link_laws.proofs.statements.OrderedLemmas.{Follow, AreInOrder}
-pub use Rattle.rv_assemble_laws.specs.LaidStatements.{LaidStatement, Part, form, part_of, part_bytes, coded_templates, laid_in, end_of, IsMultiple}
+pub use Rattle.rv_assemble_laws.specs.LaidStatements.{LaidStatement, Part, expression_value, part_of, part_bytes, coded_templates, laid_in, end_of, IsMultiple}
 pub use Rattle.rv_assemble_laws.specs.IsObjectOf.{Numbering, row_of, rows_at, relocation_at, relocations_from, contents_of, IsNumbered, ArePartsNumbered, IsInData, StandsInData}
 
 -- ---- templates
@@ -45,9 +45,9 @@ abbrev pub shrunk_templates : Tables → LaidStatement → StatementKind → Lis
 shrunk_templates t s (Label name) = []
 shrunk_templates t s (Numbered number) = []
 shrunk_templates t s (Instruction mnemonic operands) =
-    let v = form t s.located in
+    let v = expression_value t s.located in
     coded_templates (part_fields t v s.located) (unwrap_or (code (constants v) s.located.options.rvc s.bytes mnemonic operands) []) s.coded
-shrunk_templates t s (Directs directive) = contribution_templates s.located.home.executable (form t s.located) (contribution directive) s.bytes
+shrunk_templates t s (Directs directive) = contribution_templates s.located.home.executable (expression_value t s.located) (contribution directive) s.bytes
 
 abbrev pub parts_of : Tables → LaidStatement → List Part
 parts_of t s = map (part_of s.located.ordinal) (shrunk_templates t s s.located.kind)
@@ -96,7 +96,7 @@ pub record IsSectionOf (t : Tables) (all : List LaidStatement) (number : Numberi
   pub code : goes_to_text section ≡ true → is_nobits section ≡ true → flat_map part_bytes (parts t laid) ≡ []
   pub relocations : x.relocations ≡ (if section.loaded then relocations_from number 0 (parts t laid) else [])
   pub numbered : section.loaded ≡ true → ArePartsNumbered t all number symbols (parts t laid)
-  pub sizes : section.loaded ≡ true → AllByRecursion (λ s. s.located.placed ≡ true → HasShrunkSize (form t s.located) s x.alignment s.located.kind) laid
+  pub sizes : section.loaded ≡ true → AllByRecursion (λ s. s.located.placed ≡ true → HasShrunkSize (expression_value t s.located) s x.alignment s.located.kind) laid
   pub fields : AllByRecursion (λ p. IsTemplate p.template) (parts t laid)
   -- nothing moves any more
   pub plain : alignments_of x ≡ []

@@ -17,7 +17,7 @@ use Rattle.rv_object_laws.specs.Moves.{Move, alignments_of, by_place, dropped, n
 use Rattle.rv_object_laws.specs.Inputs.{goes_to_text, raised, begins_at}
 use Rattle.rv_object_laws.specs.Values.{initial_bytes}
 use Rattle.rv_assemble_laws.specs.Templates.{Template, Fixed, Coded, Open, IsTemplate, padding_templates}
-use Rattle.rv_assemble_laws.specs.LaidStatements.{LaidStatement, Part, form, part_of, part_bytes, laid_in, end_of, HasSize}
+use Rattle.rv_assemble_laws.specs.LaidStatements.{LaidStatement, Part, expression_value, part_of, part_bytes, laid_in, end_of, HasSize}
 use Rattle.rv_assemble_laws.specs.Symbols.{references_in}
 use Rattle.rv_assemble_laws.specs.IsObjectOf.{Numbering, IsNumbered, ArePartsNumbered, contents_of, relocations_from}
 use Rattle.rv_assemble_laws.proofs.FilledLemmas.{bytes_append}
@@ -153,7 +153,7 @@ module _ (t : Tables) (laid laid' : List LaidStatement) (number : Numbering) (sy
   Sorted z = walk.Sorted t number s x.alignment z
 
   sorted_from : (o : ℕ) (ys : List LaidStatement) → AllByRecursion (IsLaidIn j s) ys → Tile t o ys
-      → AllByRecursion (λ z. z.located.placed ≡ true → HasSize (form t z.located) z x.alignment z.located.kind) ys → AllByRecursion Sorted ys
+      → AllByRecursion (λ z. z.located.placed ≡ true → HasSize (expression_value t z.located) z x.alignment z.located.kind) ys → AllByRecursion Sorted ys
   sorted_from o [] i tile sz = tt
   sorted_from o (z ∷ ys) (i, is) (off, bytes, tile) (sz, szs) = (sort_of t s x.alignment z i.home j i bytes sz, sorted_from (o + z.bytes) ys is tile szs)
 

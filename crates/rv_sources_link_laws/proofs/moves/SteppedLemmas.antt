@@ -13,7 +13,7 @@ use Rattle.rv_object.specs.Padding.{no_operations}
 use Rattle.rv_object_laws.specs.Moves.{Move, new_offset, kept, has_padding, alignment_of, plan}
 use Rattle.rv_object_laws.specs.Inputs.{raised}
 use Rattle.rv_assemble_laws.specs.Templates.{Fixed, Open, template_fields}
-use Rattle.rv_assemble_laws.specs.LaidStatements.{LaidStatement, Part, form, part_of, part_bytes, end_of}
+use Rattle.rv_assemble_laws.specs.LaidStatements.{LaidStatement, Part, expression_value, part_of, part_bytes, end_of}
 use Rattle.rv_sources_link_laws.proofs.sections.AssembledLemmas.{parts_of, parts, assembled_templates}
 use Rattle.rv_assemble_laws.specs.IsObjectOf.{Numbering, relocation_at, relocations_from}
 use Rattle.rv_assemble_laws.proofs.FilledLemmas.{bytes_append}
@@ -235,15 +235,15 @@ module _ (t : Tables) (number : Numbering) (section : SourceSection) (multiple :
 
   -- sizes
   pub sizes_kept : (o gone : ℕ) (zs : List LaidStatement) → Steps o gone zs
-      → AllByRecursion (λ (y : LaidStatement). y.located.placed ≡ true → shrunk.HasShrunkSize (form t y.located) y multiple y.located.kind) (map S zs)
+      → AllByRecursion (λ (y : LaidStatement). y.located.placed ≡ true → shrunk.HasShrunkSize (expression_value t y.located) y multiple y.located.kind) (map S zs)
   sizes_kept o gone [] st = tt
   sizes_kept o gone (z ∷ zs) (off, bytes, low, evens, inl (s, st)) = (
-    subst (λ (y : LaidStatement). y.located.placed ≡ true → shrunk.HasShrunkSize (form t y.located) y multiple y.located.kind) (sym s.plain_is)
+    subst (λ (y : LaidStatement). y.located.placed ≡ true → shrunk.HasShrunkSize (expression_value t y.located) y multiple y.located.kind) (sym s.plain_is)
         (λ placed. s.plain_kind.sized (o - gone) s.aside placed),
     sizes_kept (o + z.bytes) gone zs st,
   )
   sizes_kept o gone (z ∷ zs) (off, bytes, low, evens, inr (s, st)) = (
-    subst (λ (y : LaidStatement). y.located.placed ≡ true → shrunk.HasShrunkSize (form t y.located) y multiple y.located.kind) (sym s.pad_is)
+    subst (λ (y : LaidStatement). y.located.placed ≡ true → shrunk.HasShrunkSize (expression_value t y.located) y multiple y.located.kind) (sym s.pad_is)
         (λ placed. s.pad_kind.sized (o - gone) s.least s.pads_to s.least_even),
     sizes_kept (o + z.bytes) (gone + (z.bytes - s.least)) zs st,
   )

@@ -16,7 +16,7 @@ use Rattle.rv_assemble_laws.specs.Coded.{constants}
 use Rattle.rv_assemble_laws.specs.Refusals.{statements_fault}
 use Rattle.rv_assemble_laws.specs.Symbols.{exports}
 use Rattle.rv_assemble_laws.specs.Templates.{Template, IsTemplate, contribution_templates}
-use Rattle.rv_assemble_laws.specs.LaidStatements.{LaidStatement, Part, form, part_of, part_bytes, coded_templates, end_of, HasSize}
+use Rattle.rv_assemble_laws.specs.LaidStatements.{LaidStatement, Part, expression_value, part_of, part_bytes, coded_templates, end_of, HasSize}
 use Rattle.rv_assemble_laws.specs.IsObjectOf.{Numbering, rows_at, relocations_from, contents_of, ArePartsNumbered, StandsInData}
 use Rattle.rv_sources_link_laws.proofs.sections.MaskedLemmas.{source_sections}
 use Rattle.rv_sources_link_laws.proofs.statements.MarkedLemmas.{part_fields}
@@ -28,9 +28,9 @@ abbrev pub assembled_templates : Tables → LaidStatement → StatementKind → 
 assembled_templates t s (Label name) = []
 assembled_templates t s (Numbered number) = []
 assembled_templates t s (Instruction mnemonic operands) =
-    let v = form t s.located in
+    let v = expression_value t s.located in
     coded_templates (part_fields t v s.located) (unwrap_or (code (constants v) s.located.options.rvc s.bytes mnemonic operands) []) s.coded
-assembled_templates t s (Directs directive) = contribution_templates s.located.home.executable s.located.ordinal (form t s.located) (contribution directive) s.bytes
+assembled_templates t s (Directs directive) = contribution_templates s.located.home.executable s.located.ordinal (expression_value t s.located) (contribution directive) s.bytes
 
 abbrev pub parts_of : Tables → LaidStatement → List Part
 parts_of t s = map (part_of s.located.ordinal) (assembled_templates t s s.located.kind)
@@ -54,7 +54,7 @@ pub record IsSectionOf (t : Tables) (all : List LaidStatement) (number : Numberi
   pub code : goes_to_text section ≡ true → is_nobits section ≡ true → flat_map part_bytes (parts t laid) ≡ []
   pub relocations : x.relocations ≡ (if section.loaded then relocations_from number 0 (parts t laid) else [])
   pub numbered : section.loaded ≡ true → ArePartsNumbered t all number symbols (parts t laid)
-  pub sizes : AllByRecursion (λ s. s.located.placed ≡ true → HasSize (form t s.located) s x.alignment s.located.kind) laid
+  pub sizes : AllByRecursion (λ s. s.located.placed ≡ true → HasSize (expression_value t s.located) s x.alignment s.located.kind) laid
   pub fields : AllByRecursion (λ p. IsTemplate p.template) (parts t laid)
   pub short : section.executable ≡ true → end_of 0 laid ≤ longest_section
 

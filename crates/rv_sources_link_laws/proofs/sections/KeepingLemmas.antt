@@ -26,7 +26,7 @@ use Rattle.rv_object_laws.specs.Without.{without_section, without_sections, with
 use Rattle.rv_assemble_laws.specs.CodeFields.{part_fields}
 use Rattle.rv_assemble_laws.specs.Coded.{constants}
 use Rattle.rv_assemble_laws.specs.Templates.{Open, Coded, IsTemplate, contribution_templates}
-use Rattle.rv_assemble_laws.specs.LaidStatements.{LaidStatement, Part, form, part_of, part_bytes, coded_templates, templates, parts_of, parts, laid_in, Tile, end_of, IsPaddedIn, HasSize}
+use Rattle.rv_assemble_laws.specs.LaidStatements.{LaidStatement, Part, expression_value, part_of, part_bytes, coded_templates, templates, parts_of, parts, laid_in, Tile, end_of, IsPaddedIn, HasSize}
 use Rattle.rv_assemble_laws.specs.Symbols.{SymbolUse, references_in, laid_at, after_found, assigned_definition, statement_definition, shared_symbol, exports_of, StandsFor, IsDefinedBy}
 use Rattle.rv_assemble_laws.specs.IsObjectOf.{Numbering, row_of, rows_at, relocations_from, contents_of, IsNumbered, ArePartsNumbered, IsSectionOf, AreSectionsOf, IsInData, StandsInData, IsObjectOf}
 use Rattle.rv_sources_link_laws.specs.Joins.{AreObjectsOf}
@@ -156,14 +156,14 @@ module _ (dropped : ℕ → Bool) where
 
   module _ (t : Tables) where
     code_same : (z : LaidStatement) (ps : List CodePart) (coded : List (List ℕ))
-        → coded_templates (part_fields t (form t z.located) (masked dropped z.located)) ps coded ≡ coded_templates (part_fields t (form t z.located) z.located) ps coded
+        → coded_templates (part_fields t (expression_value t z.located) (masked dropped z.located)) ps coded ≡ coded_templates (part_fields t (expression_value t z.located) z.located) ps coded
     code_same z [] coded = refl
     code_same z (p ∷ ps) [] = refl
     code_same z (p ∷ ps) (bytes ∷ coded) =
-        ap (λ (fs : List Open). Coded bytes fs ∷ coded_templates (part_fields t (form t z.located) (masked dropped z.located)) ps coded) (own p)
-        ∙ ap (λ l. Coded bytes (part_fields t (form t z.located) z.located p) ∷ l) (code_same z ps coded)
+        ap (λ (fs : List Open). Coded bytes fs ∷ coded_templates (part_fields t (expression_value t z.located) (masked dropped z.located)) ps coded) (own p)
+        ∙ ap (λ l. Coded bytes (part_fields t (expression_value t z.located) z.located p) ∷ l) (code_same z ps coded)
       where
-        own : (p : CodePart) → part_fields t (form t z.located) (masked dropped z.located) p ≡ part_fields t (form t z.located) z.located p
+        own : (p : CodePart) → part_fields t (expression_value t z.located) (masked dropped z.located) p ≡ part_fields t (expression_value t z.located) z.located p
         own (Closed i) = refl
         own (Open_part k i) = refl
         own (Joined k i j) = refl
@@ -171,9 +171,9 @@ module _ (dropped : ℕ → Bool) where
     templates_same : (z : LaidStatement) (kind : StatementKind) → templates t (mask z) kind ≡ templates t z kind
     templates_same z (Label name) = refl
     templates_same z (Numbered number) = refl
-    templates_same z (Instruction m os) = code_same z (unwrap_or (code (constants (form t z.located)) z.located.options.rvc z.bytes m os) []) z.coded
+    templates_same z (Instruction m os) = code_same z (unwrap_or (code (constants (expression_value t z.located)) z.located.options.rvc z.bytes m os) []) z.coded
     templates_same z (Directs d) =
-        ap (λ b. contribution_templates b z.located.ordinal (form t z.located) (contribution d) z.bytes) (executable_stays (dropped z.located.section) z.located.home)
+        ap (λ b. contribution_templates b z.located.ordinal (expression_value t z.located) (contribution d) z.bytes) (executable_stays (dropped z.located.section) z.located.home)
 
     parts_same : (z : LaidStatement) → parts_of t (mask z) ≡ parts_of t z
     parts_same z = ap (map (part_of z.located.ordinal)) (templates_same z z.located.kind)
@@ -207,11 +207,11 @@ module _ (dropped : ℕ → Bool) where
     size_same v z multiple (Directs _) h = h
 
     abbrev Sized : ℕ → LaidStatement → Type 0
-    Sized multiple z = z.located.placed ≡ true → HasSize (form t z.located) z multiple z.located.kind
+    Sized multiple z = z.located.placed ≡ true → HasSize (expression_value t z.located) z multiple z.located.kind
 
     all_sized : (multiple : ℕ) (zs : List LaidStatement) → AllByRecursion (Sized multiple) zs → AllByRecursion (Sized multiple) (mask_all zs)
     all_sized multiple [] h = tt
-    all_sized multiple (z ∷ zs) (h, hs) = ((λ placed. size_same (form t z.located) z multiple z.located.kind (h placed)), all_sized multiple zs hs)
+    all_sized multiple (z ∷ zs) (h, hs) = ((λ placed. size_same (expression_value t z.located) z multiple z.located.kind (h placed)), all_sized multiple zs hs)
 
   end_same : (offset : ℕ) (zs : List LaidStatement) → end_of offset (mask_all zs) ≡ end_of offset zs
   end_same offset [] = refl

@@ -22,7 +22,7 @@ use Rattle.rv_object_laws.specs.Inputs.{Starts, InputSection}
 use Rattle.rv_object_laws.specs.Values.{initial_bytes, applied, linked_bytes, IsRelocated}
 use Rattle.rv_sources_link_laws.proofs.statements.MarkedLemmas.{part_fields}
 use Rattle.rv_assemble_laws.specs.Templates.{Template, Open, IsTemplate, template_fields}
-use Rattle.rv_assemble_laws.specs.LaidStatements.{LaidStatement, Part, form, part_of, part_bytes, laid_in, IsMultiple}
+use Rattle.rv_assemble_laws.specs.LaidStatements.{LaidStatement, Part, expression_value, part_of, part_bytes, laid_in, IsMultiple}
 use Rattle.rv_assemble_laws.specs.Symbols.{laid_at}
 use Rattle.rv_assemble_laws.specs.IsObjectOf.{Numbering, relocations_from}
 use Rattle.rv_sources_link_laws.proofs.fields.PatchesLemmas.{written, written_from, HasRoom, all_made, makes}
@@ -73,7 +73,7 @@ module _ (p : Program) (os : List Object) (starts : Starts) (file : ℕ) (laid :
     KnownPart q = Known p os starts file laid number o sections low are settled (all_worths file) whole plain address index section x is at none loaded relocated q
 
     -- each field of code lies in its part
-    roomy_of : (z : LaidStatement) → IsLaidIn index section z → (z.located.placed ≡ true → HasShrunkSize (form t z.located) z x.alignment z.located.kind)
+    roomy_of : (z : LaidStatement) → IsLaidIn index section z → (z.located.placed ≡ true → HasShrunkSize (expression_value t z.located) z x.alignment z.located.kind)
         → AllByRecursion (λ q. HasRoom q.template) (parts_of t z)
     roomy_of z here sized = of_ordinal z.located.ordinal (shrunk_templates t z z.located.kind) (roomy t z x.alignment here.bare sized)
       where
@@ -81,7 +81,7 @@ module _ (p : Program) (os : List Object) (starts : Starts) (file : ℕ) (laid :
         of_ordinal ordinal [] h = tt
         of_ordinal ordinal (q ∷ ts) (h, hs) = (h, of_ordinal ordinal ts hs)
 
-    all_roomy : (zs : List LaidStatement) → AllByRecursion (IsLaidIn index section) zs → AllByRecursion (λ z. z.located.placed ≡ true → HasShrunkSize (form t z.located) z x.alignment z.located.kind) zs
+    all_roomy : (zs : List LaidStatement) → AllByRecursion (IsLaidIn index section) zs → AllByRecursion (λ z. z.located.placed ≡ true → HasShrunkSize (expression_value t z.located) z x.alignment z.located.kind) zs
         → AllByRecursion (λ q. HasRoom q.template) (parts t zs)
     all_roomy [] h sz = tt
     all_roomy (z ∷ zs) (h, hs) (sz, szs) = join (λ q. HasRoom q.template) (parts_of t z) (parts t zs) (roomy_of z h sz) (all_roomy zs hs szs)
@@ -125,7 +125,7 @@ module _ (p : Program) (os : List Object) (starts : Starts) (file : ℕ) (laid :
     IsFilledAt z kind =
         let l = z.located in
         IsFilled p file l.ordinal l.section l.offset l.line l.options l.home l.placed (row_in starts file z) z.offset (starts file l.section) z.coded
-        (all_worths file l.section) (part_fields t (form t l) l) kind
+        (all_worths file l.section) (part_fields t (expression_value t l) l) kind
 
     -- the open fields of a laid statement's code take what its operands stand for
     filled_by : (z : LaidStatement) → Fact z → has_row z.located ≡ true → IsOwn p os starts file laid number o sections low are settled (all_worths file) whole plain address index section x is at none loaded relocated 0 own z → (kind : StatementKind) → z.located.kind ≡ kind → IsFilledAt z kind
@@ -133,11 +133,11 @@ module _ (p : Program) (os : List Object) (starts : Starts) (file : ℕ) (laid :
     filled_by z h shown upper (Numbered digits) e = tt
     filled_by z h shown upper (Directs d) e = tt
     filled_by z h shown upper (Instruction mnemonic operands) e = λ qs code_is coded_as.
-        let c = subst (HasShrunkSize (form t z.located) z x.alignment) e (h.sized (h.inside.instructed mnemonic operands e)) in
+        let c = subst (HasShrunkSize (expression_value t z.located) z x.alignment) e (h.sized (h.inside.instructed mnemonic operands e)) in
         let both : Some c.ps ≡ Some qs = sym c.parts ∙ code_is in
         let same_parts : c.ps ≡ qs = cc in
         subst (IsFilledCode p file z.located.ordinal z.located.section z.located.offset z.located.line z.located.options z.located.home z.located.placed (row_in starts file z) z.offset (starts file z.located.section) z.coded
-        (all_worths file z.located.section) (part_fields t (form t z.located) z.located) mnemonic operands) same_parts
+        (all_worths file z.located.section) (part_fields t (expression_value t z.located) z.located) mnemonic operands) same_parts
         (filled_code p os starts file laid number o sections low are settled (all_worths file) whole plain address index section x is at none loaded relocated there z h shown upper (all_worths file z.located.section)
         (λ n f. ap (λ j. all_worths file j n f) h.inside.stands ∙ whole.worth index x there n f) mnemonic operands e c)
 
@@ -151,7 +151,7 @@ module _ (p : Program) (os : List Object) (starts : Starts) (file : ℕ) (laid :
         let placed : l.placed ≡ true = (and_parts l.placed l.home.loaded row).0 in
         let here = h.inside in
         let size = h.sized placed in
-        let v = form t l in
+        let v = expression_value t l in
         let held : IsHeld l.home l.kind = subst (λ y. IsHeld y l.kind) (sym here.home) here.held in
         let suit = suits_by z file x.alignment (starts file l.section) (row_in starts file z) v (has_values p m) l.kind refl refl refl
         multiple (λ width es k. values width es k) (here.kind placed) size in
@@ -173,7 +173,7 @@ module _ (p : Program) (os : List Object) (starts : Starts) (file : ℕ) (laid :
 
         values : (width : ℕ) (es : List Expression) → z.located.kind ≡ Directs (Values width es) → has_values p (mapped_at starts file z) ≡ true
         values width es k =
-            let v = form t z.located in
+            let v = expression_value t z.located in
             let ordinal = z.located.ordinal in
             ap (has_values_by p (mapped_at starts file z)) k
             ∙ all_valued (meant_in p file) ordinal width v es

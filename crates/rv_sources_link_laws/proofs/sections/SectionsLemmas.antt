@@ -23,7 +23,7 @@ use Rattle.rv_object_laws.specs.Inputs.{Starts}
 use Rattle.rv_sources_link_laws.proofs.statements.MarkedLemmas.{part_fields}
 use Rattle.rv_assemble_laws.specs.Templates.{Datum, Open, IsTemplate, HasField, template_fields, value_fields}
 use Rattle.rv_assemble_laws.specs.Coded.{constants}
-use Rattle.rv_assemble_laws.specs.LaidStatements.{LaidStatement, Part, form, part_of, part_bytes, coded_templates, IsMultiple}
+use Rattle.rv_assemble_laws.specs.LaidStatements.{LaidStatement, Part, expression_value, part_of, part_bytes, coded_templates, IsMultiple}
 use Rattle.rv_assemble_laws.specs.IsObjectOf.{Numbering, relocation_at, relocations_from}
 use Rattle.rv_sources_link_laws.proofs.fields.PatchesLemmas.{written, written_from, filled_fields}
 use Rattle.rv_sources_link_laws.proofs.statements.CodingLemmas.{coded_bytes}
@@ -209,13 +209,13 @@ module _ (p : Program) (file : ℕ) where
         (values_spelled w (offset + length (part_bytes (part_of ordinal (Datum width (v e))))) ordinal width v es)
 
     pub spelled_by : (starts : Starts) (s : LaidStatement) (multiple : ℕ) (kind : StatementKind) → IsHeld s.located.home kind → s.located.home.executable ≡ false
-        → HasShrunkSize (form (tables_in p file) s.located) s multiple kind
+        → HasShrunkSize (expression_value (tables_in p file) s.located) s multiple kind
         → let m : Mapped = mapped_at starts file s in
         spelled_said (number_of p m) kind s.bytes ≡ says s kind
     spelled_by starts s multiple (Label name) held aside size = refl
     spelled_by starts s multiple (Numbered number) held aside size = refl
     spelled_by starts s multiple (Instruction mnemonic operands) held aside size = let e : true ≡ false = sym held.0 ∙ aside in absurd (cc)
-    spelled_by starts s multiple (Directs (Values width es)) held aside size = values_spelled (worth s.located.section) s.offset s.located.ordinal width (form (tables_in p file) s.located) es
+    spelled_by starts s multiple (Directs (Values width es)) held aside size = values_spelled (worth s.located.section) s.offset s.located.ordinal width (expression_value (tables_in p file) s.located) es
     spelled_by starts s multiple (Directs (Strings ended strings)) held aside size = sym (append-nil (string_bytes ended strings))
     spelled_by starts s multiple (Directs (Zeros count)) held aside (x, y) =
         ap (λ v. zeros (unwrap_or (resolved (meant_in s.located.ordinal) v) 0)) y ∙ sym (append-nil (zeros s.bytes))
@@ -244,14 +244,14 @@ module _ (p : Program) (file : ℕ) where
 
     -- in code its parts are its code
     pub coded_by : (s : LaidStatement) (multiple : ℕ) (kind : StatementKind) → IsHeld s.located.home kind → s.located.home.executable ≡ true
-        → HasShrunkSize (form (tables_in p file) s.located) s multiple kind
-        → suits.code_said (worth s.located.section) (part_fields (tables_in p file) (form (tables_in p file) s.located) s.located) (form (tables_in p file) s.located) s.located.options.rvc s.offset s.bytes s.coded kind
+        → HasShrunkSize (expression_value (tables_in p file) s.located) s multiple kind
+        → suits.code_said (worth s.located.section) (part_fields (tables_in p file) (expression_value (tables_in p file) s.located) s.located) (expression_value (tables_in p file) s.located) s.located.options.rvc s.offset s.bytes s.coded kind
         ≡ says s kind
     coded_by s multiple (Label name) held code size = refl
     coded_by s multiple (Numbered number) held code size = refl
     coded_by s multiple (Instruction mnemonic operands) held code size =
-        coded_parts (worth s.located.section) (part_fields (tables_in p file) (form (tables_in p file) s.located) s.located) s.offset s.located.ordinal
-        (unwrap_or (code_parts (constants (form (tables_in p file) s.located)) s.located.options.rvc s.bytes mnemonic operands) []) s.coded
+        coded_parts (worth s.located.section) (part_fields (tables_in p file) (expression_value (tables_in p file) s.located) s.located) s.offset s.located.ordinal
+        (unwrap_or (code_parts (constants (expression_value (tables_in p file) s.located)) s.located.options.rvc s.bytes mnemonic operands) []) s.coded
     coded_by s multiple (Directs (Values width es)) held code size = let e : true ≡ false = sym code ∙ held.0 in absurd (cc)
     coded_by s multiple (Directs (Strings ended strings)) held code size = let e : true ≡ false = sym code ∙ held.0 in absurd (cc)
     coded_by s multiple (Directs (Zeros count)) held code size = let e : true ≡ false = sym code ∙ held in absurd (cc)

@@ -14,7 +14,7 @@ use Rattle.rv_source_laws.specs.Sized.{directive_size}
 use Rattle.rv_object_laws.specs.Moves.{Move, new_offset}
 use Rattle.rv_assemble_laws.specs.Templates.{Coded, align_field, padding_templates}
 use Rattle.rv_object.specs.Padding.{no_operations}
-use Rattle.rv_assemble_laws.specs.LaidStatements.{LaidStatement, form, part_of, part_bytes, HasSize, IsPaddedIn}
+use Rattle.rv_assemble_laws.specs.LaidStatements.{LaidStatement, expression_value, part_of, part_bytes, HasSize, IsPaddedIn}
 use Rattle.rv_sources_link_laws.proofs.sections.AssembledLemmas.{parts_of, assembled_templates, Tile}
 use Rattle.rv_assemble_laws.specs.IsObjectOf.{Numbering}
 use Rattle.rv_sources_link_laws.proofs.statements.SettledLemmas.{IsBare, IsLaidIn}
@@ -40,7 +40,7 @@ size_before executable v _ bytes = bytes
 
 -- what it counts
 abbrev pub Size : Tables → List Move → LaidStatement → StatementKind → Type 0
-Size t ms z kind = z.bytes ≡ size_before z.located.home.executable (form t z.located) kind (bytes_with ms z)
+Size t ms z kind = z.bytes ≡ size_before z.located.home.executable (expression_value t z.located) kind (bytes_with ms z)
 
 pub record IsCounted (t : Tables) (ms : List Move) (z : LaidStatement) : Type 0 where
   pub placed : z.located.placed ≡ true → Size t ms z z.located.kind
@@ -54,14 +54,14 @@ module _ (t : Tables) (ms : List Move) (z : LaidStatement) (multiple : ℕ) wher
   align_by true al size stays = size.0
   align_by false al size stays = sym (stays (tt, tt))
 
-  counts : (kind : StatementKind) → HasSize (form t z.located) z multiple kind → StaysBy t ms z kind → Size t ms z kind
+  counts : (kind : StatementKind) → HasSize (expression_value t z.located) z multiple kind → StaysBy t ms z kind → Size t ms z kind
   counts (Label name) size stays = sym (stays tt)
   counts (Numbered number) size stays = sym (stays tt)
   counts (Instruction m os) size stays =
-      sym (stays (sized_each IsPlain (λ bytes. tt) (λ width value. tt) t z multiple (plain_part t (form t z.located) z.located) (Instruction m os) size))
-  counts (Directs (Aligns_to_power e)) size stays = align_by z.located.home.executable (alignment_of (form t z.located) (Aligns_to_power e)) size.2 stays
-  counts (Directs (Aligns_to_bytes e)) size stays = align_by z.located.home.executable (alignment_of (form t z.located) (Aligns_to_bytes e)) size.2 stays
-  counts (Directs (Values width es)) size stays = sym (stays (data_each IsPlain (λ bytes. tt) (λ width value. tt) width (form t z.located) es))
+      sym (stays (sized_each IsPlain (λ bytes. tt) (λ width value. tt) t z multiple (plain_part t (expression_value t z.located) z.located) (Instruction m os) size))
+  counts (Directs (Aligns_to_power e)) size stays = align_by z.located.home.executable (alignment_of (expression_value t z.located) (Aligns_to_power e)) size.2 stays
+  counts (Directs (Aligns_to_bytes e)) size stays = align_by z.located.home.executable (alignment_of (expression_value t z.located) (Aligns_to_bytes e)) size.2 stays
+  counts (Directs (Values width es)) size stays = sym (stays (data_each IsPlain (λ bytes. tt) (λ width value. tt) width (expression_value t z.located) es))
   counts (Directs (Strings ended strings)) size stays = sym (stays (tt, tt))
   counts (Directs (Zeros count)) size stays = sym (stays (tt, tt))
   counts (Directs (Enters opened)) size stays = sym (stays tt)
@@ -101,7 +101,7 @@ none_there t z bare bytes e =
 -- ---- the statements of a section
 
 pub counted_all : (t : Tables) (ms : List Move) (j : ℕ) (s : SourceSection) (multiple o : ℕ) (zs : List LaidStatement) → AllByRecursion (IsLaidIn j s) zs → Tile t o zs
-    → AllByRecursion (λ z. z.located.placed ≡ true → HasSize (form t z.located) z multiple z.located.kind) zs → AllByRecursion (Stays t ms) zs → AllByRecursion (IsCounted t ms) zs
+    → AllByRecursion (λ z. z.located.placed ≡ true → HasSize (expression_value t z.located) z multiple z.located.kind) zs → AllByRecursion (Stays t ms) zs → AllByRecursion (IsCounted t ms) zs
 counted_all t ms j s multiple o [] i tile size stays = tt
 counted_all t ms j s multiple o (z ∷ zs) (i, is) (off, bytes, tile) (size, sizes) (stays, more) = (
   record { placed = λ e. counts t ms z multiple z.located.kind (size e) stays; unplaced = none_there t z i.bare bytes },

@@ -11,7 +11,7 @@ use Rattle.rv_unit_laws.specs.Sections.{Section as SourceSection, goes_to_text}
 use Rattle.rv_unit_laws.specs.Tables.{Tables, tables, alignment_of}
 use Rattle.rv_source_laws.proofs.HeldLemmas.{IsHeld}
 use Rattle.rv_object.specs.Object.{Object}
-use Rattle.rv_assemble_laws.specs.LaidStatements.{LaidStatement, form, part_of, part_bytes, laid_in}
+use Rattle.rv_assemble_laws.specs.LaidStatements.{LaidStatement, expression_value, part_of, part_bytes, laid_in}
 use Rattle.rv_sources_link_laws.proofs.sections.MaskedLemmas.{source_sections}
 use Rattle.rv_sources_link_laws.proofs.statements.SettledLemmas.{IsSettled, settled_left, of_sections, IsLaidIn, laid_are_in}
 use Rattle.rv_sources_link_laws.proofs.statements.OrderedLemmas.{its_section}
@@ -57,13 +57,13 @@ even_by s section multiple v (Directs Ignored) held code home size = none_even s
 
 module _ (t : Tables) (index : ℕ) (section : SourceSection) (multiple : ℕ) where
   abbrev Sized : LaidStatement → Type 0
-  Sized s = s.located.placed ≡ true → HasShrunkSize (form t s.located) s multiple s.located.kind
+  Sized s = s.located.placed ≡ true → HasShrunkSize (expression_value t s.located) s multiple s.located.kind
 
   bytes_even : (s : LaidStatement) → section.executable ≡ true → IsLaidIn index section s → s.bytes ≡ length (flat_map part_bytes (parts_of t s)) → Sized s → s.bytes % 2 ≡ 0
   bytes_even s code is bytes size = go s.located.placed refl
     where
       go : (b : Bool) → s.located.placed ≡ b → s.bytes % 2 ≡ 0
-      go true e = even_by s section multiple (form t s.located) s.located.kind is.held code is.home (size e)
+      go true e = even_by s section multiple (expression_value t s.located) s.located.kind is.held code is.home (size e)
       go false e =
           none_even s.bytes (bytes ∙ ap (λ l. length (flat_map part_bytes (map (part_of s.located.ordinal) l))) (is.bare e t s))
 

@@ -26,7 +26,7 @@ use Rattle.rv_assemble_laws.specs.CodeFields.{symbol_field, low_field_at, label_
 use Rattle.rv_sources_link_laws.proofs.statements.MarkedLemmas.{is_marked, part_fields, marked_all}
 use Rattle.rv_assemble_laws.specs.Coded.{constants, IsCodedPart, AreCodedParts}
 use Rattle.rv_assemble_laws.specs.Templates.{Template, Fixed, Datum, Coded, Open}
-use Rattle.rv_assemble_laws.specs.LaidStatements.{LaidStatement, form, coded_templates}
+use Rattle.rv_assemble_laws.specs.LaidStatements.{LaidStatement, expression_value, coded_templates}
 use Rattle.rv_sources_link_laws.proofs.statements.SettledLemmas.{IsBare}
 use Rattle.rv_sources_link_laws.proofs.fields.PatchesLemmas.{HasRoom}
 use Rattle.rv_sources_link_laws.proofs.statements.CodingLemmas.{encoded_long, joined_long}
@@ -129,24 +129,24 @@ module _ (P : Template → Type 0) (fixed : (bytes : List ℕ) → P (Fixed byte
   directed b v (Alignment as_form number) bytes = padded b bytes
 
   module _ (t : Tables) (z : LaidStatement) (multiple : ℕ)
-      (part : (named : Option Compressed) (c : Bool) (p : CodePart) (bytes : List ℕ) → IsCodedPart named c p bytes → P (Coded bytes (part_fields t (form t z.located) z.located p))) where
+      (part : (named : Option Compressed) (c : Bool) (p : CodePart) (bytes : List ℕ) → IsCodedPart named c p bytes → P (Coded bytes (part_fields t (expression_value t z.located) z.located p))) where
     abbrev fields : CodePart → List Open
-    fields p = part_fields t (form t z.located) z.located p
+    fields p = part_fields t (expression_value t z.located) z.located p
 
     coded_each : (named : Option Compressed) (c : Bool) (ps : List CodePart) (coded : List (List ℕ)) → AreCodedParts named c ps coded → AllByRecursion P (coded_templates fields ps coded)
     coded_each named c [] coded h = tt
     coded_each named c (p ∷ ps) [] h = tt
     coded_each named c (p ∷ ps) (bytes ∷ coded) (h, hs) = (part named c p bytes h, coded_each named c ps coded hs)
 
-    pub sized_each : (kind : StatementKind) → HasShrunkSize (form t z.located) z multiple kind → AllByRecursion P (shrunk_templates t z kind)
+    pub sized_each : (kind : StatementKind) → HasShrunkSize (expression_value t z.located) z multiple kind → AllByRecursion P (shrunk_templates t z kind)
     sized_each (Label name) h = tt
     sized_each (Numbered number) h = tt
     sized_each (Instruction mnemonic operands) h =
         subst (λ o. AllByRecursion P (coded_templates fields (unwrap_or o []) z.coded)) (sym h.parts)
-        (coded_each (named_form (constants (form t z.located)) mnemonic operands) (z.located.options.rvc && are_closed h.ps) h.ps z.coded h.coded_as)
-    sized_each (Directs d) h = directed z.located.home.executable (form t z.located) (contribution d) z.bytes
+        (coded_each (named_form (constants (expression_value t z.located)) mnemonic operands) (z.located.options.rvc && are_closed h.ps) h.ps z.coded h.coded_as)
+    sized_each (Directs d) h = directed z.located.home.executable (expression_value t z.located) (contribution d) z.bytes
 
-    pub each_template : IsBare z.located → (z.located.placed ≡ true → HasShrunkSize (form t z.located) z multiple z.located.kind) → AllByRecursion P (shrunk_templates t z z.located.kind)
+    pub each_template : IsBare z.located → (z.located.placed ≡ true → HasShrunkSize (expression_value t z.located) z multiple z.located.kind) → AllByRecursion P (shrunk_templates t z z.located.kind)
     each_template bare sized = go z.located.placed refl
       where
         go : (b : Bool) → z.located.placed ≡ b → AllByRecursion P (shrunk_templates t z z.located.kind)
@@ -174,9 +174,9 @@ room_part t v s named c (Joined k i j) bytes (fits, also, (first, (second, x, y,
     (by_kind (λ k. width_of k ≤ length bytes) k (field_of t v s.ordinal (operand_of s.kind) k) (omega (arith, long, low)) (field_kind t v s.ordinal (operand_of s.kind) k))
     (relaxing (λ k. width_of k ≤ length bytes) s.options.relax s.ordinal (omega arith))
 
-pub roomy : (t : Tables) (z : LaidStatement) (multiple : ℕ) → IsBare z.located → (z.located.placed ≡ true → HasShrunkSize (form t z.located) z multiple z.located.kind)
+pub roomy : (t : Tables) (z : LaidStatement) (multiple : ℕ) → IsBare z.located → (z.located.placed ≡ true → HasShrunkSize (expression_value t z.located) z multiple z.located.kind)
     → AllByRecursion HasRoom (shrunk_templates t z z.located.kind)
-roomy t z multiple bare sized = each_template HasRoom (λ bytes. tt) (λ width v. tt) t z multiple (room_part t (form t z.located) z.located) bare sized
+roomy t z multiple bare sized = each_template HasRoom (λ bytes. tt) (λ width v. tt) t z multiple (room_part t (expression_value t z.located) z.located) bare sized
 
 abbrev pub IsPlain : Template → Type 0
 IsPlain (Fixed bytes) = ⊤

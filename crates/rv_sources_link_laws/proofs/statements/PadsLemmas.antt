@@ -14,7 +14,7 @@ use Rattle.rv_source_laws.specs.Fits.{is_low}
 use Rattle.rv_source_laws.proofs.HeldLemmas.{IsHeld}
 use Rattle.rv_object.specs.Padding.{no_operations, operations_in}
 use Rattle.rv_assemble_laws.specs.Templates.{Fixed, Coded, align_field, padding_templates}
-use Rattle.rv_assemble_laws.specs.LaidStatements.{LaidStatement, form, part_of, part_bytes, IsMultiple, IsPaddedIn, HasSize}
+use Rattle.rv_assemble_laws.specs.LaidStatements.{LaidStatement, expression_value, part_of, part_bytes, IsMultiple, IsPaddedIn, HasSize}
 use Rattle.rv_sources_link_laws.proofs.sections.AssembledLemmas.{assembled_templates, parts_of}
 use Rattle.rv_sources_link_laws.proofs.moves.ShrunkLemmas as shrunk
 use Rattle.rv_sources_link_laws.proofs.statements.SettledLemmas.{IsBare, IsLaidIn}
@@ -111,7 +111,7 @@ padded n b z = record { located = z.located; offset = n; bytes = b; instructions
 pub record IsPlainLaid (t : Tables) (section : SourceSection) (multiple : ℕ) (z : LaidStatement) (kind : StatementKind) : Type 0 where
   pub same : (n : ℕ) → shrunk.shrunk_templates t (at n z) kind ≡ assembled_templates t z kind
   pub none : AllByRecursion IsPlain (assembled_templates t z kind)
-  pub sized : (n : ℕ) → (section.executable ≡ false → n ≡ z.offset) → z.located.placed ≡ true → shrunk.HasShrunkSize (form t z.located) (at n z) multiple kind
+  pub sized : (n : ℕ) → (section.executable ≡ false → n ≡ z.offset) → z.located.placed ≡ true → shrunk.HasShrunkSize (expression_value t z.located) (at n z) multiple kind
   pub even : section.executable ≡ true → z.bytes % 2 ≡ 0
 
 pub record IsPadLaid (t : Tables) (section : SourceSection) (multiple : ℕ) (z : LaidStatement) (kind : StatementKind) : Type 0 where
@@ -123,7 +123,7 @@ pub record IsPadLaid (t : Tables) (section : SourceSection) (multiple : ℕ) (z 
   pub divides : multiple % a ≡ 0
   pub was : assembled_templates t z kind ≡ Coded (no_operations z.bytes) (align_field z.located.ordinal z.bytes ∷ []) ∷ []
   pub is : (n b : ℕ) → shrunk.shrunk_templates t (padded n b z) kind ≡ shrunk.padding_templates true b
-  pub sized : (n b : ℕ) → b ≡ padding (Some a) n → b % 2 ≡ 0 → shrunk.HasShrunkSize (form t z.located) (padded n b z) multiple kind
+  pub sized : (n b : ℕ) → b ≡ padding (Some a) n → b % 2 ≡ 0 → shrunk.HasShrunkSize (expression_value t z.located) (padded n b z) multiple kind
 
 padding_was : (o n : ℕ) → 0 < n → padding_templates true o n ≡ Coded (no_operations n) (align_field o n ∷ []) ∷ []
 padding_was o zero h = absurd (omega (arith, h))
@@ -156,7 +156,7 @@ bare_before (Directs _) h all z = refl
 
 module _ (t : Tables) (section : SourceSection) (multiple : ℕ) (z : LaidStatement) (home : z.located.home ≡ section) where
   abbrev v : Expression → Value
-  v = form t z.located
+  v = expression_value t z.located
 
   abbrev Plain : StatementKind → Type 0
   Plain kind = IsPlainLaid t section multiple z kind

@@ -6,7 +6,7 @@ use Rattle.rv_text_laws.specs.Values.{Value}
 use Rattle.rv_statement.specs.Statement.{Label, Expression}
 use Rattle.rv_unit_laws.specs.Tables.{at_start, tables}
 use Rattle.rv_source_laws.specs.Located.{located_now, located_from}
-use Rattle.rv_assemble_laws.specs.LaidStatements.{LaidStatement, form}
+use Rattle.rv_assemble_laws.specs.LaidStatements.{LaidStatement, expression_value}
 use Rattle.rv_isa.specs.declared.instruction.Inst.TheVariants as inst
 use Rattle.rv_statement.specs.declared.mnemonic.Mnemonic.TheVariants.{Ecall}
 use Rattle.rv_pseudo_laws.specs.Code.{Closed}
@@ -53,7 +53,7 @@ first_is = record {
       contents = refl;
       relocations = refl;
       numbered = λ e. (tt, tt);
-      sizes = ((λ e. (refl, refl)), ((λ e. (refl, refl)), ((λ e. (refl, refl)), ((λ e. ecall (form (tables first_source) (nth first_laid 3).located)), tt))));
+      sizes = ((λ e. (refl, refl)), ((λ e. (refl, refl)), ((λ e. (refl, refl)), ((λ e. ecall (expression_value (tables first_source) (nth first_laid 3).located)), tt))));
       fields = (tt, tt);
       short = λ e. omega arith;
     },
@@ -104,7 +104,7 @@ second_is = record {
       contents = refl;
       relocations = refl;
       numbered = λ e. (tt, (tt, tt));
-      sizes = ((λ e. (refl, refl)), ((λ e. (refl, refl)), ((λ e. (refl, refl)), ((λ e. ecall (form (tables second_source) (nth second_laid 13).located)), ((λ e. (refl, (omega arith, refl), (refl, refl))), tt)))));
+      sizes = ((λ e. (refl, refl)), ((λ e. (refl, refl)), ((λ e. (refl, refl)), ((λ e. ecall (expression_value (tables second_source) (nth second_laid 13).located)), ((λ e. (refl, (omega arith, refl), (refl, refl))), tt)))));
       fields = (tt, (tt, tt));
       short = λ e. omega arith;
     },

@@ -1,7 +1,7 @@
 use Rattle.std.proofs.Common.{◌≡◌, ◌++◌, Some, rules}
-use Rattle.rv_elf.specs.FirstFault.{first_true, header_tests, open_tests}
+use Rattle.rv_elf.specs.FirstFault.{first_true, header_tests, open_tests, type_tests}
 use Rattle.rv_elf.specs.FirstTrue.{first_true_some}
-use Rattle.rv_firmware.specs.FirmwareOf.{firmware_tests, type_tests, contents_tests}
+use Rattle.rv_firmware.specs.FirmwareOf.{firmware_tests, contents_tests}
 use Rattle.rv_firmware.proofs.firmware.open.Goals as goal
 
 pub returns-in_err-file_type-clause-faults : goal.returns-in_err-file_type-clause-faults

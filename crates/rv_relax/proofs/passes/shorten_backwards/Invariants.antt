@@ -1,5 +1,6 @@
 use Rattle.std.proofs.Common.{◌≡◌, ◌+◌, ◌≤◌, length}
-use Rattle.rv_relax.specs.Passes.{IsTable, drops, rest}
+use Rattle.rv_layout_laws.specs.Offsets.{rest}
+use Rattle.rv_relax.specs.Passes.{IsTable, drops}
 use Rattle.rv_relax.proofs.GoingLemmas.{Goes}
 use Rattle.rv_relax.proofs.passes.shorten_backwards.Given as goal
 

@@ -1,7 +1,8 @@
 use Rattle.std.proofs.Common.{◌≡◌, ◌+◌, ◌-◌, ◌*◌, ◌^◌, ◌≤◌, set, slice_index, ap, ◌∙◌, arith}
 use Rattle.rv_layout_laws.specs.declared.site.Site.{Site}
 use Rattle.rv_layout_laws.specs.Calls.{bytes_of}
-use Rattle.rv_relax.specs.Passes.{drops, rest}
+use Rattle.rv_layout_laws.specs.Offsets.{rest}
+use Rattle.rv_relax.specs.Passes.{drops}
 use Rattle.rv_relax.proofs.DroppingLemmas.{site_read}
 use Rattle.rv_relax.proofs.JudgingLemmas.{turn_offered}
 use Rattle.rv_relax.proofs.TablesLemmas.{rest_low, set_family, backward_left, backward_table, backward_after}

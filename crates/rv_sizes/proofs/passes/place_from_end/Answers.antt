@@ -1,7 +1,8 @@
 use Rattle.std.proofs.Common.{◌≡◌, ℕ, ◌+◌, ◌-◌, ◌<◌, ◌≤◌, length, slice_index, slice_set, arith, sym, subst, ap, ◌∙◌}
 use Rattle.std.proofs.lemmas.List.{length-set}
 use Rattle.rv_layout_laws.specs.Branches.{item_at}
-use Rattle.rv_sizes.specs.Passes.{AreRests, IsInput, rest, around}
+use Rattle.rv_layout_laws.specs.Offsets.{rest}
+use Rattle.rv_sizes.specs.Passes.{AreRests, IsInput, around}
 use Rattle.rv_sizes.proofs.PlacesLemmas.{places_small}
 use Rattle.rv_sizes.proofs.GoingLemmas.{RestsFrom, rests_step, own_rest, ends_step, none_left}
 use Rattle.rv_sizes.proofs.passes.place_from_end.Goals as goal

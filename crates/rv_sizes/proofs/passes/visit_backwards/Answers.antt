@@ -1,7 +1,8 @@
 use Rattle.std.proofs.lemmas.Int.{ints}
 use Rattle.std.proofs.Common.{◌≡◌, ◌+◌, ltb, length, slice_index, ℕ, slice_set, to_z, of_z, w64, arith, refl, sym, subst, ap, ◌∙◌}
 use Rattle.rv_layout_laws.specs.Branches.{item_at}
-use Rattle.rv_sizes.specs.Passes.{AreRests, IsJudged, rest, around}
+use Rattle.rv_layout_laws.specs.Offsets.{rest}
+use Rattle.rv_sizes.specs.Passes.{AreRests, IsJudged, around}
 use Rattle.rv_sizes.proofs.PlacesLemmas.{rests_small, table_small, backward_is, backward_table, backward_ends, judged_offered, visit_told, told_up, told_same}
 use Rattle.rv_sizes.proofs.passes.visit_backwards.Goals as goal
 
