@@ -396,6 +396,20 @@ pub fn read(parcel: u16) -> Option<Compressed>
         0o24 => registers(bits),
         0o26 => Some(swsp(bits)),
         0o27 => Some(sdsp(bits)),
+        // with all numbers of five bits named, one by one, LLVM asks for no bound
+        0o01 => None,
+        0o04 => None,
+        0o05 => None,
+        0o21 => None,
+        0o25 => None,
+        0o30 => None,
+        0o31 => None,
+        0o32 => None,
+        0o33 => None,
+        0o34 => None,
+        0o35 => None,
+        0o36 => None,
+        0o37 => None,
         _ => None,
     }
 }

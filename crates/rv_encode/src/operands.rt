@@ -34,7 +34,7 @@ ghost use Rattle.rv_encode.specs.Word.{
 };
 ghost use Rattle.rv_encode.specs.Selectors.{selector_in};
 
-use crate::signed::{signed_13, signed_21, upper_12};
+use crate::signed::{signed_13, signed_21, spread_12, upper_12};
 use rv_isa::{Atomic, BType, Fence, IType, JType, RType, Reg, Reserve, SType, Shift, UType};
 
 /// The low seven bits.
@@ -179,16 +179,31 @@ pub fn s_type(bits: u32) -> SType
     }
 }
 
-/// A branch's offset: bit 11 at 7, bits 4:1 from 8, bits 10:5 from 25 and bit 12 at 31.
+/// A branch's offset without the bits below: bits 10:5 from 25, and bit 12 at 31, the sign, modulo 2^32.
+#[inline(always)]
+fn high_branch_offset(bits: u32) -> u32
+    ensures { result ≡ bits / 2 ^ 25 % 2 ^ 6 * 2 ^ 5 + bits / 2 ^ 31 * 4294963200 }
+{
+    let high = spread_12(bits);
+    (high >> 5 & 0x3f) << 5 | high >> 12 << 12
+}
+
+/// Bits 4:1 of a branch's offset from 8, and bit 11 at 7.
+#[inline(always)]
+fn low_branch_offset(bits: u32) -> u32
+    ensures { result ≡ bits / 2 ^ 8 % 2 ^ 4 * 2 + bits / 2 ^ 7 % 2 * 2 ^ 11 }
+{
+    (bits >> 8 & 0xf) << 1 | (bits >> 7 & 1) << 11
+}
+
+/// A branch's offset modulo 2^32. Both parts are sums of their own, as LLVM takes the bits of each with one mask.
 #[inline(always)]
 fn branch_offset(bits: u32) -> u32
-    ensures sum { result
+    ensures { result
         ≡ bits / 2 ^ 8 % 2 ^ 4 * 2 + bits / 2 ^ 25 % 2 ^ 6 * 2 ^ 5 + bits / 2 ^ 7 % 2 * 2 ^ 11
-        + bits / 2 ^ 31 * 2 ^ 12 }
-    ensures below { result < 2 ^ 13 }
-    ensures even { result % 2 ≡ 0 }
+        + bits / 2 ^ 31 * 4294963200 }
 {
-    (bits >> 8 & 0xf) << 1 | (bits >> 25 & 0x3f) << 5 | (bits >> 7 & 1) << 11 | bits >> 31 << 12
+    low_branch_offset(bits) + high_branch_offset(bits)
 }
 
 /// The operands of B-type: two sources and the even offset.

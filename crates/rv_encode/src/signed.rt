@@ -1,6 +1,6 @@
 //! Numbers in two's complement at 12, 13 and 21 bits.
 
-ghost use Rattle.std.specs.Prelude.{◌≡◌, ◌/◌, ◌^◌, ◌<◌, ◌%◌};
+ghost use Rattle.std.specs.Prelude.{◌≡◌, ◌/◌, ◌^◌, ◌<◌, ◌≤◌, ◌%◌, ◌*◌, ◌⊎◌};
 ghost use Rattle.rv_isa.specs.Ranges.{IsSigned12, IsBranchOffset, IsJumpOffset};
 ghost use Rattle.rv_encode.specs.Word.{field};
 
@@ -42,15 +42,24 @@ pub(crate) fn upper_12(bits: u32) -> i32
     bits.cast_signed() >> 20
 }
 
-/// The branch offset with these low 13 bits.
+/// The same modulo 2^32.
 #[inline(always)]
-pub(crate) fn signed_13(bits: u32) -> i32
-    requires below { bits < 2 ^ 13 }
-    requires even { bits % 2 ≡ 0 }
-    ensures range { IsBranchOffset result }
-    ensures same { field 13 result ≡ bits }
+pub(crate) fn spread_12(bits: u32) -> u32
+    ensures low { result % 2 ^ 12 ≡ bits / 2 ^ 20 }
+    ensures high { result / 2 ^ 12 ≡ bits / 2 ^ 31 * 1048575 }
 {
-    (bits << 19).cast_signed() >> 19
+    upper_12(bits).cast_unsigned()
+}
+
+/// The branch offset that is this modulo 2^32.
+#[inline(always)]
+pub(crate) fn signed_13(word: u32) -> i32
+    requires range { (word < 2 ^ 12) ⊎ (4294963200 ≤ word) }
+    requires even { word % 2 ≡ 0 }
+    ensures range { IsBranchOffset result }
+    ensures same { field 13 result ≡ word % 2 ^ 13 }
+{
+    word.cast_signed()
 }
 
 /// The jump offset with these low 21 bits.
