@@ -1,6 +1,6 @@
 //! The index of each field's symbol.
 
-ghost use Rattle.std.specs.Prelude.{◌≡◌, ◌<◌, IfOk, drop, length, map};
+ghost use Rattle.std.specs.Prelude.{◌≡◌, ◌<◌, IfOk, drop, map};
 ghost use Rattle.rv_draft.specs.Draft.{field_of};
 ghost use Rattle.rv_assemble.specs.Making.{index_of, next_of, indices_of};
 

@@ -7,7 +7,6 @@ use Rattle.std.proofs.lemmas.Bool.{and_parts, eqb-true}
 use Rattle.rv_isa.specs.declared.instruction.Fence.{Fence as FenceOperands}
 use Rattle.rv_isa.specs.declared.instruction.Format.{Format}
 use Rattle.rv_isa.specs.declared.instruction.Format.TheVariants.{Registers, Immediate, Shift, Upper, Load, Store, Branch, Jal, Jalr, LoadReserved, Atomic, Fence, Ecall, Ebreak}
-use Rattle.rv_isa.specs.Operations.{atomic_name}
 use Rattle.rv_parse_laws.specs.Names.{word_of}
 use Rattle.rv_parse_laws.proofs.NamesLemmas.{means}
 use Rattle.rv_disasm.specs.Instruction.{register, in_parentheses, based, target, operands, accesses, is_tso, is_between, text_of}

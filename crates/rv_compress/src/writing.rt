@@ -1,6 +1,6 @@
 //! From a form to the parcel that spells it.
 
-ghost use Rattle.std.specs.Prelude.{◌≡◌, ◌<◌, ◌≤◌, ◌/◌, ◌%◌, ◌^◌, ◌*◌, ◌+◌, ◌≤ℤ◌, pos, negsuc};
+ghost use Rattle.std.specs.Prelude.{◌≡◌, ◌<◌, ◌%◌, ◌^◌, ◌*◌, ◌+◌};
 ghost use Rattle.rv_encode.specs.Word.{field};
 ghost use Rattle.rv_compress.specs.Parcel.{
   IsBranch,

@@ -4,7 +4,7 @@
 //! itself.
 //! A field that stays open has zeros in the bytes, and the linker writes its number there.
 
-ghost use Rattle.std.specs.Prelude.{◌≡◌, ℕ, ◌<◌, ◌≤◌, ◌+◌, ◌*◌, ◌++◌, ◌^◌, ℤ, pos, List, [], ◌∷◌, true, false, flat_map, map, length, replicate, IfOk, OnOk, if◌then◌else◌};
+ghost use Rattle.std.specs.Prelude.{◌≡◌, ℕ, ◌<◌, ◌≤◌, ◌+◌, ◌*◌, ◌++◌, ◌^◌, pos, List, [], ◌∷◌, true, false, flat_map, map, length, IfOk, OnOk, if◌then◌else◌};
 ghost use Rattle.std.specs.Global.{Vec};
 ghost use Rattle.std.specs.Int.{w64, int_wrap};
 ghost use Rattle.rv_isa_laws.specs.Bytes.{little_endian, zeros};

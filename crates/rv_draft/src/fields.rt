@@ -5,7 +5,7 @@
 //!
 //! Source: System V gABI, "Relocation"; RISC-V ELF psABI, "Relocations", "Linker Relaxation".
 
-ghost use Rattle.std.specs.Prelude.{◌≡◌, ◌≤◌, true, false, ◌+◌, ◌++◌, List, [], ◌∷◌, map, length, None, Some, OnOk, if◌then◌else◌};
+ghost use Rattle.std.specs.Prelude.{◌≡◌, ◌≤◌, false, ◌+◌, ◌++◌, List, [], ◌∷◌, map, length, None, Some, OnOk, if◌then◌else◌};
 ghost use Rattle.rv_isa.specs.declared.kind.Kind.TheVariants as kinds;
 ghost use Rattle.rv_statement.specs.View.{statement_kind};
 ghost use Rattle.rv_unit_laws.specs.Tables.{tables, longest_section};

@@ -1,6 +1,6 @@
 //! What every file of this machine is tested for.
 
-ghost use Rattle.std.specs.Prelude.{◌≡◌, ◌+◌, ◌*◌, ◌<◌, ◌≤◌, length, OnOk, IfOk};
+ghost use Rattle.std.specs.Prelude.{◌≡◌, ◌*◌, ◌<◌, ◌≤◌, length, OnOk, IfOk};
 ghost use Rattle.rv_elf.specs.Fields.{file_header_size, number_in, e_type};
 ghost use Rattle.rv_elf.specs.FirstFault.{Finds, header_tests, table_tests};
 ghost use Rattle.rv_elf.specs.Sections.{HasPrograms, HasSections, is_past, section_count};

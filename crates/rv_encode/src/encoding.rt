@@ -1,6 +1,6 @@
 //! Instructions into words: one sum of fields a format, one line a mnemonic.
 
-ghost use Rattle.std.specs.Prelude.{◌≡◌, ◌<◌, ◌^◌};
+ghost use Rattle.std.specs.Prelude.{◌≡◌, ◌<◌};
 ghost use Rattle.rv_isa.specs.Ranges.{
   IsRType,
   IsIType,

@@ -1,6 +1,6 @@
 //! The tokens of one line, as the search for the place of a fault needs them.
 
-ghost use Rattle.std.specs.Prelude.{◌+◌, ◌<◌, ◌^◌, length};
+ghost use Rattle.std.specs.Prelude.{◌<◌};
 
 use crate::excerpt::Place;
 use rv_lexer::{Lexer, Punct, TokenKind};

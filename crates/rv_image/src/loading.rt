@@ -1,6 +1,6 @@
 //! Reads an executable.
 
-ghost use Rattle.std.specs.Prelude.{◌≡◌, ◌<◌, ◌≤◌, ◌+◌, ◌*◌, ◌⊎◌, false, None, Some, length, take, drop, map, filter, [], ◌∷◌, ◌++◌, IfOk, OnOk, IfErr, MatchResult, ℕ};
+ghost use Rattle.std.specs.Prelude.{◌≡◌, ◌<◌, ◌+◌, ◌*◌, ◌⊎◌, false, None, Some, length, take, drop, map, filter, [], ◌∷◌, ◌++◌, IfOk, MatchResult, ℕ};
 ghost use Rattle.rv_elf.specs.declared.fault.FileFault.TheVariants.{OutOfMemory};
 ghost use Rattle.rv_elf.specs.Fields.{number_in, e_phoff, program_header_size};
 ghost use Rattle.rv_elf.specs.FirstFault.{Finds};

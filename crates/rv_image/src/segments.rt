@@ -1,6 +1,6 @@
 //! The program headers of a file, and the segments that they load.
 
-ghost use Rattle.std.specs.Prelude.{◌≡◌, ◌<◌, ◌≤◌, ◌+◌, ◌*◌, ◌^◌, true, not, nat_lt, length, [], ◌∷◌};
+ghost use Rattle.std.specs.Prelude.{◌≡◌, ◌<◌, ◌≤◌, ◌+◌, ◌^◌, true, not, nat_lt, [], ◌∷◌};
 ghost use Rattle.std.specs.List.{list_any, list_all};
 ghost use Rattle.rv_isa_laws.specs.Platform.{memory_limit};
 ghost use Rattle.rv_elf.specs.FirstFault.{Finds};

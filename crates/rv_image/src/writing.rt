@@ -1,6 +1,6 @@
 //! Writes an executable.
 
-ghost use Rattle.std.specs.Prelude.{if◌then◌else◌, ◌≡◌, ◌<◌, ◌≤◌, ◌+◌, ◌^◌, length, filter, flat_map, [], ◌∷◌, ◌++◌, IfOk, OnOk, ◌-◌};
+ghost use Rattle.std.specs.Prelude.{◌≡◌, ◌<◌, ◌≤◌, ◌+◌, ◌^◌, length, filter, flat_map, [], ◌∷◌, ◌++◌, IfOk, OnOk, ◌-◌};
 ghost use Rattle.rv_elf.specs.Numbers.{pf_x, pf_w, pf_r};
 ghost use Rattle.rv_image.specs.Executable.{exe_of, parts, has_memory, header_of, program_of, program_bytes, with_contents, with_parts, all_parts, offset_of, part_of, memory_size_of};
 ghost use Rattle.rv_image.specs.Linked.{linked_of};

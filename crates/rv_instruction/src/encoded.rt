@@ -3,7 +3,7 @@
 //! Source: RISC-V Unprivileged ISA 20191213, section 1.5 and chapter 16; RISC-V ELF psABI,
 //! "Relocations".
 
-ghost use Rattle.std.specs.Prelude.{◌≡◌, ◌≤◌, ◌&&◌, ◌∷◌, [], ℕ, Bool, true, false, None, Some, MatchOption, length, map};
+ghost use Rattle.std.specs.Prelude.{◌≡◌, ◌≤◌, ◌&&◌, ◌∷◌, [], Bool, true, false, None, Some, MatchOption, length, map};
 ghost use Rattle.rv_isa.specs.Ranges.{IsValid};
 ghost use Rattle.rv_compress.specs.Parcel.{IsLine, IsShortOf, expansion};
 ghost use Rattle.rv_compress.specs.Encoded.{HasShort};

@@ -5,9 +5,8 @@
 ghost use Rattle.std.specs.Prelude.{◌≡◌, IfSome};
 ghost use Rattle.rv_compress.specs.Parcel.{IsLine};
 ghost use Rattle.rv_text.specs.Expr.{tree_of_expr};
-ghost use Rattle.rv_statement.specs.View.{plain_of, statement_kind};
+ghost use Rattle.rv_statement.specs.View.{statement_kind};
 ghost use Rattle.rv_pseudo.specs.Faults.{worth_of, constant_in};
-ghost use Rattle.rv_pseudo.specs.Templates.{statement_with};
 ghost use Rattle.rv_source_laws.specs.Compressed as laws;
 ghost use Rattle.rv_source_laws.specs.Lines.{form_in};
 ghost use Rattle.rv_assemble_laws.specs.Coded.{constants};

@@ -10,7 +10,6 @@ ghost use Rattle.std.specs.Int.{w64, int_wrap};
 ghost use Rattle.rv_text_laws.specs.Values as values;
 ghost use Rattle.rv_statement.specs.Statement.{Expression};
 ghost use Rattle.rv_statement.specs.View.{statement_kind};
-ghost use Rattle.rv_pseudo.specs.Templates.{statement_with};
 ghost use Rattle.rv_unit_laws.specs.Tables.{tables};
 ghost use Rattle.rv_unit.specs.Faults.{ForValue};
 ghost use Rattle.rv_unit.specs.Unit.{said, definition_of};

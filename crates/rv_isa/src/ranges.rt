@@ -1,6 +1,6 @@
 //! Which operands an instruction's word can hold.
 
-ghost use Rattle.std.specs.Prelude.{◌≡◌, IsTrue, ◌↔◌, ◌<◌, ◌^◌};
+ghost use Rattle.std.specs.Prelude.{◌≡◌, IsTrue, ◌↔◌, ◌<◌};
 ghost use Rattle.rv_isa.specs.Ranges.{IsSigned12, IsBranchOffset, IsJumpOffset, IsFence, IsValid, IsValidFormat, shift_limit};
 
 use crate::instruction::{Fence, Format, Inst};

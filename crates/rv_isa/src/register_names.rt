@@ -1,6 +1,6 @@
 //! Registers by name.
 
-ghost use Rattle.std.specs.Prelude.{◌≡◌, ℕ, ◌+◌, ◌-◌, ◌%◌, ◌<◌, ◌≤◌, ◌↔◌, ◌++◌, codes, slice_get};
+ghost use Rattle.std.specs.Prelude.{◌≡◌, ℕ, ◌+◌, ◌-◌, ◌%◌, ◌<◌, ◌↔◌, ◌++◌, codes, slice_get};
 ghost use Rattle.rv_isa.specs.RegisterNames.{abi_names, decimal, IsNameOf};
 
 use crate::register::Reg;

@@ -3,7 +3,7 @@
 //! The table of `rv_command_line` says which words there are, and `clap` takes them apart by it. Numbers are read here, since their
 //! bounds and digits are promised (`decimal`, `text_start`).
 
-ghost use Rattle.std.specs.Prelude.{◌≡◌, ◌≤◌, ℕ, IfSome, IfNone};
+ghost use Rattle.std.specs.Prelude.{◌≤◌, ℕ, IfSome, IfNone};
 ghost use Rattle.rv_job_words.specs.Numbers.{IsNumber, IsStart};
 
 use crate::error::CliError;

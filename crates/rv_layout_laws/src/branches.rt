@@ -1,6 +1,6 @@
 //! Laws of branch sizes, each the contract of a function with nothing to do.
 
-ghost use Rattle.std.specs.Prelude.{◌≡◌, ◌⊎◌, ℕ, ◌+◌, ◌*◌, ◌≤◌, ◌<◌, List, slice_index};
+ghost use Rattle.std.specs.Prelude.{◌≡◌, ◌⊎◌, ℕ, ◌*◌, ◌≤◌, ◌<◌, List, slice_index};
 ghost use Rattle.rv_layout_laws.specs.declared.item.Item.{Item as AnyItem};
 ghost use Rattle.rv_layout_laws.specs.Offsets.{AllGrowEvenly};
 ghost use Rattle.rv_layout_laws.specs.Branches.{IsFamily, IsGood, IsLeastGood, MayWiden, Rounds, Widenings, ReachesBy, branches, item_at, largest, smallest_sizes};

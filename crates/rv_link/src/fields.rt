@@ -1,6 +1,6 @@
 //! The fields of sections.
 
-ghost use Rattle.std.specs.Prelude.{◌≡◌, ◌+◌, ◌<◌, ◌≤◌, IfErr, OnOk, OnErr, length};
+ghost use Rattle.std.specs.Prelude.{◌≡◌, ◌+◌, ◌<◌, ◌≤◌, IfErr, OnOk, length};
 ghost use Rattle.rv_isa.specs.Kinds.{width_of};
 ghost use Rattle.rv_object_laws.specs.Values.{patched_at};
 ghost use Rattle.rv_reloc.specs.Ranges.{Takes};

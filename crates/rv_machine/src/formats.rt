@@ -9,7 +9,6 @@ ghost use Rattle.rv_isa.specs.Operations as inst;
 ghost use Rattle.rv_isa.specs.declared.instruction.Inst.TheVariants as isa;
 ghost use Rattle.rv_isa_laws.specs.Meaning as meaning;
 ghost use Rattle.rv_machine.specs.Asked.{IsAsked};
-ghost use Rattle.rv_machine.specs.Hart.{hart_of};
 
 use crate::action::{Action, Load, Store};
 use crate::alu;

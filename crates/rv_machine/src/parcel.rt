@@ -2,7 +2,7 @@
 //!
 //! Source: RISC-V Unprivileged ISA 20191213, sections 16.3 to 16.5.
 
-ghost use Rattle.std.specs.Prelude.{◌≡◌, ◌<◌, ◌^◌, pos, IfSome};
+ghost use Rattle.std.specs.Prelude.{◌<◌, ◌^◌, pos, IfSome};
 ghost use Rattle.rv_compress.specs.Parcel.{IsLine, expansion};
 ghost use Rattle.rv_isa.specs.Operations as inst;
 ghost use Rattle.rv_isa.specs.declared.instruction.Inst.TheVariants as isa;

@@ -1,6 +1,6 @@
 //! What relocations hold of a section of code.
 
-ghost use Rattle.std.specs.Prelude.{◌≡◌, ◌<◌, ◌≤◌, ◌+◌, ◌^◌, true, false, not, [], ◌∷◌, ◌++◌, List, IfOk, MatchBool, length};
+ghost use Rattle.std.specs.Prelude.{◌≡◌, ◌<◌, ◌≤◌, ◌+◌, true, false, not, [], ◌∷◌, ◌++◌, List, IfOk, MatchBool};
 ghost use Rattle.std.specs.List.{list_any};
 ghost use Rattle.rv_object.specs.Object.{Relocation};
 ghost use Rattle.rv_object.specs.Valid.{held, is_align, are_apart};

@@ -3,14 +3,14 @@
 //! Records are looked at one by one, each next to those before it, so of two that meet the later is at fault. A table of
 //! symbols is known by the header that names it: nothing is looked up ahead, and a fault is told where its record is.
 
-ghost use Rattle.std.specs.Prelude.{◌≡◌, ◌⊎◌, ◌+◌, ◌*◌, ◌≤◌, ◌<◌, ◌^◌, ℕ, true, false, [], ◌∷◌, ◌++◌, List, None, Some, MatchResult, MatchBool, IfOk, length, option_to_list};
+ghost use Rattle.std.specs.Prelude.{◌≡◌, ◌⊎◌, ◌+◌, ◌*◌, ◌≤◌, ◌<◌, true, false, ◌++◌, List, None, Some, MatchResult, MatchBool, IfOk, length, option_to_list};
 ghost use Rattle.rv_elf.specs.Fields.{rela_size};
 ghost use Rattle.rv_elf.specs.FirstFault.{first_true};
 ghost use Rattle.rv_elf.specs.Records.{rela_at};
 ghost use Rattle.rv_elf.specs.Sections.{relas_in};
 ghost use Rattle.rv_elf.specs.declared.fault.FileFault.TheVariants.{OutOfMemory};
 ghost use Rattle.rv_object.specs.Object.{Relocation};
-ghost use Rattle.rv_object.specs.Valid.{held, fits_inside, is_padding, is_padding_of};
+ghost use Rattle.rv_object.specs.Valid.{fits_inside, is_padding, is_padding_of};
 ghost use Rattle.rv_object_file_laws.specs.FirstFault.{relocations_tests, relocation_tests, is_misplaced};
 ghost use Rattle.rv_object_file_laws.specs.Parts.{is_executable, extent_of, kind_numbered, relocation_by, relocation_in, relocations_in};
 ghost use Rattle.rv_object_checks.specs.Held.{fields_of};

@@ -1,6 +1,6 @@
 //! The names of symbols and sections.
 
-ghost use Rattle.std.specs.Prelude.{◌≡◌, [], ◌∷◌, ◌++◌, map, codes, IfOk};
+ghost use Rattle.std.specs.Prelude.{[], ◌∷◌, ◌++◌, map, codes, IfOk};
 ghost use Rattle.rv_object.specs.Parts.{symbol_of};
 ghost use Rattle.rv_object.specs.Object.{Symbol as SaidSymbol};
 ghost use Rattle.rv_object_file_laws.specs.Written.{strings_of, Piece as SaidPiece};

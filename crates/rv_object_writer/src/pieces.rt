@@ -2,13 +2,12 @@
 
 ghost use Rattle.std.specs.Prelude.{◌≡◌, ◌+◌, ◌++◌, ◌∷◌, [], ◌<◌, ◌^◌, map, codes, IfOk, OnOk};
 ghost use Rattle.std.specs.List.{AllByRecursion};
-ghost use Rattle.rv_elf.specs.Fields.{rela_size, symbol_size};
+ghost use Rattle.rv_elf.specs.Fields.{symbol_size};
 ghost use Rattle.rv_elf.specs.Numbers.{sht_strtab, sht_symtab};
 ghost use Rattle.rv_object.specs.Object.{size_of};
-ghost use Rattle.rv_object.specs.Parts.{symbol_of};
 ghost use Rattle.rv_object.specs.Sections.{section_of};
 ghost use Rattle.rv_object.specs.View.{object_of};
-ghost use Rattle.rv_object_file_laws.specs.Written.{section_piece, table_piece, row_pieces, symtab_index, last_index, first_pieces, symbol_names, symbols_bytes, rela_pieces, table_of, locals};
+ghost use Rattle.rv_object_file_laws.specs.Written.{section_piece, table_piece, row_pieces, symtab_index, first_pieces, symbol_names, rela_pieces, locals};
 ghost use Rattle.rv_object_writer.specs.Pieces.{piece_of, rela_piece, AreTables, HaveKnownNumbers};
 
 use crate::names::{SECTION_NAMES, symbol_names};

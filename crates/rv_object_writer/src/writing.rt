@@ -3,7 +3,7 @@
 //! Nothing is refused but want of memory. An object with more sections, symbols or bytes of names than a file has
 //! numbers for loses their upper bytes and cannot be read again. The object of a source is never one.
 
-ghost use Rattle.std.specs.Prelude.{◌≡◌, ◌+◌, ◌++◌, ◌^◌, ◌<◌, ◌≤◌, ℕ, List, None, map, flat_map, length, drop, replicate, if◌then◌else◌, IfOk, OnOk};
+ghost use Rattle.std.specs.Prelude.{◌≡◌, ◌+◌, ◌++◌, ◌^◌, ◌<◌, ◌≤◌, ℕ, List, None, map, flat_map, length, drop, replicate, IfOk, OnOk};
 ghost use Rattle.std.specs.List.{AllByRecursion};
 ghost use Rattle.rv_elf.specs.Fields.{file_header_size, section_header_size};
 ghost use Rattle.rv_elf.specs.Records.{file_header_bytes, section_header_bytes};
@@ -13,7 +13,7 @@ ghost use Rattle.rv_object_file_laws.specs.FirstFault.{first_fault};
 ghost use Rattle.rv_object_file_laws.specs.Known.{IsObject};
 ghost use Rattle.rv_object_file_laws.specs.ObjectOf.{ObjectOf};
 ghost use Rattle.rv_layout_laws.specs.Alignment.{aligned};
-ghost use Rattle.rv_object_file_laws.specs.Written.{zeros_at, contents_from, headers_offset, header_of, headers_from, HasFile, file_of, file_header_of, strings_of, last_index, pieces as file_pieces, section_names as file_names};
+ghost use Rattle.rv_object_file_laws.specs.Written.{zeros_at, contents_from, headers_offset, header_of, headers_from, HasFile, file_of, strings_of, section_names as file_names};
 ghost use Rattle.rv_object_writer.specs.Pieces.{body_bytes, piece_of, header_by, AreTables};
 ghost use Rattle.rv_object_writer.specs.Strings.{IsTable};
 

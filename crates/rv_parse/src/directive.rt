@@ -4,13 +4,12 @@
 //! before it. Lists take their first item before the loop: an empty list is no case, and its fault is that of a single
 //! operand. The loops stand in functions of their own, so that a directive only hands on what they read.
 
-ghost use Rattle.std.specs.Prelude.{◌≡◌, ◌∷◌, [], map, Some};
+ghost use Rattle.std.specs.Prelude.{◌∷◌, [], map, Some};
 ghost use Rattle.rv_lexer.specs.Cursor.{left, Answers};
-ghost use Rattle.rv_text.specs.Expr.{tree_of_expr};
 ghost use Rattle.rv_statement.specs.declared.directive.DirectiveWord.TheVariants.{Enters, Section, Binds, Set, AlignToPower, AlignToBytes, Value, Ascii, Asciz, Zero, Option, Ignored};
 ghost use Rattle.rv_statement.specs.Statement.{Directs};
 ghost use Rattle.rv_statement.specs.View.{statement_kind};
-ghost use Rattle.rv_parse_laws.specs.Syntax.{A_symbol, A_string, A_value, places, directed};
+ghost use Rattle.rv_parse_laws.specs.Syntax.{A_symbol, A_string, A_value, directed};
 ghost use Rattle.rv_parse_laws.specs.declared.role.Role.TheVariants as roles;
 ghost use Rattle.rv_parse_laws.specs.Parsing.{operands_at, items_at, any_at, seen_as};
 ghost use Rattle.rv_parse.specs.View.{value_of};

@@ -2,11 +2,8 @@
 
 ghost use Rattle.std.specs.Prelude.{◌≡◌, false};
 ghost use Rattle.rv_statement.specs.declared.mnemonic.Mnemonic.TheVariants.{Registers};
-ghost use Rattle.rv_statement.specs.Statement.{Instruction};
-ghost use Rattle.rv_statement.specs.View.{statement_kind};
-ghost use Rattle.rv_parse_laws.specs.Syntax.{slots, upper_role, targets};
-ghost use Rattle.rv_parse_laws.specs.Parsing.{operands_at, seen_as};
-ghost use Rattle.rv_lexer.specs.Cursor.{left, Answers};
+ghost use Rattle.rv_parse_laws.specs.Syntax.{upper_role, targets};
+ghost use Rattle.rv_parse_laws.specs.Parsing.{operands_at};
 ghost use Rattle.rv_parse.specs.Left.{ReadsInstruction};
 
 use crate::operands::{self, given, with};

@@ -3,7 +3,7 @@
 //! Lines that are too long are searched apart from the tokens, 65,536 bytes at a time from the back, so that ordinary
 //! sources are hardly read for it. `memchr` looks for line feeds.
 
-ghost use Rattle.std.specs.Prelude.{◌≡◌, ◌<◌, ◌≤◌, List, [], IfOk, IfErr, IfSome, MatchResult, map, length, false, take, ◌+◌};
+ghost use Rattle.std.specs.Prelude.{◌≡◌, ◌<◌, ◌≤◌, List, [], IfOk, IfErr, IfSome, map, length, false, ◌+◌};
 ghost use Rattle.rv_lexer.specs.Token.{token_of, kind_of};
 ghost use Rattle.rv_text_laws.specs.Lexing.{newlines};
 ghost use Rattle.rv_parse_laws.specs.Syntax.{is_end, Says};

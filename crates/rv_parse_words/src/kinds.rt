@@ -9,7 +9,7 @@ ghost use Rattle.rv_text_laws.specs.Bytes.{is_decimal};
 ghost use Rattle.rv_text_laws.specs.Lexing.{is_last};
 ghost use Rattle.rv_lexer.specs.Token.{kind_of};
 ghost use Rattle.rv_statement.specs.View.{now_of, statement_kind};
-ghost use Rattle.rv_parse_laws.specs.Syntax.{is_symbol, is_section_name, register_of, kept_in, symbol_of, label_of, begins, is_comma, is_colon, is_percent, is_at, is_plt, is_end, is_source_end, is_opening, is_closing, is_zero, is_any, is_wrong, accesses_of, single, A_string, A_type, may_stand, function_in, label_named};
+ghost use Rattle.rv_parse_laws.specs.Syntax.{is_symbol, is_section_name, register_of, kept_in, symbol_of, label_of, begins, is_comma, is_colon, is_percent, is_at, is_plt, is_end, is_source_end, is_opening, is_closing, is_zero, is_any, accesses_of, single, A_string, A_type, may_stand, function_in, label_named};
 ghost use Rattle.rv_parse_laws.specs.Faults.{is_name};
 ghost use Rattle.rv_text.specs.Expr.{tree_of_expr};
 ghost use Rattle.rv_parse_laws.specs.WrongOpening.{is_section};

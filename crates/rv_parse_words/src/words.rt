@@ -5,9 +5,8 @@
 //! all of them in one table would be 88 rows that say the same. The tables are data, so one contract on the look-up
 //! covers every row.
 
-ghost use Rattle.std.specs.Prelude.{◌≡◌, map, ◌||◌, ◌&&◌, take, drop, length, option_map, is_some, codes};
+ghost use Rattle.std.specs.Prelude.{◌≡◌, map, ◌||◌, ◌&&◌, option_map, is_some, codes};
 ghost use Rattle.std.specs.Option.{option_or};
-ghost use Rattle.std.specs.Str.{bytes_eq};
 ghost use Rattle.rv_parse_laws.specs.Words.{function_words, left_out_words, left_out_options, section_types, choices, is_among, is_frame, frame_directive, directive_words, directive_named, beginning, register, named_in, atomic_forms, form_behind, atomic_in, atomic_operations, instruction_words, mnemonic_named};
 ghost use Rattle.rv_statement.specs.declared.mnemonic.Mnemonic.TheVariants.{LoadReserved};
 ghost use Rattle.std.specs.List.{list_all};

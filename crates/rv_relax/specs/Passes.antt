@@ -1,7 +1,7 @@
 -- What the tables hold while a pass goes over the sites of a text: the bytes that are dropped before
 -- each site, or from it on.
 
-use Rattle.std.specs.Prelude.{◌≡◌, ◌⊎◌, ℕ, ◌+◌, ◌-◌, ◌*◌, ◌^◌, ◌≤◌, ◌<◌, nat_le, Bool, true, false, ◌&&◌, List, [], ◌∷◌, length, set, slice_index, sum, ℤ, ⊤, MatchBool}
+use Rattle.std.specs.Prelude.{◌≡◌, ◌⊎◌, ℕ, ◌+◌, ◌-◌, ◌*◌, ◌^◌, ◌≤◌, ◌<◌, nat_le, Bool, true, false, ◌&&◌, List, [], ◌∷◌, length, set, slice_index, ℤ, ⊤, MatchBool}
 use Rattle.rv_layout_laws.specs.declared.site.Site.{Site}
 use Rattle.rv_layout_laws.specs.declared.site.Call.{Call as CallSite}
 use Rattle.rv_layout_laws.specs.declared.site.SiteKind.{SiteKind}

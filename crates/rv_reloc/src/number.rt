@@ -1,6 +1,6 @@
 //! Numbers: those of a field's bytes, and a value's bits and halves.
 
-ghost use Rattle.std.specs.Prelude.{◌≡◌, ◌<◌, ◌≤◌, ◌*◌, ◌^◌, pos, ◌+ℤ◌, ◌-ℤ◌, length};
+ghost use Rattle.std.specs.Prelude.{◌≡◌, ◌<◌, ◌*◌, ◌^◌, pos, ◌+ℤ◌, ◌-ℤ◌, length};
 ghost use Rattle.rv_isa_laws.specs.Bytes.{little_endian, number_in};
 ghost use Rattle.rv_isa_laws.specs.Halves.{hi, lo};
 ghost use Rattle.rv_reloc.specs.Fields.{modulo, IsWidth};

@@ -1,6 +1,6 @@
 //! Where an offset lies among the parts of a text that lose bytes, and what of them is dropped before it.
 
-ghost use Rattle.std.specs.Prelude.{◌≡◌, ◌≤◌, ◌<◌, ℕ, true, nat_lt, length};
+ghost use Rattle.std.specs.Prelude.{◌≡◌, ◌≤◌, ◌<◌, true, nat_lt, length};
 ghost use Rattle.std.specs.List.Sorted.{IsPartitionPoint};
 ghost use Rattle.rv_shorten.specs.Pieces.{are_pieces, pieces_dropped};
 

@@ -1,6 +1,6 @@
 //! Relocations of a section of which calls are cut short.
 
-ghost use Rattle.std.specs.Prelude.{◌≡◌, ℕ, true, map, length};
+ghost use Rattle.std.specs.Prelude.{◌≡◌, true, map};
 ghost use Rattle.rv_object.specs.Parts.{relocation_of};
 ghost use Rattle.rv_object_laws.specs.CallSites.{is_call as is_call_kind};
 ghost use Rattle.rv_shorten.specs.Cut.{are_in_order, move_of};

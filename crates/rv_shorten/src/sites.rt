@@ -3,7 +3,7 @@
 //! The sites of all sections of text stand in one line. Each section has one for the padding at its start, and its own sites
 //! come after that: one walk over sections and sites finds which belong together.
 
-ghost use Rattle.std.specs.Prelude.{◌≡◌, ◌+◌, ◌-◌, ◌≤◌, ◌++◌, [], ◌∷◌, true, length, map, IfOk, OnOk};
+ghost use Rattle.std.specs.Prelude.{◌≡◌, ◌+◌, ◌-◌, ◌≤◌, ◌++◌, [], true, length, map, IfOk, OnOk};
 ghost use Rattle.rv_object.specs.Object as said;
 ghost use Rattle.rv_object.specs.Sections.{section_of};
 ghost use Rattle.rv_object_laws.specs.Inputs.{goes_to_text};

@@ -1,6 +1,6 @@
 //! Which statements the sizes are found for.
 
-ghost use Rattle.std.specs.Prelude.{◌≡◌, ◌↔◌, IsTrue};
+ghost use Rattle.std.specs.Prelude.{◌↔◌, IsTrue};
 ghost use Rattle.rv_sizes.specs.Passes.{IsInput, TargetsItsSection};
 
 use rv_layout_laws::{Forms, Item};

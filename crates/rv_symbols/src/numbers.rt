@@ -16,7 +16,7 @@ ghost use Rattle.rv_symbols.specs.SymbolUse.{uses_of};
 ghost use Rattle.rv_symbols.specs.Source.{IsSource};
 ghost use Rattle.rv_symbols.specs.Numbers.{place_number, own_number, outer_number, number_by};
 ghost use Rattle.rv_symbols.specs.Found.{definition_in};
-ghost use Rattle.rv_symbols.specs.Indices.{PlaceIndices, AreNameIndices, ArePlaceIndices};
+ghost use Rattle.rv_symbols.specs.Indices.{AreNameIndices, ArePlaceIndices};
 
 use crate::source::Source;
 use crate::symbol_use::SymbolUse;

@@ -2,11 +2,10 @@
 //!
 //! One pass over the statements finds both, so that a name is asked for its binding once.
 
-ghost use Rattle.std.specs.Prelude.{◌≡◌, ◌<◌, ◌≤◌, ◌+◌, ◌*◌, ◌++◌, ◌&&◌, ◌||◌, ℕ, List, [], ◌∷◌, Some, true, not, length, map, slice_get, if◌then◌else◌, IfOk, OnOk, IfSome};
+ghost use Rattle.std.specs.Prelude.{◌≡◌, ◌<◌, ◌≤◌, ◌+◌, ◌*◌, ◌++◌, ◌&&◌, ◌||◌, ℕ, List, [], ◌∷◌, Some, true, not, length, map, slice_get, if◌then◌else◌, IfOk, OnOk};
 ghost use Rattle.std.specs.HashSet.{contains};
 ghost use Rattle.rv_statement.specs.View.{statement_of};
 ghost use Rattle.rv_unit.specs.Unit.{said};
-ghost use Rattle.rv_map.specs.Name.{is_name};
 ghost use Rattle.rv_object.specs.declared.symbol.Binding.TheVariants.{Local};
 ghost use Rattle.rv_object.specs.declared.symbol.Definition.TheVariants.{InSection};
 ghost use Rattle.rv_object.specs.Parts.{symbol_of};

@@ -1,6 +1,6 @@
 //! The lines that the program writes to standard error, without `rv: ` before them.
 
-ghost use Rattle.std.specs.Prelude.{◌≡◌, IfOk, option_map, string_bytes};
+ghost use Rattle.std.specs.Prelude.{◌≡◌, IfOk, option_map};
 ghost use Rattle.rv_system.specs.Messages.{Tells, end_text, fault_text, file_name, file_text, kind_in, link_text, name_in, run_text, source_text};
 
 use crate::error::JobError;

@@ -1,6 +1,6 @@
 //! Names as messages show them.
 
-ghost use Rattle.std.specs.Prelude.{◌≡◌, ◌++◌, IfOk, OnOk, flat_map, string_bytes};
+ghost use Rattle.std.specs.Prelude.{◌≡◌, ◌++◌, IfOk, OnOk, string_bytes};
 ghost use Rattle.rv_system.specs.Messages.{escape_of, shown_byte, shown_name};
 
 use std::alloc::{AllocError, Global};

@@ -5,7 +5,7 @@
 //! keeps the ordinals of its statements in order: what came before a statement is then found by halving. A label stands
 //! once, in a map by its name.
 
-ghost use Rattle.std.specs.Prelude.{◌≡◌, ℕ, ◌-◌, ◌^◌, min, ◌<◌, ◌||◌, ◌==◌, List, [], false, true, not, is_some, nat_lt, length, Some, None, option_map, map, reverse, IfOk, OnOk};
+ghost use Rattle.std.specs.Prelude.{◌≡◌, ℕ, ◌-◌, ◌^◌, min, ◌<◌, ◌||◌, ◌==◌, [], false, true, not, is_some, Some, None, option_map, map, IfOk, OnOk};
 ghost use Rattle.std.specs.List.{find};
 ghost use Rattle.rv_text_laws.specs.Bytes.{value as digits_value};
 ghost use Rattle.rv_text_laws.specs.Values.{Open};
@@ -13,7 +13,7 @@ ghost use Rattle.rv_text.specs.Nodes.{symbol_of};
 ghost use Rattle.rv_text.specs.Expr.{tree_of_expr};
 ghost use Rattle.rv_text.specs.Eval.{meaning_of, IsOutcome};
 ghost use Rattle.rv_statement.specs.declared.directive.Choice.TheVariants.{Pop};
-ghost use Rattle.rv_statement.specs.View.{statement_kind, now_of};
+ghost use Rattle.rv_statement.specs.View.{now_of};
 ghost use Rattle.rv_unit_laws.specs.Bindings.{bound, is_weak};
 ghost use Rattle.rv_unit_laws.specs.Sections as sections;
 ghost use Rattle.rv_unit_laws.specs.Tables as laws;

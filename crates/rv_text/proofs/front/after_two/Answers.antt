@@ -2,7 +2,7 @@
 use Rattle.std.proofs.Common.{List, Ok, [], ◌∷◌, ◌++◌, sym, ◌∙◌, ap}
 use Rattle.rv_text_laws.specs.Expression.{Node, Primary_node, Binary_node}
 use Rattle.rv_lexer.specs.Cursor.{left}
-use Rattle.rv_text.specs.Nodes.{symbol_of, node_of}
+use Rattle.rv_text.specs.Nodes.{symbol_of}
 use Rattle.rv_text.proofs.FrontsLemmas.{ended_at, settled_infix}
 use Rattle.rv_text.proofs.front.after_two.Goals as goal
 

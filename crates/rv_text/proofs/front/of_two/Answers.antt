@@ -1,5 +1,5 @@
 -- Each node finds its operands.
-use Rattle.std.proofs.Common.{true, [], ◌∷◌, ◌++◌, refl, sym, ◌∙◌, ap}
+use Rattle.std.proofs.Common.{[], ◌∷◌, ◌++◌, ◌∙◌, ap}
 use Rattle.rv_text_laws.specs.Expression.{Binary_node}
 use Rattle.rv_text_laws.specs.Values.{nodes_fit}
 use Rattle.rv_text.proofs.front.of_two.Goals as goal
