@@ -18,8 +18,8 @@ pub record IsProgramFrom (texts : List (List ℕ)) (start : ℕ) (relax gc : Boo
   pub linked : IsLinked sources start relax gc l
   pub flag : l.rvc ≡ is_compressed sources
 
--- that program, or what it is without the details of its map; it is that of the objects of the texts,
--- too
+-- that program, or what it is without the details of its map; it is that of the objects of the
+-- texts, too
 pub record IsProgramWithFrom (texts : List (List ℕ)) (start : ℕ) (relax gc details : Bool)
     (l : Linked) : Type 0 where
   pub whole : Linked

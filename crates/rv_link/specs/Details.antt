@@ -1,5 +1,5 @@
--- Programs with the details of their maps or without: the global names and the rows, which people read and
--- executables do not have.
+-- Programs with the details of their maps or without: the global names and the rows, which people
+-- read and executables do not have.
 
 use Rattle.std.specs.Prelude.{◌≡◌, ℕ, ◌<◌, ◌^◌, ⊤, Bool, false, List, [], if◌then◌else◌}
 use Rattle.rv_image.specs.Linked.{Linked}

@@ -10,8 +10,8 @@ use Rattle.rv_link.specs.declared.fault.LinkFault.{LinkFault}
 use Rattle.rv_link.specs.Refusals.{IsUnlinked}
 use Rattle.rv_link.specs.Details.{with_details}
 
--- objects are linked, to a map that says that these sections were dropped before, with its details or
--- without
+-- objects are linked, to a map that says that these sections were dropped before, with its details
+-- or without
 pub record IsLinkWith (os : List Object) (start : ℕ) (drops : List SectionId) (details : Bool)
     (l : Linked) : Type 0 where
   pub whole : Linked

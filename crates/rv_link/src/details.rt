@@ -13,8 +13,7 @@ ghost use Rattle.rv_resolve.specs.Names.{IsNames};
 ghost use Rattle.rv_resolve.specs.Shown.{shown_globals};
 ghost use Rattle.rv_link.specs.Details.{if_wanted, IsLow, IsNumbered};
 
-use rv_map::Global as MapGlobal;
-use rv_map::Row as MapRow;
+use rv_map::{Global as MapGlobal, Row as MapRow};
 use rv_object::{Definition, Row, Symbol};
 use rv_placement::Placement;
 use rv_resolve::Names;
