@@ -1,12 +1,11 @@
 -- The global names of placed objects can stand in a map.
 
-use Rattle.std.proofs.Common.{◌≡◌, ◌≤◌, ◌<◌, ◌+◌, ◌%◌, ◌^◌, ℕ, suc, Bool, true, false, cond, if◌then◌else◌, Option, Some, None, List, [], ◌∷◌, ◌++◌, map, refl, arith}
+use Rattle.std.proofs.Common.{◌≡◌, ◌≤◌, ◌<◌, ◌+◌, ◌%◌, ◌^◌, ℕ, suc, Bool, true, false, cond, if◌then◌else◌, Option, Some, None, List, [], ◌∷◌, map, refl, arith}
 use Rattle.std.specs.Prelude.{IsTrue, filter, flat_map, is_some, not}
 use Rattle.std.specs.List.{AllByRecursion, slice_get}
 use Rattle.std.proofs.lemmas.Bool.{and_parts}
 use Rattle.rv_map.specs.Globals.{shown, linker_symbols}
 use Rattle.rv_map.specs.Limits.{IsGlobal}
-use Rattle.rv_map.specs.Map.{Global}
 use Rattle.rv_map.specs.Name.{is_name}
 use Rattle.rv_object.specs.declared.symbol.Binding.{Binding}
 use Rattle.rv_object.specs.declared.symbol.Binding.TheVariants as bindings
