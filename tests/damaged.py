@@ -6,12 +6,16 @@ usage: damaged.py [--all]
 Makes objects and executables with ./rv. Each front part of a file is refused as truncated, and
 with any one of its bytes set to 0, or to FFh, it is answered: no signal ends rv, and what it says is a fault or an end.
 Of the zeros up to an executable's first page one in 64 is changed, and the file cut there; all of them with --all.
-Standard library alone; the last line is 'N passed, M failed', where a file counts once for each of the three.
+An object of 114 KB, whose 2,001 global names are ends of one string and have 65 MB written out, is linked within 64 MB.
+Standard library alone; the last line is 'N passed, M failed', where a file counts once for each of the three, and that
+object once.
 """
 
 import multiprocessing
 import os
 import re
+import resource
+import struct
 import subprocess
 import sys
 import tempfile
@@ -107,6 +111,35 @@ def made(source, use):
         return Path(folder, "made").read_bytes()
 
 
+def long_names():
+    """An object that exits with 7, of 2,001 global names that are ends of one string of 64 KB: each means its first byte."""
+    text, string, tables = bytes.fromhex("130570009308d00573000000"), b"n" * 65530 + b"_start\0", b"\0.text\0.symtab\0.strtab\0"
+    starts = [65530 * place // 2000 for place in range(2001)]
+    symbols = bytes(24) + b"".join(struct.pack("<IBBHQQ", 1 + start, 16, 0, 1, 0, 0) for start in starts)
+    held, headers = bytearray(64), [bytes(64)]
+    for name, kind, flags, body, align, link, info, each in (
+        (b".text", 1, 6, text, 4, 0, 0, 0), (b".symtab", 2, 0, symbols, 8, 3, 1, 24),
+        (b".strtab", 3, 0, b"\0" + string, 1, 0, 0, 0), (b".strtab", 3, 0, tables, 1, 0, 0, 0),
+    ):
+        place = len(held)
+        held.extend(body + bytes(-len(body) % 8))
+        at = tables.index(name)
+        headers.append(struct.pack("<IIQQQQIIQQ", at, kind, flags, 0, place, len(body), link, info, align, each))
+    held[:64] = b"\x7fELF\2\1\1" + bytes(9) + struct.pack("<HHIQQQIHHHHHH", 1, 243, 1, 0, 0, len(held), 0, 64, 0, 0, 64, 5, 4)
+    return bytes(held) + b"".join(headers)
+
+
+def wrong_names(folder):
+    """What is wrong with a link without a map of the object of long names, or nothing."""
+    Path(folder, "names").write_bytes(long_names())
+    least = lambda: resource.setrlimit(resource.RLIMIT_AS, (1 << 26, 1 << 26))
+    ran = subprocess.run([RV, "ld", "-o", "made", "names"], cwd=folder, capture_output=True, timeout=SECONDS, preexec_fn=least)
+    if ran.returncode:
+        return f"object of long names: status {ran.returncode}, {ran.stderr!r}"
+    ended = subprocess.run([RV, "run", "made"], cwd=folder, capture_output=True, timeout=SECONDS).returncode
+    return None if ended == 7 else f"program of long names: status {ended}"
+
+
 def places(held, use, every):
     """The offsets that are tried: all, but of the zeros up to an executable's first page one in so many."""
     front = len(held[:PAGE].rstrip(b"\0")) if use == "executable" else len(held)
@@ -116,8 +149,11 @@ def places(held, use, every):
 def main(words):
     if not RV.exists():
         sys.exit("no ./rv: run make first")
-    passed = failed = answers = 0
+    answers = 0
     with tempfile.TemporaryDirectory() as folder, multiprocessing.Pool(len(os.sched_getaffinity(0))) as pool:
+        wrong = wrong_names(folder)
+        print(wrong or "", end="\n" if wrong else "")
+        passed, failed = int(not wrong), int(bool(wrong))
         for source, use in FILES:
             held = made(source, use)
             tried = places(held, use, 1 if words == ["--all"] else 64)

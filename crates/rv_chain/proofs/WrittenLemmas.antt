@@ -1,4 +1,4 @@
--- What is written of a link, with the rows of its map or without.
+-- What is written of a link, with the names and the rows of its map or without.
 
 use Rattle.std.proofs.Common.{◌≡◌, ℕ, ◌<◌, ◌^◌, Bool, true, List, ap, subst, sym, ◌∙◌}
 use Rattle.rv_map.specs.Limits.{IsMap}
@@ -11,12 +11,12 @@ use Rattle.rv_image.specs.FirstFault.{first_fault}
 use Rattle.rv_image.proofs.LoadedAgainLemmas.{laid_out, reload_image, reload_fault}
 use Rattle.rv_object.specs.Object.{Object}
 use Rattle.rv_object_laws.specs.IsProgramOf.{IsProgramOf}
-use Rattle.rv_link.specs.Rows.{with_rows}
+use Rattle.rv_link.specs.Details.{with_details}
 use Rattle.rv_chain.specs.Linking.{IsBuiltOf}
 
--- the rows of a program are no part of its layout, nor of its executable
-same_layout : (rows : Bool) (l : Linked) → IsLaidOut (with_rows rows l) → IsLaidOut l
-same_layout rows l h = record {
+-- the names and the rows of a map are no part of its layout, nor of its executable
+same_layout : (details : Bool) (l : Linked) → IsLaidOut (with_details details l) → IsLaidOut l
+same_layout details l h = record {
   text_fills = h.text_fills;
   rodata_fills = h.rodata_fills;
   data_fills = h.data_fills;
@@ -30,15 +30,15 @@ same_layout rows l h = record {
   entry = h.entry;
 }
 
-pub whole_laid_out : (linked : DeclaredLinked) (rows : Bool) (whole : Linked) → linked_of linked ≡ with_rows rows whole → IsMap whole.map → IsLaidOut whole
-whole_laid_out linked rows whole shown readable =
-    same_layout rows whole (subst IsLaidOut shown (laid_out linked (subst (λ l. l.map.entry < 2 ^ 64) (sym shown) readable.entry)))
+pub whole_laid_out : (linked : DeclaredLinked) (details : Bool) (whole : Linked) → linked_of linked ≡ with_details details whole → IsMap whole.map → IsLaidOut whole
+whole_laid_out linked details whole shown readable =
+    same_layout details whole (subst IsLaidOut shown (laid_out linked (subst (λ l. l.map.entry < 2 ^ 64) (sym shown) readable.entry)))
 
-pub whole_written : (rows : Bool) (l whole : Linked) (exe : List ℕ) → l ≡ with_rows rows whole → exe ≡ exe_of l → exe ≡ exe_of whole
-whole_written rows l whole exe shown written = written ∙ ap exe_of shown
+pub whole_written : (details : Bool) (l whole : Linked) (exe : List ℕ) → l ≡ with_details details whole → exe ≡ exe_of l → exe ≡ exe_of whole
+whole_written details l whole exe shown written = written ∙ ap exe_of shown
 
 -- the whole map
-pub whole_map : (l whole : Linked) (text : List ℕ) → l ≡ with_rows true whole → text ≡ map_text l.map → text ≡ map_text whole.map
+pub whole_map : (l whole : Linked) (text : List ℕ) → l ≡ with_details true whole → text ≡ map_text l.map → text ≡ map_text whole.map
 whole_map l whole text shown written = written ∙ ap (λ l. map_text l.map) shown
 
 pub built_of : (os : List Object) (start : ℕ) (relax gc : Bool) (l : Linked) (exe text : List ℕ) → IsLaidOut l → IsProgramOf os start relax gc l → exe ≡ exe_of l → text ≡ map_text l.map → IsBuiltOf os start relax gc exe text

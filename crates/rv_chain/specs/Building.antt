@@ -5,7 +5,7 @@ use Rattle.rv_statement.specs.Statement.{Statement}
 use Rattle.rv_image.specs.Linked.{Linked}
 use Rattle.rv_source_laws.specs.Compressed.{is_compressed}
 use Rattle.rv_chain_laws.specs.Contents.{IsLinked}
-use Rattle.rv_link.specs.Rows.{with_rows}
+use Rattle.rv_link.specs.Details.{with_details}
 use Rattle.rv_chain_laws.specs.Headline.{AllRead, TheHeadline}
 use Rattle.rv_chain.specs.Linking.{IsProgramOfObjectsFrom}
 
@@ -18,14 +18,14 @@ pub record IsProgramFrom (texts : List (List ℕ)) (start : ℕ) (relax gc : Boo
   pub linked : IsLinked sources start relax gc l
   pub flag : l.rvc ≡ is_compressed sources
 
--- that program, or what it is without the rows of its map; it is that of the objects of the texts,
--- too
-pub record IsProgramWithFrom (texts : List (List ℕ)) (start : ℕ) (relax gc rows : Bool)
+-- that program, or what it is without the details of its map; it is that of the objects of the
+-- texts, too
+pub record IsProgramWithFrom (texts : List (List ℕ)) (start : ℕ) (relax gc details : Bool)
     (l : Linked) : Type 0 where
   pub whole : Linked
   pub program : IsProgramFrom texts start relax gc whole
   pub links : IsProgramOfObjectsFrom texts start relax gc whole
-  pub shown : l ≡ with_rows rows whole
+  pub shown : l ≡ with_details details whole
 
 -- the bytes of an executable with the promise of `build`: some text shows its map
 abbrev pub IsExecutableOf : List (List ℕ) → ℕ → Bool → Bool → List ℕ → Type 0

@@ -9,7 +9,7 @@ use Rattle.rv_image.specs.FirstFault.{first_fault}
 use Rattle.rv_object.specs.Object.{Object}
 use Rattle.rv_object_laws.specs.IsProgramOf.{IsProgramOf}
 use Rattle.rv_link.specs.Refusals.{AreWithin}
-use Rattle.rv_link.specs.Rows.{IsProgramWith}
+use Rattle.rv_link.specs.Details.{IsProgramWith}
 use Rattle.rv_chain.specs.Objects.{AreObjectsFrom, AreObjectsIn}
 
 -- the bytes of the executable of the program of these objects, relaxed or not, and the text of its
@@ -35,11 +35,11 @@ abbrev pub IsLinkedAs : List (List ℕ) → ℕ → Bool → Bool → List ℕ �
 IsLinkedAs files start relax gc executable =
     (text : List ℕ) × AreLinked files start relax gc executable text
 
--- the program of the objects in files, with the rows of its map or without
+-- the program of the objects in files, with the names and the rows of its map or without
 abbrev pub IsProgramWithOf : List (List ℕ) → ℕ → Bool → Bool → Bool → Linked → Type 0
-IsProgramWithOf files start relax gc rows l =
+IsProgramWithOf files start relax gc details l =
     AreWithin (length files) start
-    × ((os : List Object) × AreObjectsIn files os × IsProgramWith os start relax gc rows l)
+    × ((os : List Object) × AreObjectsIn files os × IsProgramWith os start relax gc details l)
 
 -- the program of the objects of texts
 abbrev pub IsProgramOfObjectsFrom : List (List ℕ) → ℕ → Bool → Bool → Linked → Type 0

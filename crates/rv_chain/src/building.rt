@@ -17,7 +17,7 @@ use crate::built::Built;
 use rv_assemble::assemble;
 use rv_fault::Fault;
 use rv_image::{Linked, write_exec};
-use rv_link::{LinkOptions, link_with_rows, within_limits};
+use rv_link::{LinkOptions, link_with_details, within_limits};
 use rv_object::Object;
 use rv_reach_laws::{short_branches_reach, short_calls_reach};
 use rv_reassembly_laws::raw_listings_reassemble;
@@ -75,15 +75,15 @@ pub fn build_exe(alloc: Global, sources: &[&[u8]], options: LinkOptions) -> Resu
     Ok(exe)
 }
 
-/// The linked program of a list of sources, with the rows of its map where they are wanted.
+/// The linked program of a list of sources, with the names and the rows of its map where they are wanted.
 fn linked(
     alloc: Global,
     sources: &[&[u8]],
     options: LinkOptions,
-    rows: bool,
+    details: bool,
 ) -> Result<Linked, Fault>
     ensures program { IfOk result (λ l. IsProgramWithFrom
-        (map now_of sources.now) options.text_start options.relax options.gc rows (linked_of l)) }
+        (map now_of sources.now) options.text_start options.relax options.gc details (linked_of l)) }
     ensures good { IfOk result (λ _. AreGood (map now_of sources.now) options.text_start) }
     ensures refuses { IfErr result
         (IsRefusedFor (map now_of sources.now) options.text_start options.relax options.gc) }
@@ -96,7 +96,7 @@ fn linked(
     // and a refusal is never for a form that was chosen too short
     short_calls_reach();
     short_branches_reach();
-    let linked = link_with_rows(alloc, &objects, options, rows)?;
+    let linked = link_with_details(alloc, &objects, options, details)?;
     Ok(linked)
 }
 

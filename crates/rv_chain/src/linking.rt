@@ -12,7 +12,7 @@ ghost use Rattle.rv_chain.specs.Objects.{IsObjectIn, AreObjectsIn};
 use crate::built::Built;
 use rv_fault::Fault;
 use rv_image::{FileFault, Linked, write_exec};
-use rv_link::{LinkOptions, link_with_rows, within_limits};
+use rv_link::{LinkOptions, link_with_details, within_limits};
 use rv_object::Object;
 use rv_object_reader::read;
 use std::alloc::Global;
@@ -48,22 +48,22 @@ pub fn link_objects_exe(
     Ok(exe)
 }
 
-/// The linked program of the objects in files, with the rows of its map where they are wanted.
+/// The linked program of the objects in files, with the names and the rows of its map where they are wanted.
 fn link_files(
     alloc: Global,
     files: &[&[u8]],
     options: LinkOptions,
-    rows: bool,
+    details: bool,
 ) -> Result<Linked, Fault>
     ensures program { IfOk result
         (λ l. IsProgramWithOf (map now_of files.now)
-        options.text_start options.relax options.gc rows (linked_of l)) }
+        options.text_start options.relax options.gc details (linked_of l)) }
     ensures refuses { IfErr result
         (AreUnlinkable (map now_of files.now) options.text_start options.relax options.gc) }
 {
     within_limits(files.len(), options.text_start)?;
     let read = read_objects(alloc, files)?;
-    let linked = link_with_rows(alloc, &read, options, rows)?;
+    let linked = link_with_details(alloc, &read, options, details)?;
     Ok(linked)
 }
 

@@ -26,7 +26,7 @@ use Rattle.rv_resolve.proofs.AlikeLemmas.{same_names, seen_left}
 use Rattle.rv_link.specs.declared.fault.LinkFault.{LinkFault}
 use Rattle.rv_link.specs.declared.fault.LinkFault.TheVariants.{Overflow, OddTarget, DanglingPcrel, AlignmentShort, Undefined, Duplicate, EntryMissing, ImageTooLarge, BadTextStart, TooManyFiles, OutOfMemory}
 use Rattle.rv_link.specs.Left.{HasNoLink, IsLinkOfLeft}
-use Rattle.rv_link.specs.Rows.{IsProgramWith}
+use Rattle.rv_link.specs.Details.{IsProgramWith}
 use Rattle.rv_link.specs.Refusals.{ArePast, AreWithin, AreDoubled, IsUnlinked, HasNoProgram}
 
 -- ---- names
@@ -155,8 +155,8 @@ out_of_memory ds start relax =
     record { left = some.0; relaxed = some.1; unlinked = tt }
 
 -- what collection drops, where it is off: nothing
-pub none_dropped : (os : List Object) (start : ℕ) (relax : Bool) (drops : List SectionId) (rows : Bool) (l : Linked) → drops ≡ [] → IsLinkOfLeft os start relax drops rows l → IsProgramWith os start relax false rows l
-none_dropped os start relax drops rows l none h =
+pub none_dropped : (os : List Object) (start : ℕ) (relax : Bool) (drops : List SectionId) (details : Bool) (l : Linked) → drops ≡ [] → IsLinkOfLeft os start relax drops details l → IsProgramWith os start relax false details l
+none_dropped os start relax drops details l none h =
     let whole = h.linked.whole in
     let none_here : whole.map.drops ≡ [] = h.linked.dropped ∙ none in
     record {
@@ -178,9 +178,9 @@ none_unlinked os start relax fault h = record {
 }
 
 -- and where it is on
-pub some_dropped : (os kept : List Object) (start : ℕ) (relax : Bool) (drops others : List SectionId) (rows : Bool) (l : Linked) → Collects true os drops → kept ≡ without drops os → others ≡ drops → IsLinkOfLeft kept start relax others rows l
-    → IsProgramWith os start relax true rows l
-some_dropped os kept start relax drops others rows l collects is same h =
+pub some_dropped : (os kept : List Object) (start : ℕ) (relax : Bool) (drops others : List SectionId) (details : Bool) (l : Linked) → Collects true os drops → kept ≡ without drops os → others ≡ drops → IsLinkOfLeft kept start relax others details l
+    → IsProgramWith os start relax true details l
+some_dropped os kept start relax drops others details l collects is same h =
     let whole = h.linked.whole in
     let here : whole.map.drops ≡ drops = h.linked.dropped ∙ same in
     record {
@@ -196,7 +196,7 @@ some_dropped os kept start relax drops others rows l collects is same h =
       shown = h.linked.shown;
     }
 
--- a program with its rows
+-- a program with its details
 pub with_all : (os : List Object) (start : ℕ) (relax gc : Bool) (l : Linked) → IsProgramWith os start relax gc true l → IsProgramOf os start relax gc l
 with_all os start relax gc l h = subst (IsProgramOf os start relax gc) (sym h.shown) h.program
 

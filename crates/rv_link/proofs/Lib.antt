@@ -9,5 +9,6 @@ pub mod UnlinkedLemmas
 pub mod LeftLemmas
 pub mod KnownLemmas
 pub mod NumberedLemmas
+pub mod NamedLemmas
 pub mod MissingLemmas
 pub mod IdleLemmas

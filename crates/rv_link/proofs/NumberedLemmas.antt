@@ -19,7 +19,7 @@ use Rattle.rv_relax.proofs.RisingLemmas.{plan_rises}
 use Rattle.rv_placement.specs.declared.placement.Placement.{Placement}
 use Rattle.rv_placement.specs.Placement.{starts_of, section_at, IsPlacement}
 use Rattle.rv_placement.proofs.FoundLemmas.{in_object, is_placed, start_is}
-use Rattle.rv_link.specs.Rows.{IsNumbered}
+use Rattle.rv_link.specs.Details.{IsNumbered}
 
 -- ---- lists
 

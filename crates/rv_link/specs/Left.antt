@@ -8,22 +8,22 @@ use Rattle.rv_object_laws.specs.IsLinkOf.{IsLinkOf}
 use Rattle.rv_object_laws.specs.Shortened.{Relaxes}
 use Rattle.rv_link.specs.declared.fault.LinkFault.{LinkFault}
 use Rattle.rv_link.specs.Refusals.{IsUnlinked}
-use Rattle.rv_link.specs.Rows.{with_rows}
+use Rattle.rv_link.specs.Details.{with_details}
 
--- objects are linked, to a map that says that these sections were dropped before, with its rows or
--- without
-pub record IsLinkWith (os : List Object) (start : ℕ) (drops : List SectionId) (rows : Bool)
+-- objects are linked, to a map that says that these sections were dropped before, with its details
+-- or without
+pub record IsLinkWith (os : List Object) (start : ℕ) (drops : List SectionId) (details : Bool)
     (l : Linked) : Type 0 where
   pub whole : Linked
   pub linked : IsLinkOf os start whole
   pub dropped : whole.map.drops ≡ drops
-  pub shown : l ≡ with_rows rows whole
+  pub shown : l ≡ with_details details whole
 
 pub record IsLinkOfLeft (os : List Object) (start : ℕ) (relax : Bool) (drops : List SectionId)
-    (rows : Bool) (l : Linked) : Type 0 where
+    (details : Bool) (l : Linked) : Type 0 where
   pub left : List Object
   pub relaxed : Relaxes relax os left
-  pub linked : IsLinkWith left start drops rows l
+  pub linked : IsLinkWith left start drops details l
 
 -- it cannot be
 pub record HasNoLink (os : List Object) (start : ℕ) (relax : Bool) (fault : LinkFault) :

@@ -6,4 +6,4 @@ pub mod Refusals
 pub mod Made
 pub mod Regions
 pub mod Left
-pub mod Rows
+pub mod Details

@@ -9,7 +9,7 @@
 //! which may (`rv_link_sites`), which do (`rv_relax`), and what is left of the objects then (`rv_shorten`). No size changes after
 //! that, and the work is that of the crates below, pass by pass: places (`rv_placement`), values (`rv_link_values`), fields
 //! (`rv_reloc`). The objects are lent: each byte moves once, from its object into the program. [`link_exe`] gives the same program
-//! without the rows of its map, for an executable alone: they cost more than all else.
+//! without the names and the rows of its map, for an executable alone: they cost more than all else.
 //!
 //! The faults come in the order of the passes. With collection a missing entry comes before a name without a meaning, by itself:
 //! [`a_missing_entry_comes_first`].
@@ -25,6 +25,7 @@
 //! Source: System V gABI, "Sections", "Symbol Table", "Relocation"; RISC-V ELF psABI, "Relocations", "Linker Relaxation"; GNU ld.
 #![tactic(auto)]
 
+mod details;
 mod fault;
 mod fields;
 mod fixed;
@@ -34,10 +35,9 @@ mod passes;
 mod programs;
 mod regions;
 mod relaxation;
-mod rows;
 
 pub use fault::LinkFault;
 pub use law::a_missing_entry_comes_first;
 pub use options::LinkOptions;
 pub use passes::{MOST_FILES, within_limits};
-pub use programs::{link, link_exe, link_with_rows};
+pub use programs::{link, link_exe, link_with_details};

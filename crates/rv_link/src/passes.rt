@@ -17,7 +17,7 @@ ghost use Rattle.rv_placement.specs.Placement.{IsPlacement, starts_of};
 ghost use Rattle.rv_map.specs.Limits.{IsDrop, IsMap};
 ghost use Rattle.rv_link.specs.Made.{made};
 ghost use Rattle.rv_link.specs.Left.{IsLinkWith};
-ghost use Rattle.rv_link.specs.Rows.{with_rows};
+ghost use Rattle.rv_link.specs.Details.{with_details};
 ghost use Rattle.rv_resolve.specs.Names.{IsDuplicate, IsNames};
 ghost use Rattle.rv_resolve.specs.Exports.{first_duplicate};
 ghost use Rattle.rv_resolve.specs.Undefined.{first_undefined};
@@ -26,10 +26,10 @@ ghost use Rattle.rv_link.specs.Untaken.{AreUnfilled};
 ghost use Rattle.rv_link.specs.Refusals.{AreDoubled, AreWithin, ArePast, AreUnnamed, AreUnplaced, IsOddEntry, IsUnlinked};
 ghost use Rattle.rv_link.specs.Regions.{AreGrown, IsNamed, IsReady, IsPlaced};
 
+use crate::details::{are_low, are_numbered, globals as globals_of_map, rows as rows_of_map};
 use crate::fault::LinkFault;
 use crate::fixed::Fixed;
 use crate::regions::Regions;
-use crate::rows::{are_numbered, rows as rows_of_map};
 use rv_image::{Linked, STACK_START};
 use rv_link_values::Values;
 use rv_map::{Map, SectionId};
@@ -43,20 +43,20 @@ use std::alloc::{AllocError, Global};
 pub const MOST_FILES: usize = 1024;
 
 /// Links objects with their calls as they are into a program, whose text starts at an address, and whose names mean this. Its map
-/// says what was dropped of them before, and has rows where they are wanted.
+/// says what was dropped of them before, and has names and rows where they are wanted.
 pub(crate) fn link_as_they_are(
     alloc: Global,
     objects: &[ShortObject<'_, '_>],
     names: &Names<'_>,
     drops: Vec<SectionId>,
     start: u64,
-    rows: bool,
+    details: bool,
 ) -> Result<Linked, LinkFault>
     requires within { AreWithin (length objects.now) start }
     requires names { IsNames (map short_object_of objects.now) names.now }
     requires drops { All (λ d. IsDrop d) drops.items }
     ensures links { IfOk result (λ l. IsLinkWith (map short_object_of objects.now)
-        start drops.items rows (linked_of l)) }
+        start drops.items details (linked_of l)) }
     ensures refuses { IfErr result (IsUnlinked (map short_object_of objects.now) start) }
 {
     resolve(alloc, objects, names)?;
@@ -72,7 +72,7 @@ pub(crate) fn link_as_they_are(
     let regions = fill(alloc, objects, &placement, names)?;
     // all bytes are fixed; what is left is to show them
     let linked = finish(
-        alloc, objects, names, drops, placement, entry, regions, rows,
+        alloc, objects, names, drops, placement, entry, regions, details,
     )?;
     Ok(linked)
 }
@@ -198,7 +198,7 @@ fn fill(
     Regions::of(alloc, &fixed)
 }
 
-/// The program of placed objects, whose regions are filled, and its map, with rows where they are wanted.
+/// The program of placed objects, whose regions are filled, and its map, with names and rows where they are wanted.
 fn finish(
     alloc: Global,
     objects: &[ShortObject<'_, '_>],
@@ -207,7 +207,7 @@ fn finish(
     placement: Placement,
     entry: u64,
     regions: Regions,
-    rows: bool,
+    details: bool,
 ) -> Result<Linked, LinkFault>
     requires few { length objects.now ≤ most_files }
     requires placed { IsPlaced (map short_object_of objects.now) names.now placement }
@@ -215,15 +215,16 @@ fn finish(
     requires even { entry % 2 ≡ 0 }
     requires drops { All (λ d. IsDrop d) drops.items }
     ensures made { IfOk result
-        (λ l. linked_of l ≡ with_rows rows
+        (λ l. linked_of l ≡ with_details details
         (made drops.items (map short_object_of objects.now) placement entry regions)) }
     ensures readable { IfOk result (λ _. IsMap
         (made drops.items (map short_object_of objects.now) placement entry regions).map) }
     ensures refuses { IfErr result (λ fault. fault ≡ OutOfMemory) }
 {
-    let globals = names.globals(alloc, objects, &placement)?;
+    are_low(objects);
     are_numbered(objects);
-    let rows = rows_of_map(alloc, objects, &placement, rows)?;
+    let globals = globals_of_map(alloc, objects, names, &placement, details)?;
+    let rows = rows_of_map(alloc, objects, &placement, details)?;
     let map = Map {
         text: placement.text,
         rodata: placement.rodata,

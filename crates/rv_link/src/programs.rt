@@ -8,7 +8,7 @@ ghost use Rattle.rv_object_laws.specs.IsProgramOf.{IsProgramOf};
 ghost use Rattle.rv_resolve.specs.Names.{IsNames};
 ghost use Rattle.rv_link.specs.Left.{HasNoLink, IsLinkOfLeft};
 ghost use Rattle.rv_link.specs.Refusals.{AreWithin, HasNoProgram};
-ghost use Rattle.rv_link.specs.Rows.{IsProgramWith, IsProgramWithoutRows};
+ghost use Rattle.rv_link.specs.Details.{IsProgramWith, IsProgramWithoutDetails};
 
 use crate::fault::LinkFault;
 use crate::options::LinkOptions;
@@ -38,10 +38,10 @@ pub fn link(
     ensures refuses { IfErr result (HasNoProgram (map object_of objects.now)
         options.text_start options.relax options.gc) }
 {
-    link_with_rows(alloc, objects, options, true)
+    link_with_details(alloc, objects, options, true)
 }
 
-/// Links objects as `link`, without the rows of the map, which the executable of the program does not need.
+/// Links objects as `link`, without the names and the rows of the map, which the executable does not need.
 ///
 /// # Errors
 ///
@@ -51,27 +51,27 @@ pub fn link_exe(
     objects: &[Object<'_>],
     options: LinkOptions,
 ) -> Result<Linked, LinkFault>
-    ensures links { IfOk result (λ l. IsProgramWithoutRows (map object_of objects.now)
+    ensures links { IfOk result (λ l. IsProgramWithoutDetails (map object_of objects.now)
         options.text_start options.relax options.gc (linked_of l)) }
     ensures refuses { IfErr result (HasNoProgram (map object_of objects.now)
         options.text_start options.relax options.gc) }
 {
-    link_with_rows(alloc, objects, options, false)
+    link_with_details(alloc, objects, options, false)
 }
 
-/// Links objects as `link`, with the rows of the map where they are wanted.
+/// Links objects as `link`, with the names and the rows of the map where they are wanted.
 ///
 /// # Errors
 ///
 /// Those of `link`.
-pub fn link_with_rows(
+pub fn link_with_details(
     alloc: Global,
     objects: &[Object<'_>],
     options: LinkOptions,
-    rows: bool,
+    details: bool,
 ) -> Result<Linked, LinkFault>
     ensures links { IfOk result (λ l. IsProgramWith (map object_of objects.now)
-        options.text_start options.relax options.gc rows (linked_of l)) }
+        options.text_start options.relax options.gc details (linked_of l)) }
     ensures refuses { IfErr result (HasNoProgram (map object_of objects.now)
         options.text_start options.relax options.gc) }
 {
@@ -80,9 +80,9 @@ pub fn link_with_rows(
     let names = named(alloc, objects)?;
     // what each name means is fixed: which symbol defines it, though not where that stands
     if options.gc {
-        return link_collected(alloc, objects, &names, options, rows);
+        return link_collected(alloc, objects, &names, options, details);
     }
-    link_left(alloc, objects, &names, Vec::new(alloc), options, rows)
+    link_left(alloc, objects, &names, Vec::new(alloc), options, details)
 }
 
 /// Links what collection leaves of objects, whose names mean this.
@@ -91,12 +91,12 @@ fn link_collected(
     objects: &[Object<'_>],
     names: &Names<'_>,
     options: LinkOptions,
-    rows: bool,
+    details: bool,
 ) -> Result<Linked, LinkFault>
     requires within { AreWithin (length objects.now) options.text_start }
     requires names { IsNames (map object_of objects.now) names.now }
     ensures links { IfOk result (λ l. IsProgramWith (map object_of objects.now)
-        options.text_start options.relax true rows (linked_of l)) }
+        options.text_start options.relax true details (linked_of l)) }
     ensures refuses { IfErr result (HasNoProgram (map object_of objects.now)
         options.text_start options.relax true) }
 {
@@ -104,7 +104,7 @@ fn link_collected(
     let kept = collection.left(alloc, objects)?;
     let drops = collection.drops(alloc, objects)?;
     // which sections are linked is fixed
-    link_left(alloc, &kept, names, drops, options, rows)
+    link_left(alloc, &kept, names, drops, options, details)
 }
 
 /// Links the objects that collection leaves, whose names mean this, into a program whose map says what it dropped.
@@ -114,17 +114,17 @@ fn link_left(
     names: &Names<'_>,
     drops: Vec<SectionId>,
     options: LinkOptions,
-    rows: bool,
+    details: bool,
 ) -> Result<Linked, LinkFault>
     requires within { AreWithin (length objects.now) options.text_start }
     requires names { IsNames (map object_of objects.now) names.now }
     requires drops { All (λ d. IsDrop d) drops.items }
     ensures links { IfOk result (λ l. IsLinkOfLeft (map object_of objects.now)
-        options.text_start options.relax drops.items rows (linked_of l)) }
+        options.text_start options.relax drops.items details (linked_of l)) }
     ensures refuses { IfErr result
         (HasNoLink (map object_of objects.now) options.text_start options.relax) }
 {
     let left = relaxed(alloc, objects, names, options.relax)?;
     // no call changes any more
-    link_as_they_are(alloc, &left, names, drops, options.text_start, rows)
+    link_as_they_are(alloc, &left, names, drops, options.text_start, details)
 }

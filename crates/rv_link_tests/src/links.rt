@@ -31,8 +31,9 @@ fn a_program(rt: HostRuntime) -> Result<(), Fail> {
     let linked = link(alloc, &objects, OPTIONS)?;
     assert!(rt; linked.text.as_slice() == SHORT);
     assert!(rt; linked.rodata.is_empty() && linked.data.is_empty() && linked.rvc);
-    // no object has rows, so there is nothing to leave out
-    assert!(rt; link_exe(alloc, &objects, OPTIONS)? == linked);
+    // an executable needs no names; no object has rows, so there is nothing else to leave out
+    let bare = link_exe(alloc, &objects, OPTIONS)?;
+    assert!(rt; bare.text == linked.text && bare.map.globals.is_empty());
     let map = &linked.map;
     let text = Region {
         start: 0x1_0000,

@@ -4,7 +4,7 @@ use Rattle.rv_statement.specs.View.{now_of}
 use Rattle.rv_image.specs.Linked.{linked_of}
 use Rattle.rv_object.specs.View.{object_of}
 use Rattle.rv_link.specs.Refusals.{AreWithin, HasNoProgram}
-use Rattle.rv_link.specs.Rows.{IsProgramWith}
+use Rattle.rv_link.specs.Details.{IsProgramWith}
 use Rattle.rv_chain.specs.Refusals.{AreUnlinked, IsRefusedFor}
 use Rattle.rv_chain.proofs.GatheredLemmas.{err_given, gathered, link_refused, short_forms_reach}
 use Rattle.rv_chain.proofs.building.linked.Goals as goal
@@ -38,7 +38,7 @@ returns-clause-program c =
     let gc = c.args.options.gc in
     let l = linked_of c.in_ok-linked.linked in
     let g = gathered texts os c.in_ok-objects.ensures.objects in
-    let with : IsProgramWith os start relax gc c.args.rows l = subst (λ items. IsProgramWith (map object_of items) start relax gc c.args.rows l) c.deref.ensures.value c.in_ok-linked.ensures.links in
+    let with : IsProgramWith os start relax gc c.args.details l = subst (λ items. IsProgramWith (map object_of items) start relax gc c.args.details l) c.deref.ensures.value c.in_ok-linked.ensures.links in
     record {
       whole = with.whole;
       program = record {

@@ -38,12 +38,12 @@ returns-clause-links c =
     let os = map object_of c.args.objects.now in
     let start = c.args.options.text_start in
     let drops = c.args.drops.items in
-    let rows = c.args.rows in
-    IfOk-weaker c.link_as_they_are.result (λ l. IsLinkWith (map short_object_of c.deref.result.now) start drops rows (linked_of l)) (λ l. IsLinkOfLeft os start c.args.options.relax drops rows (linked_of l))
+    let details = c.args.details in
+    IfOk-weaker c.link_as_they_are.result (λ l. IsLinkWith (map short_object_of c.deref.result.now) start drops details (linked_of l)) (λ l. IsLinkOfLeft os start c.args.options.relax drops details (linked_of l))
     (λ l links. record {
       left = map short_object_of c.in_ok-left.left.items;
       relaxed = c.in_ok-left.ensures.relaxes;
-      linked = subst (λ left. IsLinkWith (map short_object_of left) start drops rows (linked_of l)) c.deref.ensures.value links;
+      linked = subst (λ left. IsLinkWith (map short_object_of left) start drops details (linked_of l)) c.deref.ensures.value links;
     })
     c.link_as_they_are.ensures.links
 

@@ -1,7 +1,7 @@
 use Rattle.std.proofs.Common.{drop}
 use Rattle.std.specs.List.{AllByRecursion}
-use Rattle.rv_link.specs.Rows.{IsNumbered}
-use Rattle.rv_link.proofs.rows.have_numbers.Given as goal
+use Rattle.rv_link.specs.Details.{IsNumbered}
+use Rattle.rv_link.proofs.details.have_numbers.Given as goal
 
 -- all do, if those do that are left
 abbrev pub invariant-loop-row : goal.invariant-loop-row

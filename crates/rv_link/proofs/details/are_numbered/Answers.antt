@@ -1,9 +1,9 @@
 use Rattle.std.proofs.Common.{sym, subst}
 use Rattle.std.specs.List.{AllByRecursion}
 use Rattle.rv_shorten.specs.View.{short_object_of, moves_of}
-use Rattle.rv_link.specs.Rows.{IsNumbered}
+use Rattle.rv_link.specs.Details.{IsNumbered}
 use Rattle.rv_link.proofs.NumberedLemmas.{AreNumbered, all_mapped, cut_numbered, next_left, none_left}
-use Rattle.rv_link.proofs.rows.are_numbered.Goals as goal
+use Rattle.rv_link.proofs.details.are_numbered.Goals as goal
 
 pub loop-i-init : goal.loop-i-init
 loop-i-init c = λ all. all

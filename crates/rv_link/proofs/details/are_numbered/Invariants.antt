@@ -1,7 +1,7 @@
 use Rattle.std.proofs.Common.{drop}
 use Rattle.std.specs.List.{AllByRecursion}
 use Rattle.rv_link.proofs.NumberedLemmas.{AreNumbered}
-use Rattle.rv_link.proofs.rows.are_numbered.Given as goal
+use Rattle.rv_link.proofs.details.are_numbered.Given as goal
 
 -- all are, if those are that are left
 abbrev pub invariant-loop-i : goal.invariant-loop-i

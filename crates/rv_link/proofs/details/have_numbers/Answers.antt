@@ -1,8 +1,8 @@
 use Rattle.std.proofs.lemmas.List.{get_or_default}
 use Rattle.rv_object.specs.declared.row.Row.{Row}
-use Rattle.rv_link.specs.Rows.{IsNumbered}
+use Rattle.rv_link.specs.Details.{IsNumbered}
 use Rattle.rv_link.proofs.NumberedLemmas.{next_left, none_left}
-use Rattle.rv_link.proofs.rows.have_numbers.Goals as goal
+use Rattle.rv_link.proofs.details.have_numbers.Goals as goal
 
 abbrev blank : Row
 blank = record { line = 0; ordinal = 0; section = 0; offset = 0; bytes = 0; instructions = 0 }

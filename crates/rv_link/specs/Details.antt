@@ -1,0 +1,45 @@
+-- Programs with the details of their maps or without: the global names and the rows, which people
+-- read and executables do not have.
+
+use Rattle.std.specs.Prelude.{◌≡◌, ℕ, ◌<◌, ◌^◌, ⊤, Bool, false, List, [], if◌then◌else◌}
+use Rattle.rv_image.specs.Linked.{Linked}
+use Rattle.rv_object.specs.declared.row.Row.{Row}
+use Rattle.rv_object.specs.declared.symbol.Definition.{Definition}
+use Rattle.rv_object.specs.declared.symbol.Definition.TheVariants.{Undefined, Absolute, InSection, Skipped}
+use Rattle.rv_object.specs.Object.{Object}
+use Rattle.rv_object_laws.specs.IsProgramOf.{IsProgramOf}
+
+abbrev pub if_wanted : {A : Type 0} → Bool → List A → List A
+if_wanted details all = if details then all else []
+
+-- with the names and the rows of its map, or without
+abbrev pub with_details : Bool → Linked → Linked
+with_details details l =
+    record l {
+      map = record l.map {
+        globals = if_wanted details l.map.globals;
+        rows = if_wanted details l.map.rows;
+      };
+    }
+
+-- the program of objects, relaxed or not, collected or not, with the details of its map or without
+pub record IsProgramWith (os : List Object) (start : ℕ) (relax gc details : Bool)
+    (l : Linked) : Type 0 where
+  pub whole : Linked
+  pub program : IsProgramOf os start relax gc whole
+  pub shown : l ≡ with_details details whole
+
+-- without them: what it has besides is the whole program's
+abbrev pub IsProgramWithoutDetails : List Object → ℕ → Bool → Bool → Linked → Type 0
+IsProgramWithoutDetails os start relax gc l = IsProgramWith os start relax gc false l
+
+-- the numbers of a row of an object can stand in a map
+abbrev pub IsNumbered : Row → Type 0
+IsNumbered r = (r.line < 2 ^ 64) × (r.ordinal < 2 ^ 64) × (r.instructions < 2 ^ 64)
+
+-- so can the number that a symbol is
+abbrev pub IsLow : Definition → Type 0
+IsLow Undefined = ⊤
+IsLow (Absolute n) = n < 2 ^ 64
+IsLow (InSection section offset) = ⊤
+IsLow (Skipped n) = ⊤
