@@ -108,24 +108,18 @@ later_fit xs ys i d count after e lt same f =
 pub last_fits : (xs ys : List code.Node) (i count : ℕ) → ys ≡ xs → length ys ≤ i → nodes_fit (map node_of (drop i xs)) count ≡ true → 0 < count
 last_fits xs ys i count e le f = some_left count (ap (λ (l : List Node). nodes_fit l count) (sym (no_node xs ys i e le)) ∙ f)
 
--- the negative of a number, and a primary and a number under their operator
+-- the negative of a number, and two primaries under their operator
 pub negative_value : (m : Primary → Meaning) (n : ℕ) → value_of m (tree_of (Primary_node (Literal n) ∷ Unary_node Negate ∷ [])) ≡ alone Negate (Constant n)
 unfolding tree_of
 negative_value m n = refl
 
-pub pair_value : (m : Primary → Meaning) (p : Primary) (n : ℕ) (o : BinaryOperator)
-    → value_of m (tree_of (Primary_node p ∷ Primary_node (Literal n) ∷ Binary_node o ∷ [])) ≡ both o (primary_value m p) (Constant n)
-unfolding tree_of
-pair_value m p n o = refl
-
--- two symbols under their operator
-pub two_value : (m : Primary → Meaning) (p q : Primary) (o : BinaryOperator)
+pub pair_value : (m : Primary → Meaning) (p q : Primary) (o : BinaryOperator)
     → value_of m (tree_of (Primary_node p ∷ Primary_node q ∷ Binary_node o ∷ [])) ≡ both o (primary_value m p) (primary_value m q)
 unfolding tree_of
-two_value m p q o = refl
+pair_value m p q o = refl
 
-pub pair_outcome : (m : Primary → Meaning) (p : Primary) (n : ℕ) (o : BinaryOperator) (e : Expr) (result : Result code_value.Value SourceFault) (line : ℕ) (part : Value)
-    → expr_of e ≡ Primary_node p ∷ Primary_node (Literal n) ∷ Binary_node o ∷ [] → part ≡ both o (primary_value m p) (Constant n) → IsOutcome result line part
+pub pair_outcome : (m : Primary → Meaning) (p q : Primary) (o : BinaryOperator) (e : Expr) (result : Result code_value.Value SourceFault) (line : ℕ) (part : Value)
+    → expr_of e ≡ Primary_node p ∷ Primary_node q ∷ Binary_node o ∷ [] → part ≡ both o (primary_value m p) (primary_value m q) → IsOutcome result line part
     → IsOutcome result line (value_of m (tree_of_expr e))
-pair_outcome m p n o e result line part is same h =
-    subst (IsOutcome result line) (same ∙ sym (pair_value m p n o) ∙ ap (λ (ns : List Node). value_of m (tree_of ns)) (sym is)) h
+pair_outcome m p q o e result line part is same h =
+    subst (IsOutcome result line) (same ∙ sym (pair_value m p q o) ∙ ap (λ (ns : List Node). value_of m (tree_of ns)) (sym is)) h

@@ -4,15 +4,14 @@ use Rattle.std.specs.Prelude.{◌≡◌, ℕ, Bool, true, false, List, [], ◌�
 use Rattle.rv_text_laws.specs.declared.operator.Frame.{Frame}
 use Rattle.rv_text_laws.specs.declared.operator.Frame.TheVariants.{Prefix, Infix}
 use Rattle.rv_text_laws.specs.declared.operator.UnaryOperator.TheVariants.{Negate}
-use Rattle.rv_text_laws.specs.declared.operator.BinaryOperator.{BinaryOperator}
 use Rattle.rv_text_laws.specs.Expression as expression
 use Rattle.rv_text_laws.specs.ExpressionAt as reading
 use Rattle.rv_text_laws.specs.Lexing.{Token}
 use Rattle.rv_text_laws.specs.SyntaxError as syntax
 use Rattle.rv_text.specs.declared.expr.Expr.{Expr}
 use Rattle.rv_text.specs.declared.expr.Expr.TheVariants as exprs
-use Rattle.rv_text.specs.declared.node.Symbol.{Symbol}
 use Rattle.rv_text.specs.declared.pair.Pair.{Pair}
+use Rattle.rv_text.specs.declared.pair.SymbolPair.{SymbolPair}
 use Rattle.rv_text.specs.declared.reading.Stage.{Stage}
 use Rattle.rv_text.specs.declared.reading.Stage.TheVariants as stages
 use Rattle.rv_text.specs.declared.reading.Step.{Step}
@@ -84,11 +83,11 @@ after_pair pair =
     expression.Primary_node (expression.Literal pair.number) ∷ [])
 
 -- the stage after a symbol, an operator and another symbol
-abbrev pub after_two : Symbol → BinaryOperator → Symbol → reading.Stage
-after_two symbol operator other =
-    reading.Has (Infix operator ∷ [])
-    (expression.Primary_node (symbol_of symbol) ∷
-    expression.Primary_node (symbol_of other) ∷ [])
+abbrev pub after_two : SymbolPair → reading.Stage
+after_two pair =
+    reading.Has (Infix pair.operator ∷ [])
+    (expression.Primary_node (symbol_of pair.left) ∷
+    expression.Primary_node (symbol_of pair.right) ∷ [])
 
 -- some tokens lead to this stage with these tokens left
 abbrev pub Reached : (List ℕ → Bool) → reading.Stage → List Token → Type 0
@@ -107,6 +106,13 @@ pair_nodes pair =
     expression.Primary_node (expression.Literal pair.number) ∷
     expression.Binary_node pair.operator ∷ []
 
+-- two symbols and the operator on both
+abbrev pub two_nodes : SymbolPair → List expression.Node
+two_nodes pair =
+    expression.Primary_node (symbol_of pair.left) ∷
+    expression.Primary_node (symbol_of pair.right) ∷
+    expression.Binary_node pair.operator ∷ []
+
 -- the nodes of an expression
 abbrev pub expr_of : Expr → List expression.Node
 expr_of (exprs.Number number) = alone (expression.Literal number)
@@ -121,6 +127,7 @@ expr_of (exprs.NamePair operator number name) =
     expression.Primary_node (expression.Literal number) ∷
     expression.Binary_node operator ∷ []
 expr_of (exprs.Pair pair) = pair_nodes pair.value
+expr_of (exprs.SymbolPair pair) = two_nodes pair.value
 expr_of (exprs.Compound compound) = nodes_of compound.value.nodes
 
 -- what is read from a stage on, with the tokens that are left

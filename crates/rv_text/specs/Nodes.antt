@@ -2,7 +2,6 @@
 
 use Rattle.std.specs.Prelude.{Bool, true, false, List, [], ◌∷◌, map, Option, Some, None}
 use Rattle.std.specs.List.{list_all}
-use Rattle.rv_text_laws.specs.declared.operator.BinaryOperator.{BinaryOperator}
 use Rattle.rv_text_laws.specs.Expression as expression
 use Rattle.rv_text.specs.declared.node.Symbol.{Symbol}
 use Rattle.rv_text.specs.declared.node.Symbol.TheVariants as symbols
@@ -24,12 +23,6 @@ node_of (nodes.Binary operator) = expression.Binary_node operator
 
 abbrev pub nodes_of : Nodes → List expression.Node
 nodes_of e = node_of e.first ∷ map node_of e.rest.items
-
--- two symbols and the operator on them
-abbrev pub two_nodes : Symbol → Symbol → BinaryOperator → List expression.Node
-two_nodes left right operator =
-    expression.Primary_node (symbol_of left) ∷ expression.Primary_node (symbol_of right) ∷
-    expression.Binary_node operator ∷ []
 
 -- a node that is no symbol
 abbrev pub is_number_node : expression.Node → Bool

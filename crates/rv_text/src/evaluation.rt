@@ -16,7 +16,7 @@ ghost use Rattle.rv_text.specs.Eval.{meaning_of, part_of, tops, Means, IsOutcome
 
 use crate::expr::Expr;
 use crate::node::{Node, Nodes, Symbol};
-use crate::pair::Pair;
+use crate::pair::{Pair, SymbolPair};
 use arrayvec::ArrayVec;
 use rv_lexer::{SourceCode, SourceFault};
 use rv_text_laws::{BinaryOperator, UnaryOperator};
@@ -408,32 +408,18 @@ fn pair_value<'a, F: Fn(Symbol<'a>) -> Meaning>(pair: &Pair<'a>, names: &F) -> P
 }
 
 /// The value of two symbols under their operator.
-fn value_of_two<'a, F: Fn(Symbol<'a>) -> Meaning>(
-    operator: BinaryOperator,
-    left: Symbol<'a>,
-    right: Symbol<'a>,
-    names: &F,
-) -> Part<'a>
+fn symbols_value<'a, F: Fn(Symbol<'a>) -> Meaning>(pair: &SymbolPair<'a>, names: &F) -> Part<'a>
     requires { F.IsAlwaysCallable names.now }
     ensures { (m : Primary → values.Meaning) → Means (F.post names.now) m →
         part_of result
-        ≡ values.both operator (values.primary_value m (symbol_of left.entry))
-        (values.primary_value m (symbol_of right.entry)) }
+        ≡ values.both pair.now.operator (values.primary_value m (symbol_of pair.now.left))
+        (values.primary_value m (symbol_of pair.now.right)) }
 {
-    both(operator, lone(left, names), lone(right, names))
-}
-
-/// The value of the nodes, whichever these are.
-fn value_of_all<'a, F: Fn(Symbol<'a>) -> Meaning>(nodes: &Nodes<'a>, names: &F) -> Part<'a>
-    requires callable { F.IsAlwaysCallable names.now }
-    requires fits { values.nodes_fit (nodes_of nodes.now) 0 ≡ true }
-    ensures { (m : Primary → values.Meaning) → Means (F.post names.now) m →
-        part_of result ≡ values.value_of m (tree_of (nodes_of nodes.now)) }
-{
-    match value_of_few(nodes, names) {
-        Some(part) => part,
-        None => evaluate(nodes, names),
-    }
+    both(
+        pair.operator,
+        lone(pair.left, names),
+        lone(pair.right, names),
+    )
 }
 
 /// The value of the nodes of an expression with operators.
@@ -443,9 +429,9 @@ fn compound_value<'a, F: Fn(Symbol<'a>) -> Meaning>(nodes: &Nodes<'a>, names: &F
     ensures { (m : Primary → values.Meaning) → Means (F.post names.now) m →
         part_of result ≡ values.value_of m (tree_of (nodes_of nodes.now)) }
 {
-    match nodes.two_symbols() {
-        Some((left, right, operator)) => value_of_two(operator, left, right, names),
-        None => value_of_all(nodes, names),
+    match value_of_few(nodes, names) {
+        Some(part) => part,
+        None => evaluate(nodes, names),
     }
 }
 
@@ -475,6 +461,7 @@ pub fn eval<'a, F: Fn(Symbol<'a>) -> Meaning>(
             outcome(pair_value(&pair, names), line)
         }
         Expr::Pair(pair) => outcome(pair_value(pair, names), line),
+        Expr::SymbolPair(pair) => outcome(symbols_value(pair, names), line),
         Expr::Compound(compound) => outcome(compound_value(&compound.nodes, names), line),
     }
 }

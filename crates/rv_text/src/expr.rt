@@ -1,17 +1,18 @@
 //! Expressions that were read.
 //!
 //! An expression has 24 bytes at most, so that a statement has 40. A number, its negative, a symbol, and a name with an
-//! operator and a number below 2^32 take no heap; every other takes one block, or two.
+//! operator and a number below 2^32 take no heap; every other operator on a symbol and a number, or on two symbols,
+//! takes one block, and every other expression two.
 
 ghost use Rattle.std.specs.Prelude.{◌≡◌, true, [], ◌∷◌, IfOk};
 ghost use Rattle.rv_text_laws.specs.Expression.{Primary_node};
 ghost use Rattle.rv_text_laws.specs.Values.{nodes_fit};
 ghost use Rattle.rv_text.specs.Nodes.{symbol_of, nodes_of, are_numbers};
-ghost use Rattle.rv_text.specs.Expr.{expr_of, pair_nodes};
+ghost use Rattle.rv_text.specs.Expr.{expr_of, pair_nodes, two_nodes};
 
 use crate::compound::Compound;
 use crate::node::{Node, Nodes, Symbol};
-use crate::pair::Pair;
+use crate::pair::{Pair, SymbolPair};
 use rv_text_laws::BinaryOperator;
 use std::alloc::{AllocError, Global};
 
@@ -35,6 +36,8 @@ pub enum Expr<'a> {
     NamePair(BinaryOperator, u32, &'a [u8]),
     /// Another symbol, an operator and a number, or a larger number.
     Pair(Box<Pair<'a>>),
+    /// Two symbols and the operator on them.
+    SymbolPair(Box<SymbolPair<'a>>),
     /// Another expression with operators.
     Compound(Box<Compound<'a>>),
 }
@@ -61,7 +64,7 @@ impl<'a> Expr<'a> {
         match self {
             Expr::Number(_) | Expr::Negative(_) => true,
             Expr::Name(_) | Expr::Here | Expr::Backward(_) | Expr::Forward(_) => false,
-            Expr::NamePair(..) | Expr::Pair(_) => false,
+            Expr::NamePair(..) | Expr::Pair(_) | Expr::SymbolPair(_) => false,
             Expr::Compound(compound) => compound.nodes.are_numbers(),
         }
     }
@@ -76,6 +79,13 @@ impl<'a> Expr<'a> {
             }
             _ => Ok(Expr::Pair(Box::new(alloc, pair)?)),
         }
+    }
+
+    /// Two symbols and the operator on them.
+    pub(crate) fn of_two(alloc: Global, pair: SymbolPair<'a>) -> Result<Self, AllocError>
+        ensures { IfOk result (λ e. expr_of e ≡ two_nodes pair.entry) }
+    {
+        Ok(Expr::SymbolPair(Box::new(alloc, pair)?))
     }
 
     /// The expression of these nodes.

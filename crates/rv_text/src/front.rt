@@ -2,19 +2,19 @@
 //!
 //! These are read here without the loop and its stack.
 
-ghost use Rattle.std.specs.Prelude.{◌≡◌, [], ◌∷◌, ◌++◌, IfOk, IfErr};
-ghost use Rattle.rv_text_laws.specs.Expression.{Primary, Primary_node, Binary_node, Literal, follows};
+ghost use Rattle.std.specs.Prelude.{◌≡◌, [], ◌∷◌, IfOk, IfErr};
+ghost use Rattle.rv_text_laws.specs.Expression.{Primary_node, Literal, follows};
 ghost use Rattle.rv_text_laws.specs.ExpressionAt.{Wants};
 ghost use Rattle.rv_text_laws.specs.declared.operator.UnaryOperator.TheVariants.{Negate};
 ghost use Rattle.rv_text_laws.specs.declared.operator.Frame.TheVariants.{Prefix, Infix};
 ghost use Rattle.rv_lexer.specs.Cursor.{left};
 ghost use Rattle.rv_lexer.specs.Token.{kind_of};
 ghost use Rattle.rv_text.specs.Nodes.{symbol_of, node_of, nodes_of};
-ghost use Rattle.rv_text.specs.Expr.{stack_of, expr_of, ends_operand, after_operand, after_negative, after_pair, after_two, Reached, ReadOn, IsAtNext};
+ghost use Rattle.rv_text.specs.Expr.{stack_of, ends_operand, after_operand, after_negative, after_pair, after_two, Reached, ReadOn, IsAtNext};
 
 use crate::expr::Expr;
 use crate::node::{Node, Nodes, Symbol};
-use crate::pair::Pair;
+use crate::pair::{Pair, SymbolPair};
 use crate::reading::{Begin, Follow, Registers, Stage, begins, follows, read_on};
 use rv_lexer::{Cursor, ReadError, TokenKind};
 use rv_text_laws::{BinaryOperator, Frame, UnaryOperator};
@@ -125,40 +125,22 @@ fn after_pair<'a, R: Registers>(
     read_on::<R>(alloc, cursor, frames, Stage::Has(nodes))
 }
 
-/// Two symbols and the operator on them.
-fn of_two<'a>(
-    alloc: Global,
-    nodes: Nodes<'a>,
-    operator: BinaryOperator,
-) -> Result<Expr<'a>, AllocError>
-    requires { (p q : Primary) × (nodes_of nodes ≡ Primary_node p ∷ Primary_node q ∷ []) }
-    ensures { IfOk result
-        (λ e. expr_of e ≡ nodes_of nodes.entry ++ Binary_node operator ∷ []) }
-{
-    let mut nodes = nodes;
-    nodes.push(Node::Binary(operator))?;
-    Expr::new(alloc, nodes)
-}
-
 /// The expression that begins with a symbol, an operator and another symbol.
 fn after_two<'a, R: Registers>(
     alloc: Global,
     cursor: &mut Cursor<'a>,
-    symbol: Symbol<'a>,
-    operator: BinaryOperator,
-    other: Symbol<'a>,
+    pair: SymbolPair<'a>,
 ) -> Result<Expr<'a>, ReadError>
-    requires { Reached R.registers (after_two symbol operator other) (left cursor.old) }
-    ensures reads { ReadOn R.registers
-        (after_two symbol.entry operator other.entry) cursor.old cursor.new result }
+    requires { Reached R.registers (after_two pair) (left cursor.old) }
+    ensures reads { ReadOn R.registers (after_two pair.entry) cursor.old cursor.new result }
     ensures next { IfErr result (λ e. IsAtNext e cursor.new) }
 {
-    let mut nodes = one(alloc, Node::Symbol(symbol));
-    nodes.push(Node::Symbol(other))?;
     if ends(cursor.next.kind) {
-        return Ok(of_two(alloc, nodes, operator)?);
+        return Ok(Expr::of_two(alloc, pair)?);
     }
-    let frames = waiting(alloc, Frame::Infix(operator))?;
+    let frames = waiting(alloc, Frame::Infix(pair.operator))?;
+    let mut nodes = one(alloc, Node::Symbol(pair.left));
+    nodes.push(Node::Symbol(pair.right))?;
     read_on::<R>(alloc, cursor, frames, Stage::Has(nodes))
 }
 
@@ -188,7 +170,12 @@ fn after_operator<'a, R: Registers>(
         }
         Begin::Symbol(other) => {
             cursor.advance();
-            after_two::<R>(alloc, cursor, symbol, operator, other)
+            let pair = SymbolPair {
+                left: symbol,
+                operator,
+                right: other,
+            };
+            after_two::<R>(alloc, cursor, pair)
         }
         _ => {
             let frames = waiting(alloc, Frame::Infix(operator))?;

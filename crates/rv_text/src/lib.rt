@@ -30,7 +30,7 @@ pub use compound::Compound;
 pub use evaluation::{Meaning, Value, eval};
 pub use expr::Expr;
 pub use node::{Node, Symbol};
-pub use pair::Pair;
+pub use pair::{Pair, SymbolPair};
 pub use reading::{Registers, expression, parse_expr};
 pub use rv_lexer::{
     Cursor, LONGEST_NAME, Lexer, Punct, ReadError, SourceCode, SourceFault, SyntaxError, Token,

@@ -1,8 +1,8 @@
 //! Expressions as the code holds them: nodes in postfix form.
 
-ghost use Rattle.std.specs.Prelude.{◌≡◌, [], ◌∷◌, ◌++◌, map, not, IfOk, IfSome};
+ghost use Rattle.std.specs.Prelude.{◌≡◌, [], ◌∷◌, ◌++◌, map, not, IfOk};
 ghost use Rattle.rv_text_laws.specs.ExpressionAt as reading;
-ghost use Rattle.rv_text.specs.Nodes.{node_of, nodes_of, is_number_node, are_numbers, two_nodes};
+ghost use Rattle.rv_text.specs.Nodes.{node_of, nodes_of, is_number_node, are_numbers};
 
 use rv_text_laws::{BinaryOperator, Frame, UnaryOperator};
 use std::alloc::AllocError;
@@ -56,51 +56,12 @@ fn are_numbers(nodes: &[Node<'_>]) -> bool
     nodes.iter().all(|node| !node.is_symbol())
 }
 
-/// The symbols and the operator of three nodes that are these.
-fn symbols_in<'a>(
-    first: Node<'a>,
-    second: Node<'a>,
-    third: Node<'a>,
-) -> Option<(Symbol<'a>, Symbol<'a>, BinaryOperator)>
-    ensures { IfSome result
-        (λ r. node_of first.entry ∷ node_of second.entry ∷ node_of third.entry ∷ []
-        ≡ two_nodes r.0 r.1 r.2) }
-{
-    match (first, second, third) {
-        (Node::Symbol(left), Node::Symbol(right), Node::Binary(operator)) => {
-            Some((left, right, operator))
-        }
-        _ => None,
-    }
-}
-
-/// Two symbols and the operator on them, where these are the nodes.
-fn symbols_of<'a>(
-    first: Node<'a>,
-    rest: &[Node<'a>],
-) -> Option<(Symbol<'a>, Symbol<'a>, BinaryOperator)>
-    ensures { IfSome result
-        (λ r. node_of first.entry ∷ map node_of rest.now ≡ two_nodes r.0 r.1 r.2) }
-{
-    match rest {
-        [second, third] => symbols_in(first, *second, *third),
-        _ => None,
-    }
-}
-
 impl<'a> Nodes<'a> {
     /// None of them is a symbol.
     pub(crate) fn are_numbers(&self) -> bool
         ensures { result ≡ are_numbers (nodes_of self.now) }
     {
         !self.first.is_symbol() && are_numbers(self.rest.as_slice())
-    }
-
-    /// Two symbols and the operator on them, where these are the nodes.
-    pub(crate) fn two_symbols(&self) -> Option<(Symbol<'a>, Symbol<'a>, BinaryOperator)>
-        ensures { IfSome result (λ r. nodes_of self.now ≡ two_nodes r.0 r.1 r.2) }
-    {
-        symbols_of(self.first, self.rest.as_slice())
     }
 
     /// One more node.

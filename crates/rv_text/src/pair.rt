@@ -10,3 +10,11 @@ pub struct Pair<'a> {
     pub(crate) operator: BinaryOperator,
     pub(crate) number: u64,
 }
+
+/// Two symbols and the operator on them, as `end - start`.
+#[derive(Clone, Copy, Debug, Drop)]
+pub struct SymbolPair<'a> {
+    pub(crate) left: Symbol<'a>,
+    pub(crate) operator: BinaryOperator,
+    pub(crate) right: Symbol<'a>,
+}

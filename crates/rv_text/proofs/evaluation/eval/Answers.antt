@@ -3,6 +3,7 @@ use Rattle.std.proofs.Common.{◌∙◌, ap}
 use Rattle.rv_text_laws.specs.Expression.{Literal, Symbol}
 use Rattle.rv_text_laws.specs.Values as values
 use Rattle.rv_text.specs.declared.pair.Pair.{Pair}
+use Rattle.rv_text.specs.declared.pair.SymbolPair.{SymbolPair}
 use Rattle.rv_text.specs.Nodes.{symbol_of}
 use Rattle.rv_text.specs.Expr.{expr_of, tree_of_expr}
 use Rattle.rv_text.proofs.EvalsLemmas.{lone_value, lone_outcome, negative_value, pair_outcome}
@@ -28,10 +29,15 @@ returns-in-Negative g c = λ m means. ap (λ e. values.value_of m (tree_of_expr 
 
 pub returns-in-NamePair : goal.returns-in-NamePair
 returns-in-NamePair g c = λ m means.
-    pair_outcome m _ _ _ c.args.expr.now c.outcome-in-NamePair.result c.args.line _ (ap expr_of c.in-NamePair.is)
+    pair_outcome m _ (Literal _) _ c.args.expr.now c.outcome-in-NamePair.result c.args.line _ (ap expr_of c.in-NamePair.is)
     (c.pair_value.ensures m means ∙ ap (λ n. values.both c.in-NamePair.operator (values.primary_value m (Symbol c.in-NamePair.name.now)) (values.Constant n)) c.from.ensures) c.outcome-in-NamePair.ensures
 
 pub returns-in-Pair : goal.returns-in-Pair
 returns-in-Pair g c = λ m means.
-    pair_outcome m _ _ _ c.args.expr.now c.outcome-in-Pair.result c.args.line _ (ap expr_of c.in-Pair.is)
+    pair_outcome m _ (Literal _) _ c.args.expr.now c.outcome-in-Pair.result c.args.line _ (ap expr_of c.in-Pair.is)
     (c.pair_value-in-Pair.ensures m means ∙ ap (λ (p : Pair). values.both p.operator (values.primary_value m (symbol_of p.symbol)) (values.Constant p.number)) c.deref.ensures) c.outcome-in-Pair.ensures
+
+pub returns-in-SymbolPair : goal.returns-in-SymbolPair
+returns-in-SymbolPair g c = λ m means.
+    pair_outcome m _ _ _ c.args.expr.now c.outcome-in-SymbolPair.result c.args.line _ (ap expr_of c.in-SymbolPair.is)
+    (c.symbols_value.ensures m means ∙ ap (λ (p : SymbolPair). values.both p.operator (values.primary_value m (symbol_of p.left)) (values.primary_value m (symbol_of p.right))) c.deref-in-SymbolPair.ensures) c.outcome-in-SymbolPair.ensures
