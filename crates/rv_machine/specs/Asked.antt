@@ -28,8 +28,8 @@ AsksByWord bits hart action = (i : Inst) × Spells bits i × IsAsked i 4 hart ac
 abbrev pub AsksByParcel : ℕ → Hart → Action → Type 0
 AsksByParcel bits hart action = (i : Inst) × StandsFor bits i × IsAsked i 2 hart action
 
--- where it is done, it leaves the address of the next instruction, and the hart there and memory are
--- those that come next; else they are as before
+-- where it is done, it leaves the address of the next instruction, and the hart there and memory
+-- are those that come next; else they are as before
 abbrev pub IsDone : Option ℕ → Next → laws.Hart → Mem → (ℕ → laws.Hart) → Mem → Type 0
 IsDone (Some to) next h m left m' = next ≡ On (left to) m'
 IsDone None next h m left m' = (left h.pc ≡ h) × (m' ≡ m)
