@@ -1,7 +1,7 @@
 -- What an action has to do with the instruction that a word or a parcel spells, and a quick step
 -- with the step of the definitions.
 
-use Rattle.std.specs.Prelude.{◌≡◌, ℕ, List, Bool, true, false}
+use Rattle.std.specs.Prelude.{◌≡◌, ℕ, List, Option, Some, None}
 use Rattle.rv_isa.specs.declared.instruction.Inst.{Inst}
 use Rattle.rv_encode.specs.Word.{Spells}
 use Rattle.rv_compress.specs.Parcel.{StandsFor}
@@ -28,7 +28,8 @@ AsksByWord bits hart action = (i : Inst) × Spells bits i × IsAsked i 4 hart ac
 abbrev pub AsksByParcel : ℕ → Hart → Action → Type 0
 AsksByParcel bits hart action = (i : Inst) × StandsFor bits i × IsAsked i 2 hart action
 
--- where it is done, hart and memory are those that come next; else they are as before
-abbrev pub IsDone : Bool → Next → laws.Hart → Mem → laws.Hart → Mem → Type 0
-IsDone true next h m h' m' = next ≡ On h' m'
-IsDone false next h m h' m' = (h' ≡ h) × (m' ≡ m)
+-- where it is done, it leaves the address of the next instruction, and the hart there and memory
+-- are those that come next; else they are as before
+abbrev pub IsDone : Option ℕ → Next → laws.Hart → Mem → (ℕ → laws.Hart) → Mem → Type 0
+IsDone (Some to) next h m left m' = next ≡ On (left to) m'
+IsDone None next h m left m' = (left h.pc ≡ h) × (m' ≡ m)

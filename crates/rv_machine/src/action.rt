@@ -152,8 +152,8 @@ pub fn asked(inst: Inst, bytes: u64, hart: &Hart) -> Action
     let r = &hart.registers;
     match inst {
         // Integer computation (ISA, 2.4).
-        Inst::Lui(x) => upper(UpperOperation::Lui, x, hart),
-        Inst::Auipc(x) => upper(UpperOperation::Auipc, x, hart),
+        Inst::Lui(x) => upper(UpperOperation::Lui, x, hart.pc),
+        Inst::Auipc(x) => upper(UpperOperation::Auipc, x, hart.pc),
         Inst::Addi(x) => by_immediate(ImmediateOperation::Addi, x, hart),
         Inst::Slti(x) => by_immediate(ImmediateOperation::Slti, x, hart),
         Inst::Sltiu(x) => by_immediate(ImmediateOperation::Sltiu, x, hart),
@@ -174,14 +174,14 @@ pub fn asked(inst: Inst, bytes: u64, hart: &Hart) -> Action
         Inst::Or(x) => by_registers(RegisterOperation::Or, x, hart),
         Inst::And(x) => by_registers(RegisterOperation::And, x, hart),
         // Jumps and branches (ISA, 2.5).
-        Inst::Jal(x) => jump(x, hart),
+        Inst::Jal(x) => jump(x, hart.pc),
         Inst::Jalr(x) => jump_register(x, hart),
-        Inst::Beq(x) => branch(BranchOperation::Beq, x, bytes, hart),
-        Inst::Bne(x) => branch(BranchOperation::Bne, x, bytes, hart),
-        Inst::Blt(x) => branch(BranchOperation::Blt, x, bytes, hart),
-        Inst::Bge(x) => branch(BranchOperation::Bge, x, bytes, hart),
-        Inst::Bltu(x) => branch(BranchOperation::Bltu, x, bytes, hart),
-        Inst::Bgeu(x) => branch(BranchOperation::Bgeu, x, bytes, hart),
+        Inst::Beq(x) => branch(BranchOperation::Beq, x, bytes, hart.pc, hart),
+        Inst::Bne(x) => branch(BranchOperation::Bne, x, bytes, hart.pc, hart),
+        Inst::Blt(x) => branch(BranchOperation::Blt, x, bytes, hart.pc, hart),
+        Inst::Bge(x) => branch(BranchOperation::Bge, x, bytes, hart.pc, hart),
+        Inst::Bltu(x) => branch(BranchOperation::Bltu, x, bytes, hart.pc, hart),
+        Inst::Bgeu(x) => branch(BranchOperation::Bgeu, x, bytes, hart.pc, hart),
         // Loads and stores (ISA, 2.6 and 5.3).
         Inst::Lb(x) => load(LoadOperation::Lb, x, hart),
         Inst::Lh(x) => load(LoadOperation::Lh, x, hart),

@@ -1,5 +1,8 @@
 //! What the instructions of a format ask, by their operation.
 //!
+//! pc is given by value, as the loop of quick steps keeps it, and the hart's own is of no account; what does not take it
+//! asks the same at each.
+//!
 //! Source: RISC-V Unprivileged ISA 20191213, chapters 2, 5 and 7.
 
 ghost use Rattle.std.specs.Prelude.{◌≡◌, ℕ, ◌+◌, ◌%◌, ◌^◌};
@@ -9,6 +12,8 @@ ghost use Rattle.rv_isa.specs.Operations as inst;
 ghost use Rattle.rv_isa.specs.declared.instruction.Inst.TheVariants as isa;
 ghost use Rattle.rv_isa_laws.specs.Meaning as meaning;
 ghost use Rattle.rv_machine.specs.Asked.{IsAsked};
+ghost use Rattle.rv_machine.specs.Hart.{at};
+ghost use Rattle.rv_machine.specs.declared.hart.Hart.{Hart as AnyHart};
 
 use crate::action::{Action, Load, Store};
 use crate::alu;
@@ -105,7 +110,7 @@ fn is_taken(operation: BranchOperation, a: u64, b: u64) -> bool
 /// An operation on two registers.
 #[inline(always)]
 pub fn by_registers(operation: RegisterOperation, x: RType, hart: &Hart) -> Action
-    ensures { (bytes : ℕ) → IsAsked (inst.of_registers operation x) bytes hart.now result }
+    ensures { (bytes pc : ℕ) → IsAsked (inst.of_registers operation x) bytes (at pc hart.now) result }
 {
     let a = hart.registers.get(x.rs1);
     let b = hart.registers.get(x.rs2);
@@ -115,7 +120,7 @@ pub fn by_registers(operation: RegisterOperation, x: RType, hart: &Hart) -> Acti
 /// An operation on a register and the immediate.
 #[inline(always)]
 pub fn by_immediate(operation: ImmediateOperation, x: IType, hart: &Hart) -> Action
-    ensures { (bytes : ℕ) → IsAsked (inst.of_immediate operation x) bytes hart.now result }
+    ensures { (bytes pc : ℕ) → IsAsked (inst.of_immediate operation x) bytes (at pc hart.now) result }
 {
     let a = hart.registers.get(x.rs1);
     let b = alu::wrapped(x.immediate);
@@ -125,7 +130,7 @@ pub fn by_immediate(operation: ImmediateOperation, x: IType, hart: &Hart) -> Act
 /// A shift by a constant.
 #[inline(always)]
 pub fn by_amount(operation: ShiftOperation, x: Shift, hart: &Hart) -> Action
-    ensures { (bytes : ℕ) → IsAsked (inst.of_shift operation x) bytes hart.now result }
+    ensures { (bytes pc : ℕ) → IsAsked (inst.of_shift operation x) bytes (at pc hart.now) result }
 {
     let a = hart.registers.get(x.rs1);
     Action::Set(x.rd, shift_result(operation, a, u64::from(x.amount)))
@@ -133,22 +138,22 @@ pub fn by_amount(operation: ShiftOperation, x: Shift, hart: &Hart) -> Action
 
 /// `lui` and `auipc` (ISA, 2.4).
 #[inline(always)]
-pub fn upper(operation: UpperOperation, x: UType, hart: &Hart) -> Action
-    ensures { (bytes : ℕ) → IsAsked (inst.of_upper operation x) bytes hart.now result }
+pub fn upper(operation: UpperOperation, x: UType, pc: u64) -> Action
+    ensures { (bytes : ℕ) (hart : AnyHart) → IsAsked (inst.of_upper operation x) bytes (at pc hart) result }
 {
     let number = alu::upper(x.immediate);
     match operation {
         UpperOperation::Lui => Action::Set(x.rd, number),
-        UpperOperation::Auipc => Action::Set(x.rd, alu::sum(hart.pc, number)),
+        UpperOperation::Auipc => Action::Set(x.rd, alu::sum(pc, number)),
     }
 }
 
 /// `jal` (ISA, 2.5).
 #[inline(always)]
-pub fn jump(x: JType, hart: &Hart) -> Action
-    ensures { (bytes : ℕ) → IsAsked (isa.Jal x) bytes hart.now result }
+pub fn jump(x: JType, pc: u64) -> Action
+    ensures { (bytes : ℕ) (hart : AnyHart) → IsAsked (isa.Jal x) bytes (at pc hart) result }
 {
-    Action::Jump(x.rd, alu::sum(hart.pc, alu::wrapped(x.offset)))
+    Action::Jump(x.rd, alu::sum(pc, alu::wrapped(x.offset)))
 }
 
 /// The address of a load or store.
@@ -162,7 +167,7 @@ fn address(registers: &Registers, rs1: Reg, immediate: i32) -> u64
 /// `jalr` (ISA, 2.5).
 #[inline(always)]
 pub fn jump_register(x: IType, hart: &Hart) -> Action
-    ensures { (bytes : ℕ) → IsAsked (isa.Jalr x) bytes hart.now result }
+    ensures { (bytes pc : ℕ) → IsAsked (isa.Jalr x) bytes (at pc hart.now) result }
 {
     Action::Jump(
         x.rd,
@@ -172,8 +177,8 @@ pub fn jump_register(x: IType, hart: &Hart) -> Action
 
 /// A branch of an instruction of this length in bytes (ISA, 2.5).
 #[inline(always)]
-pub fn branch(operation: BranchOperation, x: BType, bytes: u64, hart: &Hart) -> Action
-    ensures { IsAsked (inst.of_branch operation x) bytes hart.now result }
+pub fn branch(operation: BranchOperation, x: BType, bytes: u64, pc: u64, hart: &Hart) -> Action
+    ensures { IsAsked (inst.of_branch operation x) bytes (at pc hart.now) result }
 {
     let a = hart.registers.get(x.rs1);
     let b = hart.registers.get(x.rs2);
@@ -182,7 +187,7 @@ pub fn branch(operation: BranchOperation, x: BType, bytes: u64, hart: &Hart) -> 
     } else {
         bytes
     };
-    Action::Go(alu::sum(hart.pc, step))
+    Action::Go(alu::sum(pc, step))
 }
 
 #[inline]
@@ -206,7 +211,7 @@ fn loading(registers: &Registers, x: IType, bytes: u64, signed: bool) -> Load
 /// A load (ISA, 2.6 and 5.3).
 #[inline(always)]
 pub fn load(operation: LoadOperation, x: IType, hart: &Hart) -> Action
-    ensures { (bytes : ℕ) → IsAsked (inst.of_load operation x) bytes hart.now result }
+    ensures { (bytes pc : ℕ) → IsAsked (inst.of_load operation x) bytes (at pc hart.now) result }
 {
     let r = &hart.registers;
     match operation {
@@ -239,7 +244,7 @@ fn storing(registers: &Registers, x: SType, bytes: u64) -> Store
 /// A store (ISA, 2.6 and 5.3).
 #[inline(always)]
 pub fn store(operation: StoreOperation, x: SType, hart: &Hart) -> Action
-    ensures { (bytes : ℕ) → IsAsked (inst.of_store operation x) bytes hart.now result }
+    ensures { (bytes pc : ℕ) → IsAsked (inst.of_store operation x) bytes (at pc hart.now) result }
 {
     let r = &hart.registers;
     match operation {
