@@ -424,6 +424,8 @@ def messages():
 
 
 FAULTS, ENDS = messages()
+# what a line says of a file without a fault's number (program.md)
+OF_FILES = (": not a map", ": no symbols", ": no raw listing")
 
 
 def is_named(words, status, said):
@@ -437,7 +439,7 @@ def is_named(words, status, said):
         end = re.fullmatch(r"(\w+)( [0-9a-f]+)?", line[1])
         return words[0] == "run" and bool(end) and end[1] in ENDS
     fault = re.fullmatch(r"(?:\S+: |\S+:\d+: )?([EFLX]\d+) (\w+)(?: .*)?", line[1])
-    return line[1] == "out of memory" or line[1].endswith(": not a map") or bool(fault) and FAULTS.get(fault[1]) == fault[2]
+    return line[1] == "out of memory" or line[1].endswith(OF_FILES) or bool(fault) and FAULTS.get(fault[1]) == fault[2]
 
 
 def called(words, at, most=None):
