@@ -10,11 +10,11 @@ ghost use Rattle.rv_machine.specs.Asked.{IsAsked, AsksByParcel};
 ghost use Rattle.rv_machine.specs.Hart.{at};
 
 use crate::action::Action;
-use crate::formats;
 use crate::hart::Hart;
+use crate::{alu, formats};
 use rv_compress::{Compressed, read};
 use rv_isa::{
-    BType, BranchOperation, IType, ImmediateOperation, JType, LoadOperation, RType, Reg,
+    BType, BranchOperation, IType, ImmediateOperation, LoadOperation, RType, Reg,
     RegisterOperation, SType, Shift, ShiftOperation, StoreOperation, UType, UpperOperation,
 };
 
@@ -106,19 +106,29 @@ fn branch(operation: BranchOperation, rs1: Reg, offset: i32, pc: u64, hart: &Har
     )
 }
 
+/// `c.jalr`.
 #[inline(always)]
-fn jump_register(rd: Reg, rs1: Reg, pc: u64, hart: &Hart) -> Action
-    ensures { IsAsked (isa.Jalr (record { immediate = pos 0; rd = rd; rs1 = rs1 })) 2
+fn jump_register(rs1: Reg, pc: u64, hart: &Hart) -> Action
+    ensures { IsAsked (isa.Jalr (record { immediate = pos 0; rd = 1; rs1 = rs1 })) 2
         (at pc hart.now) result }
 {
     formats::jump_register(
         IType {
             immediate: 0,
-            rd,
+            rd: Reg::RA,
             rs1,
         },
         hart,
     )
+}
+
+/// `c.jr`: x0 takes no link, so it goes and sets nothing.
+#[inline(always)]
+fn go_to_register(rs1: Reg, pc: u64, hart: &Hart) -> Action
+    ensures { IsAsked (isa.Jalr (record { immediate = pos 0; rd = 0; rs1 = rs1 })) 2
+        (at pc hart.now) result }
+{
+    Action::Go(alu::even(hart.registers.get(rs1)))
 }
 
 #[inline(always)]
@@ -128,17 +138,12 @@ fn upper(rd: Reg, immediate: u32, pc: u64, hart: &Hart) -> Action
     formats::upper(UpperOperation::Lui, UType { immediate, rd }, pc)
 }
 
+/// `c.j`: x0 takes no link, so it goes and sets nothing.
 #[inline(always)]
-fn jump(offset: i32, pc: u64, hart: &Hart) -> Action
+fn go(offset: i32, pc: u64, hart: &Hart) -> Action
     ensures { IsAsked (isa.Jal (record { offset = offset; rd = 0 })) 2 (at pc hart.now) result }
 {
-    formats::jump(
-        JType {
-            offset,
-            rd: Reg::ZERO,
-        },
-        pc,
-    )
+    Action::Go(alu::sum(pc, alu::wrapped(offset)))
 }
 
 /// What a form asks.
@@ -214,13 +219,13 @@ fn asked_by_form(form: Compressed, pc: u64, hart: &Hart) -> Action
         Compressed::And { rd, rs2 } => registers(RegisterOperation::And, rd, rd, rs2, pc, hart),
         Compressed::Subw { rd, rs2 } => registers(RegisterOperation::Subw, rd, rd, rs2, pc, hart),
         Compressed::Addw { rd, rs2 } => registers(RegisterOperation::Addw, rd, rd, rs2, pc, hart),
-        Compressed::J { offset } => jump(offset, pc, hart),
+        Compressed::J { offset } => go(offset, pc, hart),
         Compressed::Beqz { rs1, offset } => branch(BranchOperation::Beq, rs1, offset, pc, hart),
         Compressed::Bnez { rs1, offset } => branch(BranchOperation::Bne, rs1, offset, pc, hart),
         Compressed::Slli { rd, amount } => shift(ShiftOperation::Slli, rd, amount, pc, hart),
         Compressed::Lwsp { rd, offset } => load(LoadOperation::Lw, rd, Reg::SP, offset, pc, hart),
         Compressed::Ldsp { rd, offset } => load(LoadOperation::Ld, rd, Reg::SP, offset, pc, hart),
-        Compressed::Jr { rs1 } => jump_register(Reg::ZERO, rs1, pc, hart),
+        Compressed::Jr { rs1 } => go_to_register(rs1, pc, hart),
         Compressed::Mv { rd, rs2 } => registers(
             RegisterOperation::Add,
             rd,
@@ -230,7 +235,7 @@ fn asked_by_form(form: Compressed, pc: u64, hart: &Hart) -> Action
             hart,
         ),
         Compressed::Ebreak => Action::Break,
-        Compressed::Jalr { rs1 } => jump_register(Reg::RA, rs1, pc, hart),
+        Compressed::Jalr { rs1 } => jump_register(rs1, pc, hart),
         Compressed::Add { rd, rs2 } => registers(RegisterOperation::Add, rd, rd, rs2, pc, hart),
         Compressed::Swsp { rs2, offset } => store(
             StoreOperation::Sw,
