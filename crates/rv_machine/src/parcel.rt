@@ -49,6 +49,24 @@ fn registers(
     formats::by_registers(operation, RType { rd, rs1, rs2 }, hart)
 }
 
+/// `c.li`: the immediate itself, with no sum.
+#[inline(always)]
+fn constant(rd: Reg, immediate: i32, pc: u64, hart: &Hart) -> Action
+    ensures { IsAsked (isa.Addi (record { immediate = immediate; rd = rd; rs1 = 0 })) 2
+        (at pc hart.now) result }
+{
+    Action::Set(rd, alu::wrapped(immediate))
+}
+
+/// `c.mv`: the register itself, with no sum.
+#[inline(always)]
+fn copy(rd: Reg, rs2: Reg, pc: u64, hart: &Hart) -> Action
+    ensures { IsAsked (isa.Add (record { rd = rd; rs1 = 0; rs2 = rs2 })) 2
+        (at pc hart.now) result }
+{
+    Action::Set(rd, hart.registers.get(rs2))
+}
+
 #[inline(always)]
 fn shift(operation: ShiftOperation, rd: Reg, amount: u8, pc: u64, hart: &Hart) -> Action
     ensures { IsAsked (inst.of_shift operation (record { rd = rd; rs1 = rd; amount = amount })) 2
@@ -194,7 +212,7 @@ fn asked_by_form(form: Compressed, pc: u64, hart: &Hart) -> Action
         Compressed::Li {
             rd,
             immediate: step,
-        } => immediate(ImmediateOperation::Addi, rd, Reg::ZERO, step, pc, hart),
+        } => constant(rd, step, pc, hart),
         Compressed::Addi16sp { immediate: step } => immediate(
             ImmediateOperation::Addi,
             Reg::SP,
@@ -226,14 +244,7 @@ fn asked_by_form(form: Compressed, pc: u64, hart: &Hart) -> Action
         Compressed::Lwsp { rd, offset } => load(LoadOperation::Lw, rd, Reg::SP, offset, pc, hart),
         Compressed::Ldsp { rd, offset } => load(LoadOperation::Ld, rd, Reg::SP, offset, pc, hart),
         Compressed::Jr { rs1 } => go_to_register(rs1, pc, hart),
-        Compressed::Mv { rd, rs2 } => registers(
-            RegisterOperation::Add,
-            rd,
-            Reg::ZERO,
-            rs2,
-            pc,
-            hart,
-        ),
+        Compressed::Mv { rd, rs2 } => copy(rd, rs2, pc, hart),
         Compressed::Ebreak => Action::Break,
         Compressed::Jalr { rs1 } => jump_register(rs1, pc, hart),
         Compressed::Add { rd, rs2 } => registers(RegisterOperation::Add, rd, rd, rs2, pc, hart),
