@@ -94,7 +94,7 @@ fn shift_result(operation: ShiftOperation, a: u64, by: u64) -> u64
 
 /// Whether a branch is taken (ISA, 2.5).
 #[inline(always)]
-fn is_taken(operation: BranchOperation, a: u64, b: u64) -> bool
+pub fn is_taken(operation: BranchOperation, a: u64, b: u64) -> bool
     ensures { result ≡ meaning.is_taken operation a b }
 {
     match operation {
