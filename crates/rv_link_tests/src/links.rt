@@ -33,7 +33,9 @@ fn a_program(rt: HostRuntime) -> Result<(), Fail> {
     assert!(rt; linked.rodata.is_empty() && linked.data.is_empty() && linked.rvc);
     // an executable needs no names; no object has rows, so there is nothing else to leave out
     let bare = link_exe(alloc, &objects, OPTIONS)?;
-    assert!(rt; bare.text == linked.text && bare.map.globals.is_empty());
+    assert!(rt; bare.text == linked.text && bare.rvc);
+    assert!(rt; bare.rodata.is_empty() && bare.data.is_empty() && bare.map.globals.is_empty());
+    assert!(rt; bare.map.text == linked.map.text && bare.map.entry == linked.map.entry);
     let map = &linked.map;
     let text = Region {
         start: 0x1_0000,
