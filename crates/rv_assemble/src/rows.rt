@@ -1,7 +1,8 @@
 //! The rows of an object.
 
-ghost use Rattle.std.specs.Prelude.{◌≡◌, ◌++◌, ◌^◌, ◌<◌, IfOk, OnOk, length};
-ghost use Rattle.rv_assemble.specs.Making.{item_rows, rows_from};
+ghost use Rattle.std.specs.Prelude.{◌≡◌, ◌++◌, ◌^◌, ◌<◌, true, IfOk, OnOk, length};
+ghost use Rattle.rv_object.specs.Valid.{is_counted, are_counted};
+ghost use Rattle.rv_assemble.specs.Making.{item_row, item_rows, rows_from};
 
 use rv_draft::Item;
 use rv_object::Row;
@@ -10,7 +11,8 @@ use std::alloc::{AllocError, Global};
 /// The rows of statements: of each that is shown, with its ordinal, from 1.
 pub(crate) fn rows(alloc: Global, items: &[Item]) -> Result<Vec<Row>, AllocError>
     requires { length items.now < 2 ^ 32 }
-    ensures { IfOk result (λ rows. rows.items ≡ rows_from 1 items.now) }
+    ensures made { IfOk result (λ rows. rows.items ≡ rows_from 1 items.now) }
+    ensures counted { IfOk result (λ rows. are_counted rows.items ≡ true) }
 {
     let mut rows = Vec::with_capacity(alloc, items.len())?;
     for (index, item) in items.iter().enumerate() {
@@ -21,18 +23,28 @@ pub(crate) fn rows(alloc: Global, items: &[Item]) -> Result<Vec<Row>, AllocError
 
 /// Adds the row of a statement, if it has one.
 fn put_row(rows: &mut Vec<Row>, ordinal: u32, item: Item) -> Result<(), AllocError>
-    ensures { OnOk result (rows.new.items ≡ rows.old.items ++ item_rows ordinal item) }
+    ensures made { OnOk result (rows.new.items ≡ rows.old.items ++ item_rows ordinal item) }
+    ensures counted { OnOk result
+        (are_counted rows.old.items ≡ true → are_counted rows.new.items ≡ true) }
 {
     if !item.shown {
         return Ok(());
     }
-    rows.push(Row {
+    rows.push(row(ordinal, item))?;
+    Ok(())
+}
+
+/// The row of a statement.
+fn row(ordinal: u32, item: Item) -> Row
+    ensures made { result ≡ item_row ordinal item }
+    ensures counted { is_counted result ≡ true }
+{
+    Row {
         line: item.line,
         ordinal,
         section: item.section,
         offset: u64::from(item.offset),
         bytes: item.bytes,
         instructions: u32::from(item.instructions),
-    })?;
-    Ok(())
+    }
 }

@@ -6,13 +6,14 @@ use Rattle.std.specs.List.{slice_get}
 use Rattle.std.specs.Option.{option_map}
 use Rattle.std.proofs.lemmas.List.{append_assoc, drop_more}
 use Rattle.std.proofs.lemmas.Option.{slice_get-map, slice_get-get_or}
-use Rattle.std.proofs.lemmas.Bool.{true≢false}
+use Rattle.std.proofs.lemmas.Bool.{and_parts, and_from, true≢false}
 use Rattle.rv_map.specs.declared.map.SectionId.{SectionId}
 use Rattle.rv_collect_laws.specs.Graph.{is_dropped}
 use Rattle.rv_object.specs.declared.object.Object.{Object as DeclaredObject}
 use Rattle.rv_object.specs.declared.row.Row.{Row}
 use Rattle.rv_object.specs.declared.section.Section.{Section as DeclaredSection}
 use Rattle.rv_object.specs.Sections.{section_of}
+use Rattle.rv_object.specs.Valid.{is_counted, are_counted}
 use Rattle.rv_object.specs.View.{object_of}
 use Rattle.rv_object_laws.specs.Without.{without_section, without_sections, without_object, without_from}
 
@@ -75,3 +76,12 @@ rows_left keeps rs i r inside is = ap (filter keeps) (left rs i r inside is) ∙
     by : (b : Bool) (rest : List Row) → (if b then r ∷ rest else rest) ≡ (if b then r ∷ [] else []) ++ rest
     by true rest = refl
     by false rest = refl
+
+-- rows that stay have numbers of the widths of their fields
+pub still_counted : (keeps : Row → Bool) (rs : List Row) → are_counted rs ≡ true → are_counted (filter keeps rs) ≡ true
+still_counted keeps [] h = refl
+still_counted keeps (r ∷ rs) h = let both = and_parts (is_counted r) (are_counted rs) h in by (keeps r) both.0 (still_counted keeps rs both.1)
+  where
+    by : (b : Bool) → is_counted r ≡ true → are_counted (filter keeps rs) ≡ true → are_counted (if b then r ∷ filter keeps rs else filter keeps rs) ≡ true
+    by true one more = and_from (is_counted r) (are_counted (filter keeps rs)) one more
+    by false one more = more

@@ -3,7 +3,7 @@
 use Rattle.std.proofs.Common.{◌≡◌, ◌≤◌, ◌<◌, ◌+◌, ◌%◌, ◌^◌, ℕ, suc, Bool, true, false, cond, if◌then◌else◌, Option, Some, None, List, [], ◌∷◌, map, refl, arith}
 use Rattle.std.specs.Prelude.{IsTrue, filter, flat_map, is_some, not}
 use Rattle.std.specs.List.{AllByRecursion, slice_get}
-use Rattle.std.proofs.lemmas.Bool.{and_parts}
+use Rattle.std.proofs.lemmas.Bool.{and_parts, ltb-true}
 use Rattle.rv_map.specs.Globals.{shown, linker_symbols}
 use Rattle.rv_map.specs.Limits.{IsGlobal}
 use Rattle.rv_map.specs.Name.{is_name}
@@ -15,7 +15,7 @@ use Rattle.rv_object.specs.declared.symbol.Symbol.{Symbol as DeclaredSymbol}
 use Rattle.rv_object.specs.Bindings.{is_shared}
 use Rattle.rv_object.specs.Object.{Section, Symbol, Object}
 use Rattle.rv_object.specs.Parts.{symbol_of}
-use Rattle.rv_object.specs.Valid.{is_shown}
+use Rattle.rv_object.specs.Valid.{is_shown, is_low}
 use Rattle.rv_object_laws.specs.Inputs.{Starts}
 use Rattle.rv_object_laws.specs.Moves.{Move, moves, new_offset}
 use Rattle.rv_object_laws.specs.Names.{Export, chosen, is_defined, is_export, exports_in, exports_from, exports_where, is_chosen, chosen_exports, offset_address, defined_address, export_address, globals_of, shown_linker_symbols}
@@ -26,43 +26,32 @@ use Rattle.rv_shorten.specs.View.{short_object_of, moves_of}
 use Rattle.rv_placement.specs.declared.placement.Placement.{Placement}
 use Rattle.rv_placement.specs.Placement.{starts_of, IsPlacement}
 use Rattle.rv_resolve.specs.Shown.{regions_of, shown_globals}
-use Rattle.rv_link.specs.Details.{IsLow}
 
 -- ---- symbols
 
-abbrev pub IsLowSymbol : Symbol → Type 0
-IsLowSymbol s = IsLow s.definition
-
-abbrev pub AreLow : ShortObject → Type 0
-AreLow o = AllByRecursion IsLowSymbol (short_object_of o).symbols
-
 -- a map can show a symbol's name, if all files may use it, and the number that it is
 abbrev CanShow : Symbol → Type 0
-CanShow s = IsTrue (is_shown s.binding s.name) × IsLow s.definition
+CanShow s = IsTrue (is_shown s.binding s.name) × IsTrue (is_low s.definition)
 
-low_cut : (mss : List (List Move)) (d : Definition) → IsLow d → IsLow (cut_definition mss d)
-low_cut mss definitions.Undefined low = tt
+low_cut : (mss : List (List Move)) (d : Definition) → IsTrue (is_low d) → IsTrue (is_low (cut_definition mss d))
+low_cut mss definitions.Undefined low = refl
 low_cut mss (definitions.Absolute n) low = low
-low_cut mss (definitions.InSection section offset) low = tt
-low_cut mss (definitions.Skipped n) low = tt
+low_cut mss (definitions.InSection section offset) low = refl
+low_cut mss (definitions.Skipped n) low = refl
 
 -- the symbols of an object whose calls are cut
-pub cut_low : (mss : List (List Move)) (ss : List DeclaredSymbol) → AllByRecursion (λ s. IsLow s.definition) ss → AllByRecursion IsLowSymbol (map (cut_symbol mss) (map symbol_of ss))
-cut_low mss [] low = tt
-cut_low mss (s ∷ ss) low = (low_cut mss s.definition low.0, cut_low mss ss low.1)
+can_show_cut : (mss : List (List Move)) (ss : List DeclaredSymbol) → AllByRecursion CanShow (map (cut_symbol mss) (map symbol_of ss))
+can_show_cut mss [] = tt
+can_show_cut mss (s ∷ ss) = ((s.shown, low_cut mss s.definition s.low), can_show_cut mss ss)
 
-can_show_cut : (mss : List (List Move)) (ss : List DeclaredSymbol) → AllByRecursion IsLowSymbol (map (cut_symbol mss) (map symbol_of ss)) → AllByRecursion CanShow (map (cut_symbol mss) (map symbol_of ss))
-can_show_cut mss [] low = tt
-can_show_cut mss (s ∷ ss) low = ((s.shown, low.0), can_show_cut mss ss low.1)
-
-can_show : (objects : List ShortObject) → AllByRecursion (λ o. AllByRecursion IsLowSymbol o.symbols) (map short_object_of objects) → AllByRecursion (λ o. AllByRecursion CanShow o.symbols) (map short_object_of objects)
-can_show [] low = tt
-can_show (x ∷ xs) low = (can_show_cut (moves_of x) x.whole.now.symbols.items low.0, can_show xs low.1)
+can_show : (objects : List ShortObject) → AllByRecursion (λ o. AllByRecursion CanShow o.symbols) (map short_object_of objects)
+can_show [] = tt
+can_show (x ∷ xs) = (can_show_cut (moves_of x) x.whole.now.symbols.items, can_show xs)
 
 -- ---- definitions for all files
 
 abbrev IsShowable : Export → Type 0
-IsShowable e = IsTrue (is_name e.symbol.name) × IsLow e.symbol.definition
+IsShowable e = IsTrue (is_name e.symbol.name) × IsTrue (is_low e.symbol.definition)
 
 named : (b : Binding) (name : List ℕ) → is_shared b ≡ true → IsTrue (is_shown b name) → IsTrue (is_name name)
 named bindings.Local name shared h = absurd (cc)
@@ -106,9 +95,9 @@ placed_known name start offset (Some s) is = by s.loaded
     by true = ((is, omega arith), tt)
     by false = tt
 
-defined_known : (name : List ℕ) (starts : ℕ → ℕ) (o : Object) (d : Definition) → IsTrue (is_name name) → IsLow d → AllByRecursion IsGlobal (shown name (defined_address starts o d))
+defined_known : (name : List ℕ) (starts : ℕ → ℕ) (o : Object) (d : Definition) → IsTrue (is_name name) → IsTrue (is_low d) → AllByRecursion IsGlobal (shown name (defined_address starts o d))
 defined_known name starts o definitions.Undefined is low = tt
-defined_known name starts o (definitions.Absolute n) is low = ((is, low), tt)
+defined_known name starts o (definitions.Absolute n) is low = ((is, ltb-true n (2 ^ 64) low), tt)
 defined_known name starts o (definitions.InSection section offset) is low = placed_known name (starts section) offset (slice_get o.sections section) is
 defined_known name starts o (definitions.Skipped n) is low = tt
 
@@ -132,9 +121,9 @@ linkers_known os start p placed =
     ((refl, text), ((refl, zeros), ((refl, variables), ((refl, end), ((refl, pointer), tt)))))
 
 pub globals_known : (objects : List ShortObject) (start : ℕ) (p : Placement) → IsPlacement (map short_object_of objects) start p
-    → AllByRecursion (λ o. AllByRecursion IsLowSymbol o.symbols) (map short_object_of objects) → AllByRecursion IsGlobal (shown_globals (map short_object_of objects) p)
-globals_known objects start p placed low =
+    → AllByRecursion IsGlobal (shown_globals (map short_object_of objects) p)
+globals_known objects start p placed =
     let os = map short_object_of objects in
     all_append IsGlobal (globals_of (starts_of p) os) (shown_linker_symbols os (regions_of p))
-    (shown_known (starts_of p) (chosen_exports os) (all_filtered IsShowable (is_chosen os) (exports_where is_shared os) (showable_from 1 os (can_show objects low))))
+    (shown_known (starts_of p) (chosen_exports os) (all_filtered IsShowable (is_chosen os) (exports_where is_shared os) (showable_from 1 os (can_show objects))))
     (all_filtered IsGlobal (λ g. not (is_some (chosen os g.name))) (linker_symbols (regions_of p)) (linkers_known os start p placed))

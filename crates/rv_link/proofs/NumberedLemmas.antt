@@ -1,25 +1,24 @@
 -- The rows of placed objects can stand in a map.
 
-use Rattle.std.proofs.Common.{◌≡◌, ◌≤◌, ◌<◌, ◌+◌, ◌^◌, ℕ, zero, suc, Bool, true, false, if◌then◌else◌, Option, Some, None, List, [], ◌∷◌, length, drop, get_or, map, nat_le, refl, sym, ap, subst, ◌∙◌, arith}
+use Rattle.std.proofs.Common.{◌≡◌, ◌≤◌, ◌<◌, ◌+◌, ◌^◌, ℕ, zero, suc, Bool, true, false, if◌then◌else◌, Option, Some, None, List, [], ◌∷◌, length, map, ◌&&◌, nat_le, nat_lt, refl, sym, ap, subst, ◌∙◌, arith}
 use Rattle.std.specs.List.{AllByRecursion, list_all, slice_get}
-use Rattle.std.proofs.lemmas.Bool.{leb-true, and_parts}
+use Rattle.std.proofs.lemmas.Bool.{leb-true, ltb-true, and_parts}
 use Rattle.std.proofs.lemmas.Option.{slice_get_within}
 use Rattle.rv_map.specs.Limits.{IsRow}
 use Rattle.rv_object.specs.declared.row.Row.{Row}
 use Rattle.rv_object.specs.Object.{Section, Object, size_of}
-use Rattle.rv_object.specs.Valid.{is_row_in}
+use Rattle.rv_object.specs.Valid.{is_row_in, is_counted, are_counted}
 use Rattle.rv_object_laws.specs.IsLinkOf.{inserted_row, by_ordinal, map_row, moves_at, row_in, rows_of, most_files}
 use Rattle.rv_object_laws.specs.Moves.{Move, moves, new_offset}
 use Rattle.rv_object_laws.proofs.TextInputsLemmas.{all_append}
 use Rattle.rv_shorten.specs.declared.object.ShortObject.{ShortObject}
 use Rattle.rv_shorten.specs.Cutting.{cut_row_of}
-use Rattle.rv_shorten.specs.View.{short_object_of}
+use Rattle.rv_shorten.specs.View.{short_object_of, moves_of as cuts_of}
 use Rattle.rv_relax.specs.Plan.{moves_of}
 use Rattle.rv_relax.proofs.RisingLemmas.{plan_rises}
 use Rattle.rv_placement.specs.declared.placement.Placement.{Placement}
 use Rattle.rv_placement.specs.Placement.{starts_of, section_at, IsPlacement}
 use Rattle.rv_placement.proofs.FoundLemmas.{in_object, is_placed, start_is}
-use Rattle.rv_link.specs.Details.{IsNumbered}
 
 -- ---- lists
 
@@ -35,11 +34,38 @@ all_ordered : (P : Row → Type 0) (rs : List Row) → AllByRecursion P rs → A
 all_ordered P [] all = tt
 all_ordered P (r ∷ rs) all = all_inserted P r (by_ordinal rs) all.0 (all_ordered P rs all.1)
 
-pub all_mapped : {A B : Type 0} (P : B → Type 0) (f : A → B) (xs : List A) → AllByRecursion (λ x. P (f x)) xs → AllByRecursion P (map f xs)
+all_mapped : {A B : Type 0} (P : B → Type 0) (f : A → B) (xs : List A) → AllByRecursion (λ x. P (f x)) xs → AllByRecursion P (map f xs)
 all_mapped P f [] all = tt
 all_mapped P f (x ∷ xs) all = (all.0, all_mapped P f xs all.1)
 
 -- ---- a row
+
+abbrev IsNumbered : Row → Type 0
+IsNumbered r = (r.line < 2 ^ 64) × (r.ordinal < 2 ^ 64) × (r.instructions < 2 ^ 64)
+
+is_numbered : (r : Row) → is_counted r ≡ true → IsNumbered r
+is_numbered r h =
+    let line = nat_lt r.line (2 ^ 32) in
+    let ordinal = nat_lt r.ordinal (2 ^ 32) in
+    let section = nat_lt r.section (2 ^ 32) in
+    let offset = nat_lt r.offset (2 ^ 64) in
+    let bytes = nat_lt r.bytes (2 ^ 32) in
+    let five = and_parts (line && ordinal && section && offset && bytes) (nat_lt r.instructions (2 ^ 32)) h in
+    let four = and_parts (line && ordinal && section && offset) bytes five.0 in
+    let three = and_parts (line && ordinal && section) offset four.0 in
+    let two = and_parts line ordinal (and_parts (line && ordinal) section three.0).0 in
+    let low = ltb-true r.line (2 ^ 32) two.0 in
+    let first = ltb-true r.ordinal (2 ^ 32) two.1 in
+    let many = ltb-true r.instructions (2 ^ 32) five.1 in
+    (omega (arith, low), omega (arith, first), omega (arith, many))
+
+-- the rows of an object whose calls are cut
+cut_numbered : (mss : List (List Move)) (rows : List Row) → are_counted rows ≡ true → AllByRecursion IsNumbered (map (cut_row_of mss) rows)
+cut_numbered mss [] h = tt
+cut_numbered mss (r ∷ rows) h =
+    let both = and_parts (is_counted r) (are_counted rows) h in
+    let (line, ordinal, many) = is_numbered r both.0 in
+    ((line, ordinal, omega (arith, many)), cut_numbered mss rows both.1)
 
 row_stands : (r : Row) (o : Option Section) → is_row_in r o ≡ true → (s : Section) × (o ≡ Some s) × (r.offset + r.bytes ≤ size_of s.contents)
 row_stands r None h = absurd (cc)
@@ -85,44 +111,19 @@ module _ (os : List Object) (start : ℕ) (p : Placement) (is : IsPlacement os s
 
   -- those of the files from one on
   rows_known_from : (file : ℕ) (xs : List ShortObject) → ((k : ℕ) (o : Object) → slice_get (map short_object_of xs) k ≡ Some o → slice_get os (file + k) ≡ Some o) → length os ≤ most_files
-      → AllByRecursion (λ o. AllByRecursion IsNumbered o.rows) (map short_object_of xs) → AllByRecursion IsRow (rows_of (starts_of p) (suc file) (map short_object_of xs))
-  rows_known_from file [] there few numbered = tt
-  rows_known_from file (x ∷ xs) there few numbered =
+      → AllByRecursion IsRow (rows_of (starts_of p) (suc file) (map short_object_of xs))
+  rows_known_from file [] there few = tt
+  rows_known_from file (x ∷ xs) there few =
       let o = short_object_of x in
       let same : file ≡ file + 0 = omega arith in
       let at : slice_get os file ≡ Some o = ap (λ n. slice_get os n) same ∙ there 0 o refl in
       let inside : file < most_files = omega (arith, slice_get_within os file o at, few) in
-      let mine = rows_known_in file o at inside o.rows x.lie numbered.0 in
+      let mine = rows_known_in file o at inside o.rows x.lie (cut_numbered (cuts_of x) x.whole.now.rows.items x.whole.now.counted) in
       all_append IsRow (map (row_in (starts_of p) (suc file) o) (by_ordinal o.rows)) (rows_of (starts_of p) (suc (suc file)) (map short_object_of xs))
       (all_mapped IsRow (row_in (starts_of p) (suc file) o) (by_ordinal o.rows) (all_ordered (λ r. IsRow (row_in (starts_of p) (suc file) o r)) o.rows mine))
-      (rows_known_from (suc file) xs (λ k q e. let next : suc file + k ≡ file + suc k = omega arith in ap (λ n. slice_get os n) next ∙ there (suc k) q e) few numbered.1)
+      (rows_known_from (suc file) xs (λ k q e. let next : suc file + k ≡ file + suc k = omega arith in ap (λ n. slice_get os n) next ∙ there (suc k) q e) few)
 
 pub rows_known : (objects : List ShortObject) (start : ℕ) (p : Placement) → IsPlacement (map short_object_of objects) start p → length (map short_object_of objects) ≤ most_files
-    → AllByRecursion (λ o. AllByRecursion IsNumbered o.rows) (map short_object_of objects) → AllByRecursion IsRow (rows_of (starts_of p) 1 (map short_object_of objects))
-rows_known objects start p is few numbered =
-    rows_known_from (map short_object_of objects) start p is 0 objects (λ k o e. let plain : 0 + k ≡ k = omega arith in ap (λ n. slice_get (map short_object_of objects) n) plain ∙ e) few numbered
-
--- ---- the rows of an object whose calls are cut
-
-abbrev pub AreNumbered : ShortObject → Type 0
-AreNumbered o = AllByRecursion IsNumbered (short_object_of o).rows
-
-pub cut_numbered : (mss : List (List Move)) (rows : List Row) → AllByRecursion IsNumbered rows → AllByRecursion IsNumbered (map (cut_row_of mss) rows)
-cut_numbered mss [] all = tt
-cut_numbered mss (r ∷ rows) ((line, ordinal, many), all) = ((line, ordinal, omega (arith, many)), cut_numbered mss rows all)
-
--- ---- what is left of a list
-
-pub next_left : {A : Type 0} (P : A → Type 0) (xs : List A) (i : ℕ) (x : A) → i < length xs → x ≡ get_or xs i x → P x → (AllByRecursion P (drop i xs) → AllByRecursion P xs) → AllByRecursion P (drop (i + 1) xs) → AllByRecursion P xs
-next_left {A = A} P xs i x inside is one all rest = all (from xs i x inside is one rest)
-  where
-    from : (ys : List A) (j : ℕ) (y : A) → j < length ys → y ≡ get_or ys j y → P y → AllByRecursion P (drop (j + 1) ys) → AllByRecursion P (drop j ys)
-    from [] j y inside is one rest = absurd (omega arith)
-    from (z ∷ ys) zero y inside is one rest = (subst P is one, rest)
-    from (z ∷ ys) (suc j) y inside is one rest = from ys j y (omega arith) is one (let e : suc j + 1 ≡ suc (j + 1) = omega arith in subst (λ n. AllByRecursion P (drop n (z ∷ ys))) e rest)
-
-pub none_left : {A : Type 0} (P : A → Type 0) (xs : List A) (i : ℕ) → length xs ≤ i → AllByRecursion P (drop i xs)
-none_left P [] zero past = tt
-none_left P [] (suc i) past = tt
-none_left P (x ∷ xs) zero past = absurd (omega arith)
-none_left P (x ∷ xs) (suc i) past = none_left P xs i (omega arith)
+    → AllByRecursion IsRow (rows_of (starts_of p) 1 (map short_object_of objects))
+rows_known objects start p is few =
+    rows_known_from (map short_object_of objects) start p is 0 objects (λ k o e. let plain : 0 + k ≡ k = omega arith in ap (λ n. slice_get (map short_object_of objects) n) plain ∙ e) few

@@ -1,11 +1,8 @@
 -- Programs with the details of their maps or without: the global names and the rows, which people
 -- read and executables do not have.
 
-use Rattle.std.specs.Prelude.{◌≡◌, ℕ, ◌<◌, ◌^◌, ⊤, Bool, false, List, [], if◌then◌else◌}
+use Rattle.std.specs.Prelude.{◌≡◌, ℕ, Bool, false, List, [], if◌then◌else◌}
 use Rattle.rv_image.specs.Linked.{Linked}
-use Rattle.rv_object.specs.declared.row.Row.{Row}
-use Rattle.rv_object.specs.declared.symbol.Definition.{Definition}
-use Rattle.rv_object.specs.declared.symbol.Definition.TheVariants.{Undefined, Absolute, InSection, Skipped}
 use Rattle.rv_object.specs.Object.{Object}
 use Rattle.rv_object_laws.specs.IsProgramOf.{IsProgramOf}
 
@@ -32,14 +29,3 @@ pub record IsProgramWith (os : List Object) (start : ℕ) (relax gc details : Bo
 -- without them: what it has besides is the whole program's
 abbrev pub IsProgramWithoutDetails : List Object → ℕ → Bool → Bool → Linked → Type 0
 IsProgramWithoutDetails os start relax gc l = IsProgramWith os start relax gc false l
-
--- the numbers of a row of an object can stand in a map
-abbrev pub IsNumbered : Row → Type 0
-IsNumbered r = (r.line < 2 ^ 64) × (r.ordinal < 2 ^ 64) × (r.instructions < 2 ^ 64)
-
--- so can the number that a symbol is
-abbrev pub IsLow : Definition → Type 0
-IsLow Undefined = ⊤
-IsLow (Absolute n) = n < 2 ^ 64
-IsLow (InSection section offset) = ⊤
-IsLow (Skipped n) = ⊤

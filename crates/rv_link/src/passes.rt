@@ -26,7 +26,7 @@ ghost use Rattle.rv_link.specs.Untaken.{AreUnfilled};
 ghost use Rattle.rv_link.specs.Refusals.{AreDoubled, AreWithin, ArePast, AreUnnamed, AreUnplaced, IsOddEntry, IsUnlinked};
 ghost use Rattle.rv_link.specs.Regions.{AreGrown, IsNamed, IsReady, IsPlaced};
 
-use crate::details::{are_low, are_numbered, globals as globals_of_map, rows as rows_of_map};
+use crate::details::{globals as globals_of_map, rows as rows_of_map};
 use crate::fault::LinkFault;
 use crate::fixed::Fixed;
 use crate::regions::Regions;
@@ -221,8 +221,6 @@ fn finish(
         (made drops.items (map short_object_of objects.now) placement entry regions).map) }
     ensures refuses { IfErr result (λ fault. fault ≡ OutOfMemory) }
 {
-    are_low(objects);
-    are_numbered(objects);
     let globals = globals_of_map(alloc, objects, names, &placement, details)?;
     let rows = rows_of_map(alloc, objects, &placement, details)?;
     let map = Map {

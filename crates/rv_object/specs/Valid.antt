@@ -100,6 +100,11 @@ is_shown bindings.Local name = is_string name
 is_shown bindings.Global name = is_name name
 is_shown bindings.Weak name = is_name name
 
+-- a number that a symbol is has 64 bits
+abbrev pub is_low : Definition → Bool
+is_low (definitions.Absolute n) = nat_lt n (2 ^ 64)
+is_low _ = true
+
 -- ---- indices
 
 abbrev pub is_below : ℕ → Option ℕ → Bool
@@ -126,3 +131,12 @@ is_row_in r (Some s) = s.loaded && nat_le (r.offset + r.bytes) (size_of s.conten
 
 abbrev pub are_rows : List Section → List Row → Bool
 are_rows sections rows = list_all (λ r. is_row_in r (slice_get sections r.section)) rows
+
+-- the numbers of a row have the widths of their fields
+abbrev pub is_counted : Row → Bool
+is_counted r =
+    nat_lt r.line (2 ^ 32) && nat_lt r.ordinal (2 ^ 32) && nat_lt r.section (2 ^ 32)
+    && nat_lt r.offset (2 ^ 64) && nat_lt r.bytes (2 ^ 32) && nat_lt r.instructions (2 ^ 32)
+
+abbrev pub are_counted : List Row → Bool
+are_counted rows = list_all is_counted rows

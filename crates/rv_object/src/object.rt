@@ -3,7 +3,7 @@
 ghost use Rattle.std.specs.Prelude.{IsTrue, map};
 ghost use Rattle.rv_object.specs.Parts.{symbol_of};
 ghost use Rattle.rv_object.specs.Sections.{section_of};
-ghost use Rattle.rv_object.specs.Valid.{are_indexed, are_defined, are_rows};
+ghost use Rattle.rv_object.specs.Valid.{are_indexed, are_defined, are_rows, are_counted};
 
 use crate::row::Row;
 use crate::section::Section;
@@ -28,4 +28,6 @@ pub struct Object<'a> {
         (are_defined (map section_of sections.items) (map symbol_of symbols.items)) },
     /// Each row lies in a section that has a place in memory.
     pub ghost lie: { IsTrue (are_rows (map section_of sections.items) rows.items) },
+    /// The numbers of each row have the widths of their fields.
+    pub ghost counted: { IsTrue (are_counted rows.items) },
 }

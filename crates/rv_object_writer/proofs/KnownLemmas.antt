@@ -1,22 +1,21 @@
 -- What the types of an object keep, and the widths of its numbers, as one fact of the object.
 
-use Rattle.std.proofs.Common.{◌≤◌, ◌<◌, ◌^◌, ℕ, List, [], ◌∷◌, length, map, take, sym, All}
+use Rattle.std.proofs.Common.{◌≡◌, ◌≤◌, ◌<◌, ◌^◌, true, ◌&&◌, nat_lt, ℕ, List, [], ◌∷◌, length, map, take, sym, All}
+use Rattle.std.proofs.lemmas.Bool.{and_parts, ltb-true}
 use Rattle.std.proofs.lemmas.List.{take_all}
 use Rattle.std.proofs.lemmas.List.Elements.{All-map, All-same, recursion_from_All}
 use Rattle.std.specs.List.{AllByRecursion}
 use Rattle.rv_object.specs.declared.object.Object.{Object}
 use Rattle.rv_object.specs.declared.section.Section.{Section}
+use Rattle.rv_object.specs.declared.row.Row.{Row}
 use Rattle.rv_object.specs.Object.{size_of}
 use Rattle.rv_object.specs.Sections.{section_of}
+use Rattle.rv_object.specs.Valid.{is_counted, are_counted}
 use Rattle.rv_object.specs.View.{object_of}
-use Rattle.rv_object_file_laws.specs.Known.{IsRelocation, IsSection, IsObject}
+use Rattle.rv_object_file_laws.specs.Known.{IsRelocation, IsSection, IsRow, IsObject}
 use Rattle.rv_object_writer.specs.Pieces.{HaveKnownNumbers}
 
--- what holds of each item that a loop has passed holds of all, once it has passed them all
-pub each_passed : {A : Type 0} (P : A → Type 0) (xs : List A) (i : ℕ) → length xs ≤ i → All P (take i xs) → AllByRecursion P xs
-each_passed P xs i past so_far = recursion_from_All P xs (All-same P xs (take i xs) (sym (take_all i xs past)) so_far)
-
--- and of what they stand for
+-- what holds of what each item stands for that a loop has passed holds of all, once it has passed them all
 pub all_passed : {A B : Type 0} (P : B → Type 0) (f : A → B) (xs : List A) (i : ℕ) → length xs ≤ i → All (λ x. P (f x)) (take i xs)
     → AllByRecursion P (map f xs)
 all_passed P f xs i past so_far =
@@ -40,12 +39,35 @@ sections_known (s ∷ ss) (size, sizes) (own, fields) = (
   sections_known ss sizes fields,
 )
 
+row_known : (r : Row) → is_counted r ≡ true → IsRow r
+row_known r h =
+    let line = nat_lt r.line (2 ^ 32) in
+    let ordinal = nat_lt r.ordinal (2 ^ 32) in
+    let section = nat_lt r.section (2 ^ 32) in
+    let offset = nat_lt r.offset (2 ^ 64) in
+    let bytes = nat_lt r.bytes (2 ^ 32) in
+    let five = and_parts (line && ordinal && section && offset && bytes) (nat_lt r.instructions (2 ^ 32)) h in
+    let four = and_parts (line && ordinal && section && offset) bytes five.0 in
+    let three = and_parts (line && ordinal && section) offset four.0 in
+    let two = and_parts line ordinal (and_parts (line && ordinal) section three.0).0 in
+    record {
+      in_line = ltb-true r.line (2 ^ 32) two.0;
+      number = ltb-true r.ordinal (2 ^ 32) two.1;
+      place = ltb-true r.offset (2 ^ 64) three.1;
+      size = ltb-true r.bytes (2 ^ 32) four.1;
+      count = ltb-true r.instructions (2 ^ 32) five.1;
+    }
+
+rows_known : (rs : List Row) → are_counted rs ≡ true → AllByRecursion IsRow rs
+rows_known [] h = tt
+rows_known (r ∷ rs) h = let both = and_parts (is_counted r) (are_counted rs) h in (row_known r both.0, rows_known rs both.1)
+
 pub object_known : (o : Object) → AllByRecursion (λ s. size_of s.contents < 2 ^ 64) (object_of o).sections → HaveKnownNumbers (object_of o)
     → IsObject (object_of o)
 object_known o sizes numbers = record {
   all_sections = sections_known o.sections.items sizes numbers.fields;
   all_symbols = numbers.all_symbols;
-  all_rows = numbers.all_rows;
+  all_rows = rows_known o.rows.items o.counted;
   indexed = o.indexed;
   defined = o.defined;
   lie = o.lie;

@@ -6,7 +6,7 @@ use Rattle.rv_elf.specs.declared.file_header.FileHeader.{FileHeader}
 use Rattle.rv_elf.specs.Fields.{rela_size, file_header_size, section_header_size}
 use Rattle.rv_elf.specs.Numbers.{sht_rela, et_rel, em_riscv}
 use Rattle.rv_object.specs.Object.{Object}
-use Rattle.rv_object_file_laws.specs.Known.{IsRelocation, IsSymbol, IsRow}
+use Rattle.rv_object_file_laws.specs.Known.{IsRelocation, IsSymbol}
 use Rattle.rv_object_file_laws.specs.Rows.{row_bytes}
 use Rattle.rv_object_file_laws.specs.Written.{Piece, table_piece, rela_pieces, row_record, symtab_index, last_index, headers_offset, symbols_bytes, symbol_names, table_of}
 use Rattle.rv_object_writer.specs.declared.pieces.Tables.{Tables}
@@ -51,7 +51,6 @@ pub record AreTables (o : Object) (t : Tables) : Type 0 where
 pub record HaveKnownNumbers (o : Object) : Type 0 where
   pub fields : AllByRecursion (λ s. AllByRecursion IsRelocation s.relocations) o.sections
   pub all_symbols : AllByRecursion IsSymbol o.symbols
-  pub all_rows : AllByRecursion IsRow o.rows
 
 -- the header of a file with these sections, of which the last has their names
 abbrev pub header_by : Bool → ℕ → List Piece → FileHeader

@@ -12,7 +12,7 @@ ghost use Rattle.rv_object_writer.specs.Pieces.{piece_of, rela_piece, AreTables,
 
 use crate::names::{SECTION_NAMES, symbol_names};
 use crate::piece::{Body, Piece};
-use crate::tables::{RelaTable, locals, rela_tables, rows_are_known, symbols_table};
+use crate::tables::{RelaTable, locals, rela_tables, symbols_table};
 use rv_elf::{SHT_RELA, SHT_STRTAB, SHT_SYMTAB};
 use rv_object::{Object, Row, Section};
 use std::alloc::{AllocError, Global};
@@ -48,7 +48,6 @@ impl Tables {
     {
         let relocations = rela_tables(alloc, object.sections.as_slice())?;
         let symtab = symtab_index(object, relocations.as_slice());
-        rows_are_known(object.rows.as_slice());
         let names = symbol_names(alloc, object.symbols.as_slice())?;
         let symbols = symbols_table(alloc, &names, symtab + 2, object.symbols.as_slice())?;
         Ok(Tables {

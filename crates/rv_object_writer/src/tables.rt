@@ -1,8 +1,8 @@
 //! The tables of a file: relocations, rows and symbols.
 //!
 //! Their bytes are made before any section is written, since the headers of the file and of its sections say how large
-//! they are; of rows, which are 32 bytes each, their number says it. The loops that write a table also show that its
-//! numbers have the widths of their fields: only a look at each part of an object can show it.
+//! they are; of rows, which are 32 bytes each, their number says it. The loops that write relocations and symbols also show
+//! that their numbers have the widths of their fields; of rows the object says it.
 
 ghost use Rattle.std.specs.Prelude.{◌≡◌, ◌+◌, ◌<◌, ◌%◌, ◌^◌, ℕ, suc, List, [], ◌∷◌, ◌++◌, map, flat_map, replicate, codes, IfOk, OnOk};
 ghost use Rattle.std.specs.List.{AllByRecursion};
@@ -11,7 +11,7 @@ ghost use Rattle.rv_elf.specs.Fields.{bytes_of, symbol_size};
 ghost use Rattle.rv_elf.specs.Records.{rela_bytes, symbol_bytes};
 ghost use Rattle.rv_object.specs.Parts.{relocation_of, symbol_of};
 ghost use Rattle.rv_object.specs.Sections.{section_of};
-ghost use Rattle.rv_object_file_laws.specs.Known.{IsRelocation, IsSymbol, IsRow};
+ghost use Rattle.rv_object_file_laws.specs.Known.{IsRelocation, IsSymbol};
 ghost use Rattle.rv_object_file_laws.specs.Rows.{row_bytes};
 ghost use Rattle.rv_object_file_laws.specs.Rows as fields;
 ghost use Rattle.rv_object_file_laws.specs.Written.{strings_of, symbol_number, rela_of, relocations_bytes, row_record, binding_number, section_index_of, value_of, symbol_record, is_local, locals, rela_pieces};
@@ -208,20 +208,6 @@ pub(crate) fn put_rows(out: &mut ElfWriter, rows: &[Row]) -> Result<(), AllocErr
         put_row(out, *row)?;
     }
     Ok(())
-}
-
-/// The numbers of a row have the widths of their fields.
-fn row_is_known(row: Row)
-    ensures { IsRow row }
-{}
-
-/// The numbers of rows have the widths of their fields.
-pub(crate) fn rows_are_known(rows: &[Row])
-    ensures { AllByRecursion IsRow rows.now }
-{
-    for row in rows {
-        row_is_known(*row);
-    }
 }
 
 // ---- symbols

@@ -1,11 +1,12 @@
 use Rattle.std.proofs.Common.{◌≡◌, ◌∙◌, ℕ, Bool, not, map, filter, ap}
 use Rattle.rv_object.specs.Parts.{symbol_of}
 use Rattle.rv_object.specs.Sections.{section_of}
-use Rattle.rv_object.specs.Valid.{are_indexed, are_defined, are_rows}
+use Rattle.rv_object.specs.Valid.{are_indexed, are_defined, are_rows, are_counted}
 use Rattle.rv_object.specs.View.{object_of}
 use Rattle.rv_object_laws.specs.Without.{without_sections}
 use Rattle.rv_object_laws.proofs.WholeLemmas.{is_whole, whole_object}
 use Rattle.rv_collect.specs.Drops.{drops_in}
+use Rattle.rv_collect.proofs.LeftLemmas.{still_counted}
 use Rattle.rv_collect.proofs.left.left_object.Goals as goal
 
 pub invariant_of-result : goal.invariant_of-result
@@ -25,6 +26,7 @@ invariant_of-result c =
       indexed = ap (λ l. are_indexed l (map section_of c.in_ok-sections.sections.items)) symbols ∙ ap (are_indexed (object_of x).symbols) sections ∙ whole.indexed;
       defined = ap (are_defined (map section_of c.in_ok-sections.sections.items)) symbols ∙ ap (λ l. are_defined l (object_of x).symbols) sections ∙ whole.defined;
       lie = ap (are_rows (map section_of c.in_ok-sections.sections.items)) rows ∙ ap (λ l. are_rows l (filter (λ r. not (dropped r.section)) x.rows.items)) sections ∙ whole.lie;
+      counted = ap are_counted rows ∙ still_counted (λ r. not (dropped r.section)) x.rows.items x.counted;
     }
 
 pub returns : goal.returns

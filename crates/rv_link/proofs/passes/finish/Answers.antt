@@ -21,7 +21,7 @@ returns-clause-readable c =
       bss = regions.3;
       entry = omega arith;
       gaps = gaps_known os stands.first p stands.placed;
-      globals = globals_known c.args.objects.now stands.first p stands.placed c.are_low.ensures;
+      globals = globals_known c.args.objects.now stands.first p stands.placed;
       drops = recursion_from_All IsDrop c.args.drops.items c.requires.drops;
-      rows = rows_known c.args.objects.now stands.first p stands.placed (omega (arith, c.requires.few, length-map c.args.objects.now short_object_of)) c.are_numbered.ensures;
+      rows = rows_known c.args.objects.now stands.first p stands.placed (omega (arith, c.requires.few, length-map c.args.objects.now short_object_of));
     }

@@ -15,7 +15,8 @@ invariant_of-result c =
     record {
       indexed = ap (λ ss. are_indexed ss (map section_of c.in_ok-sections.sections.items)) symbols ∙ ap (are_indexed (symbols_made file)) sections ∙ object_indexed file checked.good;
       defined = ap (λ ss. are_defined ss (map symbol_of c.in_ok-symbols.symbols.items)) sections ∙ ap (are_defined (sections_in file)) symbols ∙ object_defined file;
-      lie = ap (λ ss. are_rows ss c.in_ok-rows.rows.items) sections ∙ ap (are_rows (sections_in file)) c.in_ok-rows.ensures ∙ object_rows file checked.good;
+      lie = ap (λ ss. are_rows ss c.in_ok-rows.rows.items) sections ∙ ap (are_rows (sections_in file)) c.in_ok-rows.ensures.made ∙ object_rows file checked.good;
+      counted = c.in_ok-rows.ensures.counted;
     }
 
 pub returns-clause-object : goal.returns-clause-object
@@ -25,7 +26,7 @@ returns-clause-object c =
       collected_is c.args.file.now checked.view.file.now c.in_ok-checked.ensures.1 checked.good _ (record {
         sections = c.in_ok-sections.ensures;
         symbols = c.in_ok-symbols.ensures;
-        rows = c.in_ok-rows.ensures;
+        rows = c.in_ok-rows.ensures.made;
         rvc = c.is_compressed.ensures;
       }),
     )

@@ -1,5 +1,6 @@
-use Rattle.std.proofs.Common.{◌*◌, ◌-◌, ◌/◌, length}
+use Rattle.std.proofs.Common.{◌≡◌, ◌*◌, ◌-◌, ◌/◌, true, length}
 use Rattle.rv_elf.specs.Sections.{records}
+use Rattle.rv_object.specs.Valid.{are_counted}
 use Rattle.rv_object_file_laws.specs.ObjectOf.{row_in}
 use Rattle.rv_object_file_laws.specs.Rows.{row_at, rows_in}
 use Rattle.rv_object_reader.proofs.MadeLemmas.{SoFar, IsHome}
@@ -10,3 +11,4 @@ abbrev pub invariant-loop-index : goal.invariant-loop-index
 invariant-loop-index l =
     let file = l.checked.view.file.now in
     SoFar (IsHome file) (row_in file) (rows_in l.bytes) l.rows.items (records row_at 32 (length l.bytes / 32 - l.index) (32 * l.index) l.bytes)
+    × (are_counted l.rows.items ≡ true)

@@ -1,4 +1,4 @@
-use Rattle.std.proofs.Common.{◌≡◌, None, [], unwrap_or, subst, ap, ◌∙◌}
+use Rattle.std.proofs.Common.{◌≡◌, None, [], unwrap_or, subst, ap, ◌∙◌, rules, of_calls}
 use Rattle.rv_elf.specs.FirstFault.{first_true}
 use Rattle.rv_object.specs.Valid.{is_shown}
 use Rattle.rv_object_file_laws.specs.FirstFault.{symbol_tests}
@@ -16,4 +16,7 @@ invariant_of-result c =
     let entry = c.args.entry.now in
     let good = subst (λ names. first_true (symbol_tests file names entry) ≡ None) c.requires.named c.requires.good in
     let name = c.name.ensures ∙ ap (λ names. unwrap_or (name_at names entry.st_name) []) c.requires.named in
-    record { shown = ap (λ b. is_shown b c.name.result.now) c.binding.ensures ∙ ap (is_shown _) name ∙ symbol_shown file entry good }
+    record {
+      shown = ap (λ b. is_shown b c.name.result.now) c.binding.ensures ∙ ap (is_shown _) name ∙ symbol_shown file entry good;
+      low = search (rules, of_calls);
+    }

@@ -1,4 +1,4 @@
-use Rattle.std.proofs.Common.{◌≡◌, List, [], ◌∷◌, ◌++◌, map, sym, ap, ◌∙◌, subst, append-nil}
+use Rattle.std.proofs.Common.{◌≡◌, List, [], ◌∷◌, ◌++◌, map, sym, ap, ◌∙◌, subst, append-nil, rules, of_calls}
 use Rattle.std.proofs.lemmas.List.{map-append}
 use Rattle.rv_statement.specs.View.{statement_of}
 use Rattle.rv_unit_laws.specs.Bindings.{is_shared}
@@ -105,4 +105,4 @@ returns-clause-exported c = λ laid s h at kind.
     (sym (c.is_shared.ensures laid h) ∙ c.if-is_shared.false))
 
 pub invariant_of-local : goal.invariant_of-local
-invariant_of-local c = record { shown = name_is_string c.in-Some.name.now (c.in-Some.ensures.shown c.requires.shown) }
+invariant_of-local c = record { shown = name_is_string c.in-Some.name.now (c.in-Some.ensures.shown c.requires.shown); low = search (rules, of_calls) }

@@ -1,4 +1,4 @@
-use Rattle.std.proofs.Common.{◌+◌, [], ◌∷◌, ◌++◌, map, drop, get_or, sym, ap, ◌∙◌, append_assoc}
+use Rattle.std.proofs.Common.{◌+◌, [], ◌∷◌, ◌++◌, map, drop, get_or, refl, sym, ap, ◌∙◌, append_assoc}
 use Rattle.std.proofs.lemmas.List.{map-append}
 use Rattle.rv_object.specs.declared.symbol.Definition.TheVariants.{Undefined}
 use Rattle.rv_object.specs.Parts.{symbol_of}
@@ -17,7 +17,7 @@ invariant_of-undefined c =
     let names = c.args.names.now in
     let name = get_or names i (record { ref_ptr = (0, 0); now = [] }) in
     let at = got_map now_of names i ∙ ap (option_map now_of) (some_at names i (record { ref_ptr = (0, 0); now = [] }) c.loop-name-test.true) in
-    record { shown = c.outer_binding.ensures.shown (all_got is_name (map now_of names) i name.now at c.requires) }
+    record { shown = c.outer_binding.ensures.shown (all_got is_name (map now_of names) i name.now at c.requires); low = refl }
 
 pub loop-name-preserved : goal.loop-name-preserved
 loop-name-preserved c = λ laid h.
