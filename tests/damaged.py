@@ -7,10 +7,13 @@ Makes objects and executables with ./rv. Each front part of a file is refused as
 with any one of its bytes set to 0, or to FFh, it is answered: no signal ends rv, and what it says is a fault or an end.
 Of the zeros up to an executable's first page one in 64 is changed, and the file cut there; all of them with --all.
 An object of 114 KB, whose 2,001 global names are ends of one string and have 65 MB written out, is linked within 64 MB.
-Standard library alone; the last line is 'N passed, M failed', where a file counts once for each of the three, and that
-object once.
+Its names are shown, and the 96 MB that 500 rows of a map over the same 8,000 instructions list, in no more memory than 20
+times the files and 16 MiB: each text is made here once more, and both are counted and hashed as they come. Standard
+library alone; the last line is 'N passed, M failed', where a file counts once for each of the three, and that link and
+each of these texts once.
 """
 
+import hashlib
 import multiprocessing
 import os
 import re
@@ -23,6 +26,7 @@ from pathlib import Path
 
 RV = Path(__file__).resolve().parent.parent / "rv"
 PAGE = 4096
+MIB = 1 << 20
 SECONDS = 60
 EXIT7 = """.option norvc
 .globl _start
@@ -111,11 +115,14 @@ def made(source, use):
         return Path(folder, "made").read_bytes()
 
 
+LONG = b"n" * 65530 + b"_start\0"
+STARTS = [65530 * place // 2000 for place in range(2001)]
+
+
 def long_names():
     """An object that exits with 7, of 2,001 global names that are ends of one string of 64 KB: each means its first byte."""
-    text, string, tables = bytes.fromhex("130570009308d00573000000"), b"n" * 65530 + b"_start\0", b"\0.text\0.symtab\0.strtab\0"
-    starts = [65530 * place // 2000 for place in range(2001)]
-    symbols = bytes(24) + b"".join(struct.pack("<IBBHQQ", 1 + start, 16, 0, 1, 0, 0) for start in starts)
+    text, string, tables = bytes.fromhex("130570009308d00573000000"), LONG, b"\0.text\0.symtab\0.strtab\0"
+    symbols = bytes(24) + b"".join(struct.pack("<IBBHQQ", 1 + start, 16, 0, 1, 0, 0) for start in STARTS)
     held, headers = bytearray(64), [bytes(64)]
     for name, kind, flags, body, align, link, info, each in (
         (b".text", 1, 6, text, 4, 0, 0, 0), (b".symtab", 2, 0, symbols, 8, 3, 1, 24),
@@ -140,6 +147,45 @@ def wrong_names(folder):
     return None if ended == 7 else f"program of long names: status {ended}"
 
 
+def shown_names(folder):
+    """Writes the object of long names; the words that show its names, and the lines of these: `_` is before `n`."""
+    Path(folder, "names").write_bytes(long_names())
+    return ["nm", "names"], (b"0000000000000000 T " + LONG[start:-1] + b"\n" for start in reversed(STARTS))
+
+
+def listed_rows(folder):
+    """Writes 8,000 instructions and a map of 500 rows that each have all of them; the words that list these, and the rows."""
+    source = ".option norvc\n.globl _start\n_start:\n" + 8000 * "nop\n"
+    Path(folder, "exe").write_bytes(made(source, "executable"))
+    regions = "".join(f"{name} 0 0\n" for name in ("text", "rodata", "data", "bss"))
+    rows = "".join(f"row 1 {row} {row} 10000 32000 8000\n" for row in range(1, 501))
+    Path(folder, "map").write_text(f"rvmap 1\n{regions}entry 0\n{rows}")
+    lines = b"".join(b"%x: addi zero,zero,0\n" % (0x10000 + 4 * place) for place in range(8000))
+    return ["objdump", "--map", "map", "exe"], (b"@ 1 %d %d\n" % (row, row) + lines for row in range(1, 501))
+
+
+def counted(parts):
+    """How many lines and bytes the parts of a text have, and their hash."""
+    lines, size, digest = 0, 0, hashlib.sha256()
+    for part in parts:
+        lines, size = lines + part.count(b"\n"), size + len(part)
+        digest.update(part)
+    return lines, size, digest.hexdigest()
+
+
+def wrong_text(folder, words, parts):
+    """What is wrong with a text that is much longer than its files and is written in little memory, or nothing."""
+    most = 20 * sum(it.stat().st_size for it in Path(folder).iterdir() if it.name in words) + 16 * MIB
+    limits = {resource.RLIMIT_AS: most, resource.RLIMIT_CPU: SECONDS}
+    limit = lambda: [resource.setrlimit(it, (least, least)) for it, least in limits.items()]
+    ran = subprocess.Popen([RV, *words], cwd=folder, stdout=subprocess.PIPE, stderr=subprocess.PIPE, preexec_fn=limit)
+    came, wanted = counted(iter(lambda: ran.stdout.read(MIB), b"")), counted(parts)
+    said = ran.communicate()[1]
+    if ran.returncode or said or came != wanted:
+        return f"{' '.join(words)}: status {ran.returncode}, {said!r}, {came} and not {wanted} within {most} bytes"
+    return None
+
+
 def places(held, use, every):
     """The offsets that are tried: all, but of the zeros up to an executable's first page one in so many."""
     front = len(held[:PAGE].rstrip(b"\0")) if use == "executable" else len(held)
@@ -151,9 +197,9 @@ def main(words):
         sys.exit("no ./rv: run make first")
     answers = 0
     with tempfile.TemporaryDirectory() as folder, multiprocessing.Pool(len(os.sched_getaffinity(0))) as pool:
-        wrong = wrong_names(folder)
-        print(wrong or "", end="\n" if wrong else "")
-        passed, failed = int(not wrong), int(bool(wrong))
+        large = [wrong_names(folder), *[wrong_text(folder, *it(folder)) for it in (shown_names, listed_rows)]]
+        print("".join(f"{it}\n" for it in large if it), end="")
+        passed, failed = large.count(None), len(large) - large.count(None)
         for source, use in FILES:
             held = made(source, use)
             tried = places(held, use, 1 if words == ["--all"] else 64)

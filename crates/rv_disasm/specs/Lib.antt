@@ -1,5 +1,6 @@
 pub mod Dump
 pub mod Instruction
+pub mod Left
 pub mod Lines
 pub mod Listing
 pub mod Numbers

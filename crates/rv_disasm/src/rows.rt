@@ -43,7 +43,7 @@ fn entries(alloc: Global, segments: &[Segment], rows: &[Row]) -> Result<Vec<u8>,
 
 /// Adds the text of a row.
 #[tactic(auto, using(crate::proofs::LinesOnLemmas::entry_none, crate::proofs::LinesOnLemmas::entry_some))]
-fn put_row(text: &mut Vec<u8>, segments: &[Segment], row: &Row) -> Result<(), AllocError>
+pub(crate) fn put_row(text: &mut Vec<u8>, segments: &[Segment], row: &Row) -> Result<(), AllocError>
     ensures { (reader : Reader Spells StandsFor) → OnOk result (text.new.items
         ≡ text.old.items ++ shows.row_text reader (map segment_of segments.now) row.now) }
 {

@@ -1,11 +1,14 @@
 //! What the program shows of files: the listings of an executable, and the bytes of any file.
 
-use rv_disasm::{hex_dump, listing, raw_listing};
+use rv_disasm::{ListedRows, hex_dump, raw_listing};
 use rv_fault::Fault;
-use rv_inspect::{Style, code_text};
+use rv_inspect::{CodeFile, Style};
 use rv_job::AskedCode;
 use rv_map::Map;
-use rv_system::{JobError, System, fault_line, file_bytes, image_in, map_in, print, print_listing};
+use rv_paint::has_escape;
+use rv_system::{
+    JobError, System, fault_line, file_bytes, image_in, map_in, print, print_listing, print_parts,
+};
 use std::alloc::Global;
 
 /// Prints the listing of an executable by its map; the exit status.
@@ -24,8 +27,8 @@ pub fn objdump<S: System>(
     };
     let map = map_in(alloc, map_name, map.as_slice())?;
     let image = image_in(alloc, exe_name, exe.as_slice())?;
-    let text = listing(alloc, &image, &map)?;
-    print_listing(system, text.as_slice())?;
+    let mut rows = ListedRows::new(alloc, &image, &map)?;
+    print_parts(system, true, |text| rows.next(text))?;
     Ok(0)
 }
 
@@ -50,13 +53,19 @@ pub fn code<S: System>(system: &mut S, asked: &AskedCode<'_>) -> Result<u8, JobE
     let style = Style {
         aliases: asked.aliases,
     };
-    match code_text(alloc, asked.file, file.as_slice(), map.as_ref(), style) {
-        Ok(text) => {
-            print_listing(system, text.as_slice())?;
-            Ok(0)
-        }
-        Err(fault) => Err(fault_line(alloc, &Fault::File(1, fault), &[asked.file])?),
-    }
+    let shown = match CodeFile::of(alloc, file.as_slice(), map.as_ref(), style) {
+        Ok(shown) => shown,
+        Err(fault) => return Err(fault_line(alloc, &Fault::File(1, fault), &[asked.file])?),
+    };
+    print_code(system, &shown, asked.file)
+}
+
+/// Prints the instructions of a file, below its name; the exit status.
+fn print_code<S: System>(system: &mut S, shown: &CodeFile<'_>, name: &str) -> Result<u8, JobError> {
+    let mut lines = shown.lines(name);
+    let in_colours = !has_escape(name.as_bytes());
+    print_parts(system, in_colours, |text| lines.next(text))?;
+    Ok(0)
 }
 
 /// The map and the bytes of a file, which are read in the order of the words.

@@ -2,8 +2,8 @@
 
 use rv_elf::FileFault;
 use rv_fault::Fault;
-use rv_inspect::{SizeTable, elf_text, map_names, symbol_names};
-use rv_system::{JobError, System, fault_line, file_bytes, image_in, map_in, print};
+use rv_inspect::{ElfLines, NameLines, SizeTable};
+use rv_system::{JobError, System, fault_line, file_bytes, image_in, map_in, print, print_parts};
 use std::alloc::{AllocError, Global};
 
 /// Prints the sizes of files, which are read in their order; the exit status.
@@ -34,11 +34,8 @@ pub fn names<S: System>(system: &mut S, map: Option<&str>, name: &str) -> Result
 fn names_of_file<S: System>(system: &mut S, name: &str) -> Result<u8, JobError> {
     let alloc: Global = system.alloc();
     let file = file_bytes(system, name)?;
-    match symbol_names(alloc, file.as_slice()) {
-        Ok(Some(text)) => {
-            print(system, text.as_slice())?;
-            Ok(0)
-        }
+    match NameLines::of_file(alloc, file.as_slice()) {
+        Ok(Some(lines)) => print_names(system, lines),
         Ok(None) => Err(JobError::Line(format!(in alloc; "{name}: no symbols")?)),
         Err(fault) => Err(refused(alloc, name, fault)?),
     }
@@ -51,8 +48,12 @@ fn names_by_map<S: System>(system: &mut S, map_name: &str, name: &str) -> Result
     let exe = file_bytes(system, name)?;
     let map = map_in(alloc, map_name, text.as_slice())?;
     let _image = image_in(alloc, name, exe.as_slice())?;
-    let text = map_names(alloc, &map)?;
-    print(system, text.as_slice())?;
+    print_names(system, NameLines::of_map(alloc, &map)?)
+}
+
+/// Prints names; the exit status.
+fn print_names<S: System>(system: &mut S, mut lines: NameLines<'_>) -> Result<u8, JobError> {
+    print_parts(system, false, |text| lines.next(text))?;
     Ok(0)
 }
 
@@ -60,13 +61,12 @@ fn names_by_map<S: System>(system: &mut S, map_name: &str, name: &str) -> Result
 pub fn elf<S: System>(system: &mut S, name: &str) -> Result<u8, JobError> {
     let alloc: Global = system.alloc();
     let file = file_bytes(system, name)?;
-    match elf_text(alloc, file.as_slice()) {
-        Ok(text) => {
-            print(system, text.as_slice())?;
-            Ok(0)
-        }
-        Err(fault) => Err(refused(alloc, name, fault)?),
-    }
+    let mut lines = match ElfLines::of(file.as_slice()) {
+        Ok(lines) => lines,
+        Err(fault) => return Err(refused(alloc, name, fault)?),
+    };
+    print_parts(system, false, |text| lines.next(text))?;
+    Ok(0)
 }
 
 /// The line of a file that is refused.

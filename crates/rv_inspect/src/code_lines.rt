@@ -32,14 +32,42 @@ pub(crate) struct Code<'a> {
     pub(crate) aliases: bool,
 }
 
-/// How far the lines are.
+/// How far the lines of a section are.
 #[derive(Drop)]
-struct Cursor<'p> {
+pub(crate) struct Cursor {
+    has_heading: bool,
+    /// The offset after the last line.
+    offset: usize,
+    /// The offset of the next name, or the end.
+    stop: usize,
     /// How many marks stand there or before.
     marks: usize,
     /// How many relocations stand before.
     relocations: usize,
-    pairs: &'p mut Pairs,
+    pairs: Pairs,
+}
+
+impl Cursor {
+    /// At the beginning of a section, where registers hold this.
+    pub(crate) fn new(pairs: Pairs) -> Cursor {
+        Cursor {
+            has_heading: false,
+            offset: 0,
+            stop: 0,
+            marks: 0,
+            relocations: 0,
+            pairs,
+        }
+    }
+
+    /// Goes to the beginning of another section; registers hold what they did.
+    pub(crate) fn restart(&mut self) {
+        self.has_heading = false;
+        self.offset = 0;
+        self.stop = 0;
+        self.marks = 0;
+        self.relocations = 0;
+    }
 }
 
 impl Code<'_> {
@@ -56,65 +84,83 @@ impl Code<'_> {
     }
 }
 
-/// Adds the lines of a section.
-pub(crate) fn put_code(
+/// Adds the next line of a section; false where none is left.
+pub(crate) fn put_next(
     text: &mut Vec<u8>,
     code: &Code<'_>,
-    pairs: &mut Pairs,
-) -> Result<(), AllocError> {
+    cursor: &mut Cursor,
+) -> Result<bool, AllocError> {
+    if !cursor.has_heading {
+        cursor.has_heading = true;
+        put_heading(text, code.scope.name)?;
+        return Ok(true);
+    }
+    if let Some(relocation) = passed_relocation(code, cursor) {
+        cursor.relocations = cursor.relocations.saturating_add(1);
+        put_relocation(text, relocation)?;
+        return Ok(true);
+    }
+    if cursor.offset < cursor.stop {
+        put_code(text, code, cursor)?;
+        return Ok(true);
+    }
+    // the last instruction may reach over the name
+    cursor.offset = cursor.stop;
+    if cursor.offset >= code.bytes.len() {
+        return Ok(false);
+    }
+    cursor.stop = next_stop(code, cursor.offset);
+    put_label(text, &code.scope, code.address(cursor.offset))?;
+    Ok(true)
+}
+
+/// Adds the lines above a section.
+fn put_heading(text: &mut Vec<u8>, name: &[u8]) -> Result<(), AllocError> {
     put_columns(
         text,
         &[
             Text(b"\nDisassembly of section "),
-            Name(code.scope.name, 0),
+            Name(name, 0),
             Text(b":\n"),
         ],
-    )?;
-    let mut cursor = Cursor {
-        marks: 0,
-        relocations: 0,
-        pairs,
-    };
-    let mut offset = 0;
-    for label in code.scope.own {
-        let next = code.offset(label.address);
-        if offset < next {
-            put_stretch(text, code, &mut cursor, offset, next)?;
-            offset = next;
-        }
-    }
-    if offset < code.bytes.len() {
-        put_stretch(text, code, &mut cursor, offset, code.bytes.len())?;
-    }
-    Ok(())
+    )
 }
 
-/// Adds the lines from an offset to that of the next name.
-fn put_stretch(
-    text: &mut Vec<u8>,
-    code: &Code<'_>,
-    cursor: &mut Cursor<'_>,
-    start: usize,
-    stop: usize,
-) -> Result<(), AllocError> {
-    put_label(text, &code.scope, code.address(start))?;
-    let mut offset = start;
-    for _ in start..stop {
-        if stop <= offset {
-            break;
-        }
-        let bytes = code.bytes.get(offset..).unwrap_or(b"");
-        let inside = bytes.get(..stop - offset).unwrap_or(bytes);
-        let count = match skipped(inside) {
-            Some(zeros) => {
-                put(text, b"\t...\n")?;
-                zeros
-            }
-            None => put_line(text, code, cursor, offset, bytes)?,
-        };
-        offset = offset.saturating_add(count);
-        put_relocations(text, code, cursor, code.address(offset))?;
+/// The next relocation, where its place is in the lines that are there.
+fn passed_relocation<'a>(code: &Code<'a>, cursor: &Cursor) -> Option<&'a Relocation<'a>> {
+    let next = code.relocations.get(cursor.relocations)?;
+    if cursor.offset != 0 && next.place < code.address(cursor.offset) {
+        Some(next)
+    } else {
+        None
     }
+}
+
+/// The offset of the first name after an offset, or the end.
+fn next_stop(code: &Code<'_>, offset: usize) -> usize {
+    let own = code.scope.own;
+    let passed = own.partition_point(|label| code.offset(label.address) <= offset);
+    match own.get(passed) {
+        Some(label) => code.offset(label.address),
+        None => code.bytes.len(),
+    }
+}
+
+/// Adds the line of what is next.
+fn put_code(text: &mut Vec<u8>, code: &Code<'_>, cursor: &mut Cursor) -> Result<(), AllocError> {
+    let offset = cursor.offset;
+    let bytes = code.bytes.get(offset..).unwrap_or(b"");
+    let inside = bytes
+        .get(..cursor.stop.saturating_sub(offset))
+        .unwrap_or(bytes);
+    let count = match skipped(inside) {
+        Some(zeros) => {
+            put(text, b"\t...\n")?;
+            zeros
+        }
+        None => put_line(text, code, cursor, offset, bytes)?,
+    };
+    cursor.offset = offset.saturating_add(count);
     Ok(())
 }
 
@@ -156,7 +202,7 @@ fn count_zeros(bytes: &[u8]) -> usize {
 fn put_line(
     text: &mut Vec<u8>,
     code: &Code<'_>,
-    cursor: &mut Cursor<'_>,
+    cursor: &mut Cursor,
     offset: usize,
     bytes: &[u8],
 ) -> Result<usize, AllocError> {
@@ -203,7 +249,7 @@ fn width_below(end: u64) -> usize {
 }
 
 /// How many bytes of data are on the line of an address; 0 where code stands there.
-fn data_at(code: &Code<'_>, cursor: &mut Cursor<'_>, address: u64, left: usize) -> usize {
+fn data_at(code: &Code<'_>, cursor: &mut Cursor, address: u64, left: usize) -> usize {
     let rest = code.marks.get(cursor.marks..).unwrap_or(&[]);
     let passed = rest.partition_point(|mark| mark.address <= address);
     cursor.marks = cursor.marks.saturating_add(passed);
@@ -229,7 +275,7 @@ fn data_at(code: &Code<'_>, cursor: &mut Cursor<'_>, address: u64, left: usize) 
 fn put_parcel_line(
     text: &mut Vec<u8>,
     code: &Code<'_>,
-    cursor: &mut Cursor<'_>,
+    cursor: &mut Cursor,
     address: u64,
     inst: &Inst,
     bytes: &[u8],
@@ -256,7 +302,7 @@ fn parcel_of(bytes: &[u8]) -> Option<Compressed> {
 fn put_word_line(
     text: &mut Vec<u8>,
     code: &Code<'_>,
-    cursor: &mut Cursor<'_>,
+    cursor: &mut Cursor,
     address: u64,
     inst: &Inst,
 ) -> Result<(), AllocError> {
@@ -346,22 +392,4 @@ fn put_data(text: &mut Vec<u8>, bytes: &[u8], count: usize) -> Result<usize, All
         ],
     )?;
     Ok(count.max(1))
-}
-
-/// Adds the lines of the relocations before an address.
-fn put_relocations(
-    text: &mut Vec<u8>,
-    code: &Code<'_>,
-    cursor: &mut Cursor<'_>,
-    end: u64,
-) -> Result<(), AllocError> {
-    let rest = code.relocations.get(cursor.relocations..).unwrap_or(&[]);
-    for relocation in rest {
-        if end <= relocation.place {
-            break;
-        }
-        put_relocation(text, relocation)?;
-        cursor.relocations = cursor.relocations.saturating_add(1);
-    }
-    Ok(())
 }

@@ -91,17 +91,16 @@ impl<'a> CodeNames<'a> {
         Ok(())
     }
 
-    /// Adds the names of a map, of which those inside a segment are told from the others.
-    fn add_globals(&mut self, map: &'a Map, start: u64, end: u64) -> Result<(), AllocError> {
+    /// Adds the names of a map.
+    fn add_globals(&mut self, map: &'a Map) -> Result<(), AllocError> {
         for global in &map.globals {
             let name = global.name.as_slice();
             let address = global.address;
             if name == b"__global_pointer$".as_slice() {
                 self.pointer = Some(address);
             }
-            let is_inside = start <= address && address < end;
             self.labels.add(Label {
-                section: u32::from(!is_inside),
+                section: 0,
                 address,
                 rank: 0,
                 size: 0,
@@ -128,15 +127,10 @@ pub(crate) fn file_names<'a>(
     Ok(names)
 }
 
-/// Those of a map, of which those inside a segment are told from the others.
-pub(crate) fn names_of_map<'a>(
-    alloc: Global,
-    map: &'a Map,
-    start: u64,
-    end: u64,
-) -> Result<CodeNames<'a>, AllocError> {
+/// Those of a map.
+pub(crate) fn names_of_map<'a>(alloc: Global, map: &'a Map) -> Result<CodeNames<'a>, AllocError> {
     let mut names = CodeNames::new(alloc);
-    names.add_globals(map, start, end)?;
+    names.add_globals(map)?;
     names.order()?;
     Ok(names)
 }

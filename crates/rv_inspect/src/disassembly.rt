@@ -1,6 +1,6 @@
 //! The instructions of executables and objects, in the columns of GNU's `objdump -d -r`.
 
-use crate::code_lines::{Code, put_code};
+use crate::code_lines::{Code, Cursor, put_next};
 use crate::code_names::{CodeNames, file_names, names_of_map};
 use crate::columns::put;
 use crate::pairs::Pairs;
@@ -23,23 +23,171 @@ pub struct Style {
     pub aliases: bool,
 }
 
-/// The instructions of a file, or its first fault.
-///
-/// Of an object, and of an executable with sections, all sections of code are shown, with the file's symbols. Where a map
-/// is given, or there are no such sections, all executable segments are, with the names of the map. Data in code is shown
-/// as data where the file's marks (`$d`, `$x`) tell it.
-pub fn code_text(
-    alloc: Global,
-    name: &str,
-    file: &[u8],
-    map: Option<&Map>,
+/// A file whose code is shown, and what its lines are made by.
+#[derive(Drop)]
+pub struct CodeFile<'a> {
+    view: ElfView<'a>,
+    names: CodeNames<'a>,
+    has_sections: bool,
     style: Style,
-) -> Result<Vec<u8>, FileFault> {
-    let view = ElfView::open(file)?;
-    let mut text = Vec::new(alloc);
-    put_heading(&mut text, name)?;
-    put_file(&mut text, &view, map, style)?;
-    Ok(text)
+}
+
+impl<'a> CodeFile<'a> {
+    /// That of a file, or its first fault.
+    ///
+    /// Of an object, and of an executable with sections, all sections of code are shown, with the file's symbols. Where a
+    /// map is given, or there are no such sections, all executable segments are, with the names of the map. Data in code
+    /// is shown as data where the file's marks (`$d`, `$x`) tell it.
+    pub fn of(
+        alloc: Global,
+        file: &'a [u8],
+        map: Option<&'a Map>,
+        style: Style,
+    ) -> Result<Self, FileFault> {
+        let view = ElfView::open(file)?;
+        let has_sections = map.is_none() && has_code(&view);
+        let names = if has_sections {
+            file_names(alloc, &view)?
+        } else {
+            map_names(alloc, map)?
+        };
+        check_bytes(&view, has_sections)?;
+        Ok(CodeFile {
+            view,
+            names,
+            has_sections,
+            style,
+        })
+    }
+
+    /// Its lines, below its name.
+    pub fn lines<'n>(&'a self, name: &'n str) -> CodeLines<'a, 'n> {
+        CodeLines {
+            file: self,
+            name,
+            has_heading: false,
+            code: None,
+            index: 0,
+            cursor: Cursor::new(Pairs::new(self.names.pointer)),
+        }
+    }
+
+    /// The code of the first section or segment from an index on that is shown, and the index after it.
+    fn code_from(&'a self, index: u16) -> Option<(Code<'a>, u16)> {
+        if self.has_sections {
+            self.section_from(index)
+        } else {
+            self.segment_from(index)
+        }
+    }
+
+    fn section_from(&'a self, first: u16) -> Option<(Code<'a>, u16)> {
+        for index in first..self.view.header().e_shnum {
+            let header = section_at(&self.view, index)?;
+            if is_code(&header) {
+                return Some((self.section(&header, index), index.saturating_add(1)));
+            }
+        }
+        None
+    }
+
+    fn segment_from(&'a self, first: u16) -> Option<(Code<'a>, u16)> {
+        for index in first..self.view.header().e_phnum {
+            let header = self.view.program(index);
+            if is_shown(&header) {
+                return Some((self.segment(&header), index.saturating_add(1)));
+            }
+        }
+        None
+    }
+
+    /// The code of a section.
+    fn section(&'a self, header: &SectionHeader, index: u16) -> Code<'a> {
+        let bytes = bytes_of(&self.view, header).unwrap_or(b"");
+        let section = u32::from(index);
+        Code {
+            scope: Scope {
+                name: section_name(&self.view, header),
+                start: header.sh_addr,
+                end: header.sh_addr.saturating_add(bytes.len() as u64),
+                is_object: self.view.header().e_type == ET_REL,
+                own: self.names.labels.of_section(section),
+                all: self.names.labels.all(),
+            },
+            bytes,
+            marks: self.names.marks.of_section(section),
+            relocations: relocations_in(&self.names.relocations, section),
+            aliases: self.style.aliases,
+        }
+    }
+
+    /// The code of an executable segment.
+    fn segment(&'a self, header: &ProgramHeader) -> Code<'a> {
+        let bytes = segment_bytes(&self.view, header).unwrap_or(b"");
+        let start = header.p_vaddr;
+        let end = start.saturating_add(bytes.len() as u64);
+        Code {
+            scope: Scope {
+                name: b".text",
+                start,
+                end,
+                is_object: false,
+                own: self.names.labels.within(start, end),
+                all: self.names.labels.all(),
+            },
+            bytes,
+            marks: self.names.marks.of_section(0),
+            relocations: &[],
+            aliases: self.style.aliases,
+        }
+    }
+}
+
+/// The lines of a file's code, which are made one by one: names that end in one string, or sections that lie over each
+/// other, may have lines that are very much longer than their file.
+#[derive(Drop)]
+pub struct CodeLines<'a, 'n> {
+    file: &'a CodeFile<'a>,
+    name: &'n str,
+    has_heading: bool,
+    /// The section or segment whose lines are added, once there is one.
+    code: Option<Code<'a>>,
+    /// The index after it.
+    index: u16,
+    cursor: Cursor,
+}
+
+impl CodeLines<'_, '_> {
+    /// Adds the next line; false where none is left.
+    pub fn next(&mut self, text: &mut Vec<u8>) -> Result<bool, AllocError> {
+        if !self.has_heading {
+            self.has_heading = true;
+            put_heading(text, self.name)?;
+            return Ok(true);
+        }
+        if let Some(code) = &self.code {
+            if put_next(text, code, &mut self.cursor)? {
+                return Ok(true);
+            }
+        }
+        let Some((code, index)) = self.file.code_from(self.index) else {
+            return Ok(false);
+        };
+        self.index = index;
+        self.begin();
+        put_next(text, &code, &mut self.cursor)?;
+        self.code = Some(code);
+        Ok(true)
+    }
+
+    /// Goes to the beginning of another section or segment.
+    fn begin(&mut self) {
+        if self.file.has_sections {
+            self.cursor.restart();
+        } else {
+            self.cursor = Cursor::new(Pairs::new(self.file.names.pointer));
+        }
+    }
 }
 
 /// Adds the lines above the code.
@@ -47,20 +195,6 @@ fn put_heading(text: &mut Vec<u8>, name: &str) -> Result<(), AllocError> {
     put(text, b"\n")?;
     put(text, name.as_bytes())?;
     put(text, b":     file format elf64-littleriscv\n\n")
-}
-
-/// Adds the lines of all code that is shown.
-fn put_file(
-    text: &mut Vec<u8>,
-    view: &ElfView<'_>,
-    map: Option<&Map>,
-    style: Style,
-) -> Result<(), FileFault> {
-    if map.is_none() && has_code(view) {
-        put_sections(text, view, style)
-    } else {
-        put_segments(text, view, map, style)
-    }
 }
 
 /// Whether a section has code.
@@ -80,75 +214,43 @@ fn has_code(view: &ElfView<'_>) -> bool {
     false
 }
 
-/// Adds the lines of all sections of code.
-fn put_sections(text: &mut Vec<u8>, view: &ElfView<'_>, style: Style) -> Result<(), FileFault> {
-    let names = file_names(*text.allocator(), view)?;
-    put_named_sections(text, view, &names, style)
+/// Whether a segment has code.
+fn is_shown(header: &ProgramHeader) -> bool {
+    header.p_type == PT_LOAD && header.p_flags & PF_X != 0
 }
 
-/// Adds the lines of all sections of code with these names.
-fn put_named_sections(
-    text: &mut Vec<u8>,
-    view: &ElfView<'_>,
-    names: &CodeNames<'_>,
-    style: Style,
-) -> Result<(), FileFault> {
-    let mut pairs = Pairs::new(names.pointer);
+/// The names of a map, if there is one.
+fn map_names<'a>(alloc: Global, map: Option<&'a Map>) -> Result<CodeNames<'a>, AllocError> {
+    match map {
+        Some(map) => names_of_map(alloc, map),
+        None => Ok(CodeNames::new(alloc)),
+    }
+}
+
+/// Finds the first section or segment of code that does not lie in the file.
+fn check_bytes(view: &ElfView<'_>, has_sections: bool) -> Result<(), FileFault> {
+    if has_sections {
+        check_sections(view)
+    } else {
+        check_segments(view)
+    }
+}
+
+fn check_sections(view: &ElfView<'_>) -> Result<(), FileFault> {
     for index in 0..view.header().e_shnum {
         let header = section_at(view, index).ok_or(FileFault::BadIndex)?;
         if is_code(&header) {
-            put_section(text, view, names, &mut pairs, &header, index, style)?;
+            bytes_of(view, &header)?;
         }
     }
     Ok(())
 }
 
-/// Adds the lines of a section of code.
-fn put_section(
-    text: &mut Vec<u8>,
-    view: &ElfView<'_>,
-    names: &CodeNames<'_>,
-    pairs: &mut Pairs,
-    header: &SectionHeader,
-    index: u16,
-    style: Style,
-) -> Result<(), FileFault> {
-    let bytes = bytes_of(view, header)?;
-    let is_object = view.header().e_type == ET_REL;
-    let relocations = relocations_in(&names.relocations, u32::from(index));
-    let own = names.labels.of_section(u32::from(index));
-    let all = names.labels.all();
-    let marks = names.marks.of_section(u32::from(index));
-    let code = Code {
-        scope: Scope {
-            name: section_name(view, header),
-            start: header.sh_addr,
-            end: header.sh_addr.saturating_add(bytes.len() as u64),
-            is_object,
-            own,
-            all,
-        },
-        bytes,
-        marks,
-        relocations,
-        aliases: style.aliases,
-    };
-    put_code(text, &code, pairs)?;
-    Ok(())
-}
-
-/// Adds the lines of all executable segments.
-fn put_segments(
-    text: &mut Vec<u8>,
-    view: &ElfView<'_>,
-    map: Option<&Map>,
-    style: Style,
-) -> Result<(), FileFault> {
+fn check_segments(view: &ElfView<'_>) -> Result<(), FileFault> {
     for index in 0..view.header().e_phnum {
         let header = view.program(index);
-        if header.p_type == PT_LOAD && header.p_flags & PF_X != 0 {
-            let bytes = segment_bytes(view, &header)?;
-            put_segment(text, header.p_vaddr, bytes, map, style)?;
+        if is_shown(&header) {
+            segment_bytes(view, &header)?;
         }
     }
     Ok(())
@@ -161,49 +263,4 @@ fn segment_bytes<'a>(view: &ElfView<'a>, header: &ProgramHeader) -> Result<&'a [
     }
     let rest = view.file().get(header.p_offset as usize..).unwrap_or(b"");
     Ok(rest.get(..header.p_filesz as usize).unwrap_or(rest))
-}
-
-/// Adds the lines of an executable segment.
-fn put_segment(
-    text: &mut Vec<u8>,
-    start: u64,
-    bytes: &[u8],
-    map: Option<&Map>,
-    style: Style,
-) -> Result<(), AllocError> {
-    let alloc: Global = *text.allocator();
-    let end = start.saturating_add(bytes.len() as u64);
-    let names = match map {
-        Some(map) => names_of_map(alloc, map, start, end)?,
-        None => CodeNames::new(alloc),
-    };
-    put_named_segment(text, start, bytes, &names, style)
-}
-
-/// Adds the lines of an executable segment with these names.
-fn put_named_segment(
-    text: &mut Vec<u8>,
-    start: u64,
-    bytes: &[u8],
-    names: &CodeNames<'_>,
-    style: Style,
-) -> Result<(), AllocError> {
-    let own = names.labels.of_section(0);
-    let all = names.labels.all();
-    let marks = names.marks.of_section(0);
-    let code = Code {
-        scope: Scope {
-            name: b".text",
-            start,
-            end: start.saturating_add(bytes.len() as u64),
-            is_object: false,
-            own,
-            all,
-        },
-        bytes,
-        marks,
-        relocations: &[],
-        aliases: style.aliases,
-    };
-    put_code(text, &code, &mut Pairs::new(names.pointer))
 }

@@ -1,28 +1,62 @@
 //! The headers and tables of a file, in the order and the columns of GNU's `readelf` with wide lines (`-hSlrsW`).
 
 use crate::file_header::put_file_header;
-use crate::relocation_lines::put_relocations;
-use crate::section_lines::put_sections;
+use crate::relocation_lines::{RelocationLines, check_relocations};
+use crate::section_lines::SectionLines;
 use crate::segment_lines::put_segments;
-use crate::symbol_lines::put_symbols;
+use crate::symbol_lines::{SymbolLines, check_symbols};
 use rv_elf::{ElfView, FileFault};
-use std::alloc::Global;
+use std::alloc::AllocError;
 
-/// The header, the sections, the segments, the relocations and the symbols of a file.
+/// The header, the sections, the segments, the relocations and the symbols of a file, whose lines are made part by part:
+/// names that end in one string, or tables that lie over each other, may have lines that are very much longer than their
+/// file.
 ///
 /// In names, control characters stand as `^A`. Which sections lie in which segments is not said.
-pub fn elf_text(alloc: Global, file: &[u8]) -> Result<Vec<u8>, FileFault> {
-    let view = ElfView::open(file)?;
-    let mut text = Vec::new(alloc);
-    put_all(&mut text, &view)?;
-    Ok(text)
+#[derive(Drop)]
+pub struct ElfLines<'a> {
+    view: ElfView<'a>,
+    has_header: bool,
+    sections: SectionLines,
+    has_segments: bool,
+    relocations: RelocationLines<'a>,
+    symbols: SymbolLines<'a>,
 }
 
-/// Adds all parts.
-fn put_all(text: &mut Vec<u8>, view: &ElfView<'_>) -> Result<(), FileFault> {
-    put_file_header(text, view)?;
-    put_sections(text, view)?;
-    put_segments(text, view)?;
-    put_relocations(text, view)?;
-    put_symbols(text, view)
+impl<'a> ElfLines<'a> {
+    /// Those of a file, or its first fault.
+    pub fn of(file: &'a [u8]) -> Result<Self, FileFault> {
+        let view = ElfView::open(file)?;
+        check_relocations(&view)?;
+        check_symbols(&view)?;
+        Ok(ElfLines {
+            view,
+            has_header: false,
+            sections: SectionLines::new(),
+            has_segments: false,
+            relocations: RelocationLines::new(),
+            symbols: SymbolLines::new(),
+        })
+    }
+
+    /// Adds the next part: a line with a name at most, and the lines above it; false where none is left.
+    pub fn next(&mut self, text: &mut Vec<u8>) -> Result<bool, AllocError> {
+        if !self.has_header {
+            put_file_header(text, &self.view)?;
+            self.has_header = true;
+            return Ok(true);
+        }
+        if self.sections.next(text, &self.view)? {
+            return Ok(true);
+        }
+        if !self.has_segments {
+            put_segments(text, &self.view)?;
+            self.has_segments = true;
+            return Ok(true);
+        }
+        if self.relocations.next(text, &self.view)? {
+            return Ok(true);
+        }
+        self.symbols.next(text, &self.view)
+    }
 }

@@ -62,6 +62,14 @@ impl<'a> Labels<'a> {
         labels.get(first..last).unwrap_or(&[])
     }
 
+    /// Those from an address on and before another, by their places.
+    pub(crate) fn within(&'a self, start: u64, end: u64) -> &'a [Label<'a>] {
+        let labels = self.by_address.as_slice();
+        let first = labels.partition_point(|label| label.address < start);
+        let last = labels.partition_point(|label| label.address < end);
+        labels.get(first..last).unwrap_or(&[])
+    }
+
     /// All, by their places.
     pub(crate) fn all(&'a self) -> &'a [Label<'a>] {
         self.by_address.as_slice()

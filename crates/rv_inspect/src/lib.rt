@@ -2,7 +2,8 @@
 //! program.
 //!
 //! It takes the bytes of an object or an executable, and of an executable its [`Map`](rv_map::Map), and gives texts in the
-//! columns of GNU's `size`, `nm`, `readelf` and `objdump -d -r`, or the first fault of the file.
+//! columns of GNU's `size`, `nm`, `readelf` and `objdump -d -r`, or the first fault of the file. A text that may be very
+//! much longer than its file is made part by part (`next`), after all faults are found.
 //!
 //! Main contract: every call is safe and ends, for the bytes of any file; what the texts hold is tested against GNU's
 //! tools. It must not know how files come about, and it names no file but in what it prints.
@@ -11,8 +12,12 @@
 //! let mut table = SizeTable::new(alloc)?;
 //! table.add("a.o", file)?;
 //! let sizes = table.finish()?;         // "   text\t   data\t.."
-//! let names = symbol_names(alloc, file)?;    // "0000000000000000 T _start\n"
-//! let code = code_text(alloc, "a.o", file, None, Style { aliases: true })?; // "..\n   0:\t4505  ..  \tli\ta0,1\n"
+//! let mut text = Vec::new(alloc);
+//! let mut names = NameLines::of_map(alloc, &map)?;
+//! names.next(&mut text)?;              // true: "0000000000010000 T _start\n"
+//! let code = CodeFile::of(alloc, file, None, Style { aliases: true })?;
+//! let mut lines = code.lines("a.o");
+//! lines.next(&mut text)?;              // true: "\na.o:     file format elf64-littleriscv\n\n"
 //! ```
 //!
 //! Source: System V gABI, "Sections", "Symbol Table", "Relocation", "Program Header"; RISC-V ELF psABI; the manual of the
@@ -43,9 +48,9 @@ mod segment_lines;
 mod size;
 mod symbol_lines;
 
-pub use disassembly::{Style, code_text};
-pub use elf::elf_text;
-pub use names::{map_names, symbol_names};
+pub use disassembly::{CodeFile, CodeLines, Style};
+pub use elf::ElfLines;
+pub use names::NameLines;
 pub use rv_elf::FileFault;
 pub use rv_map::Map;
 pub use size::SizeTable;

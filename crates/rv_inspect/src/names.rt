@@ -22,27 +22,55 @@ struct Named<'a> {
     value: Option<u64>,
 }
 
-/// The symbols of a file by name, a line each; none where it has no symbol table.
-///
-/// Left out are symbols of sections and sources, those without a name, and those that assemblers make for themselves: as
-/// GNU's `nm` leaves them out.
-pub fn symbol_names(alloc: Global, file: &[u8]) -> Result<Option<Vec<u8>>, FileFault> {
-    let view = ElfView::open(file)?;
-    let Some(table) = symbol_table(&view) else {
-        return Ok(None);
-    };
-    let bytes = bytes_of(&view, &table)?;
-    let strings = bytes_of(&view, &section_named(&view, table.sh_link)?)?;
-    let mut names = Vec::new(alloc);
-    add_symbols(&mut names, &view, bytes, strings)?;
-    Ok(Some(lines(alloc, names)?))
+/// The names of a file or a map, whose lines are made one by one: names that end in one string may have lines that are
+/// very much longer than their file.
+#[derive(Drop)]
+pub struct NameLines<'a> {
+    /// The names in their order.
+    names: Vec<Named<'a>>,
+    /// How many of them have been added.
+    added: usize,
 }
 
-/// The global names of a map by name, a line each.
-pub fn map_names(alloc: Global, map: &Map) -> Result<Vec<u8>, AllocError> {
-    let mut names = Vec::new(alloc);
-    add_globals(&mut names, map)?;
-    lines(alloc, names)
+impl<'a> NameLines<'a> {
+    /// The symbols of a file by name, a line each; none where it has no symbol table.
+    ///
+    /// Left out are symbols of sections and sources, those without a name, and those that assemblers make for themselves:
+    /// as GNU's `nm` leaves them out.
+    pub fn of_file(alloc: Global, file: &'a [u8]) -> Result<Option<Self>, FileFault> {
+        let view = ElfView::open(file)?;
+        let Some(table) = symbol_table(&view) else {
+            return Ok(None);
+        };
+        let bytes = bytes_of(&view, &table)?;
+        let strings = bytes_of(&view, &section_named(&view, table.sh_link)?)?;
+        let mut names = Vec::new(alloc);
+        add_symbols(&mut names, &view, bytes, strings)?;
+        Ok(Some(NameLines::of(names)?))
+    }
+
+    /// The global names of a map by name, a line each.
+    pub fn of_map(alloc: Global, map: &'a Map) -> Result<Self, AllocError> {
+        let mut names = Vec::new(alloc);
+        add_globals(&mut names, map)?;
+        NameLines::of(names)
+    }
+
+    /// Those of these names.
+    fn of(mut names: Vec<Named<'a>>) -> Result<Self, AllocError> {
+        names.sort_by_key(|named| named.name)?;
+        Ok(NameLines { names, added: 0 })
+    }
+
+    /// Adds the next line; false where none is left.
+    pub fn next(&mut self, text: &mut Vec<u8>) -> Result<bool, AllocError> {
+        let Some(named) = self.names.get(self.added) else {
+            return Ok(false);
+        };
+        put_line(text, named)?;
+        self.added = self.added.saturating_add(1);
+        Ok(true)
+    }
 }
 
 /// Adds the global names of a map.
@@ -121,21 +149,7 @@ fn is_shown(symbol: &Symbol, name: &[u8]) -> bool {
     kind != STT_SECTION && kind != STT_FILE && !name.is_empty() && !is_own
 }
 
-/// The lines, by name.
-fn lines(alloc: Global, mut names: Vec<Named<'_>>) -> Result<Vec<u8>, AllocError> {
-    names.sort_by_key(|named| named.name)?;
-    let mut text = Vec::new(alloc);
-    put_lines(&mut text, names.as_slice())?;
-    Ok(text)
-}
-
-fn put_lines(text: &mut Vec<u8>, names: &[Named<'_>]) -> Result<(), AllocError> {
-    for named in names {
-        put_line(text, named)?;
-    }
-    Ok(())
-}
-
+/// Adds the line of a name.
 fn put_line(text: &mut Vec<u8>, named: &Named<'_>) -> Result<(), AllocError> {
     let value = match named.value {
         Some(value) => Padded(value, 16),

@@ -4,8 +4,8 @@ use crate::columns::Column::{Decimal, Hexadecimal, Left, Name, Padded, Text};
 use crate::columns::{put, put_columns};
 use crate::parts::section_at;
 use rv_elf::{
-    ElfView, FileFault, SHT_GROUP, SHT_NOBITS, SHT_NOTE, SHT_NULL, SHT_PROGBITS, SHT_RELA,
-    SHT_STRTAB, SHT_SYMTAB, SectionHeader, SectionIndex,
+    ElfView, SHT_GROUP, SHT_NOBITS, SHT_NOTE, SHT_NULL, SHT_PROGBITS, SHT_RELA, SHT_STRTAB,
+    SHT_SYMTAB, SectionHeader, SectionIndex,
 };
 use std::alloc::AllocError;
 
@@ -24,20 +24,56 @@ const KEY: &[u8] = b"Key to Flags:
 /// The letters of the flags, from the lowest bit up (gABI, "Sections"): `x` has no meaning.
 const FLAGS: &[u8] = b"WAXxMSILOGTCxxxxxxxxoooooooopppE";
 
-/// Adds the lines of the sections.
-pub(crate) fn put_sections(text: &mut Vec<u8>, view: &ElfView<'_>) -> Result<(), FileFault> {
-    let count = view.header().e_shnum;
-    if count == 0 {
-        put(text, b"\nThere are no sections in this file.\n")?;
-        return Ok(());
+/// How far the lines of the sections are.
+#[derive(Drop)]
+pub(crate) struct SectionLines {
+    has_heading: bool,
+    /// The index of the next section.
+    index: u16,
+    has_key: bool,
+}
+
+impl SectionLines {
+    /// At their beginning.
+    pub(crate) fn new() -> SectionLines {
+        SectionLines {
+            has_heading: false,
+            index: 0,
+            has_key: false,
+        }
     }
-    put(text, HEADING)?;
-    for index in 0..count {
-        let header = section_at(view, index).ok_or(FileFault::BadIndex)?;
-        put_section(text, view, index, &header)?;
+
+    /// Adds the heading, the line of the next section, or the key; false where none is left.
+    pub(crate) fn next(
+        &mut self,
+        text: &mut Vec<u8>,
+        view: &ElfView<'_>,
+    ) -> Result<bool, AllocError> {
+        if !self.has_heading {
+            self.has_heading = true;
+            put_heading(text, view)?;
+            return Ok(true);
+        }
+        if let Some(header) = section_at(view, self.index) {
+            put_section(text, view, self.index, &header)?;
+            self.index = self.index.saturating_add(1);
+            return Ok(true);
+        }
+        if self.has_key || view.header().e_shnum == 0 {
+            return Ok(false);
+        }
+        self.has_key = true;
+        put(text, KEY)?;
+        Ok(true)
     }
-    put(text, KEY)?;
-    Ok(())
+}
+
+/// Adds the lines above the sections.
+fn put_heading(text: &mut Vec<u8>, view: &ElfView<'_>) -> Result<(), AllocError> {
+    if view.header().e_shnum == 0 {
+        return put(text, b"\nThere are no sections in this file.\n");
+    }
+    put(text, HEADING)
 }
 
 /// The name of a section; none where the file has no names of sections, or no name there.

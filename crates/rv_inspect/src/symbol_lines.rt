@@ -19,33 +19,90 @@ const DECIMAL: u64 = 99_999;
 
 const HEADING: &[u8] = b"   Num:    Value          Size Type    Bind   Vis      Ndx Name\n";
 
-/// Adds the lines of the symbol tables.
-pub(crate) fn put_symbols(text: &mut Vec<u8>, view: &ElfView<'_>) -> Result<(), FileFault> {
+/// How far the lines of the symbol tables are.
+#[derive(Drop)]
+pub(crate) struct SymbolLines<'a> {
+    /// The index of the section after the one whose lines are added.
+    section: u16,
+    /// That one's symbols, and the index of the next of them.
+    symbols: &'a [u8],
+    index: usize,
+    strings: &'a [u8],
+}
+
+impl<'a> SymbolLines<'a> {
+    /// At their beginning.
+    pub(crate) fn new() -> SymbolLines<'a> {
+        SymbolLines {
+            section: 0,
+            symbols: b"",
+            index: 0,
+            strings: b"",
+        }
+    }
+
+    /// Adds the line of the next symbol, or the lines above those of the next table; false where none is left.
+    pub(crate) fn next(
+        &mut self,
+        text: &mut Vec<u8>,
+        view: &ElfView<'a>,
+    ) -> Result<bool, AllocError> {
+        if let Some(symbol) = symbol_at(self.symbols, self.index) {
+            let name = symbol_name(view, self.strings, &symbol).unwrap_or(b"");
+            put_symbol(text, self.index, &symbol, name)?;
+            self.index = self.index.saturating_add(1);
+            return Ok(true);
+        }
+        let Some(header) = self.next_table(view) else {
+            return Ok(false);
+        };
+        let count = count_symbols(self.symbols);
+        put_heading(text, section_name(view, &header), count)?;
+        Ok(true)
+    }
+
+    /// Goes on to the next symbol table; its header, if there is one.
+    fn next_table(&mut self, view: &ElfView<'a>) -> Option<SectionHeader> {
+        for index in self.section..view.header().e_shnum {
+            self.section = index.saturating_add(1);
+            if let Some(header) = section_at(view, index) {
+                if header.sh_type == SHT_SYMTAB {
+                    self.symbols = bytes_of(view, &header).unwrap_or(b"");
+                    self.strings = strings_of(view, &header).unwrap_or(b"");
+                    self.index = 0;
+                    return Some(header);
+                }
+            }
+        }
+        None
+    }
+}
+
+/// Finds the first fault of the symbol tables, after which their lines have none.
+pub(crate) fn check_symbols(view: &ElfView<'_>) -> Result<(), FileFault> {
     for index in 0..view.header().e_shnum {
         let header = section_at(view, index).ok_or(FileFault::BadIndex)?;
         if header.sh_type == SHT_SYMTAB {
-            put_table(text, view, &header)?;
+            check_table(view, &header)?;
         }
     }
     Ok(())
 }
 
-/// Adds the lines of a symbol table.
-fn put_table(
-    text: &mut Vec<u8>,
-    view: &ElfView<'_>,
-    header: &SectionHeader,
-) -> Result<(), FileFault> {
+/// Finds the first fault of a symbol table.
+fn check_table(view: &ElfView<'_>, header: &SectionHeader) -> Result<(), FileFault> {
     let bytes = bytes_of(view, header)?;
-    let strings = bytes_of(view, &section_named(view, header.sh_link)?)?;
-    let count = count_symbols(bytes);
-    put_heading(text, section_name(view, header), count)?;
-    for index in 0..count {
+    let strings = strings_of(view, header)?;
+    for index in 0..count_symbols(bytes) {
         let symbol = symbol_at(bytes, index).ok_or(FileFault::Truncated)?;
-        let name = symbol_name(view, strings, &symbol)?;
-        put_symbol(text, index, &symbol, name)?;
+        symbol_name(view, strings, &symbol)?;
     }
     Ok(())
+}
+
+/// The names of a symbol table.
+fn strings_of<'a>(view: &ElfView<'a>, header: &SectionHeader) -> Result<&'a [u8], FileFault> {
+    bytes_of(view, &section_named(view, header.sh_link)?)
 }
 
 /// Adds the lines above the symbols.

@@ -8,7 +8,8 @@
 //!
 //! ```text
 //! let sources = [Source { name: "a.s", text }];
-//! let listing = source_listing(alloc, &sources, &map, &image, ROWS)?;
+//! let mut lines = SourceLines::new(alloc, &sources, &map, &image, ROWS)?;
+//! while lines.next(&mut text)? {}
 //! //    3 10000 13057000 \t_start: li a0, 7
 //! ```
 //!
@@ -19,4 +20,4 @@ mod bytes;
 mod columns;
 mod listing;
 
-pub use listing::{ROWS, Source, source_listing};
+pub use listing::{ROWS, Source, SourceLines};

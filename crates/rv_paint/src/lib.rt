@@ -18,4 +18,4 @@ mod line;
 mod painting;
 mod word;
 
-pub use painting::painted;
+pub use painting::{has_escape, painted};

@@ -32,8 +32,8 @@ pub fn painted(alloc: Global, text: &[u8]) -> Result<Vec<u8>, AllocError>
     Ok(painted)
 }
 
-/// Whether an escape may begin in a text.
-fn has_escape(text: &[u8]) -> bool
+/// Whether an escape may begin in a text, so that it is left as it is.
+pub fn has_escape(text: &[u8]) -> bool
     ensures { result ≡ list_any is_escape text.now }
 {
     memchr(ESCAPE, text).is_some()

@@ -1,9 +1,12 @@
 //! Sources with what they become: each line with its address and its bytes.
 
 use rv_chain::{LinkOptions, build};
-use rv_list::{ROWS, Source, source_listing};
+use rv_image::Image;
+use rv_list::{ROWS, Source, SourceLines};
+use rv_map::Map;
+use rv_paint::has_escape;
 use rv_system::{
-    JobError, System, borrowed, fault_line, files_bytes, image_in, map_in, print_listing,
+    JobError, System, borrowed, fault_line, files_bytes, image_in, map_in, print_parts,
 };
 use std::alloc::{AllocError, Global};
 
@@ -14,40 +17,68 @@ pub fn list<S: System>(
     options: LinkOptions,
     all: bool,
 ) -> Result<u8, JobError> {
-    let alloc: Global = system.alloc();
     let read = files_bytes(system, names)?;
-    let text = listing_text(alloc, names, read.as_slice(), options, all)?;
-    print_listing(system, text.as_slice())?;
-    Ok(0)
+    print_lines(system, names, read.as_slice(), options, all)
 }
 
-/// The lines of sources.
-fn listing_text(
-    alloc: Global,
+/// Builds sources that were read and prints their lines; the exit status.
+fn print_lines<S: System>(
+    system: &mut S,
     names: &[&str],
     read: &[Vec<u8>],
     options: LinkOptions,
     all: bool,
-) -> Result<Vec<u8>, JobError> {
+) -> Result<u8, JobError> {
+    let alloc: Global = system.alloc();
     let texts = borrowed(alloc, read)?;
-    let built = match build(alloc, texts.as_slice(), options) {
+    let (map, image) = program(alloc, names, texts.as_slice(), options)?;
+    let sources = named(alloc, names, texts.as_slice())?;
+    let rows = if all { usize::MAX } else { ROWS };
+    print_sources(system, sources.as_slice(), &map, &image, rows)
+}
+
+/// Prints the lines of sources, with so many rows a line; the exit status.
+fn print_sources<S: System>(
+    system: &mut S,
+    sources: &[Source<'_, '_>],
+    map: &Map,
+    image: &Image,
+    rows: usize,
+) -> Result<u8, JobError> {
+    let mut lines = SourceLines::new(system.alloc(), sources, map, image, rows)?;
+    let in_colours = !have_escape(sources);
+    print_parts(system, in_colours, |text| lines.next(text))?;
+    Ok(0)
+}
+
+/// The map and the image of what sources are built into.
+fn program(
+    alloc: Global,
+    names: &[&str],
+    texts: &[&[u8]],
+    options: LinkOptions,
+) -> Result<(Map, Image), JobError> {
+    let built = match build(alloc, texts, options) {
         Ok(built) => built,
         Err(fault) => return Err(fault_line(alloc, &fault, names)?),
     };
     let first = names.first().copied().unwrap_or("");
     let map = map_in(alloc, first, built.map.as_slice())?;
     let image = image_in(alloc, first, built.exe.as_slice())?;
-    let sources = named(alloc, names, texts.as_slice())?;
-    let rows = if all { usize::MAX } else { ROWS };
-    Ok(source_listing(alloc, sources.as_slice(), &map, &image, rows)?)
+    Ok((map, image))
+}
+
+/// Whether the lines of sources have an escape.
+fn have_escape(sources: &[Source<'_, '_>]) -> bool {
+    sources.iter().any(|source| has_escape(source.name.as_bytes()) || has_escape(source.text))
 }
 
 /// The sources with their names.
-fn named<'a>(
+fn named<'n, 't>(
     alloc: Global,
-    names: &[&'a str],
-    texts: &[&'a [u8]],
-) -> Result<Vec<Source<'a>>, AllocError> {
+    names: &[&'n str],
+    texts: &[&'t [u8]],
+) -> Result<Vec<Source<'n, 't>>, AllocError> {
     let mut sources = Vec::new(alloc);
     for (name, text) in names.iter().zip(texts) {
         sources.push(Source { name, text })?;

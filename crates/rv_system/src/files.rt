@@ -10,6 +10,9 @@ use rv_paint::painted;
 use rv_streams::ReadFault;
 use std::alloc::{AllocError, Global};
 
+/// The bytes of a text that are kept at most before they are written, but for those of its last part.
+const KEPT: usize = 1 << 16;
+
 /// The bytes of a file.
 pub fn file_bytes<S: System>(system: &mut S, name: &str) -> Result<Vec<u8>, JobError> {
     let read = system.file(name);
@@ -101,6 +104,36 @@ pub fn print_listing<S: System>(system: &mut S, text: &[u8]) -> Result<(), JobEr
     }
     let painted = painted(system.alloc(), text)?;
     print(system, painted.as_slice())
+}
+
+/// Writes a text to standard output as it comes, in colours where they are asked for and it shows them. `next` adds the
+/// next part of the text, which ends with a line; it answers false where none is left.
+pub fn print_parts<S: System, F: FnMut(&mut Vec<u8>) -> Result<bool, AllocError>>(
+    system: &mut S,
+    in_colours: bool,
+    mut next: F,
+) -> Result<(), JobError>
+    requires { F.IsAlwaysCallable next }
+{
+    let mut kept = Vec::new(system.alloc());
+    for _ in 0..u64::MAX {
+        if !next(&mut kept)? {
+            break;
+        }
+        if kept.len() >= KEPT {
+            print_kept(system, in_colours, kept.as_slice())?;
+            kept.clear();
+        }
+    }
+    print_kept(system, in_colours, kept.as_slice())
+}
+
+/// Writes what is kept of a text to standard output.
+fn print_kept<S: System>(system: &mut S, in_colours: bool, text: &[u8]) -> Result<(), JobError> {
+    if in_colours {
+        return print_listing(system, text);
+    }
+    print(system, text)
 }
 
 /// The line of a file that cannot be read or written.

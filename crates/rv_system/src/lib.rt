@@ -27,7 +27,7 @@ pub use ends::report_end;
 pub use error::JobError;
 pub use files::{
     borrowed, cannot, file_bytes, files_bytes, given_bytes, image_in, map_in, print, print_listing,
-    write,
+    print_parts, write,
 };
 pub use messages::{end_line, fault_line, run_line};
 pub use options::{TEXT_START, default_options};

@@ -1,0 +1,14 @@
+-- What is left of a listing whose text is made row by row.
+
+use Rattle.std.specs.Prelude.{ℕ, List, drop, flat_map, map}
+use Rattle.rv_isa_laws.specs.Reader.{Reader}
+use Rattle.rv_encode.specs.Word.{Spells}
+use Rattle.rv_compress.specs.Parcel.{StandsFor}
+use Rattle.rv_image.specs.Segment.{segment_of}
+use Rattle.rv_disasm.specs.declared.listed.ListedRows.{ListedRows}
+use Rattle.rv_disasm.specs.Listing.{row_text}
+
+-- the text of the rows that have not been added
+abbrev pub left : Reader Spells StandsFor → ListedRows → List ℕ
+left reader listed =
+    flat_map (row_text reader (map segment_of listed.segments.now)) (drop listed.added listed.rows.items)
