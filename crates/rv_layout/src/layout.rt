@@ -25,7 +25,8 @@ impl Layout {
     ///
     /// # Errors
     ///
-    /// `AllocError` where there is no memory for some 36 bytes a statement.
+    /// `AllocError` where there is no memory for some 12 bytes a statement, and where some have several forms for 8 more
+    /// and 24 for each of those.
     pub fn of(alloc: Global, unit: &Unit<'_>) -> Result<Layout, AllocError>
         requires { IsFilled unit.now }
         ensures count { IfOk result
@@ -41,7 +42,7 @@ impl Layout {
             + 1) }
     {
         let items = measured(alloc, unit)?;
-        let found = Family::least(alloc, items.as_slice(), unit.sections().len())?;
+        let found = Family::least(alloc, &items, unit.sections().len())?;
         Ok(Layout {
             sizes: found.sizes,
             rounds: found.rounds,

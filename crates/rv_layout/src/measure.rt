@@ -17,6 +17,7 @@ use crate::extents::extent_at;
 use crate::widths::{bytes_of, width};
 use rv_instruction::{code as code_of, item, near_forms, one_code};
 use rv_layout_laws::Item;
+use rv_sizes::Items;
 use rv_statement::{Operation, Plain, Statement, StatementKind};
 use rv_unit::{Scope, SectionOffset, Unit};
 use std::alloc::{AllocError, Global};
@@ -238,15 +239,15 @@ fn seen<'a>(
 }
 
 /// What sizes see of a source.
-pub(crate) fn measured(alloc: Global, unit: &Unit<'_>) -> Result<Vec<Item>, AllocError>
+pub(crate) fn measured(alloc: Global, unit: &Unit<'_>) -> Result<Items, AllocError>
     requires { IsFilled unit.now }
-    ensures { IfOk result (λ items. IsMeasured (said unit.now) items.items) }
+    ensures { IfOk result (λ items. IsMeasured (said unit.now) items) }
 {
     let mut scope = Scope::new(unit);
     let statements = unit.statements();
     let places = unit.places();
     let extents = unit.sections();
-    let mut items = Vec::with_capacity(alloc, statements.len())?;
+    let mut items = Items::with_capacity(alloc, statements.len())?;
     for index in 0..statements.len() {
         let place = places[index];
         let extent = extent_at(extents, place.section);

@@ -254,6 +254,11 @@ settled_stays CompressedBranch size e o lt = (cc)
 settled_stays Branch size e o lt = (cc)
 settled_stays CompressedJump size e o lt = (cc)
 
+-- what is judged of a statement that is read, at the distance that is computed
+pub judged_there : (items : List Item) (i : ℕ) (item : Item) (away said : ℤ) (size wider : ℕ) → item ≡ item_at items i → said ≡ away → IsJudged item said size wider → IsJudged (item_at items i) away size wider
+judged_there items i item away said size wider is fits judged =
+    subst (λ z. IsJudged (item_at items i) z size wider) fits (subst (λ (x : Item). IsJudged x said size wider) is judged)
+
 -- a size that is judged by a branch's distance is kept where it stays, and else widens
 pub visited : (items : List Item) (sizes : List ℕ) (i : ℕ) → IsFamily items sizes → (away : ℤ) (wider : ℕ) → IsJudged (item_at items i) away (slice_index sizes i) wider
     → (is_branch (item_at items i).forms ≡ true → away ≡ distance_of items sizes i)

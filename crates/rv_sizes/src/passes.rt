@@ -8,8 +8,8 @@ ghost use Rattle.std.specs.Prelude.{◌≡◌, ℕ, ◌+◌, ◌*◌, ◌^◌, �
 ghost use Rattle.rv_layout_laws.specs.Branches.{IsFamily, IsGood, IsLeastGood, Widenings, branches, smallest_sizes};
 ghost use Rattle.rv_sizes.specs.Passes.{AreRests, AreStarts, IsInput, IsTable, IsVisit};
 
+use crate::items::Items;
 use crate::reach::judged_size;
-use rv_layout_laws::Item;
 
 /// What lies between two places, in bytes.
 fn between(from: u64, to: u64) -> i64
@@ -60,7 +60,7 @@ fn distance_backwards(target: usize, i: usize, left: u64, stands: &[u64]) -> i64
 
 /// Looks at statement `i` in a pass forwards, and tells whether it was widened.
 fn visit_forwards(
-    items: &[Item],
+    items: &Items,
     i: usize,
     sizes: &mut [u32],
     stands: &mut [u64],
@@ -74,7 +74,7 @@ fn visit_forwards(
     ensures table { IsTable items.now (i + 1) sizes.new stands.new }
     ensures starts { AreStarts items.now (i + 1) sizes.new ends.new }
 {
-    let item = items[i];
+    let item = items.get(i);
     let section = item.section as usize;
     let start = ends[section];
     let size = sizes[i];
@@ -91,7 +91,7 @@ fn visit_forwards(
 
 /// Looks at statement `i` in a pass backwards, and tells whether it was widened.
 fn visit_backwards(
-    items: &[Item],
+    items: &Items,
     i: usize,
     sizes: &mut [u32],
     stands: &mut [u64],
@@ -105,7 +105,7 @@ fn visit_backwards(
     ensures table { IsTable items.now i sizes.new stands.new }
     ensures rests { AreRests items.now i sizes.new ends.new }
 {
-    let item = items[i];
+    let item = items.get(i);
     let section = item.section as usize;
     let after = ends[section];
     let size = sizes[i];
@@ -130,7 +130,7 @@ fn clear(ends: &mut [u64])
 }
 
 /// Fills the table with what is left from each statement on.
-fn place_from_end(items: &[Item], sizes: &[u32], stands: &mut [u64], ends: &mut [u64])
+fn place_from_end(items: &Items, sizes: &[u32], stands: &mut [u64], ends: &mut [u64])
     requires input { IsInput items.now (length ends.old) }
     requires family { IsFamily items.now sizes.now }
     requires same_length { length stands.old ≡ length items.now }
@@ -140,7 +140,7 @@ fn place_from_end(items: &[Item], sizes: &[u32], stands: &mut [u64], ends: &mut 
     let mut i = items.len();
     while i > 0 {
         i -= 1;
-        let section = items[i].section as usize;
+        let section = items.get(i).section as usize;
         let left = ends[section] + u64::from(sizes[i]);
         stands[i] = left;
         ends[section] = left;
@@ -148,7 +148,7 @@ fn place_from_end(items: &[Item], sizes: &[u32], stands: &mut [u64], ends: &mut 
 }
 
 /// Goes over the statements from the first to the last, widens those that do not reach, and tells how many it widened.
-fn widen_forwards(items: &[Item], sizes: &mut [u32], stands: &mut [u64], ends: &mut [u64]) -> usize
+fn widen_forwards(items: &Items, sizes: &mut [u32], stands: &mut [u64], ends: &mut [u64]) -> usize
     requires input { IsInput items.now (length ends.old) }
     requires table { IsTable items.now 0 sizes.old stands.old }
     ensures widenings { Widenings items.now sizes.old sizes.new result }
@@ -166,7 +166,7 @@ fn widen_forwards(items: &[Item], sizes: &mut [u32], stands: &mut [u64], ends: &
 }
 
 /// Goes over the statements from the last to the first, widens those that do not reach, and tells how many it widened.
-fn widen_backwards(items: &[Item], sizes: &mut [u32], stands: &mut [u64], ends: &mut [u64]) -> usize
+fn widen_backwards(items: &Items, sizes: &mut [u32], stands: &mut [u64], ends: &mut [u64]) -> usize
     requires input { IsInput items.now (length ends.old) }
     requires table { IsTable items.now (length items.now) sizes.old stands.old }
     ensures widenings { Widenings items.now sizes.old sizes.new result }
@@ -187,7 +187,7 @@ fn widen_backwards(items: &[Item], sizes: &mut [u32], stands: &mut [u64], ends: 
 
 /// Widens in passes, forwards and backwards in turn, until one finds nothing to widen, and tells how many there were.
 pub(crate) fn settle(
-    items: &[Item],
+    items: &Items,
     sizes: &mut [u32],
     stands: &mut [u64],
     ends: &mut [u64],

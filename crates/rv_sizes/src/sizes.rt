@@ -5,9 +5,10 @@ ghost use Rattle.std.specs.List.{list_any};
 ghost use Rattle.rv_layout_laws.specs.Branches.{IsLeastGood, branches, is_branch as of_branch, smallest_sizes};
 ghost use Rattle.rv_sizes.specs.Passes.{IsInput};
 
+use crate::items::Items;
 use crate::passes::settle;
 use crate::reach::smallest_size;
-use rv_layout_laws::{Forms, Item};
+use rv_layout_laws::Forms;
 use std::alloc::{AllocError, Global};
 
 /// A size for each statement, and how long it took to find them.
@@ -21,12 +22,12 @@ pub struct Family {
 }
 
 /// The smallest size of each statement.
-fn smallest(alloc: Global, items: &[Item]) -> Result<Vec<u32>, AllocError>
+fn smallest(alloc: Global, items: &Items) -> Result<Vec<u32>, AllocError>
     ensures { IfOk result (λ sizes. sizes.items ≡ smallest_sizes items.now) }
 {
     let mut sizes = Vec::with_capacity(alloc, items.len())?;
-    for item in items {
-        sizes.push(smallest_size(item.forms))?;
+    for i in 0..items.len() {
+        sizes.push(smallest_size(items.get(i).forms))?;
     }
     Ok(sizes)
 }
@@ -39,10 +40,15 @@ fn is_branch(forms: Forms) -> bool
 }
 
 /// Whether a statement has several forms.
-fn has_branch(items: &[Item]) -> bool
+fn has_branch(items: &Items) -> bool
     ensures { result ≡ list_any (λ item. of_branch item.forms) items.now }
 {
-    items.iter().any(|item| is_branch(item.forms))
+    for i in 0..items.len() {
+        if is_branch(items.get(i).forms) {
+            return true;
+        }
+    }
+    false
 }
 
 impl Family {
@@ -53,8 +59,8 @@ impl Family {
     ///
     /// # Errors
     ///
-    /// `AllocError` where there is no memory for some 12 bytes a statement.
-    pub fn least(alloc: Global, items: &[Item], sections: usize) -> Result<Family, AllocError>
+    /// `AllocError` where there is no memory for 4 bytes a statement, and where one has several forms for 8 more.
+    pub fn least(alloc: Global, items: &Items, sections: usize) -> Result<Family, AllocError>
         requires { IsInput items.now sections }
         ensures least { IfOk result (λ found. IsLeastGood items.now found.sizes.items) }
         ensures rounds { IfOk result (λ found. found.rounds ≤ 2 * branches items.now + 1) }

@@ -1,7 +1,7 @@
 //! Branches at the edges of their reach.
 
 use rv_layout_laws::{Forms, Item};
-use rv_sizes::{Family, is_input};
+use rv_sizes::{Family, Items, is_input};
 use std::alloc::{AllocError, Global};
 use std::test::Fail;
 
@@ -25,12 +25,24 @@ fn jump(forms: Forms, target: u32, addend: i64) -> Item {
     }
 }
 
+/// These statements as sizes are found for them; none of them past the first 2^30.
+fn kept(alloc: Global, statements: &[Item]) -> Result<Items, AllocError> {
+    let mut items = Items::with_capacity(alloc, statements.len())?;
+    for statement in statements {
+        if items.len() < 1 << 30 {
+            items.push(*statement)?;
+        }
+    }
+    Ok(items)
+}
+
 /// The bytes of statement `i` among statements of two sections.
-fn size_at(alloc: Global, items: &[Item], i: usize) -> Result<Option<u32>, AllocError> {
-    if !is_input(items, 2) {
+fn size_at(alloc: Global, statements: &[Item], i: usize) -> Result<Option<u32>, AllocError> {
+    let items = kept(alloc, statements)?;
+    if !is_input(&items, 2) {
         return Ok(None);
     }
-    let found = Family::least(alloc, items, 2)?;
+    let found = Family::least(alloc, &items, 2)?;
     Ok(found.sizes.get(i).copied())
 }
 
@@ -109,12 +121,41 @@ fn counts_one_section(rt: HostRuntime) -> Result<(), Fail> {
     Ok(())
 }
 
+/// Whether sizes can be asked for.
+fn accepts(alloc: Global, statements: &[Item], sections: usize) -> Result<bool, AllocError> {
+    Ok(is_input(&kept(alloc, statements)?, sections))
+}
+
 /// What is asked for is tested: sections, targets and their sections.
 #[test]
 fn tests_its_input(rt: HostRuntime) -> Result<(), Fail> {
-    assert!(rt; is_input(&[jump(Forms::Branch, 1, 0), filled(0, 2)], 1));
-    assert!(rt; !is_input(&[jump(Forms::Branch, 1, 0), filled(1, 2)], 2));
-    assert!(rt; !is_input(&[jump(Forms::Branch, 1, 0), filled(0, 2)], 0));
-    assert!(rt; !is_input(&[jump(Forms::Branch, 2, 0), filled(0, 2)], 1));
+    let alloc = rt.alloc();
+    let near = [jump(Forms::Branch, 1, 0), filled(0, 2)];
+    assert!(rt; accepts(alloc, &near, 1)?);
+    assert!(rt; !accepts(alloc, &near, 0)?);
+    let other = [jump(Forms::Branch, 1, 0), filled(1, 2)];
+    assert!(rt; !accepts(alloc, &other, 2)?);
+    let past = [jump(Forms::Branch, 2, 0), filled(0, 2)];
+    assert!(rt; !accepts(alloc, &past, 1)?);
+    Ok(())
+}
+
+/// Statements of one form are kept without a target and a constant; all others as they are.
+#[test]
+fn keeps_statements(rt: HostRuntime) -> Result<(), Fail> {
+    let alloc = rt.alloc();
+    let statements = [
+        filled(65535, 7),
+        filled(65536, u32::MAX),
+        jump(Forms::Settled(2), 1, 0),
+        jump(Forms::Settled(2), 0, -1),
+        jump(Forms::CompressedJump, 3, 6),
+        filled(0, 0),
+    ];
+    let items = kept(alloc, &statements)?;
+    assert_eq!(rt; items.len(), 6);
+    for (i, statement) in statements.iter().enumerate() {
+        assert!(rt; i < items.len() && items.get(i) == *statement);
+    }
     Ok(())
 }

@@ -1,8 +1,8 @@
 use Rattle.rv_layout.proofs.SeenLemmas.{MeasuredTo, SeenThere, measured_begin, measured_more, measured_whole}
-use Rattle.std.proofs.Common.{rules, []}
-use Rattle.std.proofs.Common.{◌≡◌, ◌+◌, ◌<◌, ◌≤◌, length, get_or, sym, ap, subst, ◌∙◌}
+use Rattle.std.proofs.Common.{rules, [], ◌++◌, ◌∷◌, arith}
+use Rattle.std.proofs.Common.{◌≡◌, ◌+◌, ◌^◌, ◌<◌, ◌≤◌, length, get_or, sym, ap, subst, ◌∙◌}
 use Rattle.std.specs.Prelude.{slice_index_or}
-use Rattle.std.proofs.lemmas.List.{length-map}
+use Rattle.std.proofs.lemmas.List.{length-map, length_push}
 use Rattle.rv_statement.specs.View.{statement_of}
 use Rattle.rv_unit_tables.specs.declared.section_offset.SectionOffset.{SectionOffset}
 use Rattle.rv_unit.specs.Unit.{said, IsFilled}
@@ -15,8 +15,8 @@ use Rattle.rv_layout.proofs.measure.measured.Goals as goal
 
 pub loop-index-init : goal.loop-index-init
 loop-index-init c =
-    let none : c.in_ok-items.items.items ≡ [] = search rules in
-    (c.new-scope.ensures.unit, c.new-scope.ensures.start, subst (λ l. MeasuredTo (said c.args.unit.now) 0 l) (sym none) (measured_begin (said c.args.unit.now)))
+    let none : c.in_ok-items.items ≡ [] = c.in_ok-items.ensures in
+    (c.new-scope.ensures.unit, c.new-scope.ensures.start, subst (λ l. MeasuredTo (said c.args.unit.now) 0 l) (sym none) (measured_begin (said c.args.unit.now)), ap length none)
 
 pub bounds-places-index : goal.bounds-places-index
 bounds-places-index c =
@@ -34,6 +34,15 @@ extent_at-extent-requires c =
     let stands : p.section < length u.tables.extents.items =
     place_inside u i (record { section = 0; offset = 0 }) p c.requires inside (ap (λ l. get_or l i (record { section = 0; offset = 0 })) c.places-places.ensures) in
     subst (λ l. p.section < length l) (sym c.sections-extents.ensures) stands
+
+pub push-requires : goal.push-requires
+push-requires c =
+    let u = c.args.unit.now in
+    let i = c.loop-index.index in
+    let inside : i < length u.statements.items = subst (λ l. i < length l) c.statements-statements.ensures c.loop-index-test.true in
+    let few : length u.statements.items ≤ 2 ^ 22 = u.few in
+    let far : length c.loop-index.items ≡ i = c.loop-index.invariant.3 in
+    omega arith
 
 pub loop-index-preserved : goal.loop-index-preserved
 loop-index-preserved c =
@@ -56,10 +65,12 @@ loop-index-preserved c =
     subst (λ w. SeenThere w (i + 1) (offset_of p) p.section u.places.items e.section.executable rvc (statement_of x) c.seen.result) same
     (subst (λ l. SeenThere c.loop-index.scope.unit.now (i + 1) (offset_of p) p.section l e.section.executable rvc (statement_of x) c.seen.result) c.places-places.ensures
     (c.seen.ensures i filled c.loop-index.invariant.1)) in
+    let more : c.push.new.self ≡ c.loop-index.items ++ c.seen.result ∷ [] = search rules in
     let within' = subst (λ w. i < length (said w)) (sym same) within in (
       ap (λ b. b.now) c.pass.ensures.unit ∙ same,
       c.pass.ensures.passes i within' c.loop-index.invariant.1,
-      measured_more u i x p rvc e.section.executable c.loop-index.items.items c.push.new.self.items c.seen.result c.requires at on (code_there u i x p e at there) seen c.loop-index.invariant.2 c.in_ok-push.ensures.items,
+      measured_more u i x p rvc e.section.executable c.loop-index.items c.push.new.self c.seen.result c.requires at on (code_there u i x p e at there) seen c.loop-index.invariant.2 more,
+      ap length more ∙ length_push c.loop-index.items c.seen.result ∙ ap (λ n. n + 1) c.loop-index.invariant.3,
     )
 
 pub returns : goal.returns
@@ -67,4 +78,4 @@ returns c =
     let u = c.args.unit.now in
     let i = c.loop-index.index in
     let past = subst (λ l. length l ≤ i) c.statements-statements.ensures c.loop-index-test.false in
-    measured_whole (said u) i c.loop-index.items.items (stated_none (said u) i (subst (λ n. n ≤ i) (sym (length-map u.statements.items statement_of)) past)) c.loop-index.invariant.2
+    measured_whole (said u) i c.loop-index.items (stated_none (said u) i (subst (λ n. n ≤ i) (sym (length-map u.statements.items statement_of)) past)) c.loop-index.invariant.2

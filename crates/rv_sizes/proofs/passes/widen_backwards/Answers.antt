@@ -1,16 +1,16 @@
-use Rattle.std.proofs.Common.{◌+◌, ◌-◌, ◌<◌, ◌≤◌, length, arith, sym, subst}
+use Rattle.std.proofs.Common.{◌≡◌, le_refl, ◌+◌, ◌-◌, ◌<◌, ◌≤◌, length, arith, sym, subst}
 use Rattle.rv_sizes.specs.Passes.{IsInput}
 use Rattle.rv_sizes.proofs.GoingLemmas.{goes_begins, goes_widened, goes_kept, step_down, none_left}
 use Rattle.rv_sizes.proofs.passes.widen_backwards.Goals as goal
 
 pub loop-i-init : goal.loop-i-init
 loop-i-init c = record {
-  within = omega arith;
+  within = rw c.len-i.ensures (le_refl (length c.args.items.now));
   input = subst (IsInput c.args.items.now) (sym c.clear.ensures.length) c.requires.input;
-  table = c.requires.table;
-  rests = none_left c.args.items.now c.args.sizes.now c.clear.new.ends c.clear.ensures.cleared;
-  goes = goes_begins c.args.items.now c.args.sizes.now (length c.args.items.now) (length c.args.items.now) (omega arith);
-  few = omega arith;
+  table = rw c.len-i.ensures c.requires.table;
+  rests = rw c.len-i.ensures (none_left c.args.items.now c.args.sizes.now c.clear.new.ends c.clear.ensures.cleared);
+  goes = rw c.len-i.ensures (goes_begins c.args.items.now c.args.sizes.now (length c.args.items.now) (length c.args.items.now) (omega arith));
+  few = let all : c.len-i.result ≡ length c.args.items.now = c.len-i.ensures in omega arith;
 }
 
 pub loop-i-preserved-then-visit_backwards : goal.loop-i-preserved-then-visit_backwards

@@ -10,31 +10,30 @@ use Rattle.rv_layout.proofs.layout.Layout.of.Goals as goal
 
 pub returns-clause-count : goal.returns-clause-count
 returns-clause-count c =
-    measured_count (said c.args.unit.now) c.in_ok-items.items.items c.in_ok-found.found.sizes.items c.in_ok-items.ensures
-    (subst (λ l. IsLeastGood l c.in_ok-found.found.sizes.items) c.as_slice.ensures.value c.in_ok-found.ensures.least)
+    measured_count (said c.args.unit.now) c.in_ok-items.items c.in_ok-found.found.sizes.items c.in_ok-items.ensures
+    c.in_ok-found.ensures.least
     ∙ length-map c.args.unit.now.statements.items statement_of
 
 pub returns-clause-least : goal.returns-clause-least
 returns-clause-least c =
-    measured_least (said c.args.unit.now) c.in_ok-items.items.items c.in_ok-found.found.sizes.items c.in_ok-items.ensures
-    (subst (λ l. IsLeastGood l c.in_ok-found.found.sizes.items) c.as_slice.ensures.value c.in_ok-found.ensures.least)
+    measured_least (said c.args.unit.now) c.in_ok-items.items c.in_ok-found.found.sizes.items c.in_ok-items.ensures
+    c.in_ok-found.ensures.least
 
 pub returns-clause-sizes : goal.returns-clause-sizes
 returns-clause-sizes c =
-    measured_lengths (said c.args.unit.now) c.in_ok-items.items.items c.in_ok-found.found.sizes.items c.in_ok-items.ensures
-    (subst (λ l. IsLeastGood l c.in_ok-found.found.sizes.items) c.as_slice.ensures.value c.in_ok-found.ensures.least)
+    measured_lengths (said c.args.unit.now) c.in_ok-items.items c.in_ok-found.found.sizes.items c.in_ok-items.ensures
+    c.in_ok-found.ensures.least
 
 pub returns-clause-rounds : goal.returns-clause-rounds
 returns-clause-rounds c =
-    let items = c.in_ok-items.items.items in
+    let items = c.in_ok-items.items in
     let found = c.in_ok-found.found in
     measured_rounds (said c.args.unit.now) items found.sizes.items found.rounds c.in_ok-items.ensures
-    (subst (λ l. IsLeastGood l found.sizes.items) c.as_slice.ensures.value c.in_ok-found.ensures.least)
-    (subst (λ l. found.rounds ≤ 2 * branches l + 1) c.as_slice.ensures.value c.in_ok-found.ensures.rounds)
+    c.in_ok-found.ensures.least
+    c.in_ok-found.ensures.rounds
 
 pub least-requires : goal.least-requires
 least-requires c =
     let u = c.args.unit.now in
-    let input = measured_input u c.in_ok-items.items.items c.requires c.in_ok-items.ensures in
-    subst (λ l. IsInput l (length c.sections.result.now)) (sym c.as_slice.ensures.value)
-    (subst (λ l. IsInput c.in_ok-items.items.items (length l)) (sym c.sections.ensures) input)
+    let input = measured_input u c.in_ok-items.items c.requires c.in_ok-items.ensures in
+    subst (λ l. IsInput c.in_ok-items.items (length l)) (sym c.sections.ensures) input
