@@ -32,7 +32,7 @@ use Rattle.rv_instruction.specs.declared.encoded.Coded.{Coded as CodedPart}
 use Rattle.rv_instruction.specs.Code.{coded_by, instructions_of, IsCodeOf}
 use Rattle.rv_draft.specs.declared.item.Item.{Item}
 use Rattle.rv_layout.specs.Code.{statement_padding, padding_at, IsCoded}
-use Rattle.rv_draft.specs.Code.{code_bytes as bytes_of_code, code_size, sizes_of}
+use Rattle.rv_draft.specs.Code.{code_bytes as bytes_of_code, code_size, size_instructions, sizes_of}
 use Rattle.rv_draft.specs.Coded.{AreCoded}
 use Rattle.rv_draft.specs.DataParts.{is_filled, data_said, fields_said, data_parts, code_said, open_fields}
 use Rattle.rv_draft.specs.Items.{AreItems, grown}
@@ -292,10 +292,10 @@ module _ (all : Tables) (s : Located) (x : Item) (begins : ℕ) (found : List Co
   -- sizes
 
   -- what has no padding and no code is no instruction
-  no_count : (says : StatementKind) → pads says ≡ 0 → found ≡ [] → x.instructions ≡ (code_size (pads says) found).instructions → x.instructions ≡ 0
+  no_count : (says : StatementKind) → pads says ≡ 0 → found ≡ [] → x.instructions ≡ size_instructions (code_size (pads says) found) → x.instructions ≡ 0
   no_count says spare none h = h ∙ ap (λ n. operations_in n + instructions_of found) spare ∙ ap (λ c. operations_in 0 + instructions_of c) none
 
-  padded_in : (b : Bool) (d : Directive) → s.home.executable ≡ b → found ≡ [] → x.instructions ≡ (code_size (pads (Directs d)) found).instructions
+  padded_in : (b : Bool) (d : Directive) → s.home.executable ≡ b → found ≡ [] → x.instructions ≡ size_instructions (code_size (pads (Directs d)) found)
       → IsItemPadded b (code_size (pads (Directs d)) found) x begins (alignment_of worth d) → IsMultiple (alignment_of worth d) begins × IsPaddedIn b laid_statement (alignment_of worth d)
   padded_in true d e none count h =
       let own = padded_bytes true d (alignment_of worth d) refl none h in

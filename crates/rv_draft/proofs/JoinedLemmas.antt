@@ -5,7 +5,6 @@ use Rattle.std.specs.List.{drop-map}
 use Rattle.std.proofs.Math.Seq.{drop-cons}
 use Rattle.std.proofs.lemmas.List.{at_drop_all}
 use Rattle.std.specs.Prelude.{flat_map}
-use Rattle.rv_object.specs.Padding.{operations_in}
 use Rattle.rv_instruction.specs.declared.encoded.Encoded.{Encoded}
 use Rattle.rv_instruction.specs.declared.encoded.Encoded.TheVariants.{Parcel, Word, Pair}
 use Rattle.rv_instruction.specs.Code.{alone_coded, encoded_bytes, encoded_instructions}
@@ -51,7 +50,7 @@ alone_bytes e = append-nil (encoded_bytes e)
 
 -- its bytes, and its instructions
 pub alone_size : (padding : ℕ) (e : Encoded)
-    → code_size padding (alone_coded e).items ≡ record { bytes = padding + length (encoded_bytes e); instructions = operations_in padding + encoded_instructions e }
+    → code_size padding (alone_coded e).items ≡ record { padding = padding; bytes = length (encoded_bytes e); instructions = encoded_instructions e }
 alone_size padding (Parcel p) = refl
 alone_size padding (Word w) = refl
 alone_size padding (Pair v w) = refl

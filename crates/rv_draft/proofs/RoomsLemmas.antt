@@ -21,7 +21,7 @@ use Rattle.rv_assemble_laws.specs.LaidStatements.{expression_value}
 use Rattle.rv_draft.specs.declared.item.CodeSize.{CodeSize}
 use Rattle.rv_draft.specs.declared.item.Item.{Item}
 use Rattle.rv_draft.specs.Items.{IsItem, grown}
-use Rattle.rv_draft.specs.Sized.{IsItemPadded, IsSizedDirective, IsSized, bytes_of_sizes}
+use Rattle.rv_draft.specs.Sized.{IsItemPadded, IsSizedDirective, IsSized, bytes_of_sizes, size_bytes}
 use Rattle.rv_draft.specs.Measured.{stretch, IsSize}
 use Rattle.rv_layout.proofs.StandingLemmas.{all_at, got_or, located_at, stated_next}
 use Rattle.rv_draft.proofs.SoFarItemsLemmas.{passed_next}
@@ -142,13 +142,13 @@ module _ (ss : List Statement) (i : ℕ) (s : Statement) (here_is : drop i ss �
       let (place, opened) = stood_here t k s.kind placed in
       ap (λ o. section_at o st.section) opened ∙ ap (λ (p : SectionOffset). section_at (opened_of t) p.section) place
 
-  module _ (sizes : List CodeSize) (own : CodeSize) (size_is : drop i (bytes_of_sizes sizes) ≡ own.bytes ∷ drop (i + 1) (bytes_of_sizes sizes)) where
+  module _ (sizes : List CodeSize) (own : CodeSize) (size_is : drop i (bytes_of_sizes sizes) ≡ size_bytes own ∷ drop (i + 1) (bytes_of_sizes sizes)) where
     -- what a place with its section says
     abbrev RoomyIn : ℕ → SectionOffset → Opened → Type 0
     RoomyIn offset p o =
         IsRoomy (λ e. value all true k p e) (section_at o p.section).executable (slice_index_or (alignments_of all) p.section 1) offset (slice_index_or (ends_of (after t k s.kind)) p.section 0) own s.kind
 
-    pub roomy_at : (offset : ℕ) → offset ≤ longest_section → is_placed t k s.kind ≡ true → (st.home.executable ≡ true → offset + own.bytes ≤ longest_section)
+    pub roomy_at : (offset : ℕ) → offset ≤ longest_section → is_placed t k s.kind ≡ true → (st.home.executable ≡ true → offset + size_bytes own ≤ longest_section)
         → (st.home.executable ≡ false → offset ≤ slice_index_or (ends_of t) st.section 0)
         → IsRoomy (λ e. expression_value all st e) st.home.executable (slice_index_or (alignments_of all) st.section 1) offset (slice_index_or (ends_of (after t k s.kind)) st.section 0) own s.kind
     roomy_at offset low placed fits before =
@@ -156,7 +156,7 @@ module _ (ss : List Statement) (i : ℕ) (s : Statement) (here_is : drop i ss �
         let home = home_here placed in
         let before' : (current_section (opened_of t)).executable ≡ false → offset ≤ (here t).offset =
         λ e. subst (λ (p : SectionOffset). offset ≤ slice_index_or (ends_of t) p.section 0) place (before (ap (λ (h : Section). h.executable) home ∙ e)) in
-        let fits' : (current_section (opened_of t)).executable ≡ true → offset + own.bytes ≤ longest_section = λ e. fits (ap (λ (h : Section). h.executable) home ∙ e) in
+        let fits' : (current_section (opened_of t)).executable ≡ true → offset + size_bytes own ≤ longest_section = λ e. fits (ap (λ (h : Section). h.executable) home ∙ e) in
         subst (λ p. RoomyIn offset p (opened_of (after t k s.kind))) (sym place)
         (subst (λ o. RoomyIn offset (here t) o) (sym opened)
         (statement_here all t k (slice_index_or (alignments_of all) t.current 1) offset own low inside (constant_whole ss k (here t)) (constant_past ss i (here t) within inside) before' s.kind placed
@@ -165,19 +165,19 @@ module _ (ss : List Statement) (i : ℕ) (s : Statement) (here_is : drop i ss �
     module _ (ends : ℕ → ℕ) (low : (j : ℕ) → ends j ≤ longest_section) (left : HasRoomLeft ss sizes i ends) where
       -- whether the section of the statement is too long after it
       abbrev full : Option ℕ
-      full = if nat_lt longest_section (left.counted st.section + own.bytes) then Some limit else None
+      full = if nat_lt longest_section (left.counted st.section + size_bytes own) then Some limit else None
 
-      parts : (full ≡ None) × (size_fault_from (grown_by left.counted st.section own.bytes) (drop (i + 1) (located_from 1 1 (at_start ss) ss)) (drop (i + 1) (bytes_of_sizes sizes)) ≡ None)
+      parts : (full ≡ None) × (size_fault_from (grown_by left.counted st.section (size_bytes own)) (drop (i + 1) (located_from 1 1 (at_start ss) ss)) (drop (i + 1) (bytes_of_sizes sizes)) ≡ None)
       parts =
           no_fault st.line full
-          (size_fault_from (grown_by left.counted st.section own.bytes) (drop (i + 1) (located_from 1 1 (at_start ss) ss)) (drop (i + 1) (bytes_of_sizes sizes)))
-          (ap (λ l. size_fault_from left.counted l (own.bytes ∷ drop (i + 1) (bytes_of_sizes sizes))) (sym next)
+          (size_fault_from (grown_by left.counted st.section (size_bytes own)) (drop (i + 1) (located_from 1 1 (at_start ss) ss)) (drop (i + 1) (bytes_of_sizes sizes)))
+          (ap (λ l. size_fault_from left.counted l (size_bytes own ∷ drop (i + 1) (bytes_of_sizes sizes))) (sym next)
           ∙ ap (λ l. size_fault_from left.counted (drop i (located_from 1 1 (at_start ss) ss)) l) (sym size_is) ∙ left.rest)
 
-      fits : st.home.executable ≡ true → ends st.section + own.bytes ≤ longest_section
+      fits : st.home.executable ≡ true → ends st.section + size_bytes own ≤ longest_section
       fits e =
           let l = left.code st.section (ap (λ (h : Section). h.executable) home_is ∙ e) in
-          let m : left.counted st.section + own.bytes ≤ longest_section = ltb-false longest_section (left.counted st.section + own.bytes) (if_some (nat_lt longest_section (left.counted st.section + own.bytes)) 17 parts.0) in
+          let m : left.counted st.section + size_bytes own ≤ longest_section = ltb-false longest_section (left.counted st.section + size_bytes own) (if_some (nat_lt longest_section (left.counted st.section + size_bytes own)) 17 parts.0) in
           omega (arith, l, m)
 
       -- the next statement has a size, and its section has room for it
@@ -193,7 +193,7 @@ module _ (ss : List Statement) (i : ℕ) (s : Statement) (here_is : drop i ss �
             (subst (λ n. IsSize (λ e. expression_value all st e) st.home.executable (slice_index_or (alignments_of all) n 1) x.offset own s.kind x.bytes) one.section
             (size_as (λ e. expression_value all st e) st.home.executable x (slice_index_or (alignments_of all) x.section 1) own s.kind (sized e)))
 
-        in_code : (b : Bool) → is_placed t k s.kind ≡ b → st.home.executable ≡ true → x.bytes ≤ own.bytes
+        in_code : (b : Bool) → is_placed t k s.kind ≡ b → st.home.executable ≡ true → x.bytes ≤ size_bytes own
         in_code true e code = (roomy_now e).code code x.bytes (placed_size e)
         in_code false e code = let none = one.absent e in omega (arith, none)
 
@@ -206,7 +206,7 @@ module _ (ss : List Statement) (i : ℕ) (s : Statement) (here_is : drop i ss �
             omega (arith, none, l, m)
 
         code_by : (j : ℕ) (b : Bool) → (j == st.section) ≡ b → (section_at (opened_of all) j).executable ≡ true
-            → (if b then ends j + x.bytes else ends j) ≤ (if b then left.counted j + own.bytes else left.counted j)
+            → (if b then ends j + x.bytes else ends j) ≤ (if b then left.counted j + size_bytes own else left.counted j)
         code_by j true is e =
             let at : j ≡ st.section = eqb-true j st.section is in
             let l = left.code j e in
@@ -223,9 +223,9 @@ module _ (ss : List Statement) (i : ℕ) (s : Statement) (here_is : drop i ss �
 
         pub rooms_more : (behind : ℕ → ℕ) → ((j : ℕ) → behind j ≡ grown ends x j) → HasRoomLeft ss sizes (i + 1) behind
         rooms_more behind grows = record {
-          counted = grown_by left.counted st.section own.bytes;
+          counted = grown_by left.counted st.section (size_bytes own);
           rest = parts.1;
-          code = λ j e. subst (λ n. n ≤ grown_by left.counted st.section own.bytes j) (sym (at_section j)) (code_by j (j == st.section) refl e);
+          code = λ j e. subst (λ n. n ≤ grown_by left.counted st.section (size_bytes own) j) (sym (at_section j)) (code_by j (j == st.section) refl e);
           stored = λ j e.
               subst (λ (u : Tables). behind j ≤ slice_index_or (ends_of u) j 0) (sym (passed_next ss i s (drop (i + 1) ss) here_is))
               (subst (λ n. n ≤ slice_index_or (ends_of (after t k s.kind)) j 0) (sym (at_section j)) (store_by j (j == st.section) refl e));

@@ -18,14 +18,14 @@ use Rattle.rv_source_laws.specs.Located.{is_placed, is_placed_directive}
 use Rattle.rv_source_laws.proofs.HeldLemmas.{none_left, no_test}
 use Rattle.rv_assemble_laws.specs.LaidStatements.{IsMultiple}
 use Rattle.rv_draft.specs.declared.item.CodeSize.{CodeSize}
-use Rattle.rv_draft.specs.Sized.{IsItemPadded, IsSizedDirective}
+use Rattle.rv_draft.specs.Sized.{IsItemPadded, IsSizedDirective, size_bytes}
 use Rattle.rv_draft.specs.Measured.{stretch, IsSize, CanPad, CanSize, CanSizeDirective}
 
 -- a statement's size, and what it makes of its section: in code no more than its code, else no more than up to this end
 pub record IsRoomy (v : Expression → Value) (executable : Bool) (begins offset stop : ℕ) (own : CodeSize) (says : StatementKind) : Type 0 where
   pub size : CanSize v executable begins offset says
   pub room : (n : ℕ) → IsSize v executable begins offset own says n → offset + n ≤ longest_section
-  pub code : executable ≡ true → (n : ℕ) → IsSize v executable begins offset own says n → n ≤ own.bytes
+  pub code : executable ≡ true → (n : ℕ) → IsSize v executable begins offset own says n → n ≤ size_bytes own
   pub stored : executable ≡ false → (n : ℕ) → IsSize v executable begins offset own says n → offset + n ≤ stop
 
 -- what is so whatever was refused
@@ -115,7 +115,7 @@ module _ (all t : Tables) (k begins offset : ℕ) (own : CodeSize) (low : offset
 
   -- a section of code has room for the statement
   abbrev Fits : Type 0
-  Fits = home.executable ≡ true → offset + own.bytes ≤ longest_section
+  Fits = home.executable ≡ true → offset + size_bytes own ≤ longest_section
 
   -- data that end no later than those of the tables
   put_here : (d : Directive) → home.executable ≡ false → puts d ≡ true → CanSizeDirective v home.executable begins offset d
@@ -138,8 +138,8 @@ module _ (all t : Tables) (k begins offset : ℕ) (own : CodeSize) (low : offset
   }
 
   -- code, where its section has room for it
-  code_here : (says : StatementKind) → CanSize v home.executable begins offset says → ((n : ℕ) → IsSize v home.executable begins offset own says n → n ≡ own.bytes)
-      → home.executable ≡ true → offset + own.bytes ≤ longest_section → Here says
+  code_here : (says : StatementKind) → CanSize v home.executable begins offset says → ((n : ℕ) → IsSize v home.executable begins offset own says n → n ≡ size_bytes own)
+      → home.executable ≡ true → offset + size_bytes own ≤ longest_section → Here says
   code_here says size four code fits = record {
     size = size;
     room = λ n h. let f = four n h in omega (arith, f, fits);
@@ -208,7 +208,7 @@ module _ (all t : Tables) (k begins offset : ℕ) (own : CodeSize) (low : offset
       → Fits → Here (Directs d)
   aligned_here d alignment puts multiples none bytes size padded fits = by home.executable refl
     where
-      code_size : (b : Bool) (n : ℕ) → b ≡ true → IsItemPadded b own (stretch offset n) begins alignment → n ≡ own.bytes
+      code_size : (b : Bool) (n : ℕ) → b ≡ true → IsItemPadded b own (stretch offset n) begins alignment → n ≡ size_bytes own
       code_size true n e h = h.0
       code_size false n e h = absurd (cc)
 

@@ -7,7 +7,7 @@ use Rattle.rv_unit_laws.specs.Tables.{alignment_of}
 use Rattle.rv_draft.specs.declared.item.CodeSize.{CodeSize}
 use Rattle.rv_draft.specs.declared.item.Item.{Item}
 use Rattle.rv_draft.specs.Measured.{IsSize, stretch}
-use Rattle.rv_draft.specs.Sized.{IsItemPadded, IsSizedDirective, IsSized}
+use Rattle.rv_draft.specs.Sized.{IsItemPadded, IsSizedDirective, IsSized, size_instructions}
 
 padded : (b : Bool) (own : CodeSize) (x : Item) (begins : ℕ) (a : Option ℕ) → IsItemPadded b own (stretch x.offset x.bytes) begins a → IsItemPadded b own x begins a
 padded true own x begins a h = h
@@ -26,7 +26,7 @@ sized_directive v b own x begins (Binds binding names) h = h
 sized_directive v b own x begins (Chooses choice) h = h
 sized_directive v b own x begins Ignored h = h
 
-pub sized_as : (v : Expression → Value) (b : Bool) (x : Item) (begins : ℕ) (size : CodeSize) (says : StatementKind) → x.instructions ≡ size.instructions → IsSize v b begins x.offset size says x.bytes → IsSized v b x begins size says
+pub sized_as : (v : Expression → Value) (b : Bool) (x : Item) (begins : ℕ) (size : CodeSize) (says : StatementKind) → x.instructions ≡ size_instructions size → IsSize v b begins x.offset size says x.bytes → IsSized v b x begins size says
 sized_as v b x begins size (Label name) count h = (h, count)
 sized_as v b x begins size (Numbered number) count h = (h, count)
 sized_as v b x begins size (Instruction mnemonic operands) count h = (h, count)

@@ -27,7 +27,7 @@ use Rattle.rv_draft.specs.declared.code.Coder.{Coder}
 use Rattle.rv_draft.specs.declared.code.SectionCode.{SectionCode}
 use Rattle.rv_draft.proofs.SoFarLemmas.{next_code, wrong_code}
 use Rattle.rv_layout.specs.Code.{padding_at}
-use Rattle.rv_draft.specs.Code.{code_size, bytes_of_sizes}
+use Rattle.rv_draft.specs.Code.{code_size, bytes_of_sizes, size_bytes}
 use Rattle.rv_draft.specs.Lengths.{HasLengthAt}
 use Rattle.rv_layout.specs.Measure.{IsSize, AreSizes}
 use Rattle.rv_draft.specs.declared.item.CodeSize.{CodeSize}
@@ -67,7 +67,7 @@ told_more u i wanted x p rvc b c d faults at same on home added told =
     let st = located_at (said u) i (statement_of x) in
     let a = added_there t (i + 1) wanted rvc st.options.rvc b st.home.executable c d (statement_of x) (offset_of p) (stood (passed (said u) i) (i + 1) (statement_of x).kind) faults _ at.place same on home added in
     let size : CodeSize = code_size (padding_at t st) a.coded in
-    ap bytes_of_sizes a.counts ∙ map-append (λ (size : CodeSize). size.bytes) c.sizes.items (size ∷ [])
+    ap bytes_of_sizes a.counts ∙ map-append size_bytes c.sizes.items (size ∷ [])
     ∙ ap (λ n. bytes_of_sizes c.sizes.items ++ n ∷ [])
     (added_length (λ e. expression_value t st e) st.options.rvc st.home.executable (code_faults_at t st) wanted st.kind a.coded a.sound a.is a.asked told)
 

@@ -37,9 +37,17 @@ code_bytes padding found = no_operations padding ++ bytes_coded found
 abbrev pub code_size : ℕ → List Coded → CodeSize
 code_size padding found =
     record {
-      bytes = padding + length (bytes_coded found);
-      instructions = operations_in padding + instructions_of found;
+      padding = padding;
+      bytes = length (bytes_coded found);
+      instructions = instructions_of found;
     }
+
+-- all its bytes, and how many instructions these are
+abbrev pub size_bytes : CodeSize → ℕ
+size_bytes size = size.padding + size.bytes
+
+abbrev pub size_instructions : CodeSize → ℕ
+size_instructions size = operations_in size.padding + size.instructions
 
 -- ---- the code of statements, one after the other
 
@@ -50,7 +58,7 @@ sizes_of t (s ∷ ss) (found ∷ codes) = code_size (padding_at t s) found ∷ s
 
 -- how many bytes each statement has
 abbrev pub bytes_of_sizes : List CodeSize → List ℕ
-bytes_of_sizes sizes = map (λ (size : CodeSize). size.bytes) sizes
+bytes_of_sizes sizes = map size_bytes sizes
 
 abbrev pub bytes_of_codes : Tables → List Located → List (List Coded) → List ℕ
 bytes_of_codes t ss codes = bytes_of_sizes (sizes_of t ss codes)

@@ -9,7 +9,7 @@ use Rattle.rv_assemble_laws.specs.Coded.{is_constant}
 use Rattle.rv_draft.specs.declared.item.CodeSize.{CodeSize}
 use Rattle.rv_draft.specs.declared.item.Item.{Item}
 use Rattle.rv_assemble_laws.specs.LaidStatements.{IsMultiple}
-use Rattle.rv_draft.specs.Sized.{IsItemPadded, IsAligned, IsSized, IsSizedDirective}
+use Rattle.rv_draft.specs.Sized.{IsItemPadded, IsAligned, IsSized, IsSizedDirective, size_bytes}
 
 -- `bytes` bytes of data after `offset` others
 abbrev pub stretch : ℕ → ℕ → Item
@@ -28,7 +28,7 @@ stretch offset bytes = record {
 abbrev pub IsSize : (Expression → Value) → Bool → ℕ → ℕ → CodeSize → StatementKind → ℕ → Type 0
 IsSize v executable begins offset size (Label name) bytes = bytes ≡ 0
 IsSize v executable begins offset size (Numbered number) bytes = bytes ≡ 0
-IsSize v executable begins offset size (Instruction mnemonic operands) bytes = bytes ≡ size.bytes
+IsSize v executable begins offset size (Instruction mnemonic operands) bytes = bytes ≡ size_bytes size
 IsSize v executable begins offset size (Directs directive) bytes =
     IsSizedDirective v executable size (stretch offset bytes) begins directive
 

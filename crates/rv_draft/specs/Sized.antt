@@ -9,12 +9,12 @@ use Rattle.rv_assemble_laws.specs.Coded.{is_constant}
 use Rattle.rv_draft.specs.declared.item.CodeSize.{CodeSize}
 use Rattle.rv_draft.specs.declared.item.Item.{Item}
 use Rattle.rv_assemble_laws.specs.LaidStatements.{IsMultiple, expression_value}
-pub use Rattle.rv_draft.specs.Code.{bytes_of_sizes}
+pub use Rattle.rv_draft.specs.Code.{bytes_of_sizes, size_bytes, size_instructions}
 
 -- the padding of an alignment, in a section that asks for a multiple of it: in code that of its
 -- size as code, in data up to the multiple
 abbrev pub IsItemPadded : Bool → CodeSize → Item → ℕ → Option ℕ → Type 0
-IsItemPadded true size i begins alignment = (i.bytes ≡ size.bytes) × IsMultiple alignment begins
+IsItemPadded true size i begins alignment = (i.bytes ≡ size_bytes size) × IsMultiple alignment begins
 IsItemPadded false size i begins alignment =
     (i.bytes ≡ padding alignment i.offset) × IsMultiple alignment begins
 
@@ -41,17 +41,17 @@ IsSizedDirective v executable size i begins _ = ⊤
 -- an instruction has the size of its code, and each statement has as many instructions as its code
 abbrev pub IsSized : (Expression → Value) → Bool → Item → ℕ → CodeSize → StatementKind → Type 0
 IsSized v executable i begins size (Label name) =
-    (i.bytes ≡ 0) × (i.instructions ≡ size.instructions)
+    (i.bytes ≡ 0) × (i.instructions ≡ size_instructions size)
 IsSized v executable i begins size (Numbered number) =
-    (i.bytes ≡ 0) × (i.instructions ≡ size.instructions)
+    (i.bytes ≡ 0) × (i.instructions ≡ size_instructions size)
 IsSized v executable i begins size (Instruction mnemonic operands) =
-    (i.bytes ≡ size.bytes) × (i.instructions ≡ size.instructions)
+    (i.bytes ≡ size_bytes size) × (i.instructions ≡ size_instructions size)
 IsSized v executable i begins size (Directs directive) =
-    (i.instructions ≡ size.instructions) × IsSizedDirective v executable size i begins directive
+    (i.instructions ≡ size_instructions size) × IsSizedDirective v executable size i begins directive
 
 -- the size of the first statement's code, and those after it, where there are some
 abbrev pub first_size : List CodeSize → CodeSize
-first_size [] = record { bytes = 0; instructions = 0 }
+first_size [] = record { padding = 0; bytes = 0; instructions = 0 }
 first_size (size ∷ sizes) = size
 
 abbrev pub other_sizes : List CodeSize → List CodeSize

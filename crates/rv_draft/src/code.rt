@@ -7,7 +7,6 @@
 
 ghost use Rattle.std.specs.Prelude.{◌≡◌, ◌<◌, ◌≤◌, ℕ, ◌+◌, ◌++◌, Bool, true, List, [], length, is_some, IfOk, OnOk};
 ghost use Rattle.rv_isa_laws.specs.Bytes.{little_endian};
-ghost use Rattle.rv_object.specs.Padding.{operations_in as padding_operations};
 ghost use Rattle.rv_text_laws.specs.Values as values;
 ghost use Rattle.rv_statement.specs.Statement.{Expression};
 ghost use Rattle.rv_statement.specs.View.{statement_of};
@@ -30,7 +29,7 @@ use crate::compressed::{is_code, is_instruction};
 use crate::item::CodeSize;
 use rv_instruction::{Coded, Encoded, code as code_of, one_code};
 use rv_layout::{Layout, bytes_of, extent_at, statement_padding, width};
-use rv_object::{operations, put_no_operations};
+use rv_object::put_no_operations;
 use rv_statement::Statement;
 use rv_text::{SourceCode, SourceFault};
 use rv_unit::{LONGEST_SECTION, Scope, SectionOffset, Unit};
@@ -147,15 +146,6 @@ fn instructions_in(code: &[Coded]) -> u8
     instructions
 }
 
-/// How many instructions the padding of a statement is.
-fn operations_in(padding: u32) -> u16
-    requires { padding ≤ 65535 }
-    ensures count { result ≡ padding_operations padding }
-    ensures low { result ≤ 16384 }
-{
-    operations(padding) as u16
-}
-
 /// How large the code of a statement is.
 fn code_size(padding: u32, code: &[Coded]) -> CodeSize
     requires low { padding ≤ 65535 }
@@ -163,8 +153,9 @@ fn code_size(padding: u32, code: &[Coded]) -> CodeSize
     ensures { result ≡ laws.code_size padding code.now }
 {
     CodeSize {
-        bytes: padding + u32::from(bytes_of(code)),
-        instructions: operations_in(padding) + u16::from(instructions_in(code)),
+        padding: padding as u16,
+        bytes: bytes_of(code),
+        instructions: instructions_in(code),
     }
 }
 
@@ -175,8 +166,9 @@ fn size_of_one(padding: u32, encoded: Encoded) -> CodeSize
     ensures { result ≡ laws.code_size padding (alone_coded encoded).items }
 {
     CodeSize {
-        bytes: padding + u32::from(width(encoded)),
-        instructions: operations_in(padding) + u16::from(count(encoded)),
+        padding: padding as u16,
+        bytes: width(encoded),
+        instructions: count(encoded),
     }
 }
 
@@ -320,6 +312,7 @@ impl Coder {
             (statement_of statement.now) result }
     {
         self.sizes.push(CodeSize {
+            padding: 0,
             bytes: 0,
             instructions: 0,
         })?;

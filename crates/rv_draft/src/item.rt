@@ -2,6 +2,11 @@
 //!
 //! A source may have 4 million of them, so that a byte here is 4 MiB of memory.
 
+ghost use Rattle.std.specs.Prelude.{◌≡◌};
+ghost use Rattle.rv_draft.specs.Code.{size_bytes, size_instructions};
+
+use rv_object::operations;
+
 /// Where a statement stands in its section.
 #[derive(Clone, Copy, Debug, PartialEq, Eq, Drop)]
 pub struct Item {
@@ -23,8 +28,29 @@ pub struct Item {
 /// what else there is has none.
 #[derive(Clone, Copy, Debug, PartialEq, Eq, Drop)]
 pub(crate) struct CodeSize {
-    /// Its bytes.
-    pub(crate) bytes: u32,
-    /// How many instructions they are.
-    pub(crate) instructions: u16,
+    /// The bytes of its padding.
+    pub(crate) padding: u16,
+    /// The bytes of its parts: it has at most 8, of at most 8 bytes.
+    pub(crate) bytes: u8,
+    /// How many instructions its parts are.
+    pub(crate) instructions: u8,
+}
+
+// one for each statement, while items are made from them
+const _: () = prove!(size_of::<CodeSize>() <= 4);
+
+impl CodeSize {
+    /// All its bytes.
+    pub(crate) fn bytes(self) -> u32
+        ensures { result ≡ size_bytes self }
+    {
+        u32::from(self.padding) + u32::from(self.bytes)
+    }
+
+    /// How many instructions all its bytes are.
+    pub(crate) fn instructions(self) -> u16
+        ensures { result ≡ size_instructions self }
+    {
+        operations(u32::from(self.padding)) as u16 + u16::from(self.instructions)
+    }
 }

@@ -103,7 +103,7 @@ fn bytes_of_padding(
         });
     }
     if extent.section.executable {
-        return Ok(code.bytes);
+        return Ok(code.bytes());
     }
     fitting(padding(alignment, offset), line)
 }
@@ -163,9 +163,9 @@ fn size(
 {
     let line = statement.line;
     match &statement.kind {
-        StatementKind::Plain(_) => Ok(code.bytes),
-        StatementKind::With(..) => Ok(code.bytes),
-        StatementKind::WithFunction(..) => Ok(code.bytes),
+        StatementKind::Plain(_) => Ok(code.bytes()),
+        StatementKind::With(..) => Ok(code.bytes()),
+        StatementKind::WithFunction(..) => Ok(code.bytes()),
         StatementKind::Value(width, _) => bytes_of_values(*width, 1, line),
         StatementKind::Values(width, values) => bytes_of_values(*width, values.len(), line),
         StatementKind::Ascii(strings) => bytes_of_strings(false, strings, line),
@@ -306,7 +306,7 @@ fn next_item<'a>(
         bytes,
         line,
         shown: is_shown(placed, extent.section),
-        instructions: code.instructions,
+        instructions: code.instructions(),
     })
 }
 

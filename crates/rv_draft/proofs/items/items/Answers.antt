@@ -9,7 +9,7 @@ use Rattle.rv_unit_laws.specs.Tables.{stood, tables, value as value_of}
 use Rattle.rv_source_laws.specs.Located.{is_placed}
 use Rattle.rv_draft.specs.Items.{IsItem, grown}
 use Rattle.rv_draft.specs.declared.item.CodeSize.{CodeSize}
-use Rattle.rv_draft.specs.Sized.{IsSized, bytes_of_sizes}
+use Rattle.rv_draft.specs.Sized.{IsSized, bytes_of_sizes, size_bytes}
 use Rattle.rv_layout.specs.Code.{IsExtentAt}
 use Rattle.rv_draft.specs.Measured.{HasRoom}
 use Rattle.rv_layout.proofs.StandingLemmas.{StandsAt, stands_at, places_count, located_at}
@@ -98,10 +98,10 @@ returns-in_err-item-clause-refuses c =
     let inside = subst (λ l. i < length l) c.statements-statements.ensures c.loop-index-test.true in
     let is : x ≡ get_or u.statements.items i x = c.index-statements-index.is ∙ ap (λ l. get_or l i x) c.statements-statements.ensures in
     let at : StandsAt u i x p = stands_at u i x x (record { section = 0; offset = 0 }) p c.requires.filled inside is (ap (λ l. get_or l i (record { section = 0; offset = 0 })) c.places-places.ensures) in
-    let own : CodeSize = slice_index_or c.args.sizes.now i (record { bytes = 0; instructions = 0 }) in
-    let size_left : drop i c.args.sizes.now ≡ own ∷ drop (i + 1) c.args.sizes.now = drop_more c.args.sizes.now i (record { bytes = 0; instructions = 0 }) (subst (λ n. i < n) (sym c.requires.sizes) inside) in
-    let sized_is : drop i (bytes_of_sizes c.args.sizes.now) ≡ own.bytes ∷ drop (i + 1) (bytes_of_sizes c.args.sizes.now) =
-    left_at (λ (size : CodeSize). size.bytes) c.args.sizes.now i (record { bytes = 0; instructions = 0 }) (subst (λ n. i < n) (sym c.requires.sizes) inside) in
+    let own : CodeSize = slice_index_or c.args.sizes.now i (record { padding = 0; bytes = 0; instructions = 0 }) in
+    let size_left : drop i c.args.sizes.now ≡ own ∷ drop (i + 1) c.args.sizes.now = drop_more c.args.sizes.now i (record { padding = 0; bytes = 0; instructions = 0 }) (subst (λ n. i < n) (sym c.requires.sizes) inside) in
+    let sized_is : drop i (bytes_of_sizes c.args.sizes.now) ≡ size_bytes own ∷ drop (i + 1) (bytes_of_sizes c.args.sizes.now) =
+    left_at size_bytes c.args.sizes.now i (record { padding = 0; bytes = 0; instructions = 0 }) (subst (λ n. i < n) (sym c.requires.sizes) inside) in
     let same = inv.unit in
     let filled = subst IsFilled (sym same) c.requires.filled in
     let e = c.extent_at-extent.result in
@@ -130,10 +130,10 @@ loop-index-preserved c =
     let inside = subst (λ l. i < length l) c.statements-statements.ensures c.loop-index-test.true in
     let is : x ≡ get_or u.statements.items i x = c.index-statements-index.is ∙ ap (λ l. get_or l i x) c.statements-statements.ensures in
     let at : StandsAt u i x p = stands_at u i x x (record { section = 0; offset = 0 }) p c.requires.filled inside is (ap (λ l. get_or l i (record { section = 0; offset = 0 })) c.places-places.ensures) in
-    let own : CodeSize = slice_index_or c.args.sizes.now i (record { bytes = 0; instructions = 0 }) in
-    let size_left : drop i c.args.sizes.now ≡ own ∷ drop (i + 1) c.args.sizes.now = drop_more c.args.sizes.now i (record { bytes = 0; instructions = 0 }) (subst (λ n. i < n) (sym c.requires.sizes) inside) in
-    let sized_is : drop i (bytes_of_sizes c.args.sizes.now) ≡ own.bytes ∷ drop (i + 1) (bytes_of_sizes c.args.sizes.now) =
-    left_at (λ (size : CodeSize). size.bytes) c.args.sizes.now i (record { bytes = 0; instructions = 0 }) (subst (λ n. i < n) (sym c.requires.sizes) inside) in
+    let own : CodeSize = slice_index_or c.args.sizes.now i (record { padding = 0; bytes = 0; instructions = 0 }) in
+    let size_left : drop i c.args.sizes.now ≡ own ∷ drop (i + 1) c.args.sizes.now = drop_more c.args.sizes.now i (record { padding = 0; bytes = 0; instructions = 0 }) (subst (λ n. i < n) (sym c.requires.sizes) inside) in
+    let sized_is : drop i (bytes_of_sizes c.args.sizes.now) ≡ size_bytes own ∷ drop (i + 1) (bytes_of_sizes c.args.sizes.now) =
+    left_at size_bytes c.args.sizes.now i (record { padding = 0; bytes = 0; instructions = 0 }) (subst (λ n. i < n) (sym c.requires.sizes) inside) in
     let same = inv.unit in
     let filled = subst IsFilled (sym same) c.requires.filled in
     let within = subst (λ w. i < length (said w)) (sym same) (subst (λ n. i < n) (sym (length-map u.statements.items statement_of)) inside) in

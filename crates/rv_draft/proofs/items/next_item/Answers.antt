@@ -1,4 +1,4 @@
-use Rattle.std.proofs.Common.{◌+◌, ◌^◌, ◌<◌, ◌≤◌, true, refl, sym, ◌∙◌, arith, rules}
+use Rattle.std.proofs.Common.{◌+◌, ◌^◌, ◌<◌, ◌≤◌, true, sym, ◌∙◌, arith, rules}
 use Rattle.rv_text_laws.specs.Values.{Value}
 use Rattle.rv_statement.specs.Statement.{Expression}
 use Rattle.rv_statement.specs.View.{statement_kind}
@@ -22,9 +22,9 @@ returns-clause-sized c = λ index f s stands placed.
       bytes = c.in_ok-bytes.bytes;
       line = c.args.statement.now.line;
       shown = c.is_shown.result;
-      instructions = c.args.code.instructions;
+      instructions = c.instructions.result;
     })
-    c.args.extent.now.alignment c.args.code (statement_kind c.args.statement.now.kind) refl (c.in_ok-bytes.ensures.size index f s (c.is_placed-placed.ensures index f s stands ∙ placed))
+    c.args.extent.now.alignment c.args.code (statement_kind c.args.statement.now.kind) c.instructions.ensures (c.in_ok-bytes.ensures.size index f s (c.is_placed-placed.ensures index f s stands ∙ placed))
 
 pub returns-in_err-bytes-clause-refuses : goal.returns-in_err-bytes-clause-refuses
 returns-in_err-bytes-clause-refuses c =
