@@ -13,7 +13,8 @@ guest reads it as its input, and an object is linked alone, twice, or with anoth
   time      it takes more than 2 seconds of a processor, or 60 of the clock
   no name   it says what is no message of docs/manual, or has another status than the message
   file      a refused call leaves a file
-  memory    its memory passes 20 times the bytes of its files and 16 MiB, beside what the program it makes or loads has
+  memory    its memory passes 20 times the bytes of its files and 16 MiB, beside what the objects and the program have
+            that it makes or loads
   want      it answers that memory ran out, and took no more than that
 
 Each find is one line, and its files are kept in the folder that the last line names, up to 20 for each kind of find and
@@ -486,8 +487,10 @@ def read_by(words, at):
 
 
 def own_bytes(words, at):
-    """The bytes of the program that a call made or loaded, and of its map."""
+    """The bytes of the program that a call made or loaded, of its map, and of the objects that a build makes first."""
     made = sum((at / it).stat().st_size for it in outputs(words) if (at / it).exists())
+    if words[0] in ("build", "map") and (at / "obj").exists():
+        made += words.count("file") * (at / "obj").stat().st_size
     for path in read_by(words, at):
         file = path.read_bytes()[:LARGEST]
         if file.startswith(b"\x7fELF") and len(file) >= 64:
