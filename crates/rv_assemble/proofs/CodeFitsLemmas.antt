@@ -10,7 +10,7 @@ use Rattle.rv_isa.specs.declared.instruction.Format.TheVariants as format
 use Rattle.rv_isa.specs.declared.kind.Kind.{Kind}
 use Rattle.rv_isa.specs.declared.kind.Kind.TheVariants as kind
 use Rattle.rv_isa.specs.declared.kind.Kind.TheVariants.{Abs32, Abs64, Add8, Add16, Add32, Add64, Sub8, Sub16, Sub32, Sub64}
-use Rattle.rv_isa.specs.Kinds.{width_of}
+use Rattle.rv_isa.specs.Kinds.{width_of, is_low_part}
 use Rattle.rv_isa.specs.Operations.{format_of}
 use Rattle.rv_isa_laws.specs.Bytes.{little_endian, zeros}
 use Rattle.rv_encode.specs.Word.{word, form}
@@ -26,7 +26,7 @@ use Rattle.rv_unit_laws.specs.Contributions.{Numbers, Texts, Contribution, Nothi
 use Rattle.rv_unit_laws.specs.Sections.{Section}
 use Rattle.rv_unit_laws.specs.Tables.{Tables, Definition, definition}
 use Rattle.rv_source_laws.specs.Located.{Located}
-use Rattle.rv_source_laws.specs.Lines.{operand_of, is_low_part}
+use Rattle.rv_source_laws.specs.Lines.{operand_of}
 use Rattle.rv_object.specs.Valid.{is_align}
 use Rattle.rv_assemble_laws.specs.CodeFields.{symbol_field, low_field, low_field_at, label_field, field_of, relax_fields, part_fields}
 use Rattle.rv_assemble_laws.specs.Coded.{constants, IsCodedPart, AreCodedParts}

@@ -17,4 +17,3 @@ pub mod SectionsSoFarLemmas
 pub mod UsesLemmas
 pub mod JoiningLemmas
 pub mod RefusedLemmas
-pub mod CountedLemmas

@@ -6,6 +6,7 @@ use Rattle.std.proofs.lemmas.Bool.{and_parts}
 use Rattle.std.proofs.lemmas.List.Folds.{list_all-append}
 use Rattle.std.specs.Prelude.{⊤, if◌then◌else◌, flat_map, is_some, unwrap_or}
 use Rattle.std.specs.List.{AllByRecursion, list_all}
+use Rattle.rv_isa.specs.Kinds.{is_low_part}
 use Rattle.rv_isa.specs.declared.kind.Kind.{Kind}
 use Rattle.rv_text_laws.specs.Bytes.{value as digits_value}
 use Rattle.rv_text_laws.specs.Expression.{Primary, Literal, Symbol, Here, Reference, Tree, Leaf, Unary, Paren, Binary}
@@ -18,7 +19,7 @@ use Rattle.rv_unit_laws.specs.Tables.{Tables, SectionOffset, NumericLabel, at_st
 use Rattle.rv_unit_laws.proofs.FoundLemmas.{all_weaker}
 use Rattle.rv_source_laws.specs.Located.{Located, located_from}
 use Rattle.rv_source_laws.specs.Program.{place_of, in_operand, in_contribution}
-use Rattle.rv_source_laws.specs.Lines.{other_operand, operand_of, is_low_part}
+use Rattle.rv_source_laws.specs.Lines.{other_operand, operand_of}
 use Rattle.rv_assemble_laws.specs.CodeFields.{symbol_field, low_field, low_field_at, label_field, field_of, relax_fields, part_fields}
 use Rattle.rv_assemble_laws.specs.Coded.{constants}
 use Rattle.rv_assemble_laws.specs.Templates.{Datum, Open, padding_templates, contribution_templates}

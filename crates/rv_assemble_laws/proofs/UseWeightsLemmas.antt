@@ -2,6 +2,7 @@
 
 use Rattle.std.proofs.Common.{◌≡◌, ℕ, zero, suc, ◌+◌, ◌*◌, ◌≤◌, Bool, true, false, List, [], ◌∷◌, ◌++◌, flat_map, map, length, length-append, Option, Some, None, refl, ap, arith}
 use Rattle.std.specs.Prelude.{ℤ, pos, ◌==◌, unwrap_or, option_map, if◌then◌else◌}
+use Rattle.rv_isa.specs.Kinds.{is_low_part}
 use Rattle.rv_isa.specs.declared.instruction.Inst.{Inst}
 use Rattle.rv_isa.specs.declared.kind.Kind.{Kind}
 use Rattle.rv_isa.specs.declared.kind.Kind.TheVariants as kind
@@ -29,7 +30,7 @@ use Rattle.rv_pseudo_laws.specs.Li.{li}
 use Rattle.rv_unit_laws.specs.Contributions.{Contribution, Nothing, Bytes, Zero_bytes, Alignment, Numbers, Texts, contribution}
 use Rattle.rv_unit_laws.specs.Tables.{Tables, Definition, definition, meaning, after}
 use Rattle.rv_source_laws.specs.Located.{Located, located_from}
-use Rattle.rv_source_laws.specs.Lines.{other_operand, operand_of, is_low_part}
+use Rattle.rv_source_laws.specs.Lines.{other_operand, operand_of}
 use Rattle.rv_source_laws.specs.Program.{place_of, in_operand, in_contribution, expressions}
 use Rattle.rv_assemble_laws.specs.CodeFields.{symbol_field, low_field, low_field_at, label_field, field_of, relax_fields, part_fields}
 use Rattle.rv_assemble_laws.specs.Coded.{constants}

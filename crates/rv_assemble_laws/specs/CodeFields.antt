@@ -2,6 +2,7 @@
 -- "PC-Relative Addresses" and "Linker Relaxation"; GNU as, "RISC-V-Modifiers").
 
 use Rattle.std.specs.Prelude.{ℕ, Bool, if◌then◌else◌, List, [], ◌∷◌, ◌++◌, Option, Some, None}
+use Rattle.rv_isa.specs.Kinds.{is_low_part}
 use Rattle.rv_isa.specs.declared.kind.Kind.{Kind}
 use Rattle.rv_isa.specs.declared.kind.Kind.TheVariants as kind
 use Rattle.rv_text_laws.specs.Expression.{Here}
@@ -11,7 +12,7 @@ use Rattle.rv_statement.specs.Statement.{Operand, Value as Of_value, Applied, Ta
 use Rattle.rv_pseudo_laws.specs.Code.{Part, Closed, Open as Open_part, Joined}
 use Rattle.rv_unit_laws.specs.Tables.{Tables, Definition, definition}
 use Rattle.rv_source_laws.specs.Located.{Located}
-use Rattle.rv_source_laws.specs.Lines.{operand_of, is_low_part}
+use Rattle.rv_source_laws.specs.Lines.{operand_of}
 use Rattle.rv_assemble_laws.specs.Templates.{Open, open_at}
 
 -- a field takes the address of a symbol with the constant beside it; what is no address has none

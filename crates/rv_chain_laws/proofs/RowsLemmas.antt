@@ -4,6 +4,7 @@ use Rattle.std.proofs.Common.{◌≡◌, ℕ, ◌+◌, ◌-◌, ◌*◌, ◌%◌
 use Rattle.std.specs.Prelude.{map, option_map, ◌==◌, nat_lt, if◌then◌else◌, bit_and, bit_xor, slice_index}
 use Rattle.std.specs.List.{AllByRecursion}
 use Rattle.std.proofs.lemmas.Bool.{eqb-true}
+use Rattle.rv_isa.specs.Kinds.{is_low_part}
 use Rattle.rv_isa.specs.declared.instruction.Inst.{Inst}
 use Rattle.rv_isa.specs.declared.instruction.Inst.TheVariants as inst
 use Rattle.rv_isa.specs.declared.instruction.BType.{BType}
@@ -31,7 +32,7 @@ use Rattle.rv_pseudo_laws.specs.Li.{addi, addiw, slli}
 use Rattle.rv_pseudo_laws.specs.Code.{Part, Closed, Open, r_type, i_type, b_type, shift_by, jal, unary, compare, inverted, branch, jump, zero_branch, swapped_branch}
 use Rattle.rv_pseudo_laws.specs.Filled.{FieldValue, filled, AreTaken}
 use Rattle.rv_pseudo_laws.proofs.SequencesLemmas.{again, with_same, register_set}
-use Rattle.rv_source_laws.specs.Lines.{distance, is_low_part, Line, Lie}
+use Rattle.rv_source_laws.specs.Lines.{distance, Line, Lie}
 use Rattle.rv_source_laws.specs.Meaning.{unary_result, compare_result, zero_taken, swapped_taken, goes_if, alone_effect}
 use Rattle.rv_chain_laws.proofs.NumbersLemmas.{leads, complement, low_byte, none_below_one, some_above, signed_byte, signed_half, low_half, low_word}
 use Rattle.rv_chain_laws.specs.Walks.{Ready, Does}

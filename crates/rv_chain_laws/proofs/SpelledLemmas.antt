@@ -3,6 +3,7 @@
 use Rattle.std.proofs.Common.{◌≡◌, ℕ, ◌%◌, ◌^◌, ◌<◌, Bool, true, false, ◌&&◌, List, [], ◌∷◌, Option, Some, None, refl, sym, ap, ◌∙◌, subst, arith, ℤ, pos}
 use Rattle.std.specs.Prelude.{◌==◌, if◌then◌else◌, option_map}
 use Rattle.std.specs.List.{AllByRecursion}
+use Rattle.rv_isa.specs.Kinds.{is_low_part}
 use Rattle.rv_isa.specs.declared.instruction.Inst.{Inst}
 use Rattle.rv_isa.specs.declared.instruction.Inst.TheVariants as inst
 use Rattle.rv_isa.specs.declared.instruction.IType.{IType}
@@ -40,7 +41,7 @@ use Rattle.rv_statement.specs.Statement.{Operand, Register, Value, Applied, Targ
 use Rattle.rv_parse_laws.specs.Syntax.{with_constant}
 use Rattle.rv_pseudo_laws.specs.Code.{Part, Closed, Open, Constants, opened, by_number, by_part, signed_12, upper_20, number_of, by_amount, by_constant, by_form, parcel_form, branch, i_type, s_type, b_type, u_type, shift_by, jal, jalr, code}
 use Rattle.rv_pseudo_laws.specs.Filled.{FieldValue, filled}
-use Rattle.rv_source_laws.specs.Lines.{other_operand, operand_number, distance, operand_gives, is_low_part}
+use Rattle.rv_source_laws.specs.Lines.{other_operand, operand_number, distance, operand_gives}
 use Rattle.rv_source_laws.specs.Holes.{constant_hole, form_hole, parcel_hole}
 use Rattle.rv_source_laws.specs.Meaning.{one_instruction}
 use Rattle.rv_chain_laws.proofs.NumbersLemmas.{modulo_20}

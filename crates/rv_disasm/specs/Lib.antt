@@ -1,6 +1,6 @@
 pub mod Dump
 pub mod Instruction
-pub mod Left
+pub mod ListingLeft
 pub mod Lines
 pub mod Listing
 pub mod Numbers

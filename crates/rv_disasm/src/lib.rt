@@ -7,7 +7,7 @@
 //! Main contracts: `listing` gives a text that `IsListing` of the image and the map, by whatever reader of words and
 //! parcels, and there is one alone (`one_listing`); `raw_listing` gives the text that `IsRawListing` of the image, and
 //! none exactly where it has none, and there is one at most (`one_raw_listing`); `hex_dump` gives `dump_of` the bytes.
-//! `ListedRows` gives the same listing as `listing`, a row at a time: what is there, with what is `left`, stays the listing.
+//! `ListedRows` gives the same listing as `listing`, a row at a time: what is there, with what is `listing_left`, stays the listing.
 //! One table says how an instruction of each format is shown (`text_with`), another the parcels of a raw listing
 //! (`parcel_text`).
 //! It must not know how a map comes about, what instructions do, or how sources are read.

@@ -26,12 +26,12 @@ pub struct ListedRows<'a> {
 }
 
 impl<'a> ListedRows<'a> {
-    ghost use Rattle.rv_disasm.specs.Left.{left};
+    ghost use Rattle.rv_disasm.specs.ListingLeft.{listing_left};
 
     /// The listing that [`listing`](crate::listing) gives, of which all is left.
     pub fn new(alloc: Global, image: &'a Image, map: &Map) -> Result<Self, AllocError>
         ensures { (reader : Reader Spells StandsFor) → IfOk result (λ rows.
-            IsListing reader (image_of image.now) (map_of map.now) (left reader rows)) }
+            IsListing reader (image_of image.now) (map_of map.now) (listing_left reader rows)) }
     {
         let rows = in_order(alloc, &map.rows)?;
         Ok(ListedRows {
@@ -44,9 +44,9 @@ impl<'a> ListedRows<'a> {
     /// Adds the text of the next row, which is empty where the row has no code; false where no row is left.
     pub fn next(&mut self, text: &mut Vec<u8>) -> Result<bool, AllocError>
         ensures added { (reader : Reader Spells StandsFor) → OnOk result
-            (text.new.items ++ left reader self.new ≡ text.old.items ++ left reader self.old) }
+            (text.new.items ++ listing_left reader self.new ≡ text.old.items ++ listing_left reader self.old) }
         ensures last { (reader : Reader Spells StandsFor) → IfOk result (λ any.
-            any ≡ false → left reader self.new ≡ []) }
+            any ≡ false → listing_left reader self.new ≡ []) }
     {
         if self.added >= self.rows.len() {
             return Ok(false);

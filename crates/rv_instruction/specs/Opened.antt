@@ -1,6 +1,7 @@
 -- The open field of a part of a statement's code, as the code holds it.
 
 use Rattle.std.specs.Prelude.{◌≡◌, ℕ, Bool, true, ◌&&◌, if◌then◌else◌, List, [], ◌∷◌, Option, Some, None}
+use Rattle.rv_isa.specs.Kinds.{is_low_part}
 use Rattle.rv_isa.specs.declared.kind.Kind.{Kind}
 use Rattle.rv_text_laws.specs.Values.{Value}
 use Rattle.rv_text.specs.Nodes.{symbol_of}
@@ -10,7 +11,7 @@ use Rattle.rv_statement.specs.Statement.{StatementKind, Expression}
 use Rattle.rv_pseudo_laws.specs.Code.{Part, Constants}
 use Rattle.rv_pseudo_laws.specs.Filled.{are_closed}
 use Rattle.rv_unit_laws.specs.Tables.{Tables}
-use Rattle.rv_source_laws.specs.Lines.{operand_of, is_low_part, parts_of}
+use Rattle.rv_source_laws.specs.Lines.{operand_of, parts_of}
 use Rattle.rv_assemble_laws.specs.Templates.{Open}
 use Rattle.rv_assemble_laws.specs.CodeFields.{symbol_field, low_field, label_field, field_of}
 use Rattle.rv_instruction.specs.declared.opened.Reference.{Reference}

@@ -4,6 +4,7 @@
 
 ghost use Rattle.std.specs.Prelude.{◌≡◌, ◌+◌, None, option_map, true};
 ghost use Rattle.rv_isa.specs.declared.kind.Kind.{Kind as SpecKind};
+ghost use Rattle.rv_isa.specs.Kinds as kinds;
 ghost use Rattle.rv_text_laws.specs.Values as values;
 ghost use Rattle.rv_statement.specs.Statement.{Expression};
 ghost use Rattle.rv_statement.specs.View.{statement_kind};
@@ -11,7 +12,6 @@ ghost use Rattle.rv_pseudo.specs.Templates.{statement_with};
 ghost use Rattle.rv_unit_laws.specs.Tables.{tables, definition};
 ghost use Rattle.rv_unit.specs.Faults.{ForValue};
 ghost use Rattle.rv_unit.specs.Unit.{said, definition_of};
-ghost use Rattle.rv_source_laws.specs.Lines as lines;
 ghost use Rattle.rv_assemble_laws.specs.CodeFields as fields;
 ghost use Rattle.rv_instruction.specs.Opened as laws;
 ghost use Rattle.rv_instruction.specs.Scoped.{values_at, AtNext};
@@ -60,7 +60,7 @@ pub fn is_closed(kind: &StatementKind<'_>) -> bool
 
 /// Whether a field takes the low part of a distance.
 fn is_low_part(kind: &Kind) -> bool
-    ensures { result ≡ lines.is_low_part kind.now }
+    ensures { result ≡ kinds.is_low_part kind.now }
 {
     matches!(kind, Kind::PcrelLo12I | Kind::PcrelLo12S)
 }

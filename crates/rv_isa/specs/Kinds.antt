@@ -1,7 +1,7 @@
 -- The kinds of relocations by their numbers, and the bytes that each changes
 -- (RISC-V ELF psABI, the section "Relocations", its table of relocation types).
 
-use Rattle.std.specs.Prelude.{ℕ}
+use Rattle.std.specs.Prelude.{ℕ, Bool, true, false}
 use Rattle.rv_isa.specs.declared.kind.Kind.{Kind}
 use Rattle.rv_isa.specs.declared.kind.Kind.TheVariants as kind
 
@@ -72,3 +72,9 @@ width_of kind.Set8 = 1
 width_of kind.Set16 = 2
 width_of kind.Set32 = 4
 width_of kind.Pcrel32 = 4
+
+-- the low part of a distance to an address: it counts from where the upper part stands
+abbrev pub is_low_part : Kind → Bool
+is_low_part kind.PcrelLo12I = true
+is_low_part kind.PcrelLo12S = true
+is_low_part _ = false

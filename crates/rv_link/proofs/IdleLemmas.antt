@@ -5,6 +5,7 @@ use Rattle.std.proofs.lemmas.List.{take-append-drop, get_or_default, length-map}
 use Rattle.std.proofs.lemmas.Int.{fits_signed_from_abs, int_wrap_fits}
 use Rattle.std.specs.Int.{int_wrap, w64}
 use Rattle.std.specs.Prelude.{ℤ, pos, drop, if◌then◌else◌}
+use Rattle.rv_isa.specs.Kinds.{is_low_part}
 use Rattle.rv_isa.specs.declared.kind.Kind.{Kind}
 use Rattle.rv_isa.specs.declared.kind.Kind.TheVariants as kinds
 use Rattle.rv_reloc.specs.Values.{value_of}
@@ -16,7 +17,7 @@ use Rattle.rv_object_laws.specs.CallSites.{is_call}
 use Rattle.rv_object_laws.specs.Moves.{Move}
 use Rattle.rv_shorten.specs.Cutting.{cut_at, cut_relocation, kind_left}
 use Rattle.rv_object_laws.specs.Inputs.{InputSection, start_of}
-use Rattle.rv_object_laws.specs.Values.{is_low, value, own_value, paired, patched_at}
+use Rattle.rv_object_laws.specs.Values.{value, own_value, paired, patched_at}
 use Rattle.rv_placement.specs.declared.placement.Placement.{Placement}
 use Rattle.rv_placement.specs.Placement.{starts_of}
 use Rattle.rv_resolve.specs.Shown.{outer_in}
@@ -26,7 +27,7 @@ use Rattle.rv_link.proofs.StepsLemmas.{IsPatched, get_or-map, next_of, patched_s
 -- what holds of a kind without a field
 record Idles (k : Kind) : Type 0 where
   worth : (s : ℕ) (a : ℤ) (p : ℕ) → value_of k s a p ≡ pos 0
-  low : is_low k ≡ false
+  low : is_low_part k ≡ false
   call : is_call k ≡ false
   takes : Takes k (pos 0)
   keeps : (offset : ℕ) (v : ℤ) (bytes : List ℕ) → patched_at offset k v bytes ≡ bytes

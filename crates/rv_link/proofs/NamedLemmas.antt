@@ -15,7 +15,7 @@ use Rattle.rv_object.specs.declared.symbol.Symbol.{Symbol as DeclaredSymbol}
 use Rattle.rv_object.specs.Bindings.{is_shared}
 use Rattle.rv_object.specs.Object.{Section, Symbol, Object}
 use Rattle.rv_object.specs.Parts.{symbol_of}
-use Rattle.rv_object.specs.Valid.{is_shown, is_low}
+use Rattle.rv_object.specs.Valid.{is_shown, has_64_bits}
 use Rattle.rv_object_laws.specs.Inputs.{Starts}
 use Rattle.rv_object_laws.specs.Moves.{Move, moves, new_offset}
 use Rattle.rv_object_laws.specs.Names.{Export, chosen, is_defined, is_export, exports_in, exports_from, exports_where, is_chosen, chosen_exports, offset_address, defined_address, export_address, globals_of, shown_linker_symbols}
@@ -31,9 +31,9 @@ use Rattle.rv_resolve.specs.Shown.{regions_of, shown_globals}
 
 -- a map can show a symbol's name, if all files may use it, and the number that it is
 abbrev CanShow : Symbol → Type 0
-CanShow s = IsTrue (is_shown s.binding s.name) × IsTrue (is_low s.definition)
+CanShow s = IsTrue (is_shown s.binding s.name) × IsTrue (has_64_bits s.definition)
 
-low_cut : (mss : List (List Move)) (d : Definition) → IsTrue (is_low d) → IsTrue (is_low (cut_definition mss d))
+low_cut : (mss : List (List Move)) (d : Definition) → IsTrue (has_64_bits d) → IsTrue (has_64_bits (cut_definition mss d))
 low_cut mss definitions.Undefined low = refl
 low_cut mss (definitions.Absolute n) low = low
 low_cut mss (definitions.InSection section offset) low = refl
@@ -51,7 +51,7 @@ can_show (x ∷ xs) = (can_show_cut (moves_of x) x.whole.now.symbols.items, can_
 -- ---- definitions for all files
 
 abbrev IsShowable : Export → Type 0
-IsShowable e = IsTrue (is_name e.symbol.name) × IsTrue (is_low e.symbol.definition)
+IsShowable e = IsTrue (is_name e.symbol.name) × IsTrue (has_64_bits e.symbol.definition)
 
 named : (b : Binding) (name : List ℕ) → is_shared b ≡ true → IsTrue (is_shown b name) → IsTrue (is_name name)
 named bindings.Local name shared h = absurd (cc)
@@ -95,7 +95,7 @@ placed_known name start offset (Some s) is = by s.loaded
     by true = ((is, omega arith), tt)
     by false = tt
 
-defined_known : (name : List ℕ) (starts : ℕ → ℕ) (o : Object) (d : Definition) → IsTrue (is_name name) → IsTrue (is_low d) → AllByRecursion IsGlobal (shown name (defined_address starts o d))
+defined_known : (name : List ℕ) (starts : ℕ → ℕ) (o : Object) (d : Definition) → IsTrue (is_name name) → IsTrue (has_64_bits d) → AllByRecursion IsGlobal (shown name (defined_address starts o d))
 defined_known name starts o definitions.Undefined is low = tt
 defined_known name starts o (definitions.Absolute n) is low = ((is, ltb-true n (2 ^ 64) low), tt)
 defined_known name starts o (definitions.InSection section offset) is low = placed_known name (starts section) offset (slice_get o.sections section) is

@@ -1,13 +1,14 @@
 -- The rows of placed objects can stand in a map.
 
-use Rattle.std.proofs.Common.{◌≡◌, ◌≤◌, ◌<◌, ◌+◌, ◌^◌, ℕ, zero, suc, Bool, true, false, if◌then◌else◌, Option, Some, None, List, [], ◌∷◌, length, map, ◌&&◌, nat_le, nat_lt, refl, sym, ap, subst, ◌∙◌, arith}
+use Rattle.std.proofs.Common.{◌≡◌, ◌≤◌, ◌<◌, ◌+◌, ◌^◌, ℕ, suc, Bool, true, false, if◌then◌else◌, Option, Some, None, List, [], ◌∷◌, length, map, nat_le, refl, sym, ap, subst, ◌∙◌, arith}
 use Rattle.std.specs.List.{AllByRecursion, list_all, slice_get}
-use Rattle.std.proofs.lemmas.Bool.{leb-true, ltb-true, and_parts}
+use Rattle.std.proofs.lemmas.Bool.{leb-true, and_parts}
 use Rattle.std.proofs.lemmas.Option.{slice_get_within}
 use Rattle.rv_map.specs.Limits.{IsRow}
 use Rattle.rv_object.specs.declared.row.Row.{Row}
 use Rattle.rv_object.specs.Object.{Section, Object, size_of}
 use Rattle.rv_object.specs.Valid.{is_row_in, is_counted, are_counted}
+use Rattle.rv_object.proofs.CountedLemmas.{counted_widths}
 use Rattle.rv_object_laws.specs.IsLinkOf.{inserted_row, by_ordinal, map_row, moves_at, row_in, rows_of, most_files}
 use Rattle.rv_object_laws.specs.Moves.{Move, moves, new_offset}
 use Rattle.rv_object_laws.proofs.TextInputsLemmas.{all_append}
@@ -45,18 +46,10 @@ IsNumbered r = (r.line < 2 ^ 64) × (r.ordinal < 2 ^ 64) × (r.instructions < 2 
 
 is_numbered : (r : Row) → is_counted r ≡ true → IsNumbered r
 is_numbered r h =
-    let line = nat_lt r.line (2 ^ 32) in
-    let ordinal = nat_lt r.ordinal (2 ^ 32) in
-    let section = nat_lt r.section (2 ^ 32) in
-    let offset = nat_lt r.offset (2 ^ 64) in
-    let bytes = nat_lt r.bytes (2 ^ 32) in
-    let five = and_parts (line && ordinal && section && offset && bytes) (nat_lt r.instructions (2 ^ 32)) h in
-    let four = and_parts (line && ordinal && section && offset) bytes five.0 in
-    let three = and_parts (line && ordinal && section) offset four.0 in
-    let two = and_parts line ordinal (and_parts (line && ordinal) section three.0).0 in
-    let low = ltb-true r.line (2 ^ 32) two.0 in
-    let first = ltb-true r.ordinal (2 ^ 32) two.1 in
-    let many = ltb-true r.instructions (2 ^ 32) five.1 in
+    let widths = counted_widths r h in
+    let low = widths.line in
+    let first = widths.ordinal in
+    let many = widths.instructions in
     (omega (arith, low), omega (arith, first), omega (arith, many))
 
 -- the rows of an object whose calls are cut

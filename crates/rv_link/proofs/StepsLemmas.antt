@@ -5,7 +5,7 @@ use Rattle.std.proofs.lemmas.List.{drop_more, get_or_default, drop_at, drop_all,
 use Rattle.std.proofs.lemmas.Bool.{and_parts, eqb-true}
 use Rattle.std.specs.Prelude.{◌==◌, is_some, unwrap_or, ℤ, pos, IsTrue, true}
 use Rattle.std.specs.List.{AllByRecursion, list_all}
-use Rattle.rv_isa.specs.Kinds.{width_of}
+use Rattle.rv_isa.specs.Kinds.{width_of, is_low_part}
 use Rattle.rv_reloc.specs.Ranges.{Takes}
 use Rattle.rv_object.specs.Object.{Contents, Progbits, Note, Nobits, Relocation, Section, Object, size_of}
 use Rattle.rv_object.specs.Valid.{are_paddings, fit_inside}
@@ -13,7 +13,7 @@ use Rattle.rv_object.specs.Parts.{relocation_of}
 use Rattle.rv_object.specs.declared.relocation.Relocation.{Relocation as Declared}
 use Rattle.rv_object_laws.specs.Moves.{Move, moves, new_offset, kept, has_room}
 use Rattle.rv_object_laws.specs.Inputs.{InputSection, is_nobits}
-use Rattle.rv_object_laws.specs.Values.{applied, patched_at, value, is_low, initial_bytes}
+use Rattle.rv_object_laws.specs.Values.{applied, patched_at, value, initial_bytes}
 use Rattle.rv_shorten.specs.Cutting.{cut_relocation}
 use Rattle.rv_placement.specs.declared.placement.Placement.{Placement}
 use Rattle.rv_placement.specs.Placement.{starts_of}
@@ -50,7 +50,7 @@ pub record IsPatched (os : List Object) (p : Placement) (i : InputSection) (ms :
 
 pub patched_step : (os : List Object) (p : Placement) (i : InputSection) (ms : List Move) (all : List Relocation) (old : List ℕ)
     (from : List Relocation) (r : Relocation) (left : List Relocation) (bytes new : List ℕ) (v : ℤ) → IsPatched os p i ms all old from bytes → from ≡ r ∷ left
-    → value (outer_in os p) (starts_of p) os i r ≡ Some v → (is_low r.kind ≡ true → r.addend ≡ pos 0) → Takes r.kind v
+    → value (outer_in os p) (starts_of p) os i r ≡ Some v → (is_low_part r.kind ≡ true → r.addend ≡ pos 0) → Takes r.kind v
     → new ≡ patched_at (new_offset ms r.place) r.kind v bytes → length new ≡ length bytes → IsPatched os p i ms all old left new
 patched_step os p i ms all old from r left bytes new v is front found alone takes writes keeps =
     let here : worth os p i r ≡ v = ap (λ x. unwrap_or x (pos 0)) found in
@@ -72,7 +72,7 @@ pub patched_failed : (os : List Object) (p : Placement) (i : InputSection) (ms :
 patched_failed os p i ms all old from r left bytes fault is front h = is.first fault (subst (λ l. IsFirst (IsTaken os p i) (IsUntaken os p i fault) l) (sym front) (inl h))
 
 -- a field that does not take its value
-pub untaken_by : (os : List Object) (p : Placement) (i : InputSection) (r : Relocation) (v : ℤ) (fault : LinkFault) → value (outer_in os p) (starts_of p) os i r ≡ Some v → (is_low r.kind ≡ true → r.addend ≡ pos 0)
+pub untaken_by : (os : List Object) (p : Placement) (i : InputSection) (r : Relocation) (v : ℤ) (fault : LinkFault) → value (outer_in os p) (starts_of p) os i r ≡ Some v → (is_low_part r.kind ≡ true → r.addend ≡ pos 0)
     → IsOfPatch r.kind v fault → IsUntaken os p i fault r
 untaken_by os p i r v Overflow found alone h = (v, (found, alone), h)
 untaken_by os p i r v OddTarget found alone h = (v, (found, alone), h)

@@ -2,13 +2,13 @@
 
 use Rattle.std.specs.Prelude.{◌≡◌, ℕ, ◌+◌, ◌<◌, ◌≤◌, ℤ, pos, true, IsTrue, List, map, Some, is_some, unwrap_or}
 use Rattle.std.specs.List.{AllByRecursion, list_all}
-use Rattle.rv_isa.specs.Kinds.{width_of}
+use Rattle.rv_isa.specs.Kinds.{width_of, is_low_part}
 use Rattle.rv_reloc.specs.Ranges.{Takes}
 use Rattle.rv_object.specs.Object.{Relocation, Section, Object}
 use Rattle.rv_object_laws.specs.Moves.{Move, moves, new_offset, has_room}
 use Rattle.rv_object_laws.specs.Inputs.{InputSection}
 use Rattle.rv_object_laws.specs.Names.{object_at}
-use Rattle.rv_object_laws.specs.Values.{is_low, value, linked_bytes}
+use Rattle.rv_object_laws.specs.Values.{value, linked_bytes}
 use Rattle.rv_shorten.specs.Sections.{short_section_of}
 use Rattle.rv_shorten.specs.View.{short_object_of}
 use Rattle.rv_relax.specs.Plan.{moves_of}
@@ -48,7 +48,7 @@ worth os p i r = unwrap_or (value (outer_in os p) (starts_of p) os i r) (pos 0)
 pub record IsTaken (os : List Object) (p : Placement)
     (i : InputSection) (r : Relocation) : Type 0 where
   pub found : IsTrue (is_some (value (outer_in os p) (starts_of p) os i r))
-  pub alone : is_low r.kind ≡ true → r.addend ≡ pos 0
+  pub alone : is_low_part r.kind ≡ true → r.addend ≡ pos 0
   pub takes : Takes r.kind (worth os p i r)
 
 -- a relocation's field lies in so many bytes that are kept

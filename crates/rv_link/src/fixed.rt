@@ -5,11 +5,12 @@
 
 ghost use Rattle.std.specs.Prelude.{◌≡◌, ◌+◌, ◌-◌, ◌++◌, ◌<◌, ◌≤◌, IfOk, IfErr, OnOk, Some, pos, true, length};
 ghost use Rattle.std.specs.List.{AllByRecursion};
+ghost use Rattle.rv_isa.specs.Kinds.{is_low_part};
 ghost use Rattle.rv_isa_laws.specs.Bytes.{zeros};
 ghost use Rattle.rv_object.specs.Parts.{relocation_of};
 ghost use Rattle.rv_object_laws.specs.Inputs.{is_nobits};
 ghost use Rattle.rv_object_laws.specs.Moves.{kept, new_offset};
-ghost use Rattle.rv_object_laws.specs.Values.{applied, initial_bytes, is_low, value};
+ghost use Rattle.rv_object_laws.specs.Values.{applied, initial_bytes, value};
 ghost use Rattle.rv_object_laws.specs.Names.{object_at};
 ghost use Rattle.rv_shorten.specs.Sections.{short_section_of};
 ghost use Rattle.rv_relax.specs.Plan.{moves_of};
@@ -82,7 +83,7 @@ impl<'p, 'o, 'a, 'n> Fixed<'p, 'o, 'a, 'n> {
             (starts_of (self.now).placement.now) (objects_of self.now)
             (input_of self.now input.now) (relocation_of relocation.now) ≡ Some v) }
         ensures alone { IfOk result
-            (λ v. is_low (relocation.now).kind ≡ true → (relocation.now).addend ≡ pos 0) }
+            (λ v. is_low_part (relocation.now).kind ≡ true → (relocation.now).addend ≡ pos 0) }
         ensures refuses { IfErr result (λ fault. IsUntaken (objects_of self.now)
             (self.now).placement.now (input_of self.now input.now) fault
             (relocation_of relocation.now)) }

@@ -3,10 +3,11 @@
 
 use Rattle.std.specs.Prelude.{◌≡◌, ◌⊎◌, ℕ, ◌+◌, ℤ, pos, true, List, map, Some, None}
 use Rattle.std.specs.List.{slice_get}
+use Rattle.rv_isa.specs.Kinds.{is_low_part}
 use Rattle.rv_object.specs.Object.{Relocation, Object}
 use Rattle.rv_object_laws.specs.Inputs.{Starts, InputSection}
 use Rattle.rv_object_laws.specs.Names.{Outer}
-use Rattle.rv_object_laws.specs.Values.{is_low, value}
+use Rattle.rv_object_laws.specs.Values.{value}
 use Rattle.rv_shorten.specs.View.{short_object_of}
 use Rattle.rv_placement.specs.declared.placement.Placement.{Placement}
 use Rattle.rv_placement.specs.Placement.{IsPlacement}
@@ -24,12 +25,12 @@ pub record IsInputAt (os : List Object) (file index : ℕ) (i : InputSection) : 
 -- the value of a relocation; a low part has no addend
 abbrev pub IsValueOf : Outer → Starts → List Object → InputSection → Relocation → ℤ → Type 0
 IsValueOf outer starts os i r v =
-    (value outer starts os i r ≡ Some v) × (is_low r.kind ≡ true → r.addend ≡ pos 0)
+    (value outer starts os i r ≡ Some v) × (is_low_part r.kind ≡ true → r.addend ≡ pos 0)
 
 -- a low part without its high part, or with an addend
 abbrev pub IsDangling : Outer → Starts → List Object → InputSection → Relocation → Type 0
 IsDangling outer starts os i r =
-    (is_low r.kind ≡ true)
+    (is_low_part r.kind ≡ true)
     × ((value outer starts os i r ≡ None) ⊎ (r.addend ≡ pos 0 → ⊥))
 
 -- these are the values of objects that are placed so

@@ -2,6 +2,7 @@
 
 ghost use Rattle.std.specs.Prelude.{◌≡◌, ◌+◌, ◌%◌, ◌^◌, ℕ, List, map, option_map, unwrap_or, Some, IfOk, IfErr};
 ghost use Rattle.std.specs.List.{slice_get};
+ghost use Rattle.rv_isa.specs.Kinds.{is_low_part};
 ghost use Rattle.rv_object.specs.Object.{Object as PlainObject};
 ghost use Rattle.rv_object.specs.Parts.{relocation_of};
 ghost use Rattle.rv_object_laws.specs.Inputs.{InputSection};
@@ -32,8 +33,8 @@ pub struct Values<'p, 'o, 'a, 'n> {
 }
 
 /// Whether a relocation is the low part of a distance, whose high part is another.
-fn is_low(kind: Kind) -> bool
-    ensures { result ≡ laws.is_low kind }
+fn is_low_part(kind: Kind) -> bool
+    ensures { result ≡ is_low_part kind }
 {
     matches!(kind, Kind::PcrelLo12I | Kind::PcrelLo12S)
 }
@@ -85,7 +86,7 @@ impl<'p, 'o, 'a, 'n> Values<'p, 'o, 'a, 'n> {
             → IsValues os p self.now → IsInputAt os file index i → IfErr result (λ _.
             IsDangling (outer_in os p) (starts_of p) os i (relocation_of relocation.now)) }
     {
-        if !is_low(relocation.kind) {
+        if !is_low_part(relocation.kind) {
             return Ok(self.own_value(file, index, relocation));
         }
         if relocation.addend != 0 {

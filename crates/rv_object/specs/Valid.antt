@@ -101,9 +101,9 @@ is_shown bindings.Global name = is_name name
 is_shown bindings.Weak name = is_name name
 
 -- a number that a symbol is has 64 bits
-abbrev pub is_low : Definition → Bool
-is_low (definitions.Absolute n) = nat_lt n (2 ^ 64)
-is_low _ = true
+abbrev pub has_64_bits : Definition → Bool
+has_64_bits (definitions.Absolute n) = nat_lt n (2 ^ 64)
+has_64_bits _ = true
 
 -- ---- indices
 

@@ -1,7 +1,7 @@
 //! Symbols of an object.
 
 ghost use Rattle.std.specs.Prelude.{IsTrue};
-ghost use Rattle.rv_object.specs.Valid.{is_shown, is_low};
+ghost use Rattle.rv_object.specs.Valid.{is_shown, has_64_bits};
 
 /// Who may name a symbol (gABI, "Symbol Table", st_info).
 #[derive(Clone, Copy, Debug, PartialEq, Eq, Drop)]
@@ -39,5 +39,5 @@ pub struct Symbol<'a> {
     /// A name that every object may use is one that a map can show; no other has a zero byte.
     pub ghost shown: { IsTrue (is_shown binding name.now) },
     /// A number that it is has 64 bits.
-    pub ghost low: { IsTrue (is_low definition) },
+    pub ghost low: { IsTrue (has_64_bits definition) },
 }

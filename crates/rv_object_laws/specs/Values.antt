@@ -6,7 +6,7 @@ use Rattle.std.specs.List.{find, slice_get}
 use Rattle.rv_isa_laws.specs.Bytes.{zeros}
 use Rattle.rv_isa.specs.declared.kind.Kind.{Kind}
 use Rattle.rv_isa.specs.declared.kind.Kind.TheVariants as kinds
-use Rattle.rv_isa.specs.Kinds.{width_of}
+use Rattle.rv_isa.specs.Kinds.{width_of, is_low_part}
 use Rattle.rv_reloc.specs.Values.{value_of}
 use Rattle.rv_reloc.specs.Fields.{patched}
 use Rattle.rv_reloc.specs.Ranges.{Takes}
@@ -32,11 +32,6 @@ own_value outer starts o start s r =
     (moved start s r.place)
 
 -- ---- low parts of distances
-
-abbrev pub is_low : Kind → Bool
-is_low kinds.PcrelLo12I = true
-is_low kinds.PcrelLo12S = true
-is_low _ = false
 
 abbrev pub is_high : Kind → Bool
 is_high kinds.PcrelHi20 = true
@@ -71,7 +66,7 @@ paired outer starts os file o (Some index) =
 -- the value of a relocation; none for a low part without its high part, or with an addend
 abbrev pub value : Outer → Starts → List Object → InputSection → Relocation → Option ℤ
 value outer starts os i r =
-    if is_low r.kind
+    if is_low_part r.kind
     then paired outer starts os i.file i.object r.symbol
     else Some (own_value outer (starts i.file) i.object (start_of starts i) i.section r)
 
@@ -80,7 +75,7 @@ pub record IsRelocated (outer : Outer) (starts : Starts) (os : List Object)
     (i : InputSection) (r : Relocation) : Type 0 where
   pub resolved : IsTrue (is_some (target outer (starts i.file) i.object r.symbol))
   pub found : IsTrue (is_some (value outer starts os i r))
-  pub alone : is_low r.kind ≡ true → r.addend ≡ pos 0
+  pub alone : is_low_part r.kind ≡ true → r.addend ≡ pos 0
   pub takes : Takes r.kind (unwrap_or (value outer starts os i r) (pos 0))
 
 -- ---- bytes

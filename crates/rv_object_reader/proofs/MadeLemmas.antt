@@ -1,15 +1,13 @@
 -- Records of a table, made one after the other; and what is found in a file.
 
-use Rattle.std.proofs.Common.{◌≡◌, ℕ, zero, suc, ◌+◌, ◌-◌, ◌<◌, ◌≤◌, ◌^◌, ◌==◌, Bool, true, false, ◌&&◌, List, [], ◌∷◌, ◌++◌, map, drop, Option, Some, None, refl, ap, sym, ◌∙◌, subst, arith, cond}
+use Rattle.std.proofs.Common.{◌≡◌, ℕ, zero, suc, ◌+◌, ◌-◌, ◌<◌, ◌≤◌, ◌==◌, Bool, true, false, ◌&&◌, List, [], ◌∷◌, ◌++◌, map, drop, Option, Some, None, refl, ap, sym, ◌∙◌, subst, arith, cond}
 use Rattle.std.specs.List.{find, AllByRecursion}
-use Rattle.std.proofs.lemmas.Bool.{and_parts, and_from, eqb-true, lt-ltb, true≢false}
+use Rattle.std.proofs.lemmas.Bool.{and_parts, eqb-true, true≢false}
 use Rattle.std.proofs.lemmas.List.{append_assoc, map-append}
-use Rattle.std.proofs.lemmas.List.Folds.{list_all-append}
 use Rattle.rv_elf.specs.declared.symbol.Symbol.{Symbol as SymbolRecord}
 use Rattle.rv_elf.specs.FirstFault.{first_true}
 use Rattle.rv_elf.specs.Sections.{records, section_count}
 use Rattle.rv_object.specs.declared.row.Row.{Row}
-use Rattle.rv_object.specs.Valid.{is_counted, are_counted}
 use Rattle.rv_object_checks.specs.Found.{section_at, sections_from, place_of, place_at}
 use Rattle.rv_object_file_laws.specs.FirstFault.{has_binding, has_home, symbol_tests, is_row_of, row_tests, first_fault}
 use Rattle.rv_object_file_laws.specs.Parts.{FileSection, sections, is_kept, is_index, kept_at, kept_before, row_records}
@@ -66,17 +64,6 @@ so_far_more P g all f made new x z left rest was cut same more =
 -- none of one that is left out
 pub so_far_past : {X Y : Type 0} (P : X → Type 0) (g : X → Y) (all : List X) (made : List Y) (left rest : List X) → SoFar P g all made left → left ≡ rest → SoFar P g all made rest
 so_far_past P g all made left rest was same = subst (λ l. SoFar P g all made l) same was
-
--- a row with numbers of the widths of their fields
-pub row_counted : (r : Row) → r.line < 2 ^ 32 → r.ordinal < 2 ^ 32 → r.section < 2 ^ 32 → r.offset < 2 ^ 64 → r.bytes < 2 ^ 32 → r.instructions < 2 ^ 32 → is_counted r ≡ true
-row_counted r line ordinal section offset bytes instructions =
-    and_from _ _ (and_from _ _ (and_from _ _ (and_from _ _ (and_from _ _ (lt-ltb r.line (2 ^ 32) line) (lt-ltb r.ordinal (2 ^ 32) ordinal)) (lt-ltb r.section (2 ^ 32) section))
-    (lt-ltb r.offset (2 ^ 64) offset)) (lt-ltb r.bytes (2 ^ 32) bytes)) (lt-ltb r.instructions (2 ^ 32) instructions)
-
--- one more row with numbers of the widths of their fields
-pub counted_next : (made new : List Row) (r : Row) → are_counted made ≡ true → is_counted r ≡ true → new ≡ made ++ r ∷ [] → are_counted new ≡ true
-counted_next made new r all one more =
-    ap are_counted more ∙ list_all-append is_counted made (r ∷ []) ∙ and_from (are_counted made) (is_counted r && true) all (and_from (is_counted r) true one refl)
 
 -- ---- kept sections
 

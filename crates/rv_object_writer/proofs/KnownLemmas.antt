@@ -1,7 +1,7 @@
 -- What the types of an object keep, and the widths of its numbers, as one fact of the object.
 
-use Rattle.std.proofs.Common.{◌≡◌, ◌≤◌, ◌<◌, ◌^◌, true, ◌&&◌, nat_lt, ℕ, List, [], ◌∷◌, length, map, take, sym, All}
-use Rattle.std.proofs.lemmas.Bool.{and_parts, ltb-true}
+use Rattle.std.proofs.Common.{◌≡◌, ◌≤◌, ◌<◌, ◌^◌, true, ℕ, List, [], ◌∷◌, length, map, take, sym, All}
+use Rattle.std.proofs.lemmas.Bool.{and_parts}
 use Rattle.std.proofs.lemmas.List.{take_all}
 use Rattle.std.proofs.lemmas.List.Elements.{All-map, All-same, recursion_from_All}
 use Rattle.std.specs.List.{AllByRecursion}
@@ -12,6 +12,7 @@ use Rattle.rv_object.specs.Object.{size_of}
 use Rattle.rv_object.specs.Sections.{section_of}
 use Rattle.rv_object.specs.Valid.{is_counted, are_counted}
 use Rattle.rv_object.specs.View.{object_of}
+use Rattle.rv_object.proofs.CountedLemmas.{counted_widths}
 use Rattle.rv_object_file_laws.specs.Known.{IsRelocation, IsSection, IsRow, IsObject}
 use Rattle.rv_object_writer.specs.Pieces.{HaveKnownNumbers}
 
@@ -41,22 +42,8 @@ sections_known (s ∷ ss) (size, sizes) (own, fields) = (
 
 row_known : (r : Row) → is_counted r ≡ true → IsRow r
 row_known r h =
-    let line = nat_lt r.line (2 ^ 32) in
-    let ordinal = nat_lt r.ordinal (2 ^ 32) in
-    let section = nat_lt r.section (2 ^ 32) in
-    let offset = nat_lt r.offset (2 ^ 64) in
-    let bytes = nat_lt r.bytes (2 ^ 32) in
-    let five = and_parts (line && ordinal && section && offset && bytes) (nat_lt r.instructions (2 ^ 32)) h in
-    let four = and_parts (line && ordinal && section && offset) bytes five.0 in
-    let three = and_parts (line && ordinal && section) offset four.0 in
-    let two = and_parts line ordinal (and_parts (line && ordinal) section three.0).0 in
-    record {
-      in_line = ltb-true r.line (2 ^ 32) two.0;
-      number = ltb-true r.ordinal (2 ^ 32) two.1;
-      place = ltb-true r.offset (2 ^ 64) three.1;
-      size = ltb-true r.bytes (2 ^ 32) four.1;
-      count = ltb-true r.instructions (2 ^ 32) five.1;
-    }
+    let widths = counted_widths r h in
+    record { in_line = widths.line; number = widths.ordinal; place = widths.offset; size = widths.bytes; count = widths.instructions }
 
 rows_known : (rs : List Row) → are_counted rs ≡ true → AllByRecursion IsRow rs
 rows_known [] h = tt

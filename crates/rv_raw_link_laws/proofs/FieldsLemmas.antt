@@ -3,6 +3,7 @@
 use Rattle.std.proofs.Common.{◌≡◌, ℕ, ℤ, pos, ◌+◌, ◌%◌, ◌^◌, ◌≤◌, ◌⊎◌, Bool, true, false, List, [], ◌∷◌, ◌++◌, length, length-append, map, append_assoc, Option, Some, None, refl, sym, ◌∙◌, ap, subst, arith, inl, inr}
 use Rattle.std.specs.Prelude.{◌&&◌, ◌==◌, if◌then◌else◌, flat_map, unwrap_or}
 use Rattle.std.specs.List.{AllByRecursion, slice_get}
+use Rattle.rv_isa.specs.Kinds.{is_low_part}
 use Rattle.rv_isa.specs.declared.instruction.Format.{Format}
 use Rattle.rv_isa.specs.declared.instruction.Format.TheVariants.{Branch, Jal}
 use Rattle.rv_isa.specs.declared.instruction.Inst.{Inst}
@@ -18,7 +19,7 @@ use Rattle.rv_statement.specs.Statement.{StatementKind}
 use Rattle.rv_pseudo_laws.specs.Code.{Part as CodePart, Closed, Open as Open_part, Joined, b_type, jal}
 use Rattle.rv_unit_laws.specs.Bindings.{Bindings}
 use Rattle.rv_unit_laws.specs.Tables.{Tables, Labelled, meaning, longest_section}
-use Rattle.rv_source_laws.specs.Lines.{operand_of, is_low_part, parts_of as code_of_kind}
+use Rattle.rv_source_laws.specs.Lines.{operand_of, parts_of as code_of_kind}
 use Rattle.rv_source_laws.specs.Program.{place_of}
 use Rattle.rv_source_laws.proofs.HomesLemmas.{all_join}
 use Rattle.rv_disasm.specs.declared.code.Code.{Code}

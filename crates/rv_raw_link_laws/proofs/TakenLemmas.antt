@@ -3,6 +3,7 @@
 use Rattle.std.proofs.Common.{◌≡◌, ℕ, ℤ, ◌+◌, ◌%◌, ◌^◌, ◌<◌, true, false, List, [], ◌∷◌, Some, refl, sym, ◌∙◌, ap, subst, arith, inl, inr}
 use Rattle.std.specs.Prelude.{if◌then◌else◌, unwrap_or, option_and_then}
 use Rattle.std.specs.List.{AllByRecursion}
+use Rattle.rv_isa.specs.Kinds.{is_low_part}
 use Rattle.rv_isa.specs.declared.kind.Kind.{Kind}
 use Rattle.rv_isa.specs.declared.kind.Kind.TheVariants as kinds
 use Rattle.rv_reloc.specs.declared.fault.PatchFault.TheVariants as patches
@@ -12,7 +13,7 @@ use Rattle.rv_object.specs.Object.{Relocation, Object}
 use Rattle.rv_object_laws.specs.Inputs.{InputSection, inputs}
 use Rattle.rv_object_laws.specs.IsLinkOf.{is_loaded}
 use Rattle.rv_object_laws.specs.Names.{symbol_address}
-use Rattle.rv_object_laws.specs.Values.{target, moved, own_value, is_low, paired, value}
+use Rattle.rv_object_laws.specs.Values.{target, moved, own_value, paired, value}
 use Rattle.rv_placement.specs.declared.placement.Placement.{Placement}
 use Rattle.rv_placement.specs.Placement.{starts_of, IsPlacement}
 use Rattle.rv_resolve.specs.Shown.{outer_in}
@@ -26,7 +27,7 @@ use Rattle.rv_raw_link_laws.proofs.LeavesLemmas.{input}
 use Rattle.rv_raw_link_laws.proofs.PlacesLemmas.{IsSimple, stands, stays, address_of, loaded_inputs}
 use Rattle.rv_raw_link_laws.proofs.ValuesLemmas.{back_to_it}
 
-never_low : (k : Kind) → leads k ≡ true → is_low k ≡ false
+never_low : (k : Kind) → leads k ≡ true → is_low_part k ≡ false
 never_low k h = grind arith
 
 calculated : (k : Kind) → leads k ≡ true → (s : ℕ) (a : ℤ) (p : ℕ) → calculation k s a p ≡ relative s a p

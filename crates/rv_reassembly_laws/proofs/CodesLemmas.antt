@@ -3,6 +3,7 @@
 use Rattle.std.proofs.Common.{◌≡◌, ℕ, ℤ, Bool, true, false, List, [], ◌∷◌, Some, None, refl, sym, ◌∙◌, ap, arith}
 use Rattle.std.specs.Prelude.{⊤, ◌&&◌, ◌==◌, if◌then◌else◌}
 use Rattle.std.proofs.lemmas.Bool.{eqb-true}
+use Rattle.rv_isa.specs.Kinds.{is_low_part}
 use Rattle.rv_text_laws.specs.Values.{add}
 use Rattle.rv_isa.specs.declared.instruction.Inst.TheVariants as inst
 use Rattle.rv_isa.specs.declared.instruction.Format.{Format}
@@ -23,7 +24,7 @@ use Rattle.rv_parse_laws.specs.Words.{form_with}
 use Rattle.rv_pseudo_laws.specs.Code.{Part, Open, Constants, b_type, jal, jump}
 use Rattle.rv_pseudo_laws.specs.Filled.{filled_part}
 use Rattle.rv_source_laws.specs.Program.{Mapped, Program, number as number_in}
-use Rattle.rv_source_laws.specs.Lines.{constants, parts_of, parts, form_in, operand_of, operand_value, field_value, is_low_part, distance as distance_to}
+use Rattle.rv_source_laws.specs.Lines.{constants, parts_of, parts, form_in, operand_of, operand_value, field_value, distance as distance_to}
 use Rattle.rv_disasm.specs.Instruction.{is_tso}
 use Rattle.rv_disasm.specs.declared.code.Code.{Code}
 use Rattle.rv_disasm.specs.declared.code.Code.TheVariants.{Word, Parcel}

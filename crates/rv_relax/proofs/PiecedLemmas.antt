@@ -8,7 +8,7 @@ use Rattle.rv_layout_laws.specs.declared.site.Site.{Site}
 use Rattle.rv_layout_laws.specs.Calls.{bytes_of, dropped, dropped_of, InOrder}
 use Rattle.rv_shorten.specs.Pieces.{is_next_piece, are_pieces, pieces_dropped}
 use Rattle.rv_shorten.proofs.PiecedLemmas.{first, rest, after}
-use Rattle.rv_relax.specs.Pieces.{Piece, is_low, pieces_of}
+use Rattle.rv_relax.specs.Pieces.{Piece, begins_low, pieces_of}
 
 -- what a slice has past its end
 abbrev pub no_piece : Piece
@@ -53,31 +53,31 @@ same_dropped past (site ∷ sites) (k ∷ kept) old = ap (λ n. dropped_of site 
 -- ---- those that begin before 2 ^ 64
 
 -- none stands behind one that does not
-none_low : (stop past : ℕ) (ps : List Piece) → are_pieces stop past ps ≡ true → 2 ^ 64 ≤ stop → filter is_low ps ≡ []
+none_low : (stop past : ℕ) (ps : List Piece) → are_pieces stop past ps ≡ true → 2 ^ 64 ≤ stop → filter begins_low ps ≡ []
 none_low stop past [] h far = refl
 none_low stop past (p ∷ ps) h far =
     let here = first stop past p ps h in
-    ap (λ b. cond b (p ∷ filter is_low ps) (filter is_low ps)) (le-ltb p.place (2 ^ 64) (omega (arith, here.0)))
+    ap (λ b. cond b (p ∷ filter begins_low ps) (filter begins_low ps)) (le-ltb p.place (2 ^ 64) (omega (arith, here.0)))
     ∙ none_low (p.place + p.full) (past + (p.full - p.left)) ps (rest stop past p ps h) (omega (arith, here.0))
 
-pub low_in_order : (stop past : ℕ) (ps : List Piece) → are_pieces stop past ps ≡ true → are_pieces stop past (filter is_low ps) ≡ true
+pub low_in_order : (stop past : ℕ) (ps : List Piece) → are_pieces stop past ps ≡ true → are_pieces stop past (filter begins_low ps) ≡ true
 low_in_order stop past [] h = refl
 low_in_order stop past (p ∷ ps) h =
-    by (is_low p) (λ f. ltb-false p.place (2 ^ 64) f) (low_in_order (p.place + p.full) (past + (p.full - p.left)) ps (rest stop past p ps h))
+    by (begins_low p) (λ f. ltb-false p.place (2 ^ 64) f) (low_in_order (p.place + p.full) (past + (p.full - p.left)) ps (rest stop past p ps h))
   where
-    by : (b : Bool) → (b ≡ false → 2 ^ 64 ≤ p.place) → are_pieces (p.place + p.full) (past + (p.full - p.left)) (filter is_low ps) ≡ true
-        → are_pieces stop past (cond b (p ∷ filter is_low ps) (filter is_low ps)) ≡ true
+    by : (b : Bool) → (b ≡ false → 2 ^ 64 ≤ p.place) → are_pieces (p.place + p.full) (past + (p.full - p.left)) (filter begins_low ps) ≡ true
+        → are_pieces stop past (cond b (p ∷ filter begins_low ps) (filter begins_low ps)) ≡ true
     by true f others =
-        and_from (is_next_piece stop past p) (are_pieces (p.place + p.full) (past + (p.full - p.left)) (filter is_low ps))
+        and_from (is_next_piece stop past p) (are_pieces (p.place + p.full) (past + (p.full - p.left)) (filter begins_low ps))
         (and_parts (is_next_piece stop past p) (are_pieces (p.place + p.full) (past + (p.full - p.left)) ps) h).0 others
     by false f others = ap (are_pieces stop past) (none_low (p.place + p.full) (past + (p.full - p.left)) ps (rest stop past p ps h) (let far : 2 ^ 64 ≤ p.place = f refl in omega arith))
 
-pub low_dropped : (ps : List Piece) (old : ℕ) → old ≤ 2 ^ 64 → pieces_dropped (filter is_low ps) old ≡ pieces_dropped ps old
+pub low_dropped : (ps : List Piece) (old : ℕ) → old ≤ 2 ^ 64 → pieces_dropped (filter begins_low ps) old ≡ pieces_dropped ps old
 low_dropped [] old low = refl
-low_dropped (p ∷ ps) old low = by (is_low p) (λ f. ltb-false p.place (2 ^ 64) f) ∙ ap (λ n. min (p.full - p.left) (old - (p.place + p.left)) + n) (low_dropped ps old low)
+low_dropped (p ∷ ps) old low = by (begins_low p) (λ f. ltb-false p.place (2 ^ 64) f) ∙ ap (λ n. min (p.full - p.left) (old - (p.place + p.left)) + n) (low_dropped ps old low)
   where
     by : (b : Bool) → (b ≡ false → 2 ^ 64 ≤ p.place)
-        → pieces_dropped (cond b (p ∷ filter is_low ps) (filter is_low ps)) old ≡ min (p.full - p.left) (old - (p.place + p.left)) + pieces_dropped (filter is_low ps) old
+        → pieces_dropped (cond b (p ∷ filter begins_low ps) (filter begins_low ps)) old ≡ min (p.full - p.left) (old - (p.place + p.left)) + pieces_dropped (filter begins_low ps) old
     by true f = refl
     by false f = let far : 2 ^ 64 ≤ p.place = f refl in omega arith
 

@@ -18,7 +18,7 @@ use Rattle.rv_layout_laws.specs.Calls.{bytes_of, dropped, is_call, new_offset, s
 use Rattle.rv_layout_laws.specs.Paddings.{IsLaid, IsLeastPadding, IsRelaxedText}
 use Rattle.rv_relax.specs.Padded.{are_roomy, inner, joined, kept_at, padded, pads}
 use Rattle.rv_relax.specs.Passes.{drops}
-use Rattle.rv_relax.specs.Pieces.{Piece, is_low, pieces_of}
+use Rattle.rv_relax.specs.Pieces.{Piece, begins_low, pieces_of}
 use Rattle.rv_relax.specs.Placed.{is_aligning}
 use Rattle.rv_relax.proofs.AlignedLemmas.{none_left, some_left}
 use Rattle.rv_relax.proofs.DroppingLemmas.{dropped_before_site, later, zeros_site}
@@ -138,7 +138,7 @@ joined_order (false ∷ starts) gaps from (site ∷ sites) order low =
 -- ---- one more site
 
 abbrev pub pieces_from : (dropped gaps gone : ℕ) → List Bool → List Site → List ℕ → List Piece
-pieces_from dropped gaps gone starts sites sized = filter is_low (pieces_of gone (joined gaps starts sites) (inner starts (padded dropped sites sized)))
+pieces_from dropped gaps gone starts sites sized = filter begins_low (pieces_of gone (joined gaps starts sites) (inner starts (padded dropped sites sized)))
 
 abbrev pub pads_from : (dropped gaps : ℕ) → List Bool → List Site → List ℕ → List ℕ
 pads_from dropped gaps starts sites sized = pads (joined gaps starts sites) (inner starts (padded dropped sites sized))
@@ -153,8 +153,8 @@ one_pad : (call : Bool) (k : ℕ) (left : List ℕ) → (if call then left else 
 one_pad true k left = refl
 one_pad false k left = refl
 
-one_low : (p : Piece) (left : List Piece) → filter is_low (p ∷ left) ≡ filter is_low (p ∷ []) ++ filter is_low left
-one_low p left = filter-append is_low (p ∷ []) left
+one_low : (p : Piece) (left : List Piece) → filter begins_low (p ∷ left) ≡ filter begins_low (p ∷ []) ++ filter begins_low left
+one_low p left = filter-append begins_low (p ∷ []) left
 
 grown : {A : Type 0} (front add more new all : List A) → new ≡ front ++ add → front ++ (add ++ more) ≡ all → new ++ more ≡ all
 grown front add more new all e h = ap (λ l. l ++ more) e ∙ append_assoc front add more ∙ h
@@ -220,19 +220,19 @@ module _ (starts : List Bool) (sites : List Site) (sized : List ℕ) (i : ℕ) (
     abbrev piece : Piece
     piece = record { place = site.offset - gaps; gone = gone; full = full; left = left; detail = tt }
 
-    pub one_piece : (found new all : List Piece) → start ≡ false → new ≡ found ++ filter is_low (piece ∷ [])
+    pub one_piece : (found new all : List Piece) → start ≡ false → new ≡ found ++ filter begins_low (piece ∷ [])
         → found ++ pieces_from dropped gaps gone (drop i starts) (drop i sites) (drop i sized) ≡ all → new ++ pieces_from (dropped + cut) gaps (gone + cut) T S K ≡ all
     one_piece found new all is e h =
         let more : gone + (bytes_of site.kind - kept_at site.kind size (site.offset - dropped)) ≡ gone + cut = omega arith in
-        grown found (filter is_low (piece ∷ [])) (pieces_from (dropped + cut) gaps (gone + cut) T S K) new all e
+        grown found (filter begins_low (piece ∷ [])) (pieces_from (dropped + cut) gaps (gone + cut) T S K) new all e
         (sym
         (ap (λ l. found ++ l)
         (from_here (pieces_from dropped gaps gone)
         ∙ ap (λ b. pieces_from dropped gaps gone (b ∷ T) (site ∷ S) (size ∷ K)) is
-        ∙ ap (λ n. filter is_low (record { place = site.offset - gaps; gone = gone; full = n; left = kept_at site.kind size (site.offset - dropped); detail = tt } ∷ all_from next gaps (gone + (bytes_of site.kind - kept_at site.kind size (site.offset - dropped))))) (sym is_full)
-        ∙ ap (λ n. filter is_low (record { place = site.offset - gaps; gone = gone; full = full; left = n; detail = tt } ∷ all_from next gaps (gone + (bytes_of site.kind - kept_at site.kind size (site.offset - dropped))))) (sym is_left)
-        ∙ ap (λ n. filter is_low (piece ∷ all_from next gaps n)) more
-        ∙ ap (λ n. filter is_low (piece ∷ all_from n gaps (gone + cut))) is_next
+        ∙ ap (λ n. filter begins_low (record { place = site.offset - gaps; gone = gone; full = n; left = kept_at site.kind size (site.offset - dropped); detail = tt } ∷ all_from next gaps (gone + (bytes_of site.kind - kept_at site.kind size (site.offset - dropped))))) (sym is_full)
+        ∙ ap (λ n. filter begins_low (record { place = site.offset - gaps; gone = gone; full = full; left = n; detail = tt } ∷ all_from next gaps (gone + (bytes_of site.kind - kept_at site.kind size (site.offset - dropped))))) (sym is_left)
+        ∙ ap (λ n. filter begins_low (piece ∷ all_from next gaps n)) more
+        ∙ ap (λ n. filter begins_low (piece ∷ all_from n gaps (gone + cut))) is_next
         ∙ one_low piece (all_from (dropped + cut) gaps (gone + cut))))
         ∙ h)
 

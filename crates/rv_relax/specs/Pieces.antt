@@ -18,5 +18,5 @@ pieces_of gone (site ∷ sites) (k ∷ kept) =
     ∷ pieces_of (gone + (bytes_of site.kind - k)) sites kept
 
 -- one that begins before 2 ^ 64: others drop nothing before an offset of 64 bits
-abbrev pub is_low : Piece → Bool
-is_low p = nat_lt p.place (2 ^ 64)
+abbrev pub begins_low : Piece → Bool
+begins_low p = nat_lt p.place (2 ^ 64)

@@ -10,7 +10,7 @@ ghost use Rattle.rv_layout_laws.specs.Paddings.{IsRelaxedText};
 ghost use Rattle.rv_relax.specs.Padded.{alignments, are_roomy, inner, joined, padded, pads as pads_of};
 ghost use Rattle.rv_relax.specs.Passes.{are_laid};
 ghost use Rattle.rv_shorten.specs.Pieces.{are_pieces};
-ghost use Rattle.rv_relax.specs.Pieces.{is_low, pieces_of};
+ghost use Rattle.rv_relax.specs.Pieces.{begins_low, pieces_of};
 ghost use Rattle.rv_relax.specs.Sizes.{IsPlanned, call_sizes as sizes_of};
 
 use crate::layout::{Layout, laid_out};
@@ -75,7 +75,7 @@ pub struct Plan<'p> {
     ghost room: { roomy ≡ are_roomy (joined 0 starts.now sites.now)
         (inner starts.now (padded 0 sites.now kept.items)) },
     /// The pieces are the calls and the alignments.
-    ghost pieced: { pieces.items ≡ filter is_low (pieces_of 0 (joined 0 starts.now sites.now)
+    ghost pieced: { pieces.items ≡ filter begins_low (pieces_of 0 (joined 0 starts.now sites.now)
         (inner starts.now (padded 0 sites.now kept.items))) },
     /// They stand one behind the other.
     ghost order: { IsTrue (are_pieces 0 0 pieces.items) },

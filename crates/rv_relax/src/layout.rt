@@ -7,7 +7,7 @@ ghost use Rattle.std.specs.List.{filter};
 ghost use Rattle.rv_layout_laws.specs.Calls.{bytes_of, is_call as is_call_site, site_at};
 ghost use Rattle.rv_relax.specs.Padded.{are_roomy, inner, joined, kept_at as kept_of_site, padded, pads as pads_of};
 ghost use Rattle.rv_relax.specs.Passes.{IsInput};
-ghost use Rattle.rv_relax.specs.Pieces.{is_low, pieces_of};
+ghost use Rattle.rv_relax.specs.Pieces.{begins_low, pieces_of};
 ghost use Rattle.rv_relax.specs.Placed.{is_aligning};
 
 use crate::alignments::least_padding;
@@ -49,7 +49,7 @@ fn put_piece(
 ) -> Result<(), AllocError>
     requires { gone ≤ place }
     ensures { OnOk result (pieces.new.items
-        ≡ pieces.old.items ++ filter is_low
+        ≡ pieces.old.items ++ filter begins_low
         (record { place = place; gone = gone; full = full; left = left; detail = tt } ∷ [])) }
 {
     let Ok(place) = u64::try_from(place) else {
@@ -96,7 +96,7 @@ pub(crate) fn laid_out(
     requires starts { length starts.now ≡ length sites.now }
     requires sized { length sized.now ≡ length sites.now }
     ensures pieces { IfOk result (λ text. text.pieces.items
-        ≡ filter is_low (pieces_of 0 (joined 0 starts.now sites.now)
+        ≡ filter begins_low (pieces_of 0 (joined 0 starts.now sites.now)
         (inner starts.now (padded 0 sites.now sized.now)))) }
     ensures pads { IfOk result (λ text. text.pads.items
         ≡ pads_of (joined 0 starts.now sites.now)

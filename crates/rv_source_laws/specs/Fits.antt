@@ -73,16 +73,16 @@ abbrev pub least_padding : Program → Mapped → Directive → ℕ
 least_padding p s d = padding (alignment_of (λ e. form p s.located e) d) s.row.address
 
 -- up to 2
-abbrev pub is_low : Option ℕ → Bool
-is_low None = true
-is_low (Some alignment) = nat_le alignment 2
+abbrev pub needs_no_padding : Option ℕ → Bool
+needs_no_padding None = true
+needs_no_padding (Some alignment) = nat_le alignment 2
 
 -- the row of an alignment: in executable sections instructions, and none up to 2; in others zeros
 abbrev pub IsPaddingIn : Bool → Program → Mapped → Directive → Type 0
 IsPaddingIn true p s d =
     IsRowOf (expansion p s) s.row
     × (s.row.bytes
-    ≡ (if is_low (alignment_of (λ e. form p s.located e) d) then 0 else least_padding p s d))
+    ≡ (if needs_no_padding (alignment_of (λ e. form p s.located e) d) then 0 else least_padding p s d))
 IsPaddingIn false p s d =
     IsTrue (has_values p s) × (s.row.bytes ≡ least_padding p s d) × (s.row.instructions ≡ 0)
 

@@ -5,6 +5,7 @@
 use Rattle.std.specs.Prelude.{◌≡◌, ℕ, ℤ, pos, ◌-ℤ◌, ◌+◌, ◌/◌, ◌%◌, Bool, true, false, ◌&&◌, ◌==◌, if◌then◌else◌, List, [], ◌∷◌, map, replicate, Option, Some, None, option_map, option_and_then}
 use Rattle.std.specs.Int.{w64, int_wrap}
 use Rattle.std.specs.List.{find}
+use Rattle.rv_isa.specs.Kinds.{is_low_part}
 use Rattle.rv_isa.specs.declared.instruction.Inst.{Inst}
 use Rattle.rv_isa.specs.declared.kind.Kind.{Kind}
 use Rattle.rv_isa.specs.declared.kind.Kind.TheVariants as kind
@@ -166,13 +167,8 @@ operand_value p s (Some (Applied Hi e)) a = signed 64 (number p s e)
 operand_value p s (Some (Applied Lo e)) a = signed 64 (number p s e)
 operand_value p s operand a = distance a (operand_number (number p s) operand)
 
--- a low part counts from the upper one, which stands first in its statement
-abbrev pub is_low_part : Kind → Bool
-is_low_part kind.PcrelLo12I = true
-is_low_part kind.PcrelLo12S = true
-is_low_part _ = false
-
--- what a field of a statement takes: what the statement's operand stands for
+-- what a field of a statement takes: what the statement's operand stands for; a low part counts from
+-- the upper one, which stands first in its statement
 abbrev pub field_value : Program → Mapped → FieldValue
 field_value p s k a =
     operand_value p s (operand_of s.located.kind) (if is_low_part k then s.row.address else a)

@@ -1,6 +1,7 @@
 -- Relocations name their symbols in the order of their statements, but for places of statements.
 
 use Rattle.std.proofs.Common.{◌≡◌, ℕ, zero, suc, ◌+◌, ◌≤◌, Bool, true, false, List, [], ◌∷◌, ◌++◌, length, map, refl, sym, ap, ◌∙◌, subst, arith, append_assoc, inl, inr, Option, Some, None}
+use Rattle.rv_isa.specs.Kinds.{is_low_part}
 use Rattle.rv_symbols.proofs.StandsLemmas.{cons_parts}
 use Rattle.std.specs.Prelude.{◌⊎◌, flat_map, unwrap_or, if◌then◌else◌}
 use Rattle.std.specs.List.{AllByRecursion}
@@ -13,7 +14,7 @@ use Rattle.rv_pseudo_laws.specs.Code.{Part as CodePart, Closed, Open as OpenPart
 use Rattle.rv_unit_laws.specs.Contributions.{Numbers, Texts, Contribution, Nothing, Bytes, Zero_bytes, Alignment, contribution}
 use Rattle.rv_unit_laws.specs.Tables.{Tables, Definition, definition, after}
 use Rattle.rv_source_laws.specs.Located.{Located, located_from}
-use Rattle.rv_source_laws.specs.Lines.{operand_of, is_low_part}
+use Rattle.rv_source_laws.specs.Lines.{operand_of}
 use Rattle.rv_assemble_laws.specs.CodeFields.{symbol_field, low_field, low_field_at, label_field, field_of, relax_fields, part_fields}
 use Rattle.rv_assemble_laws.specs.Coded.{constants}
 use Rattle.rv_assemble_laws.specs.Templates.{Template, Open, value_fields, padding_templates, contents_templates, contribution_templates}

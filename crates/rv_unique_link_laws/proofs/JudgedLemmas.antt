@@ -3,10 +3,10 @@
 use Rattle.std.proofs.Common.{◌≡◌, ℕ, ℤ, pos, true, false, List, [], ◌∷◌, refl, sym, ap, ◌∙◌, subst, Option, Some, None, inl, inr}
 use Rattle.std.specs.Prelude.{◌⊎◌, IsTrue, is_some, unwrap_or}
 use Rattle.std.specs.List.{AllByRecursion}
+use Rattle.rv_isa.specs.Kinds.{is_low_part}
 use Rattle.rv_reloc.specs.declared.fault.PatchFault.TheVariants as patches
 use Rattle.rv_reloc.specs.Ranges.{IsInRange, IsOdd, Takes, Refuses}
 use Rattle.rv_object.specs.Object.{Relocation}
-use Rattle.rv_object_laws.specs.Values.{is_low}
 use Rattle.rv_link.specs.declared.fault.LinkFault.{LinkFault}
 use Rattle.rv_link.specs.declared.fault.LinkFault.TheVariants.{Overflow, OddTarget, DanglingPcrel, AlignmentShort, Undefined, Duplicate, EntryMissing, ImageTooLarge, BadTextStart, TooManyFiles, OutOfMemory}
 use Rattle.rv_link.specs.Fault.{number_of}
@@ -35,14 +35,14 @@ module _ {X : Type 0} (R : Type 0) (E P P' F F' : X → Type 0) (both : (x : X) 
 -- it has a value, which its field takes
 pub record IsHeld (v : Option ℤ) (r : Relocation) : Type 0 where
   pub found : IsTrue (is_some v)
-  pub alone : is_low r.kind ≡ true → r.addend ≡ pos 0
+  pub alone : is_low_part r.kind ≡ true → r.addend ≡ pos 0
   pub takes : Takes r.kind (unwrap_or v (pos 0))
 
 abbrev pub HasValue : Option ℤ → Relocation → ℤ → Type 0
-HasValue v r w = (v ≡ Some w) × (is_low r.kind ≡ true → r.addend ≡ pos 0)
+HasValue v r w = (v ≡ Some w) × (is_low_part r.kind ≡ true → r.addend ≡ pos 0)
 
 abbrev pub Dangles : Option ℤ → Relocation → Type 0
-Dangles v r = (is_low r.kind ≡ true) × ((v ≡ None) ⊎ (r.addend ≡ pos 0 → ⊥))
+Dangles v r = (is_low_part r.kind ≡ true) × ((v ≡ None) ⊎ (r.addend ≡ pos 0 → ⊥))
 
 -- why it is refused, by its value
 abbrev pub IsRefusedFor : LinkFault → Option ℤ → Relocation → Type 0

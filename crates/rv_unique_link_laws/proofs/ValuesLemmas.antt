@@ -3,6 +3,7 @@
 use Rattle.std.proofs.Common.{◌≡◌, ℕ, zero, suc, ◌+◌, ℤ, pos, Bool, true, false, Option, Some, None, option_map, List, [], ◌∷◌, refl, sym, ap, ◌∙◌, subst, arith}
 use Rattle.std.specs.Prelude.{option_and_then, unwrap_or, if◌then◌else◌}
 use Rattle.std.specs.List.{AllByRecursion, slice_get}
+use Rattle.rv_isa.specs.Kinds.{is_low_part}
 use Rattle.rv_reloc.specs.Values.{value_of}
 use Rattle.rv_object.specs.declared.symbol.Definition.{Definition}
 use Rattle.rv_object.specs.declared.symbol.Definition.TheVariants as definitions
@@ -10,7 +11,7 @@ use Rattle.rv_object.specs.Object.{Relocation, Section, Symbol, Object}
 use Rattle.rv_object_laws.specs.Moves.{moves, new_offset, kept}
 use Rattle.rv_object_laws.specs.Inputs.{Starts, InputSection, start_of, inputs}
 use Rattle.rv_object_laws.specs.Names.{Export, Outer, is_sure, chosen, symbol_address, place_in, shared_place, symbol_place, object_at}
-use Rattle.rv_object_laws.specs.Values.{target, moved, own_value, is_low, high_at, value_in, value_at, paired, value, patched_at, applied, initial_bytes, linked_bytes}
+use Rattle.rv_object_laws.specs.Values.{target, moved, own_value, high_at, value_in, value_at, paired, value, patched_at, applied, initial_bytes, linked_bytes}
 use Rattle.rv_resolve.specs.Undefined.{is_loaded_at, has_address, is_known, is_resolved, undefined_symbol, undefined_name, first_some, undefined_in, first_undefined}
 use Rattle.rv_resolve.proofs.FirstSomeLemmas.{each_none}
 use Rattle.rv_link.proofs.GrowingLemmas.{found_at}
@@ -117,7 +118,7 @@ module _ (s t : Starts) (outer : Outer) (os : List Object) where
 
     pub value_same : (index : ℕ) (x : Section) → slice_get o.sections index ≡ Some x → x.loaded ≡ true → (r : Relocation) → undefined_name os o r.symbol ≡ None
         → value outer s os (input file o index x) r ≡ value outer t os (input file o index x) r
-    value_same index x at loaded r e = by (is_low r.kind)
+    value_same index x at loaded r e = by (is_low_part r.kind)
       where
         by : (b : Bool) → (if b then paired outer s os file o r.symbol else Some (own_value outer (s file) o (s file index) x r))
             ≡ (if b then paired outer t os file o r.symbol else Some (own_value outer (t file) o (t file index) x r))

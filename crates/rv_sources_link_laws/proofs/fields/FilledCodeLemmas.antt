@@ -5,6 +5,7 @@ use Rattle.std.proofs.lemmas.Bool.{and_from}
 use Rattle.std.specs.Prelude.{◌^◌, ℤ, pos, negsuc, ◌-◌, suc, nat_lt, ◌&&◌, if◌then◌else◌, flat_map, is_some, unwrap_or, option_and_then}
 use Rattle.std.specs.Int.{w64, int_wrap}
 use Rattle.std.specs.List.{AllByRecursion, slice_get, list_all, list_any}
+use Rattle.rv_isa.specs.Kinds.{is_low_part}
 use Rattle.rv_isa.specs.declared.instruction.Inst.{Inst}
 use Rattle.rv_isa.specs.declared.kind.Kind.{Kind}
 use Rattle.rv_isa.specs.declared.kind.Kind.TheVariants as kind
@@ -24,11 +25,11 @@ use Rattle.rv_map.specs.Limits.{IsGlobal}
 use Rattle.rv_source_laws.specs.Located.{has_row}
 use Rattle.rv_source_laws.specs.Program.{Mapped, Program, tables_in, address_at, home_address, own_address, own_value as own_value_in_map, in_operand, have_values, has_value, has_values, address as address_in, number as number_of, value as value_in_map}
 use Rattle.rv_source_laws.specs.Fits.{IsPaired}
-use Rattle.rv_source_laws.specs.Lines.{other_operand, operand_of, operand_number, operand_value, field_value, is_low_part, distance, pair_of, pair_distance, label_section, upper_at, section_of}
+use Rattle.rv_source_laws.specs.Lines.{other_operand, operand_of, operand_number, operand_value, field_value, distance, pair_of, pair_distance, label_section, upper_at, section_of}
 use Rattle.rv_object.specs.Object.{Section, Object}
 use Rattle.rv_object_laws.specs.Moves.{alignments_of}
 use Rattle.rv_object_laws.specs.Inputs.{Starts}
-use Rattle.rv_object_laws.specs.Values.{value, is_low, IsRelocated}
+use Rattle.rv_object_laws.specs.Values.{value, IsRelocated}
 use Rattle.rv_assemble_laws.specs.CodeFields.{symbol_field, low_field, low_field_at, label_field, field_of, relax_fields}
 use Rattle.rv_sources_link_laws.proofs.statements.BeginningsLemmas.{is_upper_part}
 use Rattle.rv_sources_link_laws.proofs.statements.MarkedLemmas.{marks, is_marked, part_fields, relaxes, marks_relax, marked_one, low_marked}
@@ -45,7 +46,7 @@ use Rattle.rv_sources_link_laws.proofs.fields.WholesLemmas.{IsWhole}
 use Rattle.rv_sources_link_laws.proofs.statements.CodingLemmas.{IsFilledBy, IsFilledPart, AreFilledParts}
 use Rattle.rv_sources_link_laws.proofs.sections.SectionsLemmas.{AtOffsets, AreAt, meant_in}
 use Rattle.rv_sources_link_laws.proofs.statements.RowsLemmas.{IsFar, Shape, in_maybe, is_distance}
-use Rattle.rv_sources_link_laws.proofs.statements.OperandsLemmas.{relative_is, absolute_is, distance_value, distance_plain, low_same, worth_at, worth_is, target_symbolic, upper_symbolic, low_symbolic, label_symbolic, symbolic_some, known_some}
+use Rattle.rv_sources_link_laws.proofs.statements.OperandsLemmas.{relative_is, absolute_is, distance_value, distance_plain, worth_at, worth_is, target_symbolic, upper_symbolic, low_symbolic, label_symbolic, symbolic_some, known_some}
 use Rattle.rv_sources_link_laws.proofs.fields.FieldsLemmas.{K, Known, Q, Facts}
 use Rattle.rv_sources_link_laws.proofs.fields.UppersLemmas.{NoUpper, HasUpper, IsOwn, upper_or_not, fault_none, operand_as, row, have_is, parts_are}
 use Rattle.rv_sources_link_laws.proofs.fields.LowsLemmas.{low_value, own_low, IsLabelPair, label_pair}
@@ -195,7 +196,7 @@ module _ (p : Program) (os : List Object) (starts : Starts) (file : ℕ) (laid :
       -- ---- one field
 
       field_filled : (k : Kind) (others fs : List Open) (q : Primary) (plus : ℕ) → fs ≡ open_at k ordinal (Some q) plus ∷ others
-          → AllByRecursion (λ (f : Open). f.kind ≡ kind.Relax) others → is_low k ≡ false
+          → AllByRecursion (λ (f : Open). f.kind ≡ kind.Relax) others → is_low_part k ≡ false
           → ((at_q : ℕ) → meant_in p file ordinal q ≡ Some at_q → (a : ℕ) → value_of k at_q (int_wrap w64 (pos plus)) a ≡ taken k a)
           → (n a : ℕ) → a ≡ start + n → Related n fs → Knows fs → IsFilledField k n a fs
       field_filled k others fs q plus are_fields relaxes plain_kind as' n a at_n related knows =
@@ -314,7 +315,7 @@ module _ (p : Program) (os : List Object) (starts : Starts) (file : ℕ) (laid :
         symbol_as k = ap (symbol_field k ordinal) symbolic
 
         -- one part with one field, which counts from its own place
-        one_part : (k : Kind) (i : Inst) → c.ps ≡ Open_part k i ∷ [] → field_of T V ordinal (Some oper) k ≡ symbol_field k ordinal (V ex) → is_low k ≡ false
+        one_part : (k : Kind) (i : Inst) → c.ps ≡ Open_part k i ∷ [] → field_of T V ordinal (Some oper) k ≡ symbol_field k ordinal (V ex) → is_low_part k ≡ false
             → ((at_q : ℕ) → meant_in p file ordinal q ≡ Some at_q → (a : ℕ) → value_of k at_q (int_wrap w64 (pos plus)) a ≡ taken k a) → Result
         one_part k i ps_are field_as plain_kind as' =
             let fields_are : fields (Open_part k i) ≡ open_at k ordinal (Some q) plus ∷ marks (is_marked k z.located) z.located =
@@ -325,7 +326,7 @@ module _ (p : Program) (os : List Object) (starts : Starts) (file : ℕ) (laid :
             (subst (λ ps. AllByRecursion Fills ps) (sym ps_are) ((λ n a at_n r k' u. field_filled k (marks (is_marked k z.located) z.located) (fields (Open_part k i)) q plus fields_are (marks_relax (is_marked k z.located) z.located) plain_kind as' n a at_n r k'), tt))
 
         -- the address itself
-        absolute_part : (k : Kind) (i : Inst) → c.ps ≡ Open_part k i ∷ [] → field_of T V ordinal (Some oper) k ≡ symbol_field k ordinal (V ex) → is_low k ≡ false → is_low_part k ≡ false
+        absolute_part : (k : Kind) (i : Inst) → c.ps ≡ Open_part k i ∷ [] → field_of T V ordinal (Some oper) k ≡ symbol_field k ordinal (V ex) → is_low_part k ≡ false → is_low_part k ≡ false
             → ((at_q a : ℕ) → value_of k at_q (int_wrap w64 (pos plus)) a ≡ signed 64 (add at_q plus)) → ((a : ℕ) → operand_value p s (Some oper) a ≡ signed 64 (number_of p s ex)) → Result
         absolute_part k i ps_are field_as plain_kind plain_part value_as operand_is =
             one_part k i ps_are field_as plain_kind
@@ -348,28 +349,28 @@ module _ (p : Program) (os : List Object) (starts : Starts) (file : ℕ) (laid :
 
         far_taken : (k : Kind) → is_distance k ≡ true → (at_q : ℕ) → meant_in p file ordinal q ≡ Some at_q → (a : ℕ) → value_of k at_q (int_wrap w64 (pos plus)) a ≡ taken k a
         far_taken k far at_q known a =
-            distance_value k far at_q plus a ∙ ap (distance a) (sym (number_is ex q meaning plus at_q symbolic known)) ∙ sym (taken_as k (Target ex) a f (distance_plain k far).1)
+            distance_value k far at_q plus a ∙ ap (distance a) (sym (number_is ex q meaning plus at_q symbolic known)) ∙ sym (taken_as k (Target ex) a f (distance_plain k far))
 
         own_field : (k : Kind) (i : Inst) → is_low_part k ≡ false → fields (Open_part k i) ≡ open_at k ordinal (Some q) plus ∷ marks (is_marked k z.located) z.located
         own_field k i plain_part =
             marked_one (is_marked k z.located) z.located (open_at k ordinal (Some q) plus) (field_of T V ordinal (operand_of z.located.kind) k) (target_field k plain_part)
 
         joined_field : (k : Kind) (i j : Inst) → is_distance k ≡ true → fields (Joined k i j) ≡ open_at k ordinal (Some q) plus ∷ relax_fields z.located.options.relax ordinal
-        joined_field k i j far = ap (λ l. l ++ relax_fields z.located.options.relax ordinal) (target_field k (distance_plain k far).1)
+        joined_field k i j far = ap (λ l. l ++ relax_fields z.located.options.relax ordinal) (target_field k (distance_plain k far))
 
         far_fills : (ps : List CodePart) → AllByRecursion IsFar ps → AllByRecursion Fills ps
         far_fills [] h' = tt
         far_fills (Closed i ∷ ps) (h', hs) = ((λ n a at_n r k u. refl), far_fills ps hs)
         far_fills (Open_part k i ∷ ps) (h', hs) = (
-          (λ n a at_n r k' u. field_filled k (marks (is_marked k z.located) z.located) (fields (Open_part k i)) q plus (own_field k i (distance_plain k h').1)
-              (marks_relax (is_marked k z.located) z.located) (distance_plain k h').0 (far_taken k h') n a at_n r k'),
+          (λ n a at_n r k' u. field_filled k (marks (is_marked k z.located) z.located) (fields (Open_part k i)) q plus (own_field k i (distance_plain k h'))
+              (marks_relax (is_marked k z.located) z.located) (distance_plain k h') (far_taken k h') n a at_n r k'),
           far_fills ps hs,
         )
         far_fills (Joined k i j ∷ ps) (h', hs) = (
           (λ n a at_n r k' u. (
             h'.1,
             field_filled k (relax_fields z.located.options.relax ordinal) (fields (Joined k i j)) q plus (joined_field k i j h'.0)
-                (relaxes z.located.options.relax ordinal) (distance_plain k h'.0).0 (far_taken k h'.0) n a at_n r k',
+                (relaxes z.located.options.relax ordinal) (distance_plain k h'.0) (far_taken k h'.0) n a at_n r k',
           )),
           far_fills ps hs,
         )
@@ -381,7 +382,7 @@ module _ (p : Program) (os : List Object) (starts : Starts) (file : ℕ) (laid :
         far_known (q' ∷ ps) [] a h' open_one k = absurd a
         far_known (Closed i ∷ ps) (bytes ∷ coded) (a, as') (h', hs) open_one (k, ks) = far_known ps coded as' hs open_one ks
         far_known (Open_part k i ∷ ps) (bytes ∷ coded) a (h', hs) open_one (k', ks) =
-            let known = (subst (λ l. Knows l) (own_field k i (distance_plain k h').1) k').0 in value_some ex q meaning plus known.at symbolic known.is
+            let known = (subst (λ l. Knows l) (own_field k i (distance_plain k h')) k').0 in value_some ex q meaning plus known.at symbolic known.is
         far_known (Joined k i j ∷ ps) (bytes ∷ coded) a (h', hs) open_one (k', ks) =
             let known = (subst (λ l. Knows l) (joined_field k i j h'.0) k').0 in value_some ex q meaning plus known.at symbolic known.is
 
@@ -404,7 +405,7 @@ module _ (p : Program) (os : List Object) (starts : Starts) (file : ℕ) (laid :
             ∙ ap (λ l. field_of T V ordinal l k) (operand_as p os starts file laid number o sections low are settled all_worths whole plain address index section x is at none loaded relocated z h mnemonic os' e c (Target ex) f) ∙ ap (λ b. if b then low_field k ordinal 0 else symbol_field k ordinal (V ex)) low_part in
             let stands = (subst (λ l. Uses l) fields_are u).0 in
             let worth_as : worth n (open_at k ordinal (Some Here) 0) ≡ taken k a =
-            ap (λ v. unwrap_or v (pos 0)) (own_low p os starts file laid number o sections low are settled all_worths whole plain address index section x is at none loaded relocated there z h shown upper own k (low_same k low_part).0 n stands)
+            ap (λ v. unwrap_or v (pos 0)) (own_low p os starts file laid number o sections low are settled all_worths whole plain address index section x is at none loaded relocated there z h shown upper own k low_part n stands)
             ∙ ap (λ l. distance place (operand_number (number_of p s) l)) (operand_as p os starts file laid number o sections low are settled all_worths whole plain address index section x is at none loaded relocated z h mnemonic os' e c (Target ex) f)
             ∙ sym (taken_low k (Target ex) a f low_part) in
             low_filled k (fields (Open_part k j)) ordinal 0 fields_are n a worth_as r
@@ -440,8 +441,8 @@ module _ (p : Program) (os : List Object) (starts : Starts) (file : ℕ) (laid :
         pair_at n related uses =
             let r = (subst (λ l. Related n l) label_fields related).0 in
             let stands = (subst (λ l. Uses l) label_fields uses).0 in
-            label_pair p os starts file laid number o sections low are settled all_worths whole plain address d plus (worth_option n) labelled (zero_addend plus (r.alone (low_same k low_part).0))
-            (low_value p os starts file laid number o sections low are settled all_worths whole plain address index x k (low_same k low_part).0 d.ordinal plus n stands) r.found
+            label_pair p os starts file laid number o sections low are settled all_worths whole plain address d plus (worth_option n) labelled (zero_addend plus (r.alone low_part))
+            (low_value p os starts file laid number o sections low are settled all_worths whole plain address index x k low_part d.ordinal plus n stands) r.found
 
         own_as : (n : ℕ) (w' : IsLabelPair p os starts file laid number o sections low are settled all_worths whole plain address d plus (worth_option n)) → own_value_in_map p s ex ≡ Some (add w'.place plus)
         own_as n w' =

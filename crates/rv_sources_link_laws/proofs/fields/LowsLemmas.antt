@@ -4,6 +4,7 @@ use Rattle.std.proofs.Common.{◌≡◌, ℕ, ◌+◌, ◌%◌, ◌<◌, Bool, t
 use Rattle.std.proofs.lemmas.Bool.{eq-eqb, eqb-true, ne_eqb}
 use Rattle.std.specs.Prelude.{◌^◌, ℤ, pos, not, ◌&&◌, ◌==◌, if◌then◌else◌, is_some, unwrap_or, option_map, option_and_then}
 use Rattle.std.specs.List.{AllByRecursion, slice_get, find}
+use Rattle.rv_isa.specs.Kinds.{is_low_part}
 use Rattle.rv_isa.specs.declared.kind.Kind.{Kind}
 use Rattle.rv_text_laws.specs.Expression.{Here}
 use Rattle.rv_text_laws.specs.Values.{add}
@@ -19,7 +20,7 @@ use Rattle.rv_object.specs.Object.{Relocation, Section, Symbol, Object}
 use Rattle.rv_object_laws.specs.Moves.{alignments_of, moves}
 use Rattle.rv_object_laws.specs.Inputs.{Starts}
 use Rattle.rv_object_laws.specs.Names.{is_sure_by, place_in, shared_place, symbol_place}
-use Rattle.rv_object_laws.specs.Values.{value, value_at, value_in, paired, own_value, high_at, is_low, is_high, IsRelocated}
+use Rattle.rv_object_laws.specs.Values.{value, value_at, value_in, paired, own_value, high_at, is_high, IsRelocated}
 use Rattle.rv_assemble_laws.specs.Templates.{Open, open_at}
 use Rattle.rv_assemble_laws.specs.LaidStatements.{LaidStatement, laid_in}
 use Rattle.rv_assemble_laws.specs.Symbols.{laid_at, after_statement, StandsFor}
@@ -74,7 +75,7 @@ module _ (p : Program) (os : List Object) (starts : Starts) (file : ℕ) (laid :
     pub has_place : laid_statement.located.placed ≡ true
     pub worth : v ≡ value_in (outer_in p os) starts file o laid_statement.located.section (add laid_statement.offset 0) (slice_get o.sections laid_statement.located.section)
 
-  pub low_value : (index : ℕ) (x : Section) (k : Kind) → is_low k ≡ true → (d plus n : ℕ) → StandsFor T laid d Here (slice_get o.symbols (number d Here))
+  pub low_value : (index : ℕ) (x : Section) (k : Kind) → is_low_part k ≡ true → (d plus n : ℕ) → StandsFor T laid d Here (slice_get o.symbols (number d Here))
       → IsLowValue d (value (outer_in p os) starts os (record { file = file; object = o; index = index; section = x }) (relocation_at number n (open_at k d (Some Here) plus)))
   low_value index x k is_low_kind d plus n stands = go (slice_get o.symbols (number d Here)) refl stands
     where
@@ -111,7 +112,7 @@ module _ (p : Program) (os : List Object) (starts : Starts) (file : ℕ) (laid :
 
     -- of a statement that has both parts
     pub own_low : (there : slice_get o.sections index ≡ Some x) (z : LaidStatement) → Facts p os starts file laid number o sections low are settled all_worths whole plain address index section x is at none loaded relocated z → has_row z.located ≡ true → (u : HasUpper p os starts file laid number o sections low are settled all_worths whole plain address index section x is at none loaded relocated z) → IsOwn p os starts file laid number o sections low are settled all_worths whole plain address index section x is at none loaded relocated 0 (laid_in index laid) z
-        → (k : Kind) → is_low k ≡ true → (n : ℕ) → StandsFor T laid z.located.ordinal Here (slice_get o.symbols (number z.located.ordinal Here))
+        → (k : Kind) → is_low_part k ≡ true → (n : ℕ) → StandsFor T laid z.located.ordinal Here (slice_get o.symbols (number z.located.ordinal Here))
         → value (outer_in p os) starts os (record { file = file; object = o; index = index; section = x }) (relocation_at number n (open_at k z.located.ordinal (Some Here) 0))
         ≡ Some (distance (starts file z.located.section + z.offset) (target_in p (mapped_at starts file z)))
     own_low there z h shown u own k is_low_kind n stands =

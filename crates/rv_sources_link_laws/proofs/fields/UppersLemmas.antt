@@ -45,7 +45,7 @@ use Rattle.rv_sources_link_laws.proofs.statements.CodingLemmas.{all_few}
 use Rattle.rv_sources_link_laws.proofs.statements.FieldedLemmas.{part_kinds, directed}
 use Rattle.rv_sources_link_laws.proofs.statements.BeginningsLemmas.{is_upper_part, begins_upper}
 use Rattle.rv_sources_link_laws.proofs.statements.RowsLemmas.{IsFar, Shape, IsRow, row_of}
-use Rattle.rv_sources_link_laws.proofs.statements.OperandsLemmas.{relative_is, low_same, distance_not_high, own_is, target_symbolic, other_fault, symbolic_some}
+use Rattle.rv_sources_link_laws.proofs.statements.OperandsLemmas.{relative_is, low_not_high, distance_not_high, own_is, target_symbolic, other_fault, symbolic_some}
 use Rattle.rv_sources_link_laws.proofs.fields.FieldsLemmas.{Known, Facts}
 use Rattle.rv_sources_link_laws.proofs.moves.ShrunkLemmas.{parts_of, parts, shrunk_templates, Tile, HasShrunkSize, IsSectionOf, AreSectionsOf, contribution_templates}
 
@@ -325,7 +325,7 @@ module _ (p : Program) (os : List Object) (starts : Starts) (file : ℕ) (laid :
         by_operand (Some (Applied Lo ex)) f (inr ((k, (i, inr lo, ps_are)), open_one)) =
             inl (no_upper_code (subst (λ ps. AllByRecursion IsLowPart ps) (sym ps_are) (ap is_high lo, tt)))
         by_operand (Some (Applied PcrelLo ex)) f (k, (i, lo, ps_are)) =
-            inl (no_upper_code (subst (λ ps. AllByRecursion IsLowPart ps) (sym ps_are) ((low_same k lo).1, tt)))
+            inl (no_upper_code (subst (λ ps. AllByRecursion IsLowPart ps) (sym ps_are) (low_not_high k lo, tt)))
         by_operand (Some (Applied PcrelHi ex)) f (k, (i, hi, ps_are)) =
             let (q, (meaning, (plus, symbolic))) = target_symbolic (is_label T z.located.ordinal) (v z ex) (fault_none (Applied PcrelHi ex) f) in
             let is_as = operand_as (Applied PcrelHi ex) f in
@@ -335,7 +335,7 @@ module _ (p : Program) (os : List Object) (starts : Starts) (file : ℕ) (laid :
         by_operand (Some (Target ex)) f (inr (k, (i, (j, lo, ps_are)))) =
             let (q, (meaning, (plus, symbolic))) = target_symbolic (is_label T z.located.ordinal) (v z ex) (fault_none (Target ex) f) in
             let is_as = operand_as (Target ex) f in
-            inr (upper_code i (Open_part k j ∷ []) ps_are ((low_same k lo).1, tt) ex
+            inr (upper_code i (Open_part k j ∷ []) ps_are (low_not_high k lo, tt) ex
             (ap (λ l. field_of T (v z) z.located.ordinal l kind.PcrelHi20) is_as) (λ n. ap (operand_number n) is_as) q meaning plus symbolic)
         by_operand (Some (Accesses set)) f shape = inl (no_upper_code (closed_low c.ps shape))
         by_operand (Some (Word w)) f shape = inl (no_upper_code (closed_low c.ps shape))

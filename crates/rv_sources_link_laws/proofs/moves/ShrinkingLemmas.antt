@@ -5,6 +5,7 @@ use Rattle.std.proofs.lemmas.Bool.{and_parts}
 use Rattle.std.proofs.lemmas.List.{map-append}
 use Rattle.std.specs.Prelude.{⊤, ◌^◌, not, ◌&&◌, ◌==◌, IsTrue, is_some, unwrap_or, option_and_then, filter, if◌then◌else◌, bytes_eq, slice_index_or}
 use Rattle.std.specs.List.{AllByRecursion, find, slice_get}
+use Rattle.rv_isa.specs.Kinds.{is_low_part}
 use Rattle.rv_isa.specs.declared.kind.Kind.{Kind}
 use Rattle.rv_isa.specs.declared.kind.Kind.TheVariants as kinds
 use Rattle.rv_reloc.specs.Values.{value_of}
@@ -19,7 +20,7 @@ use Rattle.rv_object_laws.specs.Moves.{Move, alignments_of, by_place, has_paddin
 use Rattle.rv_object_laws.specs.Inputs.{Starts, InputSection, start_of}
 use Rattle.rv_object.specs.Bindings.{is_shared, is_global, is_weak}
 use Rattle.rv_object_laws.specs.Names.{Export, Outer, Place, is_export, is_sure_by, is_sure, exports_in, exports_from, exports_where, candidates, chosen, defined_address, offset_address, symbol_address, is_defined, place_in, shared_place, symbol_place, no_object, object_at}
-use Rattle.rv_object_laws.specs.Values.{target, own_value, is_high, is_low, high_at, value_in, value_at, paired, value, IsRelocated, patched_at, applied, initial_bytes, linked_bytes}
+use Rattle.rv_object_laws.specs.Values.{target, own_value, is_high, high_at, value_in, value_at, paired, value, IsRelocated, patched_at, applied, initial_bytes, linked_bytes}
 use Rattle.rv_object_laws.specs.IsLinkOf.{moves_at}
 use Rattle.rv_sources_link_laws.proofs.fields.PatchesLemmas.{take_drop}
 use Rattle.rv_sources_link_laws.proofs.names.ExportedLemmas.{is_exported, exported}
@@ -490,7 +491,7 @@ module _ (starts : Starts) (os : List Object) where
       i' = shrunk_input starts i
 
       pub input_value : (r : Relocation) → value g starts os' i' (shrunk_relocation ms r) ≡ value g starts os i r
-      input_value r = go (is_low r.kind)
+      input_value r = go (is_low_part r.kind)
         where
           go : (b : Bool) → (if b then paired g starts os' i.file i'.object r.symbol else Some (own_value g (starts i.file) i'.object (start_of starts i) i'.section (shrunk_relocation ms r)))
               ≡ (if b then paired g starts os i.file i.object r.symbol else Some (own_value g (starts i.file) i.object (start_of starts i) i.section r))

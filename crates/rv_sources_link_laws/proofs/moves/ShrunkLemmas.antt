@@ -11,7 +11,7 @@ use Rattle.rv_unit_laws.specs.Sections.{Section as SourceSection, is_nobits, goe
 use Rattle.rv_unit_laws.specs.Tables.{Tables, at_start, tables, alignment_of, alignment_at, padding, string_bytes}
 use Rattle.rv_pseudo_laws.specs.Code.{code}
 use Rattle.rv_source_laws.specs.Located.{located_from, masked}
-use Rattle.rv_source_laws.specs.Fits.{is_low}
+use Rattle.rv_source_laws.specs.Fits.{needs_no_padding}
 use Rattle.rv_object.specs.Object.{Section, Symbol, Object}
 use Rattle.rv_object.specs.Padding.{no_operations, operations_in}
 use Rattle.rv_object_laws.specs.Moves.{alignments_of}
@@ -63,7 +63,7 @@ Tile t offset laid = Follow (parts_of t) offset laid
 -- the least padding, in code none up to 2
 abbrev pub IsPaddedIn : Bool → LaidStatement → Option ℕ → Type 0
 IsPaddedIn true s alignment =
-    (s.bytes ≡ (if is_low alignment then 0 else padding alignment s.offset)) × (s.bytes % 2 ≡ 0) × (s.instructions ≡ operations_in s.bytes)
+    (s.bytes ≡ (if needs_no_padding alignment then 0 else padding alignment s.offset)) × (s.bytes % 2 ≡ 0) × (s.instructions ≡ operations_in s.bytes)
 IsPaddedIn false s alignment = (s.bytes ≡ padding alignment s.offset) × (s.instructions ≡ 0)
 
 abbrev pub IsShrunkPadded : LaidStatement → ℕ → Value → Option ℕ → Type 0

@@ -31,7 +31,7 @@ use Rattle.rv_chain_laws.specs.Contents.{HasSizes, IsWritten}
 use Rattle.rv_assemble_laws.specs.Coded.{is_constant, constants, AreCodedParts, IsCode}
 use Rattle.rv_assemble_laws.specs.Templates.{Open as OpenField}
 use Rattle.rv_sources_link_laws.proofs.statements.CodingLemmas.{coded_bytes, AreFilledParts, all_few, lines_of, lines_lie, lines_sized, lines_encoded, lines_say, closed_say, lines_valid, lines_counted, lines_taken, closed_taken, lines_whole}
-use Rattle.rv_source_laws.specs.Fits.{is_low}
+use Rattle.rv_source_laws.specs.Fits.{needs_no_padding}
 use Rattle.rv_source_laws.proofs.HeldLemmas.{IsHeld, DirectiveHeld}
 use Rattle.rv_object.specs.Padding.{no_operations}
 use Rattle.rv_sources_link_laws.proofs.statements.QuietLemmas.{formed}
@@ -241,7 +241,7 @@ module _ (p : Program) (file ordinal section offset line : ℕ) (options : Optio
       → row.address ≡ start + before → IsMultiple (alignment_of f d) start → (b : Bool) → SuitsPadding b row before (alignment_of f d) → IsPaddingIn b p (at (Directs d)) d
   alignment_fits d valued is place multiple true (bytes, even, count) = (
     subst (λ o. IsRowOf o row) (sym (expansion_is (at (Directs d)) (padding_parts row.bytes) valued is)) (padding_row (field_value p (at (Directs d))) row.address row even count),
-    bytes ∙ ap (λ n. if is_low (alignment_of f d) then 0 else n) (sym (padding_moves (alignment_of f d) start before multiple) ∙ ap (padding (alignment_of f d)) (sym place)),
+    bytes ∙ ap (λ n. if needs_no_padding (alignment_of f d) then 0 else n) (sym (padding_moves (alignment_of f d) start before multiple) ∙ ap (padding (alignment_of f d)) (sym place)),
   )
   alignment_fits d valued is place multiple false (bytes, none) =
       (is_true _ valued, bytes ∙ sym (padding_moves (alignment_of f d) start before multiple) ∙ ap (λ n. padding (alignment_of f d) n) (sym place), none)

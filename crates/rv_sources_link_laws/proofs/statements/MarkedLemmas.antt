@@ -3,6 +3,7 @@
 use Rattle.std.proofs.Common.{◌≡◌, Bool, true, false, List, [], ◌∷◌, ◌++◌, refl, ap}
 use Rattle.std.specs.Prelude.{ℕ, ◌&&◌, if◌then◌else◌}
 use Rattle.std.specs.List.{AllByRecursion}
+use Rattle.rv_isa.specs.Kinds.{is_low_part}
 use Rattle.rv_isa.specs.declared.kind.Kind.{Kind}
 use Rattle.rv_isa.specs.declared.kind.Kind.TheVariants as kind
 use Rattle.rv_text_laws.specs.Values.{Value}
@@ -10,7 +11,7 @@ use Rattle.rv_statement.specs.Statement.{Expression}
 use Rattle.rv_pseudo_laws.specs.Code.{Part as CodePart, Closed, Open as Open_part, Joined}
 use Rattle.rv_unit_laws.specs.Tables.{Tables}
 use Rattle.rv_source_laws.specs.Located.{Located}
-use Rattle.rv_source_laws.specs.Lines.{operand_of, is_low_part}
+use Rattle.rv_source_laws.specs.Lines.{operand_of}
 use Rattle.rv_source_laws.specs.Shortened.{calls}
 use Rattle.rv_assemble_laws.specs.CodeFields.{field_of, relax_fields}
 use Rattle.rv_assemble_laws.specs.Templates.{Open}

@@ -4,6 +4,7 @@ use Rattle.std.proofs.Common.{◌≡◌, ℕ, ◌+◌, ◌%◌, Bool, true, fals
 use Rattle.std.proofs.lemmas.Int.{int_wrap-add_right, int_wrap-add_same}
 use Rattle.std.specs.Prelude.{◌^◌, ℤ, pos, neg_ℤ, ◌+ℤ◌, ◌-ℤ◌, not, flat_map, is_some, unwrap_or, option_map, if◌then◌else◌}
 use Rattle.std.specs.Int.{w64, int_wrap, cast_signed}
+use Rattle.rv_isa.specs.Kinds.{is_low_part}
 use Rattle.rv_isa.specs.declared.kind.Kind.{Kind}
 use Rattle.rv_isa.specs.declared.kind.Kind.TheVariants as kind
 use Rattle.rv_isa_laws.specs.Arithmetic.{signed}
@@ -12,14 +13,14 @@ use Rattle.rv_text_laws.specs.Values.{Meaning, Value, Constant, Symbolic, Differ
 use Rattle.rv_statement.specs.declared.mnemonic.Mnemonic.{Mnemonic}
 use Rattle.rv_statement.specs.Statement.{Operand, Register, Value as Of_value, Applied, Target, Accesses, Word, Quoted, Expression}
 use Rattle.rv_reloc.specs.Values.{value_of}
-use Rattle.rv_source_laws.specs.Lines.{constant_of, other_operand, distance, is_low_part}
+use Rattle.rv_source_laws.specs.Lines.{constant_of, other_operand, distance}
 use Rattle.rv_source_laws.specs.Program.{resolved}
 use Rattle.rv_source_laws.proofs.HeldLemmas.{none_left, no_test}
 use Rattle.rv_object.specs.Object.{Section, Object}
 use Rattle.rv_object_laws.specs.Moves.{alignments_of, moves, new_offset}
 use Rattle.rv_object_laws.specs.Inputs.{Starts}
 use Rattle.rv_object_laws.specs.Names.{Outer}
-use Rattle.rv_object_laws.specs.Values.{target, value, is_low, is_high, own_value, paired}
+use Rattle.rv_object_laws.specs.Values.{target, value, is_high, own_value, paired}
 use Rattle.rv_pseudo_laws.specs.InstructionFaults.{Worth, target_faults, upper_faults, low_faults, is_labelled, distance_faults, operand_faults}
 use Rattle.rv_assemble_laws.specs.InstructionFaults.{worth}
 use Rattle.rv_assemble_laws.specs.Templates.{Open, open_at}
@@ -61,12 +62,12 @@ distance_value kind.RvcJump e s k' a = relative_is s k' a
 distance_value kind.CallPlt e s k' a = relative_is s k' a
 distance_value k e s k' a = absurd (cc)
 
-pub distance_plain : (k : Kind) → is_distance k ≡ true → (is_low k ≡ false) × (is_low_part k ≡ false)
-distance_plain kind.Branch e = (refl, refl)
-distance_plain kind.Jal e = (refl, refl)
-distance_plain kind.RvcBranch e = (refl, refl)
-distance_plain kind.RvcJump e = (refl, refl)
-distance_plain kind.CallPlt e = (refl, refl)
+pub distance_plain : (k : Kind) → is_distance k ≡ true → is_low_part k ≡ false
+distance_plain kind.Branch e = refl
+distance_plain kind.Jal e = refl
+distance_plain kind.RvcBranch e = refl
+distance_plain kind.RvcJump e = refl
+distance_plain kind.CallPlt e = refl
 distance_plain k e = absurd (cc)
 
 pub distance_not_high : (k : Kind) → is_distance k ≡ true → is_high k ≡ false
@@ -77,10 +78,10 @@ distance_not_high kind.RvcJump e = refl
 distance_not_high kind.CallPlt e = refl
 distance_not_high k e = absurd (cc)
 
-pub low_same : (k : Kind) → is_low_part k ≡ true → (is_low k ≡ true) × (is_high k ≡ false)
-low_same kind.PcrelLo12I e = (refl, refl)
-low_same kind.PcrelLo12S e = (refl, refl)
-low_same k e = absurd (cc)
+pub low_not_high : (k : Kind) → is_low_part k ≡ true → is_high k ≡ false
+low_not_high kind.PcrelLo12I e = refl
+low_not_high kind.PcrelLo12S e = refl
+low_not_high k e = absurd (cc)
 
 -- ---- the value of a field that counts from its own place
 
@@ -97,7 +98,7 @@ module _ (outer : Outer) (starts : Starts) (os : List Object) (file : ℕ) (o : 
       moved_by : ℕ → ℕ
       moved_by m = new_offset (moves (starts file index) x) m
 
-  pub worth_is : (k : Kind) → is_low k ≡ false → (ordinal : ℕ) (q : Primary) (plus n at : ℕ) → unwrap_or (target outer (starts file) o (Some (number ordinal q))) 0 ≡ at
+  pub worth_is : (k : Kind) → is_low_part k ≡ false → (ordinal : ℕ) (q : Primary) (plus n at : ℕ) → unwrap_or (target outer (starts file) o (Some (number ordinal q))) 0 ≡ at
       → worth_at n (open_at k ordinal (Some q) plus) ≡ value_of k at (int_wrap w64 (pos plus)) (starts file index + n)
   worth_is k plain ordinal q plus n at is =
       ap (λ b. unwrap_or (if b then paired outer starts os file o (Some (number ordinal q)) else Some (own_value outer (starts file) o (starts file index) x (relocation_at number n (open_at k ordinal (Some q) plus)))) (pos 0)) plain

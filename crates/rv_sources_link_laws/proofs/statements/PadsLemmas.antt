@@ -10,7 +10,7 @@ use Rattle.rv_text_laws.specs.Values.{Value, Constant, Symbolic, Difference, Fau
 use Rattle.rv_statement.specs.Statement.{StatementKind, Label, Numbered, Instruction, Directs, Expression, Enters, Opens, Binds, Sets, Aligns_to_power, Aligns_to_bytes, Values, Strings, Zeros, Chooses, Ignored}
 use Rattle.rv_unit_laws.specs.Sections.{Section as SourceSection}
 use Rattle.rv_unit_laws.specs.Tables.{Tables, is_power_below, power_alignment, byte_alignment, alignment_of, padding}
-use Rattle.rv_source_laws.specs.Fits.{is_low}
+use Rattle.rv_source_laws.specs.Fits.{needs_no_padding}
 use Rattle.rv_source_laws.proofs.HeldLemmas.{IsHeld}
 use Rattle.rv_object.specs.Padding.{no_operations, operations_in}
 use Rattle.rv_assemble_laws.specs.Templates.{Fixed, Coded, align_field, padding_templates}
@@ -129,9 +129,9 @@ padding_was : (o n : ℕ) → 0 < n → padding_templates true o n ≡ Coded (no
 padding_was o zero h = absurd (omega (arith, h))
 padding_was o (suc n) h = refl
 
-high : (a : ℕ) → IsPower a → (is_low (Some a) ≡ false) × (0 < a - 2)
+high : (a : ℕ) → IsPower a → (needs_no_padding (Some a) ≡ false) × (0 < a - 2)
 high a h =
-    by_power (λ a. (is_low (Some a) ≡ false) × (0 < a - 2)) (refl, omega arith) (refl, omega arith) (refl, omega arith) (refl, omega arith) (refl, omega arith) (refl, omega arith)
+    by_power (λ a. (needs_no_padding (Some a) ≡ false) × (0 < a - 2)) (refl, omega arith) (refl, omega arith) (refl, omega arith) (refl, omega arith) (refl, omega arith) (refl, omega arith)
     (refl, omega arith) (refl, omega arith) (refl, omega arith) (refl, omega arith) (refl, omega arith) a h
 
 pub bare_before : (kind : StatementKind) → ((all : Tables) (z : LaidStatement) → shrunk.shrunk_templates all z kind ≡ []) → (all : Tables) (z : LaidStatement) → assembled_templates all z kind ≡ []
@@ -186,7 +186,7 @@ module _ (t : Tables) (section : SourceSection) (multiple : ℕ) (z : LaidStatem
           even = λ code. no_code aside code;
         }
 
-    without : z.located.home.executable ≡ true → is_low al ≡ true → z.bytes ≡ 0 → z.instructions ≡ operations_in z.bytes → Plain kind
+    without : z.located.home.executable ≡ true → needs_no_padding al ≡ true → z.bytes ≡ 0 → z.instructions ≡ operations_in z.bytes → Plain kind
     without e low bytes count =
         let before : assembled_templates t z kind ≡ [] = was ∙ ap (λ b. padding_templates b z.located.ordinal z.bytes) e ∙ ap (padding_templates true z.located.ordinal) bytes in
         record {

@@ -3,6 +3,7 @@
 use Rattle.std.proofs.Common.{◌≡◌, ℕ, Bool, true, false, ◌&&◌, ◌==◌, refl, sym, ap, subst, ◌∙◌, ℤ, pos, List, [], ◌∷◌, map, Option, Some, None, option_map, ◌⊎◌, inl, inr}
 use Rattle.std.specs.Prelude.{if◌then◌else◌, ⊤, flat_map, is_some}
 use Rattle.std.specs.List.{AllByRecursion}
+use Rattle.rv_isa.specs.Kinds.{is_low_part}
 use Rattle.rv_isa.specs.declared.kind.Kind.{Kind}
 use Rattle.rv_isa.specs.declared.kind.Kind.TheVariants as kind
 use Rattle.rv_isa.specs.declared.instruction.Inst.{Inst}
@@ -28,7 +29,7 @@ use Rattle.rv_pseudo_laws.specs.Li.{li}
 use Rattle.rv_pseudo_laws.specs.Code.{Part, Closed, Open, Joined, Constants, i_type, s_type, b_type, u_type, shift_by, jalr, jal, auipc, unary, inverted, branch, jump, near, far, through, zero_branch, swapped_branch, by_number, by_part, signed_12, upper_20, number_of, by_amount, by_constant, by_form, parcel_form, short_branch, code}
 use Rattle.rv_pseudo_laws.specs.Filled.{are_closed}
 use Rattle.rv_source_laws.specs.Program.{in_operand}
-use Rattle.rv_source_laws.specs.Lines.{other_operand, is_low_part}
+use Rattle.rv_source_laws.specs.Lines.{other_operand}
 use Rattle.rv_filling_laws.specs.Parts.{is_call}
 use Rattle.rv_isa.specs.Operations.{format_of}
 use Rattle.rv_sources_link_laws.proofs.statements.QuietLemmas.{formed, zero_branches, swapped_branches}

@@ -6,7 +6,7 @@ use Rattle.rv_statement.specs.Statement.{StatementKind, Label, Numbered, Instruc
 use Rattle.rv_unit_laws.specs.Sections.{Section}
 use Rattle.rv_unit_laws.specs.Tables.{alignment_of, padding, string_bytes}
 use Rattle.rv_map.specs.declared.map.Row.{Row}
-use Rattle.rv_source_laws.specs.Fits.{is_low}
+use Rattle.rv_source_laws.specs.Fits.{needs_no_padding}
 use Rattle.rv_object.specs.Padding.{no_operations, operations_in}
 use Rattle.rv_pseudo_laws.specs.Code.{Part, code}
 use Rattle.rv_assemble_laws.specs.Coded.{is_constant, constants, IsCode}
@@ -20,7 +20,7 @@ IsMultiple (Some alignment) start = (0 < alignment) × (start % alignment ≡ 0)
 -- the padding of an alignment up to the multiple, in a section that begins at one: in code instructions, and none up to 2
 abbrev pub SuitsPadding : Bool → Row → ℕ → Option ℕ → Type 0
 SuitsPadding true row offset alignment =
-    (row.bytes ≡ (if is_low alignment then 0 else padding alignment offset)) × (row.bytes % 2 ≡ 0) × (row.instructions ≡ operations_in row.bytes)
+    (row.bytes ≡ (if needs_no_padding alignment then 0 else padding alignment offset)) × (row.bytes % 2 ≡ 0) × (row.instructions ≡ operations_in row.bytes)
 SuitsPadding false row offset alignment = (row.bytes ≡ padding alignment offset) × (row.instructions ≡ 0)
 
 abbrev pub SuitsAlignment : Value → Section → Row → ℕ → ℕ → Option ℕ → Type 0

@@ -3,7 +3,7 @@ use Rattle.rv_layout_laws.specs.Calls.{IsFamily, InOrder, calls}
 use Rattle.rv_layout_laws.specs.Paddings.{IsRelaxedText}
 use Rattle.rv_relax.specs.Padded.{are_roomy, inner, joined, padded, pads}
 use Rattle.rv_shorten.specs.Pieces.{are_pieces}
-use Rattle.rv_relax.specs.Pieces.{is_low, pieces_of}
+use Rattle.rv_relax.specs.Pieces.{begins_low, pieces_of}
 use Rattle.rv_relax.specs.Plan.{kept_of, padded_of, rounds_of, sites_in, starts_in}
 use Rattle.rv_relax.specs.Sizes.{IsPlanned, call_sizes}
 use Rattle.rv_relax.proofs.DroppingLemmas.{family_most}
@@ -23,8 +23,8 @@ invariant_of-result c =
     let kept = c.in_ok-kept.field-0.kept.items in
     let family : IsFamily sites kept = planned_family c.args.relax sites kept c.in_ok-kept.ensures.planned in
     let order : InOrder 0 sites = c.sites-sites.ensures.input.text.in_order in
-    let pieced : c.in_ok-pieces.field-0.pieces.items ≡ filter is_low (pieces_of 0 (joined 0 starts sites) (inner starts (padded 0 sites kept))) =
-    c.in_ok-pieces.ensures.pieces ∙ ap (λ l. filter is_low (pieces_of 0 (joined 0 starts sites) (inner starts (padded 0 sites l)))) c.deref-2.ensures.value in
+    let pieced : c.in_ok-pieces.field-0.pieces.items ≡ filter begins_low (pieces_of 0 (joined 0 starts sites) (inner starts (padded 0 sites kept))) =
+    c.in_ok-pieces.ensures.pieces ∙ ap (λ l. filter begins_low (pieces_of 0 (joined 0 starts sites) (inner starts (padded 0 sites l)))) c.deref-2.ensures.value in
     record {
       laid = laid_from 0 sites kept order family.same_length (family_most sites kept family);
       sized = c.in_ok-sizes.ensures ∙ ap (call_sizes sites) c.deref.ensures.value;
