@@ -17,3 +17,4 @@ pub mod SectionsSoFarLemmas
 pub mod UsesLemmas
 pub mod JoiningLemmas
 pub mod RefusedLemmas
+mod RowsFromLemmas

@@ -9,6 +9,7 @@ use Rattle.rv_statement.specs.Statement.{Statement}
 use Rattle.rv_unit_laws.specs.Faults.{first_fault}
 use Rattle.rv_unit_laws.specs.Sections.{Section}
 use Rattle.rv_unit_laws.specs.Tables.{Tables, at_start, after, tables, opened_of}
+use Rattle.rv_unit.specs.Items.{offsets_of}
 use Rattle.rv_source_laws.specs.Located.{located_from}
 use Rattle.rv_assemble_laws.specs.Templates.{Open, template_fields}
 use Rattle.rv_assemble_laws.specs.LaidStatements.{LaidStatement, Part, part_bytes, parts_of}
@@ -17,14 +18,13 @@ use Rattle.rv_assemble_laws.specs.Fields.{Field, field_at, fields_from, fields_a
 use Rattle.rv_assemble_laws.specs.ShownNames.{used_names, HasNames, AreShown}
 use Rattle.rv_assemble_laws.specs.Small.{all_said, AreSmall}
 use Rattle.rv_assemble_laws.proofs.UseWeightsLemmas.{references_light, laid_said, used_light}
-use Rattle.rv_draft.specs.declared.item.Item.{Item}
 use Rattle.rv_draft.specs.declared.field.OpenField.{OpenField}
 use Rattle.rv_draft.specs.declared.draft.Draft.{Draft}
 use Rattle.rv_draft.specs.Draft.{item_of, field_of, IsDraft}
 use Rattle.rv_symbols.specs.declared.symbol_use.SymbolUse.{SymbolUse as CodeUse}
 use Rattle.rv_symbols.specs.SymbolUse.{AreMeant, uses_of}
 use Rattle.rv_symbols.specs.HasSymbols.{AreLaid}
-use Rattle.rv_assemble.specs.Tabled.{use_of, uses_in, offsets_of}
+use Rattle.rv_assemble.specs.Tabled.{use_of, uses_in}
 use Rattle.rv_assemble.proofs.SettledLemmas.{IsSettled, settled}
 use Rattle.rv_assemble.proofs.FieldListsLemmas.{use_of_field, uses_of_fields, all_join}
 use Rattle.rv_assemble.proofs.UsesKnownLemmas.{are_shown_uses, are_meant_uses}
@@ -82,16 +82,13 @@ module _ (ss : List Statement) (d : Draft) (h : IsDraft ss d) where
   items_count =
       ap length (sym h.stand) ∙ length-map h.laid item_of ∙ sym (length-map h.laid (λ (s : LaidStatement). s.located)) ∙ ap length h.located ∙ count_from 1 (at_start ss) ss
 
-  pub offsets_count : length (offsets_of d.items.items) ≡ length ss
-  offsets_count = length-map d.items.items _ ∙ items_count
-
   pub uses_shown : HasNames ss → AreShown (uses_in d)
   uses_shown names = subst AreShown (sym uses_named) (are_shown_uses ss h.laid names h.located)
 
   -- relocations can hold the index of each symbol
-  pub few_symbols : AreSmall ss → 3 * length (offsets_of d.items.items) + length (used_names (uses_in d)) < 2 ^ 32
+  pub few_symbols : AreSmall ss → 3 * length d.items.items + length (used_names (uses_in d)) < 2 ^ 32
   few_symbols small =
-      let count = offsets_count in
+      let count = items_count in
       let few : length ss ≤ 4194304 = small.few in
       let names : all_said ss ≤ 33554432 = small.names in
       let used = used_light (references (tables ss) h.laid) in
@@ -110,11 +107,6 @@ module _ (ss : List Statement) (d : Draft) (h : IsDraft ss d) where
       (laid_inside (tables ss) (opened_of (tables ss)).sections h.laid (settled ss h.laid good h.located)))
 
 -- ---- one more
-
-pub offsets_more : (made : List ℕ) (items : List Item) (i : ℕ) (d : Item) → i < length items → made ++ offsets_of (drop i items) ≡ offsets_of items
-    → (made ++ (get_or items i d).offset ∷ []) ++ offsets_of (drop (i + 1) items) ≡ offsets_of items
-offsets_more made items i d inside h =
-    append_assoc made ((get_or items i d).offset ∷ []) (offsets_of (drop (i + 1) items)) ∙ ap (λ l. made ++ offsets_of l) (sym (drop_more items i d inside)) ∙ h
 
 pub uses_more : (made now : List CodeUse) (fs : List OpenField) (i : ℕ) (d : OpenField) → i < length fs → uses_of now ≡ uses_of made ++ use_of (get_or fs i d) → uses_of made ++ flat_map use_of (drop i fs) ≡ flat_map use_of fs
     → uses_of now ++ flat_map use_of (drop (i + 1) fs) ≡ flat_map use_of fs

@@ -14,7 +14,7 @@ use Rattle.rv_object.specs.Parts.{relocation_of}
 use Rattle.rv_object.specs.Valid.{is_alignment, is_string, keeps_name, is_even, is_loaded_alone, fit_inside, are_paddings}
 use Rattle.rv_assemble_laws.specs.Fields.{Field}
 use Rattle.rv_assemble_laws.specs.IsObjectOf.{contents_of}
-use Rattle.rv_draft.specs.declared.item.Item.{Item}
+use Rattle.rv_unit.specs.declared.item.Item.{Item}
 
 -- ---- rows
 

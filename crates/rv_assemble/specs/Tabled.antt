@@ -1,12 +1,12 @@
 -- The symbols of a draft.
 
-use Rattle.std.specs.Prelude.{ℕ, List, flat_map, map, option_map}
+use Rattle.std.specs.Prelude.{List, flat_map, option_map}
 use Rattle.rv_text.specs.Nodes.{symbol_of}
 use Rattle.rv_statement.specs.Statement.{Statement}
 use Rattle.rv_unit_laws.specs.Tables.{tables}
+use Rattle.rv_unit.specs.Items.{offsets_of}
 use Rattle.rv_assemble_laws.specs.LaidStatements.{LaidStatement}
 use Rattle.rv_assemble_laws.specs.Symbols.{SymbolUse, use_of as field_use}
-use Rattle.rv_draft.specs.declared.item.Item.{Item}
 use Rattle.rv_draft.specs.declared.field.OpenField.{OpenField}
 use Rattle.rv_draft.specs.declared.draft.Draft.{Draft}
 use Rattle.rv_symbols.specs.declared.table.SymbolTable.{SymbolTable}
@@ -18,9 +18,6 @@ use_of f = field_use f.ordinal (option_map symbol_of f.symbol)
 
 abbrev pub uses_in : Draft → List SymbolUse
 uses_in d = flat_map use_of d.fields.items
-
-abbrev pub offsets_of : List Item → List ℕ
-offsets_of items = map (λ (i : Item). i.offset) items
 
 -- the symbols of the object of a draft, with a number for each field
 abbrev pub HasTable : List Statement → Draft → SymbolTable → Type 0

@@ -47,7 +47,7 @@ pub(crate) fn object<'a>(
     let sections = sections(alloc, extents, ends.as_slice(), bytes, relocations)?;
     // the statements make room for their rows
     drop(unit);
-    let rows = rows(alloc, items.as_slice())?;
+    let rows = rows(alloc, items)?;
     Ok(Object {
         sections,
         symbols,

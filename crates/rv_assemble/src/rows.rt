@@ -1,23 +1,29 @@
 //! The rows of an object.
+//!
+//! A source may have 4 million statements, so that items and rows are not both kept whole.
 
 ghost use Rattle.std.specs.Prelude.{◌≡◌, ◌++◌, ◌^◌, ◌<◌, true, IfOk, OnOk, length};
 ghost use Rattle.rv_object.specs.Valid.{is_counted, are_counted};
 ghost use Rattle.rv_assemble.specs.Making.{item_row, item_rows, rows_from};
 
-use rv_draft::Item;
+use rv_draft::give_back;
 use rv_object::Row;
+use rv_unit::Item;
 use std::alloc::{AllocError, Global};
 
-/// The rows of statements: of each that is shown, with its ordinal, from 1.
-pub(crate) fn rows(alloc: Global, items: &[Item]) -> Result<Vec<Row>, AllocError>
-    requires { length items.now < 2 ^ 32 }
-    ensures made { IfOk result (λ rows. rows.items ≡ rows_from 1 items.now) }
+/// The rows of statements: of each that is shown, with its ordinal, from 1. The items go as their
+/// rows come, from the back, where a vector gives memory back.
+pub(crate) fn rows(alloc: Global, mut items: Vec<Item>) -> Result<Vec<Row>, AllocError>
+    requires { length items.items < 2 ^ 32 }
+    ensures made { IfOk result (λ rows. rows.items ≡ rows_from 1 items.items) }
     ensures counted { IfOk result (λ rows. are_counted rows.items ≡ true) }
 {
     let mut rows = Vec::with_capacity(alloc, items.len())?;
-    for (index, item) in items.iter().enumerate() {
-        put_row(&mut rows, index as u32 + 1, *item)?;
+    while let Some(item) = items.pop() {
+        put_row(&mut rows, items.len() as u32 + 1, item)?;
+        give_back(&mut items);
     }
+    rows.reverse();
     Ok(rows)
 }
 

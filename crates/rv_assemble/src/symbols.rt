@@ -7,9 +7,9 @@ ghost use Rattle.rv_assemble_laws.specs.ShownNames.{HasNames};
 ghost use Rattle.rv_assemble_laws.specs.Small.{AreSmall};
 ghost use Rattle.rv_draft.specs.Draft.{IsDraft};
 ghost use Rattle.rv_symbols.specs.SymbolUse.{uses_of};
-ghost use Rattle.rv_assemble.specs.Tabled.{use_of, offsets_of, HasTable};
+ghost use Rattle.rv_assemble.specs.Tabled.{use_of, HasTable};
 
-use rv_draft::{Draft, Item, OpenField};
+use rv_draft::{Draft, OpenField};
 use rv_symbols::{SymbolTable, SymbolUse, symbols};
 use rv_unit::Unit;
 use std::alloc::{AllocError, Global};
@@ -27,20 +27,8 @@ pub(crate) fn table<'a>(
     requires draft { IsDraft (said unit.now) draft.now }
     ensures { IfOk result (λ table. HasTable (said unit.now) draft.now table) }
 {
-    let offsets = offsets(alloc, draft.items.as_slice())?;
     let uses = uses(alloc, draft.fields.as_slice())?;
-    symbols(alloc, unit, offsets.as_slice(), uses.as_slice())
-}
-
-/// The offset of each statement in its section.
-fn offsets(alloc: Global, items: &[Item]) -> Result<Vec<u32>, AllocError>
-    ensures { IfOk result (λ offsets. offsets.items ≡ offsets_of items.now) }
-{
-    let mut offsets = Vec::with_capacity(alloc, items.len())?;
-    for index in 0..items.len() {
-        offsets.push(items[index].offset)?;
-    }
-    Ok(offsets)
+    symbols(alloc, unit, draft.items.as_slice(), uses.as_slice())
 }
 
 /// Adds the symbol that a field names, if there is one.

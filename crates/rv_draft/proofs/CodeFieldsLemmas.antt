@@ -26,7 +26,7 @@ use Rattle.rv_instruction.specs.Code.{IsCodeOf, coded_by, encoded_bytes, shape_i
 use Rattle.rv_instruction.specs.Opened.{are_free, LeavesNone}
 use Rattle.rv_draft.specs.declared.data.Spot.{Spot}
 use Rattle.rv_draft.specs.declared.fields.Choices.{Choices}
-use Rattle.rv_draft.specs.declared.item.Item.{Item}
+use Rattle.rv_unit.specs.declared.item.Item.{Item}
 use Rattle.rv_layout.specs.Code.{bytes_coded, IsCoded}
 use Rattle.rv_layout.proofs.LengthsLemmas.{part_long, some_parts}
 use Rattle.rv_draft.specs.Coded.{IsCodedAt, HasBytes}

@@ -16,7 +16,7 @@ use Rattle.rv_instruction.specs.declared.encoded.Coded.{Coded}
 use Rattle.rv_assemble_laws.proofs.FilledLemmas.{bytes_append}
 use Rattle.rv_draft.specs.declared.field.OpenField.{OpenField}
 use Rattle.rv_draft.specs.declared.item.CodeSize.{CodeSize}
-use Rattle.rv_draft.specs.declared.item.Item.{Item}
+use Rattle.rv_unit.specs.declared.item.Item.{Item}
 use Rattle.rv_draft.specs.Code.{GrowsBy, bytes_in, code_size, sizes_of}
 use Rattle.rv_layout.specs.Code.{statement_padding, padding_at, bytes_coded}
 use Rattle.rv_draft.specs.Coded.{IsCodedAt, AreCoded}

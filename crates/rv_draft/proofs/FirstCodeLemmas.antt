@@ -77,12 +77,12 @@ parcel_as (kinds.WithFunction operation function x) = operand_parcel operation _
 parcel_as _ = refl
 
 -- the test of a statement of a unit where it stands
-pub compressed_as : (u : SourceUnit) (i : ℕ) (x : SourceStatement) (p : SectionOffset) (e : Extent) (on : Bool) → StandsAt u i x p → IsExtentAt u.tables.extents.items p.section e
+pub compressed_as : (u : SourceUnit) (i : ℕ) (x : SourceStatement) (p : SectionOffset) (e : Extent) (on : Bool) → StandsAt u i (statement_of x) p → IsExtentAt u.tables.extents.items p.section e
     → on ≡ (located_at (said u) i (statement_of x)).options.rvc
     → ((on || names_parcel_kind x.kind) && is_code_kind e.section.executable x.kind) ≡ is_compressed_code (located_at (said u) i (statement_of x))
 compressed_as u i x p e on at there is =
     ap (λ b. (on || names_parcel_kind x.kind) && b) (code_as e.section.executable x.kind)
-    ∙ ap (λ (h : Section). (on || names_parcel_kind x.kind) && is_code h.executable (statement_kind x.kind)) (home_at u i x p e at there)
+    ∙ ap (λ (h : Section). (on || names_parcel_kind x.kind) && is_code h.executable (statement_kind x.kind)) (home_at u i (statement_of x) p e at there)
     ∙ ap (λ b. (b || names_parcel_kind x.kind) && is_code (located_at (said u) i (statement_of x)).home.executable (statement_kind x.kind)) is
     ∙ ap (λ b. ((located_at (said u) i (statement_of x)).options.rvc || b) && is_code (located_at (said u) i (statement_of x)).home.executable (statement_kind x.kind)) (parcel_as x.kind)
 

@@ -4,8 +4,7 @@ use Rattle.std.proofs.Common.{◌≡◌, ℕ, zero, suc, ◌+◌, ◌<◌, ◌�
 use Rattle.std.specs.Prelude.{if◌then◌else◌, slice_index, slice_index_or}
 use Rattle.std.proofs.lemmas.List.{get_or-set_same, get_or-set_other}
 use Rattle.std.proofs.lemmas.Bool.{eqb-true, eqb-false, cases_eq}
-use Rattle.rv_statement.specs.View.{statement_of, statement_kind}
-use Rattle.rv_statement.specs.declared.statement.Statement.{Statement}
+use Rattle.rv_statement.specs.Statement.{Statement}
 use Rattle.rv_unit_laws.specs.Sections.{Section}
 use Rattle.rv_unit_laws.specs.Tables.{Tables, SectionOffset as Standing, tables, value, stood, alignments_of}
 use Rattle.rv_unit_tables.specs.declared.section_offset.SectionOffset.{SectionOffset}
@@ -17,7 +16,7 @@ use Rattle.rv_unit.specs.Unit.{said, passed, IsFilled}
 use Rattle.rv_source_laws.specs.Located.{is_placed}
 use Rattle.rv_assemble_laws.specs.LaidStatements.{expression_value}
 use Rattle.rv_draft.specs.declared.item.CodeSize.{CodeSize}
-use Rattle.rv_draft.specs.declared.item.Item.{Item}
+use Rattle.rv_unit.specs.declared.item.Item.{Item}
 use Rattle.rv_draft.specs.Items.{IsItem, grown}
 use Rattle.rv_draft.specs.Sized.{IsSized}
 use Rattle.rv_layout.specs.Code.{IsExtentAt}
@@ -59,8 +58,8 @@ none_behind (y ∷ ys) (suc j) h = none_behind ys j (λ i. h (suc i))
 
 pub item_at : (u : SourceUnit) (i : ℕ) (s : Statement) (p : SectionOffset) (e : Extent) (before : ℕ → ℕ) (x : Item) → StandsAt u i s p → IsExtentAt u.tables.extents.items p.section e
     → x.section ≡ p.section → x.offset ≡ before p.section → x.line ≡ s.line
-    → x.shown ≡ (is_placed (passed (said u) i) (i + 1) (statement_kind s.kind) && e.section.loaded) → (is_placed (passed (said u) i) (i + 1) (statement_kind s.kind) ≡ false → x.bytes ≡ 0)
-    → IsItem (located_at (said u) i (statement_of s)) before x
+    → x.shown ≡ (is_placed (passed (said u) i) (i + 1) s.kind && e.section.loaded) → (is_placed (passed (said u) i) (i + 1) s.kind ≡ false → x.bytes ≡ 0)
+    → IsItem (located_at (said u) i s) before x
 item_at u i s p e before x at there section offset line shown absent =
     let seat = ap (λ (q : Standing). q.section) at.place in
     let home = home_at u i s p e at there in
@@ -68,34 +67,34 @@ item_at u i s p e before x at there section offset line shown absent =
       section = section ∙ seat;
       offset = offset ∙ ap before seat;
       line = line;
-      shown = shown ∙ ap (λ (h : Section). is_placed (passed (said u) i) (i + 1) (statement_kind s.kind) && h.loaded) home;
+      shown = shown ∙ ap (λ (h : Section). is_placed (passed (said u) i) (i + 1) s.kind && h.loaded) home;
       absent = absent;
     }
 
 pub sized_at : (u : SourceUnit) (i : ℕ) (s : Statement) (p : SectionOffset) (e : Extent) (size : CodeSize) (x : Item) → IsFilled u → StandsAt u i s p → IsExtentAt u.tables.extents.items p.section e → x.section ≡ p.section
-    → (is_placed (passed (said u) i) (i + 1) (statement_kind s.kind) ≡ true → IsSized (λ t. value (tables (said u)) true (i + 1) (offset_of p) t) e.section.executable x e.alignment size (statement_kind s.kind))
-    → IsSizedAt (tables (said u)) (said u) i (statement_of s) size x
+    → (is_placed (passed (said u) i) (i + 1) s.kind ≡ true → IsSized (λ t. value (tables (said u)) true (i + 1) (offset_of p) t) e.section.executable x e.alignment size s.kind)
+    → IsSizedAt (tables (said u)) (said u) i s size x
 sized_at u i s p e size x filled at there section h shown =
     let all = tables (said u) in
     let begins : e.alignment ≡ slice_index_or (alignments_of all) x.section 1 =
     sym there.alignment ∙ ap (λ l. slice_index_or l p.section 1) (alignments_are u.tables.extents.items ∙ ap (λ (t : Tables). alignments_of t) filled.tables) ∙ ap (λ n. slice_index_or (alignments_of all) n 1) (sym section) in
     let home = home_at u i s p e at there in
-    subst (λ (h : Section). IsSized (λ t. value all true (i + 1) (stood (passed (said u) i) (i + 1) (statement_of s).kind) t) h.executable x (slice_index_or (alignments_of all) x.section 1) size (statement_kind s.kind)) home
-    (subst (λ n. IsSized (λ t. value all true (i + 1) (stood (passed (said u) i) (i + 1) (statement_of s).kind) t) e.section.executable x n size (statement_kind s.kind)) begins
-    (subst (λ (q : Standing). IsSized (λ t. value all true (i + 1) q t) e.section.executable x e.alignment size (statement_kind s.kind)) at.place (h shown)))
+    subst (λ (h : Section). IsSized (λ t. value all true (i + 1) (stood (passed (said u) i) (i + 1) s.kind) t) h.executable x (slice_index_or (alignments_of all) x.section 1) size s.kind) home
+    (subst (λ n. IsSized (λ t. value all true (i + 1) (stood (passed (said u) i) (i + 1) s.kind) t) e.section.executable x n size s.kind) begins
+    (subst (λ (q : Standing). IsSized (λ t. value all true (i + 1) q t) e.section.executable x e.alignment size s.kind) at.place (h shown)))
 
 -- a statement that has a size, and for which its section has room
 pub room_at : (u : SourceUnit) (i : ℕ) (s : Statement) (p : SectionOffset) (e : Extent) (size : CodeSize) (ends : ℕ → ℕ) (stop : ℕ) → IsFilled u → StandsAt u i s p → IsExtentAt u.tables.extents.items p.section e
-    → (let st = located_at (said u) i (statement_of s) in
-    IsRoomy (λ t. expression_value (tables (said u)) st t) st.home.executable (slice_index_or (alignments_of (tables (said u))) st.section 1) (ends st.section) stop size (statement_of s).kind)
-    → HasRoom (λ t. value (tables (said u)) true (i + 1) (offset_of p) t) e.section.executable e.alignment (ends p.section) size (statement_kind s.kind)
+    → (let st = located_at (said u) i s in
+    IsRoomy (λ t. expression_value (tables (said u)) st t) st.home.executable (slice_index_or (alignments_of (tables (said u))) st.section 1) (ends st.section) stop size s.kind)
+    → HasRoom (λ t. value (tables (said u)) true (i + 1) (offset_of p) t) e.section.executable e.alignment (ends p.section) size s.kind
 room_at u i s p e size ends stop filled at there roomy =
     let all = tables (said u) in
-    let st = located_at (said u) i (statement_of s) in
-    let RoomAt : Standing → Section → ℕ → Type 0 = λ q home begins. HasRoom (λ t. value all true (i + 1) q t) home.executable begins (ends q.section) size (statement_kind s.kind) in
+    let st = located_at (said u) i s in
+    let RoomAt : Standing → Section → ℕ → Type 0 = λ q home begins. HasRoom (λ t. value all true (i + 1) q t) home.executable begins (ends q.section) size s.kind in
     let begins : slice_index_or (alignments_of all) p.section 1 ≡ e.alignment =
     ap (λ l. slice_index_or l p.section 1) (sym (alignments_are u.tables.extents.items ∙ ap (λ (t : Tables). alignments_of t) filled.tables)) ∙ there.alignment in
-    let room : RoomAt (stood (passed (said u) i) (i + 1) (statement_of s).kind) st.home (slice_index_or (alignments_of all) st.section 1) = record { size = roomy.size; room = roomy.room } in
+    let room : RoomAt (stood (passed (said u) i) (i + 1) s.kind) st.home (slice_index_or (alignments_of all) st.section 1) = record { size = roomy.size; room = roomy.room } in
     subst (RoomAt (offset_of p) (extent_section e)) begins
     (subst (λ h. RoomAt (offset_of p) h (slice_index_or (alignments_of all) p.section 1)) (sym (home_at u i s p e at there))
     (subst (λ q. RoomAt q st.home (slice_index_or (alignments_of all) q.section 1)) (sym at.place) room))

@@ -25,5 +25,6 @@ pub mod SoFarItemsLemmas
 pub mod SoFarSizedLemmas
 pub mod SoundLemmas
 pub mod StretchedLemmas
+pub mod TakenLemmas
 pub mod WholeLemmas
 pub mod WidthsLemmas

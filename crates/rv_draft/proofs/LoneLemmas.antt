@@ -34,7 +34,7 @@ use Rattle.rv_instruction.specs.Code.{Shape, shape_in, shape_of}
 use Rattle.rv_layout.specs.Code.{IsCoded}
 use Rattle.rv_draft.specs.declared.data.Spot.{Spot}
 use Rattle.rv_draft.specs.declared.fields.Choices.{Choices}
-use Rattle.rv_draft.specs.declared.item.Item.{Item}
+use Rattle.rv_unit.specs.declared.item.Item.{Item}
 use Rattle.rv_draft.specs.Coded.{IsCodedAt, HasBytes}
 use Rattle.rv_draft.specs.DataParts.{is_alignment, code_said}
 use Rattle.rv_draft.specs.Lone.{branch_kind, operation_kind, lone_kind, lone_shape, IsLone}

@@ -4,8 +4,6 @@ use Rattle.std.proofs.Common.{◌≡◌, ℕ, zero, suc, ◌+◌, Bool, true, Li
 use Rattle.std.specs.Global.{Vec}
 use Rattle.rv_text_laws.specs.Values.{Value}
 use Rattle.rv_statement.specs.Statement.{StatementKind, Label, Numbered, Instruction, Directs, Expression, Statement}
-use Rattle.rv_statement.specs.View.{statement_of}
-use Rattle.rv_statement.specs.declared.statement.Statement.{Statement as SourceStatement}
 use Rattle.rv_text_laws.specs.Codes.{lowest}
 use Rattle.rv_unit_laws.specs.Tables.{Tables, SectionOffset as Standing, at_start, after, tables, value, alignment_at}
 use Rattle.rv_unit_tables.specs.Sections.{offset_of}
@@ -19,7 +17,7 @@ use Rattle.rv_instruction.specs.declared.encoded.Coded.{Coded}
 use Rattle.rv_instruction.specs.Code.{MayHave}
 use Rattle.rv_draft.specs.declared.data.Spot.{Spot}
 use Rattle.rv_draft.specs.declared.item.CodeSize.{CodeSize}
-use Rattle.rv_draft.specs.declared.item.Item.{Item}
+use Rattle.rv_unit.specs.declared.item.Item.{Item}
 use Rattle.rv_draft.specs.Added.{IsWhole}
 use Rattle.rv_layout.specs.Code.{bytes_coded, statement_padding, padding_at, IsCoded}
 use Rattle.rv_draft.specs.Code.{bytes_of_codes, code_size, sizes_of}
@@ -102,11 +100,11 @@ made_left t (y ∷ ys) (z ∷ zs) zero l rest x more h e f =
 made_left t (y ∷ ys) (z ∷ zs) (suc i) l rest x more h e f = made_left t ys zs i l rest x more h.1 e f
 
 -- where it stands
-pub made_spot : (spot : Spot) (u : SourceUnit) (i : ℕ) (x : SourceStatement) (rvc : Bool) (bytes : ℕ) → spot.scope.now.unit.now ≡ u → IsFilled u → IsScope spot.scope.now i → StandsAt u i x spot.place
-    → rvc ≡ (located_at (said u) i (statement_of x)).options.rvc → IsMade (tables (said u)) (located_at (said u) i (statement_of x)) bytes → IsMadeAt spot (statement_of x).kind rvc bytes
+pub made_spot : (spot : Spot) (u : SourceUnit) (i : ℕ) (x : Statement) (rvc : Bool) (bytes : ℕ) → spot.scope.now.unit.now ≡ u → IsFilled u → IsScope spot.scope.now i → StandsAt u i x spot.place
+    → rvc ≡ (located_at (said u) i x).options.rvc → IsMade (tables (said u)) (located_at (said u) i x) bytes → IsMadeAt spot x.kind rvc bytes
 made_spot spot u i x rvc bytes same filled next at on made =
-    let st = located_at (said u) i (statement_of x) in
-    let kind = (statement_of x).kind in
+    let st = located_at (said u) i x in
+    let kind = x.kind in
     let p = offset_of spot.place in
     let here = subst (λ (q : Standing). IsCoded (λ e. value (tables (said u)) true (i + 1) q e) st.options.rvc kind made.coded) (sym at.place) made.is in
     let there = subst (λ w. IsCoded (λ e. value (tables (said w)) true (i + 1) p e) st.options.rvc kind made.coded) (sym same) here in
@@ -114,7 +112,7 @@ made_spot spot u i x rvc bytes same filled next at on made =
       index = i;
       filled = subst IsFilled (sym same) filled;
       next = next;
-      sound = ap (λ w. faults_in (tables (said w)) (i + 1) p (statement_of x)) same ∙ faults_there u i x spot.place at ∙ made.sound;
+      sound = ap (λ w. faults_in (tables (said w)) (i + 1) p x) same ∙ faults_there u i x spot.place at ∙ made.sound;
       offered = subst (λ b. MayHave b kind bytes) (sym on) made.offered;
       coded = made.coded;
       is = subst (λ b. IsCoded (λ e. value_in spot i e) b kind made.coded) (sym on) there;

@@ -14,7 +14,7 @@ use Rattle.rv_assemble_laws.specs.LaidStatements.{LaidStatement, Part, expressio
 use Rattle.rv_assemble_laws.specs.Fields.{Field, fields_from}
 use Rattle.rv_draft.specs.declared.field.OpenField.{OpenField}
 use Rattle.rv_draft.specs.declared.item.CodeSize.{CodeSize}
-use Rattle.rv_draft.specs.declared.item.Item.{Item}
+use Rattle.rv_unit.specs.declared.item.Item.{Item}
 use Rattle.rv_instruction.specs.declared.encoded.Coded.{Coded}
 use Rattle.rv_draft.specs.Code.{bytes_in, sizes_of}
 use Rattle.rv_instruction.specs.Code.{MayHave}

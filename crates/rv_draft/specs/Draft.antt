@@ -18,7 +18,7 @@ use Rattle.rv_assemble_laws.specs.LaidStatements.{LaidStatement, expression_valu
 use Rattle.rv_assemble_laws.specs.IsObjectOf.{StandsInData}
 use Rattle.rv_assemble_laws.specs.Fields.{Field, fields}
 pub use Rattle.rv_draft.specs.Code.{bytes_in}
-use Rattle.rv_draft.specs.declared.item.Item.{Item}
+use Rattle.rv_unit.specs.declared.item.Item.{Item}
 use Rattle.rv_draft.specs.declared.field.OpenField.{OpenField}
 use Rattle.rv_draft.specs.declared.draft.Draft.{Draft}
 use Rattle.rv_draft.specs.Added.{IsCodeFault}

@@ -5,7 +5,7 @@ use Rattle.rv_statement.specs.Statement.{Statement}
 use Rattle.rv_unit_laws.specs.Tables.{Tables, after}
 use Rattle.rv_source_laws.specs.Located.{Located, located_now, has_row}
 use Rattle.rv_assemble_laws.specs.Refusals.{grown as grown_by}
-use Rattle.rv_draft.specs.declared.item.Item.{Item}
+use Rattle.rv_unit.specs.declared.item.Item.{Item}
 
 -- the item of a statement, by the bytes before it in each section; one without a place has no bytes
 pub record IsItem (s : Located) (before : ℕ → ℕ) (i : Item) : Type 0 where

@@ -7,7 +7,7 @@ use Rattle.rv_unit_laws.specs.Tables.{alignment_of, padding, string_bytes, longe
 use Rattle.rv_unit_tables.specs.declared.section.Extent.{Extent}
 use Rattle.rv_assemble_laws.specs.Coded.{is_constant}
 use Rattle.rv_draft.specs.declared.item.CodeSize.{CodeSize}
-use Rattle.rv_draft.specs.declared.item.Item.{Item}
+use Rattle.rv_unit.specs.declared.item.Item.{Item}
 use Rattle.rv_assemble_laws.specs.LaidStatements.{IsMultiple}
 use Rattle.rv_draft.specs.Sized.{IsItemPadded, IsAligned, IsSized, IsSizedDirective, size_bytes}
 

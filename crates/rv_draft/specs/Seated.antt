@@ -5,7 +5,7 @@ use Rattle.rv_source_laws.specs.Located.{Located}
 use Rattle.rv_assemble_laws.specs.LaidStatements.{LaidStatement}
 use Rattle.rv_instruction.specs.declared.encoded.Coded.{Coded}
 use Rattle.rv_instruction.specs.Code.{coded_by}
-use Rattle.rv_draft.specs.declared.item.Item.{Item}
+use Rattle.rv_unit.specs.declared.item.Item.{Item}
 
 abbrev pub laid_of : Located → Item → List Coded → LaidStatement
 laid_of s i coded =

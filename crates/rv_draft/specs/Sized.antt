@@ -7,7 +7,7 @@ use Rattle.rv_unit_laws.specs.Tables.{Tables, after, alignment_of, padding, stri
 use Rattle.rv_source_laws.specs.Located.{located_now}
 use Rattle.rv_assemble_laws.specs.Coded.{is_constant}
 use Rattle.rv_draft.specs.declared.item.CodeSize.{CodeSize}
-use Rattle.rv_draft.specs.declared.item.Item.{Item}
+use Rattle.rv_unit.specs.declared.item.Item.{Item}
 use Rattle.rv_assemble_laws.specs.LaidStatements.{IsMultiple, expression_value}
 pub use Rattle.rv_draft.specs.Code.{bytes_of_sizes, size_bytes, size_instructions}
 

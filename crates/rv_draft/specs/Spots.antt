@@ -21,7 +21,7 @@ use Rattle.rv_draft.specs.declared.data.Spot.{Spot}
 use Rattle.rv_draft.specs.declared.field.OpenField.{OpenField}
 use Rattle.rv_instruction.specs.declared.encoded.Coded.{Coded}
 use Rattle.rv_draft.specs.declared.fields.Choices.{Choices}
-use Rattle.rv_draft.specs.declared.item.Item.{Item}
+use Rattle.rv_unit.specs.declared.item.Item.{Item}
 use Rattle.rv_draft.specs.Code.{GrowsBy}
 use Rattle.rv_layout.specs.Code.{IsCoded}
 use Rattle.rv_draft.specs.Coded.{HasBytes}

@@ -30,7 +30,7 @@ use crate::item::CodeSize;
 use rv_instruction::{Coded, Encoded, code as code_of, one_code};
 use rv_layout::{Layout, bytes_of, extent_at, statement_padding, width};
 use rv_object::put_no_operations;
-use rv_statement::Statement;
+use rv_statement::{Statement, Statements};
 use rv_text::{SourceCode, SourceFault};
 use rv_unit::{LONGEST_SECTION, Scope, SectionOffset, Unit};
 use std::alloc::{AllocError, Global};
@@ -409,7 +409,7 @@ pub(crate) fn code(
     layout: &Layout,
 ) -> Result<SectionCode, SourceFault>
     requires filled { IsFilled unit.now }
-    requires count { length (layout.now).sizes.items ≡ length (unit.now).statements.items }
+    requires count { length (layout.now).sizes.items ≡ length (said unit.now) }
     requires sizes { AreSizes (tables (said unit.now))
         (located_from 1 1 (at_start (said unit.now)) (said unit.now)) (layout.now).sizes.items }
     requires least { AreLeast (tables (said unit.now))
@@ -428,6 +428,7 @@ pub(crate) fn code(
     let mut scope = Scope::new(unit);
     let places = unit.places();
     let extents = unit.sections();
+    let mut room = Statements::room();
     for index in 0..statements.len() {
         let place = places[index];
         let extent = extent_at(extents, place.section);
@@ -435,7 +436,7 @@ pub(crate) fn code(
         let executable = extent.section.executable;
         let wanted = layout.size(index);
         coder.add(
-            &statements[index],
+            (&*statements).read(index, &mut room),
             &scope,
             place,
             executable,

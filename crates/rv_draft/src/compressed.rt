@@ -6,7 +6,7 @@ ghost use Rattle.rv_source_laws.specs.Compressed as laws;
 ghost use Rattle.rv_draft.specs.Compressed.{is_code_kind, names_parcel_kind};
 
 use rv_layout::extent_at;
-use rv_statement::{Operation, Plain, StatementKind};
+use rv_statement::{Operation, Plain, StatementKind, Statements};
 use rv_unit::Unit;
 
 /// Whether a statement is code: an instruction, or an alignment in a section of code.
@@ -56,8 +56,9 @@ pub(crate) fn has_compressed(unit: &Unit<'_>) -> bool
     let statements = unit.statements();
     let places = unit.places();
     let extents = unit.sections();
+    let mut room = Statements::room();
     for index in 0..statements.len() {
-        let statement = &statements[index];
+        let statement = (&*statements).read(index, &mut room);
         let place = places[index];
         let extent = extent_at(extents, place.section);
         let compressed = unit.options_at(index).rvc();

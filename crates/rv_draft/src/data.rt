@@ -4,13 +4,13 @@
 //! itself.
 //! A field that stays open has zeros in the bytes, and the linker writes its number there.
 
-ghost use Rattle.std.specs.Prelude.{◌≡◌, ℕ, ◌<◌, ◌≤◌, ◌+◌, ◌*◌, ◌++◌, ◌^◌, pos, List, [], ◌∷◌, true, false, flat_map, map, length, IfOk, OnOk, if◌then◌else◌};
+ghost use Rattle.std.specs.Prelude.{◌≡◌, ℕ, ◌<◌, ◌≤◌, ◌+◌, ◌*◌, ◌++◌, ◌^◌, pos, List, [], ◌∷◌, true, false, Some, flat_map, map, length, slice_get, IfOk, OnOk, if◌then◌else◌};
 ghost use Rattle.std.specs.Global.{Vec};
 ghost use Rattle.std.specs.Int.{w64, int_wrap};
 ghost use Rattle.rv_isa_laws.specs.Bytes.{little_endian, zeros};
 ghost use Rattle.rv_text.specs.Expr.{tree_of_expr};
 ghost use Rattle.rv_text.specs.Nodes.{symbol_of};
-ghost use Rattle.rv_statement.specs.View.{bytes_of, quoted, statement_kind};
+ghost use Rattle.rv_statement.specs.View.{bytes_of, quoted, statement_kind, statement_of};
 ghost use Rattle.rv_unit_laws.specs.Tables.{at_start, tables, string_bytes, longest_section};
 ghost use Rattle.rv_unit_tables.specs.Sections.{section_of};
 ghost use Rattle.rv_unit.specs.Faults.{ForValue};
@@ -27,11 +27,10 @@ ghost use Rattle.rv_draft.specs.Spots.{value_in, parts_in, said_in, own_fields, 
 
 use crate::field::OpenField;
 use crate::fields::{Choices, put_code};
-use crate::item::Item;
 use rv_isa::Kind;
-use rv_statement::{StatementKind, Width};
+use rv_statement::{Statement, StatementKind, Statements, Width};
 use rv_text::{Expr, SourceFault, Symbol, Value, append_string};
-use rv_unit::{Scope, Section, SectionOffset, Unit};
+use rv_unit::{Item, Scope, Section, SectionOffset, Unit};
 use std::alloc::{AllocError, Global};
 
 /// What an expression is worth, or its fault.
@@ -63,6 +62,7 @@ fn width_in_bytes(width: Width) -> u32
 }
 
 /// Adds a number in the bytes of its width, the lowest first.
+#[inline(always)]
 fn put_number(bytes: &mut Vec<u8>, width: Width, number: u64) -> Result<(), AllocError>
     ensures { OnOk result
         (bytes.new.items ≡ bytes.old.items ++ little_endian (bytes_of width) number) }
@@ -274,6 +274,7 @@ fn put_evaluated<'a>(
 }
 
 /// Adds a value: its bytes, and its fields where its section is loaded. Most are numbers, and have none.
+#[inline(always)]
 fn put_value<'a>(
     bytes: &mut Vec<u8>,
     fields: &mut Vec<OpenField<'a>>,
@@ -450,12 +451,14 @@ fn put_next<'a>(
     fields: &mut Vec<OpenField<'a>>,
     unit: &Unit<'a>,
     index: usize,
+    statement: &Statement<'a>,
     scope: &Scope<'_, 'a>,
     items: &[Item],
 ) -> Result<(), AllocError>
     requires filled { IsFilled unit.now }
-    requires within { index < length (unit.now).statements.items }
-    requires few { length (unit.now).statements.items < 2 ^ 32 }
+    requires within { index < length (said unit.now) }
+    requires said { slice_get (said unit.now) index ≡ Some (statement_of statement.now) }
+    requires few { length (said unit.now) < 2 ^ 32 }
     requires item { index < length items.now }
     requires laid { IsLaid (said unit.now) items.now }
     requires made { AreMade (tables (said unit.now))
@@ -470,7 +473,6 @@ fn put_next<'a>(
         fields.new.items) }
     ensures count { length sections.new ≡ length sections.old }
 {
-    let statement = &unit.statements()[index];
     let place = unit.places()[index];
     let extent = unit.sections()[place.section as usize];
     let spot = Spot {
@@ -515,8 +517,8 @@ pub(crate) fn data<'a>(
     code: Vec<Vec<u8>>,
 ) -> Result<Filled<'a>, AllocError>
     requires filled { IsFilled unit.now }
-    requires few { length (unit.now).statements.items < 2 ^ 32 }
-    requires count { length items.now ≡ length (unit.now).statements.items }
+    requires few { length (said unit.now) < 2 ^ 32 }
+    requires count { length items.now ≡ length (said unit.now) }
     requires laid { IsLaid (said unit.now) items.now }
     requires made { AreMade (tables (said unit.now))
         (located_from 1 1 (at_start (said unit.now)) (said unit.now)) items.now }
@@ -529,12 +531,15 @@ pub(crate) fn data<'a>(
     let mut sections = code;
     let mut fields = Vec::new(alloc);
     let mut scope = Scope::new(unit);
-    for index in 0..unit.statements().len() {
+    let statements = unit.statements();
+    let mut room = Statements::room();
+    for index in 0..statements.len() {
         put_next(
             sections.as_mut_slice(),
             &mut fields,
             unit,
             index,
+            (&*statements).read(index, &mut room),
             &scope,
             items,
         )?;

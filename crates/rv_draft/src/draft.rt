@@ -14,11 +14,10 @@ use crate::code::code;
 use crate::compressed::has_compressed;
 use crate::data::{Filled, data};
 use crate::field::OpenField;
-use crate::item::Item;
 use crate::items::items;
 use rv_layout::Layout;
 use rv_text::SourceFault;
-use rv_unit::Unit;
+use rv_unit::{Item, Unit};
 use std::alloc::Global;
 
 /// A source's statements with their sizes, and what its sections hold.
@@ -52,8 +51,7 @@ impl<'a> Draft<'a> {
         let code = code(alloc, unit, &layout)?;
         // the layout makes room for the items
         drop(layout);
-        let sizes = code.sizes.as_slice();
-        let (items, ends) = items(alloc, unit, sizes)?;
+        let (items, ends) = items(alloc, unit, code.sizes)?;
         let filled = data(alloc, unit, items.as_slice(), code.sections)?;
         let Filled { sections, fields } = filled;
         Ok(Draft {

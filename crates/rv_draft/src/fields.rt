@@ -28,12 +28,12 @@ ghost use Rattle.rv_draft.specs.Spots.{value_in, kind_opens, pair_opens, own_ope
 use crate::code::asked;
 use crate::data::Spot;
 use crate::field::OpenField;
-use crate::item::Item;
 use crate::lone::{is_call, lone_kind};
 use rv_instruction::{Code, Coded, Encoded, Reference, code as code_of, is_closed, open_field};
 use rv_isa::Kind;
 use rv_layout::width;
 use rv_statement::{Statement, StatementKind};
+use rv_unit::Item;
 use std::alloc::AllocError;
 
 /// How the code of a statement is written: whether compressed code is on, and whether the linker

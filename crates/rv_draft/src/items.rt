@@ -4,7 +4,7 @@
 //! The unit has tested each section's length before. It is tested again here, so that the condition of each function
 //! stays what the function sees itself.
 
-ghost use Rattle.std.specs.Prelude.{◌≡◌, ◌&&◌, ◌+◌, ◌*◌, ◌<◌, ◌≤◌, ℕ, true, false, [], ◌∷◌, length, map, slice_index, slice_set, None, IfOk, IfErr};
+ghost use Rattle.std.specs.Prelude.{◌≡◌, ◌&&◌, ◌+◌, ◌*◌, ◌<◌, ◌≤◌, ℕ, true, false, [], ◌∷◌, ◌++◌, length, map, slice_index, slice_set, None, IfOk, IfErr};
 ghost use Rattle.rv_text_laws.specs.Values as values;
 ghost use Rattle.rv_lexer.specs.declared.fault.SourceFault.TheVariants.{OutOfMemory};
 ghost use Rattle.rv_statement.specs.View.{bytes_of, quoted, statement_kind};
@@ -19,13 +19,14 @@ ghost use Rattle.rv_instruction.specs.Scoped.{values_at, is_placed_at, AtNext, S
 ghost use Rattle.rv_draft.specs.Sized.{AreSized, bytes_of_sizes};
 ghost use Rattle.rv_draft.specs.Measured.{CanCount, PadsIn, CanPadIn, AlignsIn, CanAlignIn, IsSizeIn, CanSizeIn, HasRoomIn, IsSizedIn};
 
-use crate::item::{CodeSize, Item};
+use crate::blocks::give_back;
+use crate::item::CodeSize;
 use rv_instruction::constant;
 use rv_layout::extent_at;
-use rv_statement::{Statement, StatementKind, Width};
+use rv_statement::{Statement, StatementKind, Statements, Width};
 use rv_text::{SourceCode, SourceFault, Value};
 use rv_unit::{
-    Extent, LONGEST_SECTION, Scope, Section, SectionOffset, Unit, byte_alignment, padding,
+    Extent, Item, LONGEST_SECTION, Scope, Section, SectionOffset, Unit, byte_alignment, padding,
     power_alignment, strings_size, values_size,
 };
 use std::alloc::{AllocError, Global};
@@ -319,16 +320,27 @@ fn grow(ends: &mut Vec<u32>, item: Item)
     ends[item.section as usize] = item.offset + item.bytes;
 }
 
+/// Takes the last of the sizes.
+fn take_size(sizes: &mut Vec<CodeSize>) -> CodeSize
+    requires { 0 < length sizes.old.items }
+    ensures { sizes.old.items ≡ sizes.new.items ++ result ∷ [] }
+{
+    let size = sizes.pop().unwrap();
+    give_back(sizes);
+    size
+}
+
 /// The items of a source's statements, whose code has these sizes, and the bytes of each section
-/// after the last of them.
+/// after the last of them. The sizes go as their items come: reversed first, since a vector gives
+/// memory back at its end.
 pub(crate) fn items(
     alloc: Global,
     unit: &Unit<'_>,
-    sizes: &[CodeSize],
+    mut sizes: Vec<CodeSize>,
 ) -> Result<(Vec<Item>, Vec<u32>), SourceFault>
     requires filled { IsFilled unit.now }
-    requires sizes { length sizes.now ≡ length (unit.now).statements.items }
-    ensures count { IfOk result (λ r. length r.0.items ≡ length (unit.now).statements.items) }
+    requires sizes { length sizes.items ≡ length (said unit.now) }
+    ensures count { IfOk result (λ r. length r.0.items ≡ length (said unit.now)) }
     ensures sections { IfOk result
         (λ r. length r.1.items ≡ length (unit.now).tables.extents.items) }
     ensures items { IfOk result (λ r. AreItems 1 (laws.at_start (said unit.now)) (λ j. 0)
@@ -336,9 +348,9 @@ pub(crate) fn items(
     ensures low { IfOk result (λ r. (j : ℕ) → slice_index r.1.items j ≤ laws.longest_section) }
     ensures sized { IfOk result (λ r.
         AreSized (laws.tables (said unit.now)) 1 (laws.at_start (said unit.now)) (said unit.now)
-        r.0.items sizes.now) }
+        r.0.items sizes.items) }
     ensures refuses { IfErr result (λ e. first_fault (said unit.now) ≡ None
-        → size_fault_from (λ j. 0) (located (said unit.now ∷ [])) (bytes_of_sizes sizes.now) ≡ None
+        → size_fault_from (λ j. 0) (located (said unit.now ∷ [])) (bytes_of_sizes sizes.items) ≡ None
         → e ≡ OutOfMemory) }
 {
     let mut scope = Scope::new(unit);
@@ -347,18 +359,15 @@ pub(crate) fn items(
     let extents = unit.sections();
     let mut ends = no_bytes(alloc, extents.len())?;
     let mut items = Vec::with_capacity(alloc, statements.len())?;
+    sizes.reverse();
+    let mut room = Statements::room();
     for index in 0..statements.len() {
         let place = places[index];
         let extent = extent_at(extents, place.section);
         let offset = end(ends.as_slice(), place.section);
-        let item = next_item(
-            &scope,
-            &statements[index],
-            place,
-            &extent,
-            offset,
-            sizes[index],
-        )?;
+        let code = take_size(&mut sizes);
+        let statement = (&*statements).read(index, &mut room);
+        let item = next_item(&scope, statement, place, &extent, offset, code)?;
         grow(&mut ends, item);
         items.push(item)?;
         scope.pass();

@@ -1,6 +1,6 @@
 //! The statements of a source in their sections: where they stand, how large they are, and what the sections hold.
 //!
-//! It takes a source with its tables (`rv_unit`). It gives a [`Draft`]: an [`Item`] for each statement, the bytes and the size
+//! It takes a source with its tables (`rv_unit`). It gives a [`Draft`]: an `Item` for each statement, the bytes and the size
 //! of each section, with zeros in the fields that the linker fills in, and an [`OpenField`] for each of these; or the first
 //! fault of a statement as code.
 //!
@@ -19,6 +19,7 @@
 //! Source: System V gABI, "Sections", "Relocation"; RISC-V ELF psABI, "Relocations"; GNU as, "Pseudo Ops".
 #![tactic(auto)]
 
+mod blocks;
 mod code;
 mod compressed;
 mod data;
@@ -29,6 +30,6 @@ mod item;
 mod items;
 mod lone;
 
+pub use blocks::give_back;
 pub use draft::Draft;
 pub use field::OpenField;
-pub use item::Item;

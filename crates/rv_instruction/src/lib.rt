@@ -13,7 +13,9 @@
 //!
 //! ```text
 //! let mut scope = Scope::new(&unit);
-//! let code = code(&unit.statements()[0], &scope, unit.places()[0], false, 4)?;
+//! let mut room = Statements::room();
+//! let statement = unit.statements().read(0, &mut room);
+//! let code = code(statement, &scope, unit.places()[0], false, 4)?;
 //! // of `li a0, 1`: Word(0x00100513), without an open field
 //! scope.pass();
 //! ```

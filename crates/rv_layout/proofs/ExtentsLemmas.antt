@@ -3,10 +3,8 @@
 use Rattle.std.proofs.Common.{◌≡◌, ℕ, zero, suc, ◌+◌, ◌<◌, true, List, [], ◌∷◌, length, map, get_or, Some, refl, sym, ap, ◌∙◌, subst, arith}
 use Rattle.std.specs.Prelude.{slice_index_or, slice_get}
 use Rattle.std.proofs.lemmas.List.{length-map}
-use Rattle.rv_statement.specs.Statement.{Statement as SpecStatement}
-use Rattle.rv_statement.specs.View.{statement_of}
-use Rattle.rv_statement.specs.declared.statement.Statement.{Statement}
-use Rattle.rv_statement.specs.declared.statement.StatementKind.TheVariants as kinds
+use Rattle.std.proofs.lemmas.Option.{slice_get-get_or}
+use Rattle.rv_statement.specs.Statement.{Statement, Numbered}
 use Rattle.rv_unit_laws.specs.Sections.{Section}
 use Rattle.rv_unit_laws.specs.Tables.{Tables, SectionOffset as Standing, tables, value}
 use Rattle.rv_unit_tables.specs.declared.section_offset.SectionOffset.{SectionOffset}
@@ -34,30 +32,30 @@ read_map f (x ∷ xs) (suc i) d e h = read_map f xs i d e (omega arith)
 some_same : {A : Type 0} (a b : A) → Some a ≡ Some b → a ≡ b
 some_same a b e = cc
 
-pub home_at : (u : SourceUnit) (i : ℕ) (s : Statement) (p : SectionOffset) (e : Extent) → StandsAt u i s p → IsExtentAt u.tables.extents.items p.section e → extent_section e ≡ (located_at (said u) i (statement_of s)).home
-home_at u i s p e at there = some_same (extent_section e) (located_at (said u) i (statement_of s)).home (sym there.section ∙ at.home)
+pub home_at : (u : SourceUnit) (i : ℕ) (s : Statement) (p : SectionOffset) (e : Extent) → StandsAt u i s p → IsExtentAt u.tables.extents.items p.section e → extent_section e ≡ (located_at (said u) i s).home
+home_at u i s p e at there = some_same (extent_section e) (located_at (said u) i s).home (sym there.section ∙ at.home)
 
 -- the section of a statement is one of the unit's
 pub stands_inside : (u : SourceUnit) (i : ℕ) (s : Statement) (p : SectionOffset) → StandsAt u i s p → p.section < length u.tables.extents.items
 stands_inside u i s p at =
     subst (λ n. p.section < n) (length-map u.tables.extents.items extent_section)
-    (got_inside (map extent_section u.tables.extents.items) p.section (located_at (said u) i (statement_of s)).home at.home)
+    (got_inside (map extent_section u.tables.extents.items) p.section (located_at (said u) i s).home at.home)
 
-pub place_inside : (u : SourceUnit) (i : ℕ) (d p : SectionOffset) → IsFilled u → i < length u.statements.items → p ≡ get_or u.places.items i d → p.section < length u.tables.extents.items
+pub place_inside : (u : SourceUnit) (i : ℕ) (d p : SectionOffset) → IsFilled u → i < length (said u) → p ≡ get_or u.places.items i d → p.section < length u.tables.extents.items
 place_inside u i d p filled inside is =
-    let none : Statement = record { kind = kinds.Ignored; line = 0 } in
-    let x : Statement = get_or u.statements.items i none in
-    stands_inside u i x p (stands_at u i none x d p filled inside refl is)
+    let none : Statement = record { line = 0; kind = Numbered 0 } in
+    let x : Statement = get_or (said u) i none in
+    stands_inside u i x p (stands_at u i x d p filled (slice_get-get_or (said u) i none inside) is)
 
 -- the faults of a statement as code, by where it stands
-abbrev pub faults_in : Tables → ℕ → Standing → SpecStatement → List ℕ
+abbrev pub faults_in : Tables → ℕ → Standing → Statement → List ℕ
 faults_in t o p s = instruction_faults (λ e. value t true o p e) (is_label t o) s.kind
 
 pub faults_there : (u : SourceUnit) (i : ℕ) (x : Statement) (p : SectionOffset) → StandsAt u i x p
-    → faults_in (tables (said u)) (i + 1) (offset_of p) (statement_of x) ≡ code_faults_at (tables (said u)) (located_at (said u) i (statement_of x))
-faults_there u i x p at = ap (λ (r : Standing). faults_in (tables (said u)) (i + 1) r (statement_of x)) at.place
+    → faults_in (tables (said u)) (i + 1) (offset_of p) x ≡ code_faults_at (tables (said u)) (located_at (said u) i x)
+faults_there u i x p at = ap (λ (r : Standing). faults_in (tables (said u)) (i + 1) r x) at.place
 
 -- whether its section is one of code
 pub code_there : (u : SourceUnit) (i : ℕ) (x : Statement) (p : SectionOffset) (e : Extent) → StandsAt u i x p → IsExtentAt u.tables.extents.items p.section e
-    → (extent_section e).executable ≡ (located_at (said u) i (statement_of x)).home.executable
+    → (extent_section e).executable ≡ (located_at (said u) i x).home.executable
 code_there u i x p e at there = ap (λ (h : Section). h.executable) (home_at u i x p e at there)

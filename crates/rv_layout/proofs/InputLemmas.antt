@@ -8,7 +8,6 @@ use Rattle.std.proofs.lemmas.List.{length-map}
 use Rattle.rv_text_laws.specs.Values.{Value, Symbolic}
 use Rattle.rv_text_laws.specs.Values as values
 use Rattle.rv_statement.specs.Statement.{Statement, StatementKind, Label, Numbered, Instruction, Directs, Expression, Operand}
-use Rattle.rv_statement.specs.View.{statement_of}
 use Rattle.rv_layout_laws.specs.declared.item.Forms.{Forms}
 use Rattle.rv_layout_laws.specs.declared.item.Forms.TheVariants.{Settled, CompressedBranch, Branch, CompressedJump}
 use Rattle.rv_layout_laws.specs.declared.item.Item.{Item}
@@ -199,11 +198,11 @@ measured_input u found filled m =
     let homes = homes_from (λ file. sections) 1 1 (at_start ss) ss refl (text_section, refl) in
     let same : length sections ≡ length u.tables.extents.items =
     sym (ap length (sections_are u.tables.extents.items ∙ ap (λ (t : Tables). (opened_of t).sections) filled.tables)) ∙ length-map u.tables.extents.items extent_section in
-    let long : length (items_of t located located m.lengths) ≡ length u.statements.items =
-    items_count t located located m.lengths count ∙ stated_length 1 1 (at_start ss) ss ∙ length-map u.statements.items statement_of in
+    let long : length (items_of t located located m.lengths) ≡ length (said u) =
+    items_count t located located m.lengths count ∙ stated_length 1 1 (at_start ss) ss in
     let input : IsInput (items_of t located located m.lengths) (length sections) =
     record {
-      few = subst (λ n. n < 2 ^ 30) (sym long) (let few : length u.statements.items ≤ 2 ^ 22 = u.few in omega (arith, few));
+      few = subst (λ n. n < 2 ^ 30) (sym long) (let few : length (said u) ≤ 2 ^ 22 = u.few in omega (arith, few));
       within = within t ss m.lengths count sections homes;
     } in
     subst (λ n. IsInput found n) same (subst (λ l. IsInput l (length sections)) (sym m.seen) input)

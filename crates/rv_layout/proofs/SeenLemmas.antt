@@ -11,8 +11,6 @@ use Rattle.rv_layout_laws.specs.declared.item.Forms.TheVariants.{Settled, Compre
 use Rattle.rv_layout_laws.specs.declared.item.Item.{Item}
 use Rattle.rv_layout_laws.specs.Branches.{branches, IsLeastGood, Offers, item_at}
 use Rattle.rv_unit_laws.specs.Tables.{Tables, SectionOffset as Standing, Definition, sure_definition, at_start, after, places_from, tables, value}
-use Rattle.rv_statement.specs.declared.statement.Statement.{Statement as SourceStatement}
-use Rattle.rv_statement.specs.View.{statement_of}
 use Rattle.rv_unit.specs.declared.unit.Unit.{Unit as SourceUnit}
 use Rattle.rv_unit.specs.Unit.{said, IsFilled}
 use Rattle.std.proofs.lemmas.List.{length-append}
@@ -275,28 +273,28 @@ measured_begin ss = ([], none_long (located_from 1 1 (at_start ss) ss), none_tak
     none_seen (s ∷ ls) = refl
 
 -- the item of a statement where it stands
-seen_there : (u : SourceUnit) (i : ℕ) (x : SourceStatement) (p : SectionOffset) (rvc : Bool) (bytes : ℕ) (item : Item) → IsFilled u → StandsAt u i x p
-    → rvc ≡ (located_at (said u) i (statement_of x)).options.rvc
-    → item ≡ item_in (section_in u.places.items) p.section (tables (said u)) (i + 1) (λ e. value (tables (said u)) true (i + 1) (offset_of p) e) rvc bytes (statement_of x).kind
-    → item ≡ item_by_kind (tables (said u)) (located_from 1 1 (at_start (said u)) (said u)) (located_at (said u) i (statement_of x)) bytes (statement_of x).kind
+seen_there : (u : SourceUnit) (i : ℕ) (x : Statement) (p : SectionOffset) (rvc : Bool) (bytes : ℕ) (item : Item) → IsFilled u → StandsAt u i x p
+    → rvc ≡ (located_at (said u) i x).options.rvc
+    → item ≡ item_in (section_in u.places.items) p.section (tables (said u)) (i + 1) (λ e. value (tables (said u)) true (i + 1) (offset_of p) e) rvc bytes x.kind
+    → item ≡ item_by_kind (tables (said u)) (located_from 1 1 (at_start (said u)) (said u)) (located_at (said u) i x) bytes x.kind
 seen_there u i x p rvc bytes item filled at on is =
     let ss = said u in
-    let s = located_at ss i (statement_of x) in
-    let there = subst (λ (q : Standing). item ≡ item_in (section_in u.places.items) q.section (tables ss) (i + 1) (λ e. value (tables ss) true (i + 1) q e) rvc bytes (statement_of x).kind) at.place is in
-    let here = subst (λ b. item ≡ item_in (section_in u.places.items) s.section (tables ss) (i + 1) (λ e. value (tables ss) true (i + 1) (place_of s) e) b bytes (statement_of x).kind) on there in
-    here ∙ sym (item_same u.places.items (located_from 1 1 (at_start ss) ss) (places_agree u.places.items ss filled.stand) (tables ss) s bytes (statement_of x).kind)
+    let s = located_at ss i x in
+    let there = subst (λ (q : Standing). item ≡ item_in (section_in u.places.items) q.section (tables ss) (i + 1) (λ e. value (tables ss) true (i + 1) q e) rvc bytes x.kind) at.place is in
+    let here = subst (λ b. item ≡ item_in (section_in u.places.items) s.section (tables ss) (i + 1) (λ e. value (tables ss) true (i + 1) (place_of s) e) b bytes x.kind) on there in
+    here ∙ sym (item_same u.places.items (located_from 1 1 (at_start ss) ss) (places_agree u.places.items ss filled.stand) (tables ss) s bytes x.kind)
 
 -- how long a statement is where it stands
-long_there : (u : SourceUnit) (i : ℕ) (x : SourceStatement) (p : SectionOffset) (rvc b : Bool) (bytes : ℕ) → StandsAt u i x p
-    → rvc ≡ (located_at (said u) i (statement_of x)).options.rvc → b ≡ (located_at (said u) i (statement_of x)).home.executable
-    → HasLength (λ e. value (tables (said u)) true (i + 1) (offset_of p) e) rvc (faults_in (tables (said u)) (i + 1) (offset_of p) (statement_of x))
-    (beside_of b (λ e. value (tables (said u)) true (i + 1) (offset_of p) e) p.offset (statement_of x).kind) (statement_of x).kind bytes
-    → HasSizeAt (tables (said u)) (located_at (said u) i (statement_of x)) bytes
+long_there : (u : SourceUnit) (i : ℕ) (x : Statement) (p : SectionOffset) (rvc b : Bool) (bytes : ℕ) → StandsAt u i x p
+    → rvc ≡ (located_at (said u) i x).options.rvc → b ≡ (located_at (said u) i x).home.executable
+    → HasLength (λ e. value (tables (said u)) true (i + 1) (offset_of p) e) rvc (faults_in (tables (said u)) (i + 1) (offset_of p) x)
+    (beside_of b (λ e. value (tables (said u)) true (i + 1) (offset_of p) e) p.offset x.kind) x.kind bytes
+    → HasSizeAt (tables (said u)) (located_at (said u) i x) bytes
 long_there u i x p rvc b bytes at on home h =
     let t = tables (said u) in
-    let s = located_at (said u) i (statement_of x) in
-    let kind = (statement_of x).kind in
-    let there = subst (λ (q : Standing). HasLength (λ e. value t true (i + 1) q e) rvc (faults_in t (i + 1) q (statement_of x)) (beside_of b (λ e. value t true (i + 1) q e) q.offset kind) kind bytes) at.place h in
+    let s = located_at (said u) i x in
+    let kind = x.kind in
+    let there = subst (λ (q : Standing). HasLength (λ e. value t true (i + 1) q e) rvc (faults_in t (i + 1) q x) (beside_of b (λ e. value t true (i + 1) q e) q.offset kind) kind bytes) at.place h in
     subst (λ c. HasLength (λ e. expression_value t s e) s.options.rvc (code_faults_at t s) (beside_of c (λ e. expression_value t s e) s.offset kind) kind bytes) home
     (subst (λ r. HasLength (λ e. expression_value t s e) r (code_faults_at t s) (beside_of b (λ e. expression_value t s e) s.offset kind) kind bytes) on there)
 
@@ -308,15 +306,15 @@ SeenThere u ordinal q section places b rvc s item =
     (beside_of b (λ e. value (tables (said u)) true ordinal q e) q.offset s.kind) s.kind bytes
     × (item ≡ item_in (section_in places) section (tables (said u)) ordinal (λ e. value (tables (said u)) true ordinal q e) rvc bytes s.kind)
 
-pub measured_more : (u : SourceUnit) (i : ℕ) (x : SourceStatement) (p : SectionOffset) (rvc b : Bool) (old new : List Item) (item : Item) → IsFilled u → StandsAt u i x p
-    → rvc ≡ (located_at (said u) i (statement_of x)).options.rvc → b ≡ (located_at (said u) i (statement_of x)).home.executable
-    → SeenThere u (i + 1) (offset_of p) p.section u.places.items b rvc (statement_of x) item
+pub measured_more : (u : SourceUnit) (i : ℕ) (x : Statement) (p : SectionOffset) (rvc b : Bool) (old new : List Item) (item : Item) → IsFilled u → StandsAt u i x p
+    → rvc ≡ (located_at (said u) i x).options.rvc → b ≡ (located_at (said u) i x).home.executable
+    → SeenThere u (i + 1) (offset_of p) p.section u.places.items b rvc x item
     → MeasuredTo (said u) i old → new ≡ old ++ item ∷ [] → MeasuredTo (said u) (i + 1) new
 measured_more u i x p rvc b old new item filled at on home (bytes, long, is) (ls, lengths, same, so) more =
     let ss = said u in
     let t = tables ss in
     let all = located_from 1 1 (at_start ss) ss in
-    let s = located_at ss i (statement_of x) in
+    let s = located_at ss i x in
     let seen = seen_there u i x p rvc bytes item filled at on is in
     let next : i + 1 ≡ suc i = omega arith in
     let longer : take (i + 1) all ≡ take i all ++ s ∷ [] = ap (λ n. take n all) next ∙ take_here all i s (drop (i + 1) all) at.next in (

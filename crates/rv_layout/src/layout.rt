@@ -30,7 +30,7 @@ impl Layout {
     pub fn of(alloc: Global, unit: &Unit<'_>) -> Result<Layout, AllocError>
         requires { IsFilled unit.now }
         ensures count { IfOk result
-            (λ found. length found.sizes.items ≡ length (unit.now).statements.items) }
+            (λ found. length found.sizes.items ≡ length (said unit.now)) }
         ensures least { IfOk result (λ found. AreLeast (tables (said unit.now))
             (located_from 1 1 (at_start (said unit.now)) (said unit.now)) found.sizes.items) }
         ensures sizes { IfOk result (λ found. AreSizes (tables (said unit.now))

@@ -18,7 +18,7 @@ use crate::widths::{bytes_of, width};
 use rv_instruction::{code as code_of, item, near_forms, one_code};
 use rv_layout_laws::Item;
 use rv_sizes::Items;
-use rv_statement::{Operation, Plain, Statement, StatementKind};
+use rv_statement::{Operation, Plain, Statement, StatementKind, Statements};
 use rv_unit::{Scope, SectionOffset, Unit};
 use std::alloc::{AllocError, Global};
 
@@ -248,12 +248,13 @@ pub(crate) fn measured(alloc: Global, unit: &Unit<'_>) -> Result<Items, AllocErr
     let places = unit.places();
     let extents = unit.sections();
     let mut items = Items::with_capacity(alloc, statements.len())?;
+    let mut room = Statements::room();
     for index in 0..statements.len() {
         let place = places[index];
         let extent = extent_at(extents, place.section);
         let compressed = unit.options_at(index).rvc();
         let executable = extent.section.executable;
-        let statement = &statements[index];
+        let statement = (&*statements).read(index, &mut room);
         items.push(seen(statement, &scope, places, place, executable, compressed))?;
         scope.pass();
     }

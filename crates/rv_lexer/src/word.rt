@@ -116,7 +116,8 @@ fn reference_in(word: &[u8]) -> Option<(&[u8], bool)>
     with_direction(digits, rest)
 }
 
-/// What a word is that begins with a digit.
+/// What a word is that begins with a digit. In line, so that a number is written where its token stands.
+#[inline(always)]
 pub(crate) fn digits_kind(word: &[u8]) -> TokenKind<'_>
     ensures { kind_of result ≡ digits_kind word.now (reference_in word.now) }
 {

@@ -1,7 +1,6 @@
 -- The names that a source has opened, and an opening at the front.
 
-use Rattle.std.proofs.Common.{◌≡◌, ℕ, Bool, true, false, ◌||◌, List, [], ◌∷◌, ◌++◌, map, None, Ok, Err, refl, sym, ◌∙◌, ap}
-use Rattle.std.proofs.lemmas.List.{map-append}
+use Rattle.std.proofs.Common.{◌≡◌, ℕ, Bool, true, false, ◌||◌, List, [], ◌∷◌, ◌++◌, None, Ok, Err, refl, sym, ◌∙◌, ap}
 use Rattle.rv_text_laws.specs.Grammar.{Kind, Name as NameToken}
 use Rattle.rv_text_laws.specs.Lexing.{Token, is_last}
 use Rattle.rv_text_laws.specs.SyntaxError.{SyntaxError, Read}
@@ -58,8 +57,8 @@ had_append (x ∷ xs) s name = go (opens name x.kind) (had_append xs s name)
     go true e = refl
     go false e = e
 
-pub knows_push : (set : NameSet) (items new : List Statement) (s : Statement) → Has set (λ n. opens n (statement_kind s.kind) || is_had (map statement_of items) n) → new ≡ items ++ s ∷ []
-    → Knows set (map statement_of new)
-knows_push set items new s has pushed q =
-    has q ∙ either (opens q.now (statement_kind s.kind)) (is_had (map statement_of items) q.now)
-    ∙ sym (ap (λ (xs : List Statement). is_had (map statement_of xs) q.now) pushed ∙ ap (λ ss. is_had ss q.now) (map-append statement_of items (s ∷ [])) ∙ had_append (map statement_of items) (statement_of s) q.now)
+pub knows_push : (set : NameSet) (ss new : List SpecStatement) (s : Statement) → Has set (λ n. opens n (statement_kind s.kind) || is_had ss n) → new ≡ ss ++ statement_of s ∷ []
+    → Knows set new
+knows_push set ss new s has pushed q =
+    has q ∙ either (opens q.now (statement_kind s.kind)) (is_had ss q.now)
+    ∙ sym (ap (λ (l : List SpecStatement). is_had l q.now) pushed ∙ had_append ss (statement_of s) q.now)

@@ -1,7 +1,6 @@
 -- Statements read one by one, as the code holds them.
 
-use Rattle.std.proofs.Common.{◌≡◌, ℕ, ◌+◌, true, false, List, [], ◌∷◌, ◌++◌, length, length-append, Result, Ok, Err, refl, sym, ◌∙◌, ap, subst, map, arith}
-use Rattle.std.proofs.lemmas.List.{map-append}
+use Rattle.std.proofs.Common.{◌≡◌, ℕ, ◌+◌, true, false, List, [], ◌∷◌, ◌++◌, length, length-append, Result, Ok, Err, refl, sym, ◌∙◌, ap, subst, arith}
 use Rattle.rv_text_laws.specs.Lexing as lexing
 use Rattle.rv_lexer.specs.Token.{token_of, kind_of}
 use Rattle.rv_statement.specs.Statement.{Statement as SpecStatement}
@@ -27,18 +26,17 @@ said_as (Ok k) t us ts new is no_end h = rw is (rw (no_end, h) refl)
 said_as (Err (refusals.At w)) t us ts new is no_end h = rw is (rw (no_end, h) refl)
 said_as (Err refusals.OutOfMemory) t us ts new is no_end h = tt
 
-pub statements_push : (ts : List lexing.Token) (t : lexing.Token) (before us rest : List lexing.Token) (s : Statement) (items new : List Statement)
-    → SaysUpTo ts before (map statement_of items) → before ≡ t ∷ us → checked_at (is_opened (map statement_of items)) before ≡ Ok (Says (statement_kind s.kind), rest) → s.line ≡ t.line → new ≡ items ++ s ∷ []
-    → SaysUpTo ts rest (map statement_of new)
-statements_push ts t before us rest s items new so is read line pushed =
+pub statements_push : (ts : List lexing.Token) (t : lexing.Token) (before us rest : List lexing.Token) (s : Statement) (ss new : List SpecStatement)
+    → SaysUpTo ts before ss → before ≡ t ∷ us → checked_at (is_opened ss) before ≡ Ok (Says (statement_kind s.kind), rest) → s.line ≡ t.line → new ≡ ss ++ statement_of s ∷ []
+    → SaysUpTo ts rest new
+statements_push ts t before us rest s ss new so is read line pushed =
     let lines : statement_of s ≡ record { line = t.line; kind = statement_kind s.kind } = ap (λ (n : ℕ). record { line = n; kind = statement_kind s.kind }) line in
-    subst (SaysUpTo ts rest) (ap (λ (x : SpecStatement). map statement_of items ++ x ∷ []) (sym lines) ∙ sym (map-append statement_of items (s ∷ [])) ∙ ap (map statement_of) (sym pushed))
-    (push_statement ts t before us rest (statement_kind s.kind) (map statement_of items) so is read)
+    subst (SaysUpTo ts rest) (ap (λ (x : SpecStatement). ss ++ x ∷ []) (sym lines) ∙ sym pushed)
+    (push_statement ts t before us rest (statement_kind s.kind) ss so is read)
 
-pub counted_push : (s : Statement) (items new : List Statement) (n : ℕ) → length (map statement_of items) ≡ n → new ≡ items ++ s ∷ [] → length (map statement_of new) ≡ n + 1
-counted_push s items new n counted pushed =
-    ap (λ (ss : List Statement). length (map statement_of ss)) pushed ∙ ap (λ (ss : List SpecStatement). length ss) (map-append statement_of items (s ∷ []))
-    ∙ omega (arith, counted, length-append (map statement_of items) (statement_of s ∷ []))
+pub counted_push : (s : Statement) (ss new : List SpecStatement) (n : ℕ) → length ss ≡ n → new ≡ ss ++ statement_of s ∷ [] → length new ≡ n + 1
+counted_push s ss new n counted pushed =
+    ap (λ (l : List SpecStatement). length l) pushed ∙ omega (arith, counted, length-append ss (statement_of s ∷ []))
 
 -- a cursor has its next token first
 abbrev pub behind : Cursor → List lexing.Token

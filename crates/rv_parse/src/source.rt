@@ -3,7 +3,7 @@
 //! Lines that are too long are searched apart from the tokens, 65,536 bytes at a time from the back, so that ordinary
 //! sources are hardly read for it. `memchr` looks for line feeds.
 
-ghost use Rattle.std.specs.Prelude.{◌≡◌, ◌<◌, ◌≤◌, List, [], IfOk, IfErr, IfSome, map, length, false, ◌+◌};
+ghost use Rattle.std.specs.Prelude.{◌≡◌, ◌<◌, ◌≤◌, List, [], IfOk, IfErr, IfSome, length, false, ◌+◌};
 ghost use Rattle.rv_lexer.specs.Token.{token_of, kind_of};
 ghost use Rattle.rv_text_laws.specs.Lexing.{newlines};
 ghost use Rattle.rv_parse_laws.specs.Syntax.{is_end, Says};
@@ -17,7 +17,8 @@ ghost use Rattle.rv_statement.specs.Limits.{most_statements};
 ghost use Rattle.rv_parse_laws.specs.Refusals.{SaysUpTo};
 ghost use Rattle.rv_parse.specs.Lines.{past_line};
 ghost use Rattle.rv_lexer.specs.Left.{tokens_left};
-ghost use Rattle.rv_statement.specs.View.{statement_kind, statement_of};
+ghost use Rattle.rv_statement.specs.View.{statement_kind};
+ghost use Rattle.rv_statement.specs.Statements.{statements_of};
 ghost use Rattle.rv_lexer.specs.Cursor.{left, syntax_error_of, Answers};
 ghost use Rattle.rv_parse.specs.Left.{StopsAt, RefusesTokens, RefusedWith};
 
@@ -25,7 +26,7 @@ use crate::opening::{Opened, wrong_opening};
 use crate::statement::statement;
 use memchr::memrchr;
 use rv_parse_words::kinds;
-use rv_statement::{MOST_STATEMENTS, Statement, StatementKind};
+use rv_statement::{MOST_STATEMENTS, Statement, StatementKind, Statements};
 use rv_text::{Cursor, Lexer, ReadError, SourceCode, SourceFault, SyntaxError, Token};
 use std::alloc::Global;
 
@@ -123,25 +124,29 @@ fn next_statement<'a>(
     }
 }
 
-/// The statements that the tokens say, up to the source's end.
+/// The statements that the tokens of a source say, up to its end.
 #[tactic(auto, using(rv_parse_laws::proofs::ProgressLemmas::end_no_last))]
-fn statements<'a>(alloc: Global, lexer: Lexer<'a>) -> Result<Vec<Statement<'a>>, ReadError>
-    ensures says { IfOk result
-        (λ v. SaysUpTo (tokens_left lexer.entry) [] (map statement_of v.items)) }
-    ensures within { IfOk result (λ v. length (map statement_of v.items) ≤ most_statements) }
+fn statements<'a>(
+    alloc: Global,
+    source: &'a [u8],
+    lexer: Lexer<'a>,
+) -> Result<Statements<'a>, ReadError>
+    ensures says { IfOk result (λ v. SaysUpTo (tokens_left lexer.entry) [] (statements_of v)) }
+    ensures within { IfOk result (λ v. length (statements_of v) ≤ most_statements) }
     ensures refuses { IfErr result (λ e. RefusesTokens (tokens_left lexer.entry) e) }
 {
     let mut cursor = Cursor::new(lexer);
-    let mut statements = Vec::new(alloc);
+    let mut statements = Statements::new(alloc, source);
     let mut opened = Opened::new(alloc);
     let mut count = 0;
     while !kinds::is_source_end(cursor.next.kind) {
         if kinds::is_end(cursor.next.kind) {
             cursor.advance();
         } else {
+            let from = cursor.next.start as usize;
             let statement = next_statement(alloc, &mut cursor, count, &opened)?;
             opened.add(&statement.kind)?;
-            statements.push(statement)?;
+            statements.push(statement, from)?;
             count += 1;
         }
     }
@@ -164,8 +169,8 @@ fn line_of(text: &[u8]) -> u32
 
 /// The statements of a source. A fault names its line, from 1: it is the first of the source, in the order of its bytes;
 /// a source over 16 MiB has it at line 0.
-pub fn parse(alloc: Global, source: &[u8]) -> Result<Vec<Statement<'_>>, SourceFault>
-    ensures reads { IfOk result (λ v. Reads source.now (map statement_of v.items)) }
+pub fn parse(alloc: Global, source: &[u8]) -> Result<Statements<'_>, SourceFault>
+    ensures reads { IfOk result (λ v. Reads source.now (statements_of v)) }
     ensures refuses { IfErr result (λ e. RefusedWith source.now e) }
 {
     if LONGEST_SOURCE < source.len() {
@@ -175,7 +180,7 @@ pub fn parse(alloc: Global, source: &[u8]) -> Result<Vec<Statement<'_>>, SourceF
         });
     }
     let past = past_line(source);
-    match statements(alloc, Lexer::new(source)) {
+    match statements(alloc, source, Lexer::new(source)) {
         Err(ReadError::OutOfMemory) => Err(SourceFault::OutOfMemory),
         Err(ReadError::At(wrong)) => match past {
             Some(place) if place < wrong.offset => Err(SourceFault::At {

@@ -1,5 +1,5 @@
 use rv_parse::{SourceFault, parse};
-use rv_statement::{Binding, StatementKind};
+use rv_statement::{Binding, StatementKind, Statements};
 use std::alloc::Global;
 
 /// A statement of each kind that takes memory, and of the others.
@@ -49,12 +49,17 @@ fn is_read(alloc: Global) -> bool {
     let Ok(statements) = parse(alloc, SOURCE) else {
         return false;
     };
-    for (statement, (kind, line)) in statements.iter().zip(STATEMENTS.iter()) {
+    if statements.len() != STATEMENTS.len() {
+        return false;
+    }
+    let mut room = Statements::room();
+    for (index, (kind, line)) in STATEMENTS.iter().enumerate() {
+        let statement = statements.read(index, &mut room);
         if letter(&statement.kind) != *kind || statement.line != *line {
             return false;
         }
     }
-    statements.len() == STATEMENTS.len()
+    true
 }
 
 #[test]

@@ -1,14 +1,16 @@
 //! Statements of a source: each with its line and its kind, as the code holds them, and the same as data for contracts.
 //!
 //! Takes nothing: these are types. Gives `Statement` with a `StatementKind`, whose names, digits and strings are parts of
-//! the source, and `Mnemonic`, `DirectiveWord` and what directives choose from.
-//! Main contract: `specs/View`, which says of each statement of the code what statement of `specs/Statement` it is, and
-//! `Standard::name`, the name of a section with a directive of its own.
+//! the source, `Statements`, a source's list of them, and `Mnemonic`, `DirectiveWord` and what directives choose from.
+//! Main contract: `specs/View`, which says of each statement of the code what statement of `specs/Statement` it is,
+//! `Statements::push` and `read`, by which a list hands out what it was given, and `Standard::name`, the name of a section
+//! with a directive of its own.
 //! Must not know how a statement is spelled, where it stands, or what it does.
 //!
 //! ```text
-//! for statement in statements {
-//!     match &statement.kind {
+//! let mut room = Statements::room();
+//! for index in 0..statements.len() {
+//!     match &statements.read(index, &mut room).kind {
 //!         StatementKind::Label(name) => ..,
 //!         StatementKind::With(operation, expression) => ..,
 //! ```
@@ -19,7 +21,9 @@
 mod directive;
 mod mnemonic;
 mod pseudo;
+mod record;
 mod statement;
+mod statements;
 
 pub use directive::{Binding, Choice, DirectiveWord, Standard, Width};
 pub use mnemonic::Mnemonic;
@@ -29,3 +33,4 @@ pub use pseudo::{
 pub use statement::{
     MOST_STATEMENTS, Opening, Operation, Plain, Setting, Statement, StatementKind,
 };
+pub use statements::Statements;

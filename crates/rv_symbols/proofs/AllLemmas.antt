@@ -1,7 +1,7 @@
 -- The symbols that stand for the uses of a source.
 
-use Rattle.std.proofs.Common.{◌≡◌, ℕ, zero, suc, ◌<◌, ◌^◌, Bool, true, false, List, [], ◌∷◌, map, get_or, refl, sym, ap, ◌∙◌, arith, Option, Some, None}
-use Rattle.std.specs.Prelude.{reverse, slice_get, option_map, is_some, nat_lt, ◌&&◌, ◌==◌}
+use Rattle.std.proofs.Common.{◌≡◌, ℕ, ◌<◌, ◌^◌, Bool, true, false, List, [], ◌∷◌, map, refl, sym, ap, Option, Some, None}
+use Rattle.std.specs.Prelude.{reverse, slice_get, is_some, nat_lt, ◌&&◌, ◌==◌}
 use Rattle.std.specs.List.{AllByRecursion}
 use Rattle.std.specs.Str.{bytes_eq}
 use Rattle.rv_text_laws.specs.Bytes.{value as digits_value}
@@ -19,7 +19,6 @@ use Rattle.rv_assemble_laws.specs.IsObjectOf.{IsNumbered}
 use Rattle.rv_assemble_laws.specs.ShownNames.{is_shown_use, AreShown, HasNames}
 use Rattle.rv_symbols.specs.SymbolUse.{is_meant_use, AreMeant}
 use Rattle.rv_symbols.specs.Numbers.{number_in}
-use Rattle.rv_symbols.proofs.StandsLemmas.{got_map}
 use Rattle.rv_symbols.proofs.DefiningLemmas.{by_index, laid_of, own_name}
 use Rattle.rv_symbols.proofs.NamingLemmas.{all_got}
 use Rattle.rv_symbols.proofs.DefinedNamesLemmas.{names_some}
@@ -27,19 +26,6 @@ use Rattle.rv_symbols.proofs.NumberedLemmas.{all_index, undefined_stands}
 use Rattle.rv_symbols.proofs.UnnamedLemmas.{unnamed_stands}
 use Rattle.rv_symbols.proofs.StandingLemmas.{StandsAt, AreNumeric, uses_stand, found_of, reversed}
 use Rattle.rv_symbols.proofs.MeantLemmas.{numeric_labels, means}
-
-pub offset_low : (offsets : List ℕ) (laid : List LaidStatement) → map (λ s. s.offset) laid ≡ offsets → ((i : ℕ) → get_or offsets i 0 < 2 ^ 32) → (i : ℕ) (s : LaidStatement) → slice_get laid i ≡ Some s → s.offset < 2 ^ 64
-offset_low offsets laid e low i s at =
-    let here : slice_get offsets i ≡ Some s.offset = ap (λ l. slice_get l i) (sym e) ∙ got_map (λ (z : LaidStatement). z.offset) laid i ∙ ap (option_map (λ (z : LaidStatement). z.offset)) at in
-    let is : get_or offsets i 0 ≡ s.offset = at_or offsets i s.offset here in
-    let bound = low i in
-    omega (arith, is, bound)
-  where
-    at_or : (xs : List ℕ) (i n : ℕ) → slice_get xs i ≡ Some n → get_or xs i 0 ≡ n
-    at_or [] zero n e = absurd (cc)
-    at_or [] (suc i) n e = absurd (cc)
-    at_or (x ∷ xs) zero n e = cc
-    at_or (x ∷ xs) (suc i) n e = at_or xs i n e
 
 module _ (ss : List Statement) (laid : List LaidStatement) (located : map (λ s. s.located) laid ≡ located_from 1 1 (at_start ss) ss) (meant : AreMeant (tables ss) (references (tables ss) laid))
     (free : first_fault ss ≡ None) (names : HasNames ss) (shown : AreShown (references (tables ss) laid)) (low : (i : ℕ) (s : LaidStatement) → slice_get laid i ≡ Some s → s.offset < 2 ^ 64) where

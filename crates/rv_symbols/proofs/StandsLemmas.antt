@@ -1,19 +1,17 @@
 -- Where the statements of a source stand.
 
-use Rattle.std.proofs.Common.{◌≡◌, ℕ, zero, suc, ◌+◌, ◌<◌, ◌≤◌, List, [], ◌∷◌, length, map, drop, refl, sym, ap, ◌∙◌, subst, arith, Option, Some, None}
+use Rattle.std.proofs.Common.{◌≡◌, ℕ, zero, suc, ◌+◌, ◌^◌, ◌<◌, ◌≤◌, Bool, true, false, List, [], ◌∷◌, length, map, drop, refl, sym, ap, ◌∙◌, subst, arith, Option, Some, None}
 use Rattle.std.specs.Borrow.{Bor}
 use Rattle.std.specs.Prelude.{IfSome, is_some, option_copied, slice_index_or, nat_lt, ◌==◌, slice_get, option_map, if◌then◌else◌}
 use Rattle.std.specs.List.{find}
 use Rattle.std.proofs.lemmas.Bool.{eq-eqb, ltb-true, ltb-false, ne_eqb}
 use Rattle.rv_statement.specs.Statement.{Statement}
-use Rattle.rv_statement.specs.View.{statement_of}
-use Rattle.rv_statement.specs.declared.statement.Statement.{Statement as DeclaredStatement}
-use Rattle.std.proofs.lemmas.List.{length-map, at_drop_all}
+use Rattle.std.proofs.lemmas.List.{at_drop_all}
 use Rattle.rv_unit_laws.specs.Tables.{Tables, SectionOffset as Standing, at_start, after, stood, places_from}
 use Rattle.rv_unit_tables.specs.declared.section_offset.SectionOffset.{SectionOffset}
 use Rattle.rv_unit_tables.specs.Sections.{offset_of}
 use Rattle.rv_unit.specs.Unit.{said}
-use Rattle.rv_unit.specs.declared.unit.Unit.{Unit as SourceUnit}
+use Rattle.rv_unit.specs.Items.{offsets_of}
 use Rattle.rv_source_laws.specs.Located.{Located, located_from}
 use Rattle.rv_assemble_laws.specs.LaidStatements.{LaidStatement}
 use Rattle.rv_text_laws.specs.Values.{add}
@@ -88,9 +86,9 @@ pairs (s ∷ laid) (p ∷ ps) (o ∷ os) e f zero =
     ap (λ n. Some (n, s.offset)) (cons_parts _ _ _ _ e).0 ∙ ap (λ n. Some (p.section, n)) (cons_parts _ _ _ _ f).0
 pairs (s ∷ laid) (p ∷ ps) (o ∷ os) e f (suc i) = pairs laid ps os (cons_parts _ _ _ _ e).1 (cons_parts _ _ _ _ f).1 i
 
-pub place_of : (x : Source) (laid : List LaidStatement) → IsSource x laid → (i : ℕ) → both (slice_get x.unit.now.places.items i) (slice_get x.offsets.now i) ≡ option_map place_in (slice_get laid i)
+pub place_of : (x : Source) (laid : List LaidStatement) → IsSource x laid → (i : ℕ) → both (slice_get x.unit.now.places.items i) (slice_get (offsets_of x.items.now) i) ≡ option_map place_in (slice_get laid i)
 place_of x laid h i =
-    sym (pairs laid x.unit.now.places.items x.offsets.now
+    sym (pairs laid x.unit.now.places.items (offsets_of x.items.now)
     (sym (map_twice (λ (s : LaidStatement). s.located) (λ (l : Located). l.section) laid) ∙ ap (map (λ (l : Located). l.section)) h.located
     ∙ sections_are 1 (at_start (said x.unit.now)) (said x.unit.now) ∙ ap (map (λ (p : Standing). p.section)) (sym h.filled.stand)
     ∙ map_twice offset_of (λ (p : Standing). p.section) x.unit.now.places.items) h.at i)
@@ -139,6 +137,18 @@ none_at [] (suc k) past = refl
 none_at (x ∷ xs) zero past = absurd (omega arith)
 none_at (x ∷ xs) (suc k) past = none_at xs k (omega arith)
 
+-- the offsets up to one more are low
+pub low_more : (laid : List LaidStatement) (i : ℕ) → ((j : ℕ) (s : LaidStatement) → j < i → slice_get laid j ≡ Some s → s.offset < 2 ^ 64) → ((s : LaidStatement) → slice_get laid i ≡ Some s → s.offset < 2 ^ 64)
+    → (j : ℕ) (s : LaidStatement) → j < i + 1 → slice_get laid j ≡ Some s → s.offset < 2 ^ 64
+low_more laid i before here j s below at = go (nat_lt j i) refl
+  where
+    go : (b : Bool) → nat_lt j i ≡ b → s.offset < 2 ^ 64
+    go true e = before j s (ltb-true j i e) at
+    go false e =
+        let past : i ≤ j = ltb-false j i e in
+        let same : i ≡ j = omega (arith, past, below) in
+        here s (ap (slice_get laid) same ∙ at)
+
 -- what a look-up gives
 pub got : {X : Type 0} (r : Option (Bor X)) (xs : List X) (k : ℕ) → is_some r ≡ nat_lt k (length xs) → IfSome r (λ x. x.now ≡ slice_index_or xs k x.now) → option_copied r ≡ slice_get xs k
 got None xs k found is = sym (none_at xs k (ltb-false k (length xs) (sym found)))
@@ -156,20 +166,13 @@ after_none None plus e = refl
 after_none (Some s) plus e = absurd (cc)
 
 -- what the statement at an index says, by the code's statement
-pub kind_at : (x : Source) (laid : List LaidStatement) → IsSource x laid → (i : ℕ) (s : LaidStatement) → slice_get laid i ≡ Some s → (y : DeclaredStatement) → i < length x.unit.now.statements.items
-    → y ≡ slice_index_or x.unit.now.statements.items i y → (statement_of y).kind ≡ s.located.kind
-kind_at x laid h i s e y inside is =
-    let at : slice_get x.unit.now.statements.items i ≡ Some y = some_at x.unit.now.statements.items i y inside ∙ ap Some (sym is) in
-    let same : Some (statement_of y).kind ≡ Some s.located.kind =
-    ap (λ o. option_map (λ (z : Statement). z.kind) (option_map statement_of o)) (sym at) ∙ ap (option_map (λ (z : Statement). z.kind)) (sym (got_map statement_of x.unit.now.statements.items i)) ∙ kind_is x laid h i s e in
+pub kind_at : (x : Source) (laid : List LaidStatement) → IsSource x laid → (i : ℕ) (s : LaidStatement) → slice_get laid i ≡ Some s → (y : Statement) → slice_get (said x.unit.now) i ≡ Some y → y.kind ≡ s.located.kind
+kind_at x laid h i s e y at =
+    let same : Some y.kind ≡ Some s.located.kind = ap (option_map (λ (z : Statement). z.kind)) (sym at) ∙ kind_is x laid h i s e in
     cc
 
-pub laid_inside : (x : Source) (laid : List LaidStatement) → IsSource x laid → (i : ℕ) → i < length x.unit.now.statements.items → i < length laid
-laid_inside x laid h i inside = subst (λ n. i < n) (sym (length-map x.unit.now.statements.items statement_of) ∙ sym (count_is x laid h)) inside
+pub laid_inside : (x : Source) (laid : List LaidStatement) → IsSource x laid → (i : ℕ) → i < length (said x.unit.now) → i < length laid
+laid_inside x laid h i inside = subst (λ n. i < n) (sym (count_is x laid h)) inside
 
-pub laid_past : (x : Source) (laid : List LaidStatement) → IsSource x laid → (i : ℕ) → length x.unit.now.statements.items ≤ i → drop i laid ≡ []
-laid_past x laid h i past = at_drop_all (λ l. l) laid i (subst (λ n. n ≤ i) (sym (length-map x.unit.now.statements.items statement_of) ∙ sym (count_is x laid h)) past)
-
-pub said_at : (u : SourceUnit) (i : ℕ) (y : DeclaredStatement) → i < length u.statements.items → y ≡ slice_index_or u.statements.items i y → slice_get (said u) i ≡ Some (statement_of y)
-said_at u i y inside is =
-    got_map statement_of u.statements.items i ∙ ap (option_map statement_of) (some_at u.statements.items i y inside ∙ ap Some (sym is))
+pub laid_past : (x : Source) (laid : List LaidStatement) → IsSource x laid → (i : ℕ) → length (said x.unit.now) ≤ i → drop i laid ≡ []
+laid_past x laid h i past = at_drop_all (λ l. l) laid i (subst (λ n. n ≤ i) (sym (count_is x laid h)) past)

@@ -2,7 +2,7 @@
 //!
 //! One pass over the statements finds both, so that a name is asked for its binding once.
 
-ghost use Rattle.std.specs.Prelude.{◌≡◌, ◌<◌, ◌≤◌, ◌+◌, ◌*◌, ◌++◌, ◌&&◌, ◌||◌, ℕ, List, [], ◌∷◌, Some, true, not, length, map, slice_get, if◌then◌else◌, IfOk, OnOk};
+ghost use Rattle.std.specs.Prelude.{◌≡◌, ◌<◌, ◌≤◌, ◌+◌, ◌*◌, ◌^◌, ◌++◌, ◌&&◌, ◌||◌, ℕ, List, [], ◌∷◌, Some, true, not, length, map, slice_get, if◌then◌else◌, IfOk, OnOk};
 ghost use Rattle.std.specs.HashSet.{contains};
 ghost use Rattle.rv_statement.specs.View.{statement_of};
 ghost use Rattle.rv_unit.specs.Unit.{said};
@@ -18,7 +18,7 @@ ghost use Rattle.rv_symbols.specs.Found.{is_number, same_place, AreMarks};
 
 use crate::source::Source;
 use rv_object::{Binding, Definition, Symbol};
-use rv_statement::Statement;
+use rv_statement::{Statement, Statements};
 use std::alloc::{AllocError, Global};
 use std::collections::HashSet;
 
@@ -85,7 +85,7 @@ fn put_name<'a>(
     index: usize,
     statement: &Statement<'a>,
 ) -> Result<(), AllocError>
-    requires inside { index < length (source.now).offsets.now }
+    requires next { index + 1 < 2 ^ 64 }
     requires shown { are_shown (said_names (statement_of statement.now).kind) ≡ true }
     ensures symbols { OnOk result ((laid : List LaidStatement) (s : LaidStatement)
         → IsSource source.now laid
@@ -137,7 +137,7 @@ fn put_both<'a>(
     statement: &Statement<'a>,
     meant: bool,
 ) -> Result<(), AllocError>
-    requires inside { index < length (source.now).offsets.now }
+    requires next { index + 1 < 2 ^ 64 }
     requires shown { are_shown (said_names (statement_of statement.now).kind) ≡ true }
     ensures symbols { OnOk result ((laid : List LaidStatement) (s : LaidStatement)
         → IsSource source.now laid
@@ -157,6 +157,9 @@ fn put_both<'a>(
         → IsSource source.now laid
         → slice_get laid index ≡ Some s → (q : ℕ × ℕ) → contains same_place seen.new q
         ≡ (contains same_place seen.old q || meant && same_place (place_in s) q)) }
+    ensures low { OnOk result ((laid : List LaidStatement) (s : LaidStatement)
+        → IsSource source.now laid
+        → slice_get laid index ≡ Some s → s.offset < 2 ^ 64) }
 {
     put_unnamed(symbols, seen, source.here(index), meant)?;
     put_name(symbols, exported, source, index, statement)?;
@@ -170,7 +173,6 @@ pub(crate) fn own_symbols<'a>(
     source: &Source<'_, 'a>,
     meant: &[bool],
 ) -> Result<Vec<Symbol<'a>>, AllocError>
-    requires each { length (source.now).offsets.now ≡ length (said (source.now).unit.now) }
     requires marks { length meant.now ≡ length (said (source.now).unit.now) }
     requires names { HasNames (said (source.now).unit.now) }
     ensures few { IfOk result (λ x. length x.items ≤ 3 * length meant.now) }
@@ -178,11 +180,14 @@ pub(crate) fn own_symbols<'a>(
         → AreMarks (tables_of source.now) (references (tables_of source.now) laid) meant.now
         (length meant.now)
         → map symbol_of x.items ≡ own_in (tables_of source.now) laid) }
+    ensures low { IfOk result (λ _. (laid : List LaidStatement) → IsSource source.now laid
+        → (i : ℕ) (s : LaidStatement) → slice_get laid i ≡ Some s → s.offset < 2 ^ 64) }
 {
     let statements = source.unit.statements();
     let mut symbols = Vec::new(alloc);
     let mut exported = Vec::new(alloc);
     let mut seen = HashSet::new(alloc);
+    let mut room = Statements::room();
     for i in 0..statements.len() {
         put_both(
             &mut symbols,
@@ -190,7 +195,7 @@ pub(crate) fn own_symbols<'a>(
             &mut seen,
             source,
             i,
-            &statements[i],
+            (&*statements).read(i, &mut room),
             meant[i],
         )?;
     }

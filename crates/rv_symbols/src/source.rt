@@ -1,6 +1,6 @@
 //! A source's names, and where its statements stand.
 
-ghost use Rattle.std.specs.Prelude.{◌≡◌, ◌+◌, ◌<◌, Some, List, [], ◌∷◌, length, slice_get, option_map, if◌then◌else◌, true, IfOk, IfSome};
+ghost use Rattle.std.specs.Prelude.{◌≡◌, ◌+◌, ◌^◌, ◌<◌, Some, List, [], ◌∷◌, slice_get, option_map, if◌then◌else◌, true, IfOk, IfSome};
 ghost use Rattle.rv_statement.specs.View.{statement_of};
 ghost use Rattle.rv_unit_laws.specs.Bindings.{is_shared};
 ghost use Rattle.rv_unit_laws.specs.Tables.{tables, assigned_ever};
@@ -18,15 +18,15 @@ use crate::settings::FirstSettings;
 use rv_object::{Binding as ObjectBinding, Definition};
 use rv_statement::{Statement, StatementKind};
 use rv_text::Meaning;
-use rv_unit::{Assignment, Binding, Unit};
+use rv_unit::{Assignment, Binding, Item, Unit};
 use std::alloc::{AllocError, Global};
 
 /// A source: its unit says what its names are; and where its statements stand.
 #[derive(Drop)]
 pub(crate) struct Source<'u, 'a> {
     pub(crate) unit: &'u Unit<'a>,
-    /// The offset of each statement in its section.
-    pub(crate) offsets: &'u [u32],
+    /// Where each statement stands in its section.
+    pub(crate) items: &'u [Item],
     /// Where `.set` gives names first.
     pub(crate) firsts: FirstSettings<'a>,
 }
@@ -34,21 +34,21 @@ pub(crate) struct Source<'u, 'a> {
 impl<'u, 'a> Source<'u, 'a> {
     ghost use Rattle.rv_symbols.specs.Source.{name_in, tables_of, place_in, IsSource};
 
-    /// A source whose statements stand at these offsets.
+    /// A source whose statements stand at the offsets of these items.
     pub(crate) fn of(
         alloc: Global,
         unit: &'u Unit<'a>,
-        offsets: &'u [u32],
+        items: &'u [Item],
     ) -> Result<Self, AllocError>
         ensures unit { IfOk result (λ x. x.unit.now ≡ unit.now) }
-        ensures offsets { IfOk result (λ x. x.offsets.now ≡ offsets.now) }
+        ensures items { IfOk result (λ x. x.items.now ≡ items.now) }
         ensures firsts { IfOk result (λ x. IsFilled unit.now
             → AreFirsts x.firsts.ordinals (tables (said unit.now)).assignments) }
     {
         let firsts = FirstSettings::of(alloc, unit.assignments())?;
         Ok(Source {
             unit,
-            offsets,
+            items,
             firsts,
         })
     }
@@ -76,7 +76,7 @@ impl<'u, 'a> Source<'u, 'a> {
 
     /// The name that the statement at this index defines.
     pub(crate) fn defined<'s>(&self, index: usize, statement: &Statement<'s>) -> Option<&'s [u8]>
-        requires { index < length (self.now).offsets.now }
+        requires { index + 1 < 2 ^ 64 }
         ensures name { (laid : List LaidStatement) → IsSource self.now laid
             → name_in result
             ≡ defined_name (tables_of self.now) (index + 1) (statement_of statement.now).kind }
@@ -92,7 +92,7 @@ impl<'u, 'a> Source<'u, 'a> {
 
     /// The name, where the statement at this index is the first that gives it.
     fn first_set<'s>(&self, index: usize, name: &'s [u8]) -> Option<&'s [u8]>
-        requires { index < length (self.now).offsets.now }
+        requires { index + 1 < 2 ^ 64 }
         ensures same { IfSome result (λ n. n.now ≡ name.now) }
         ensures name { (laid : List LaidStatement) → IsSource self.now laid
             → name_in result
@@ -114,10 +114,10 @@ impl<'u, 'a> Source<'u, 'a> {
         let Some(place) = self.unit.places().get(index) else {
             return None;
         };
-        let Some(offset) = self.offsets.get(index) else {
+        let Some(item) = self.items.get(index) else {
             return None;
         };
-        Some((place.section, u64::from(*offset)))
+        Some((place.section, u64::from(item.offset)))
     }
 
     /// The section and the offset of the statement at this index.

@@ -7,7 +7,7 @@
 use rv_lexer::SourceFault;
 use rv_map::{Map, Region, Row};
 use rv_parse::parse;
-use rv_statement::StatementKind;
+use rv_statement::{StatementKind, Statements};
 use std::alloc::{AllocError, Global};
 
 /// A source: its name, as the words of the command line have it, and its text.
@@ -140,7 +140,9 @@ impl<'a> Places<'a> {
         let statements = parse(alloc, text)?;
         let mut waiting: Vec<&'a [u8]> = Vec::new(alloc);
         let mut ordinal: u64 = 0;
-        for statement in &statements {
+        let mut room = Statements::room();
+        for index in 0..statements.len() {
+            let statement = statements.read(index, &mut room);
             ordinal = ordinal.saturating_add(1);
             self.add_label(map, &statement.kind, ordinal, &mut waiting)?;
         }

@@ -1,21 +1,13 @@
 -- The first fault, statement by statement.
 
-use Rattle.std.proofs.Common.{◌≡◌, ℕ, suc, ◌+◌, ◌<◌, ◌≤◌, List, ◌∷◌, length, map, drop, get_or, sym, ap, subst, ◌∙◌, arith, Option, Some, None, option_map}
+use Rattle.std.proofs.Common.{◌≡◌, ℕ, suc, ◌+◌, List, ◌∷◌, drop, sym, ap, ◌∙◌, arith, Option, Some, None, option_map}
 use Rattle.rv_lexer.specs.declared.fault.SourceCode.{SourceCode}
 use Rattle.rv_lexer.specs.Fault.{number_of, IsLowest}
-use Rattle.rv_statement.specs.declared.statement.Statement.{Statement}
-use Rattle.rv_statement.specs.View.{statement_of}
 use Rattle.rv_statement.specs.Statement.{Statement as SpecStatement}
 use Rattle.rv_unit_laws.specs.Tables.{after, tables}
 use Rattle.rv_text_laws.specs.Codes.{lowest}
 use Rattle.rv_unit_laws.specs.Faults.{faults, at_line, first_fault_from}
-use Rattle.rv_unit_tables.proofs.FillingLemmas.{drop_next}
-use Rattle.std.specs.Prelude.{slice_get}
-use Rattle.std.proofs.lemmas.List.{length-map}
-use Rattle.std.proofs.lemmas.Option.{slice_get-map, slice_get-get_or}
-use Rattle.rv_statement.specs.Limits.{most_statements}
-use Rattle.rv_unit.specs.declared.unit.Unit.{Unit as SourceUnit}
-use Rattle.rv_unit.specs.Unit.{said, passed}
+use Rattle.rv_unit.specs.Unit.{passed}
 
 -- a statement without a fault is passed over
 pub check_more : (ss : List SpecStatement) (i : ℕ) (x : SpecStatement) → drop i ss ≡ x ∷ drop (i + 1) ss → lowest (faults (tables ss) (passed ss i) (i + 1) x.kind) ≡ None → passed ss (i + 1) ≡ after (passed ss i) (i + 1) x.kind
@@ -37,15 +29,3 @@ check_found ss i code x next found =
 pub check_lowest : (ss : List SpecStatement) (i : ℕ) (x : SpecStatement) (found same : Option SourceCode) → IsLowest found (faults (tables ss) (passed ss i) (i + 1) x.kind) → found ≡ same
     → lowest (faults (tables ss) (passed ss i) (i + 1) x.kind) ≡ option_map number_of same
 check_lowest ss i x found same low at = sym low ∙ ap (option_map number_of) at
-
--- the next statement
-pub next_said : (xs : List Statement) (i : ℕ) (x : Statement) → i < length xs → x ≡ get_or xs i x → drop i (map statement_of xs) ≡ statement_of x ∷ drop (i + 1) (map statement_of xs)
-next_said xs i x inside is = drop_next statement_of x xs i inside ∙ ap (λ y. statement_of y ∷ drop (i + 1) (map statement_of xs)) (sym is)
-
--- the statements of a unit are no more than a source may have
-pub few_said : (u : SourceUnit) → length (said u) ≤ most_statements
-few_said u = subst (λ n. n ≤ most_statements) (sym (length-map u.statements.items statement_of)) u.few
-
--- a statement of the list, as it is said
-pub said_past : (xs : List Statement) (n : ℕ) (x : Statement) → n < length xs → x ≡ get_or xs n x → slice_get (map statement_of xs) n ≡ Some (statement_of x)
-said_past xs n x inside is = slice_get-map statement_of xs n ∙ ap (option_map statement_of) (slice_get-get_or xs n x inside ∙ ap Some (sym is))

@@ -1,16 +1,13 @@
 -- What names mean and where they stand, in a statement of a unit.
 
-use Rattle.std.proofs.Common.{◌≡◌, ℕ, ◌+◌, ◌<◌, ◌≤◌, ◌==◌, ◌&&◌, false, true, List, length, map, take, drop, get_or, nat_lt, refl, sym, ap, ◌∙◌, subst, Option, Some, None}
+use Rattle.std.proofs.Common.{◌≡◌, ℕ, ◌+◌, ◌<◌, ◌≤◌, ◌==◌, ◌&&◌, false, true, List, length, take, drop, nat_lt, refl, sym, ap, ◌∙◌, subst, Option, Some, None}
 use Rattle.std.specs.Borrow.{Bor}
 use Rattle.std.specs.Str.{bytes_eq}
 use Rattle.std.proofs.lemmas.Bool.{ltb-true}
-use Rattle.std.proofs.lemmas.List.{get_or-map, length-map}
 use Rattle.rv_text_laws.specs.Bytes.{value as digits_value}
 use Rattle.rv_text_laws.specs.Expression.{Symbol, Here, Reference}
 use Rattle.rv_text_laws.specs.Values.{Open, Refused}
 use Rattle.rv_statement.specs.Statement.{Statement as SpecStatement}
-use Rattle.rv_statement.specs.declared.statement.Statement.{Statement}
-use Rattle.rv_statement.specs.View.{statement_of}
 use Rattle.rv_text.specs.declared.node.Symbol.{Symbol as Written}
 use Rattle.rv_text.specs.declared.node.Symbol.TheVariants as symbols
 use Rattle.rv_text.specs.Nodes.{symbol_of}
@@ -91,9 +88,3 @@ past_symbol ss i p (symbols.Forward digits) within inside apart = absurd (apart 
 -- where the next statement stands is in a section that is open
 pub here_inside : (ss : List SpecStatement) (i : ℕ) (p : laws.SectionOffset) → p ≡ laws.here (passed ss i) → p.section < length (laws.opened_of (passed ss i)).sections
 here_inside ss i p is = subst (λ (q : laws.SectionOffset). q.section < length (laws.opened_of (passed ss i)).sections) (sym is) (open_inside (laws.opened_of (passed ss i)) (passed_stood ss i).opened)
-
--- a statement of a list, as it is said
-pub said_at : (xs : List Statement) (i k : ℕ) (x : Statement) → i < length (map statement_of xs) → k ≡ i → x ≡ get_or xs k x → get_or (map statement_of xs) i (statement_of x) ≡ statement_of x
-said_at xs i k x inside same is =
-    let long : i < length xs = subst (λ n. i < n) (length-map xs statement_of) inside in
-    get_or-map statement_of xs i x (statement_of x) long ∙ ap (λ n. statement_of (get_or xs n x)) (sym same) ∙ ap statement_of (sym is)

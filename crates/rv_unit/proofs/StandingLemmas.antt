@@ -1,11 +1,10 @@
 -- The statement at an index, by the tables of the whole source.
 
 use Rattle.std.proofs.Common.{◌≡◌, ℕ, ◌+◌, ◌<◌, ◌≤◌, Bool, ◌&&◌, ◌||◌, false, List, length, drop, get_or, nat_lt, refl, sym, ap, ◌∙◌, subst, arith, Some}
-use Rattle.std.specs.Prelude.{not, is_some, if◌then◌else◌}
+use Rattle.std.specs.Prelude.{not, is_some, slice_get, if◌then◌else◌}
 use Rattle.std.proofs.lemmas.List.{get_or-map, length-map}
+use Rattle.std.proofs.lemmas.Option.{slice_get_within, get_or_from_slice_get}
 use Rattle.rv_statement.specs.Statement.{StatementKind, Statement as SpecStatement}
-use Rattle.rv_statement.specs.declared.statement.Statement.{Statement}
-use Rattle.rv_statement.specs.View.{statement_of}
 use Rattle.rv_unit_laws.specs.Sections.{Section, place_of_name, most_sections, section_at, current_section}
 use Rattle.rv_unit_laws.specs.Tables as laws
 use Rattle.rv_unit_laws.specs.Tables.{gives_location}
@@ -18,7 +17,7 @@ use Rattle.rv_unit_tables.specs.Tables.{tables_of}
 use Rattle.rv_unit.specs.declared.unit.Unit.{Unit as SourceUnit}
 use Rattle.rv_unit.specs.Unit.{said, passed, IsStatementOf, IsFilled}
 use Rattle.rv_unit.proofs.PassedLemmas.{passed_before, passed_keeps, passed_rest, passed_more}
-use Rattle.rv_unit.proofs.ScopedLemmas.{passed_stood, said_at}
+use Rattle.rv_unit.proofs.ScopedLemmas.{passed_stood}
 
 within : (u : SourceUnit) (i o : ℕ) (p : SectionOffset) (kind : StatementKind) → IsStatementOf u i o p kind → i ≤ length (said u)
 within u i o p kind at = let l : i < length (said u) = at.within in omega (arith, l)
@@ -69,34 +68,33 @@ at_limit u i section f inside is =
     ∙ too_many (passed ss i) (passed ss (i + 1)) (i + 1 + 1) (drop (i + 1) ss) section is
 
 -- each statement has a place
-pub places_count : (u : SourceUnit) → IsFilled u → length u.places.items ≡ length u.statements.items
-places_count u f = sym (length-map u.places.items offset_of) ∙ ap length f.stand ∙ places_length (laws.at_start (said u)) 1 (said u) ∙ length-map u.statements.items statement_of
+pub places_count : (u : SourceUnit) → IsFilled u → length u.places.items ≡ length (said u)
+places_count u f = sym (length-map u.places.items offset_of) ∙ ap length f.stand ∙ places_length (laws.at_start (said u)) 1 (said u)
 
 -- a unit's statement and place at an index
-pub is_at : (u : SourceUnit) (i : ℕ) (x : Statement) (p d : SectionOffset) → IsFilled u → i < length u.statements.items → x ≡ get_or u.statements.items i x → p ≡ get_or u.places.items i d
-    → IsStatementOf u i (i + 1) p (statement_of x).kind
-is_at u i x p d f inside is at = record {
+pub is_at : (u : SourceUnit) (i : ℕ) (s : SpecStatement) (p d : SectionOffset) → IsFilled u → slice_get (said u) i ≡ Some s → p ≡ get_or u.places.items i d → IsStatementOf u i (i + 1) p s.kind
+is_at u i s p d f listed at = record {
   filled = f;
   within = below;
   ordinal = refl;
   place = ap offset_of at ∙ sym (get_or-map offset_of u.places.items i d (offset_of d) seated) ∙ ap (λ l. get_or l i (offset_of d)) f.stand
-      ∙ place_at (laws.at_start ss) 1 ss i (offset_of d) (statement_of x) below
+      ∙ place_at (laws.at_start ss) 1 ss i (offset_of d) s below
       ∙ ap (λ (y : SpecStatement). laws.stood (passed ss i) (1 + i) y.kind) here
-      ∙ ap (λ n. laws.stood (passed ss i) n (statement_of x).kind) (let e : 1 + i ≡ i + 1 = omega arith in e);
-  more = passed_more ss i (statement_of x) below ∙ ap (λ (y : SpecStatement). laws.after (passed ss i) (i + 1) y.kind) here;
+      ∙ ap (λ n. laws.stood (passed ss i) n s.kind) (let e : 1 + i ≡ i + 1 = omega arith in e);
+  more = passed_more ss i s below ∙ ap (λ (y : SpecStatement). laws.after (passed ss i) (i + 1) y.kind) here;
 }
   where
     ss : List SpecStatement
     ss = said u
 
     below : i < length (said u)
-    below = subst (λ n. i < n) (sym (length-map u.statements.items statement_of)) inside
+    below = slice_get_within (said u) i s listed
 
     seated : i < length u.places.items
-    seated = subst (λ n. i < n) (sym (places_count u f)) inside
+    seated = subst (λ n. i < n) (sym (places_count u f)) below
 
-    here : get_or (said u) i (statement_of x) ≡ statement_of x
-    here = said_at u.statements.items i i x below refl is
+    here : get_or (said u) i s ≡ s
+    here = get_or_from_slice_get (said u) i s s listed
 
 -- the depth of the option stack before the next statement
 pub depth_next : (u : SourceUnit) (i o : ℕ) (p : SectionOffset) (kind : StatementKind) (depth next : ℕ) → IsStatementOf u i o p kind → depth ≡ length (passed (said u) i).kept → next ≡ depth_after depth kind

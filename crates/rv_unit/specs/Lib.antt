@@ -1,3 +1,4 @@
 pub mod Faults
 pub mod Unit
 pub mod FaultsAt
+pub mod Items

@@ -7,7 +7,7 @@ use Rattle.rv_lexer.specs.declared.fault.SourceCode.{SourceCode}
 use Rattle.rv_lexer.specs.Fault.{number_of}
 use Rattle.rv_unit_laws.specs.Faults.{StatementFault, first_fault}
 use Rattle.rv_statement.specs.Statement.{Statement, StatementKind}
-use Rattle.rv_statement.specs.View.{statement_of}
+use Rattle.rv_statement.specs.Statements.{statements_of}
 use Rattle.rv_unit_laws.specs.Tables as laws
 use Rattle.rv_unit_tables.specs.declared.section_offset.Definition.{Definition}
 use Rattle.rv_unit_tables.specs.declared.section_offset.SectionOffset.{SectionOffset}
@@ -22,7 +22,7 @@ definition_of h = record { ordinal = h.ordinal; plus = h.plus }
 
 -- the statements of a unit
 abbrev pub said : SourceUnit → List Statement
-said u = map statement_of u.statements.items
+said u = statements_of u.statements
 
 -- a unit with the offsets and the options of its statements and their tables
 pub record IsFilled (u : SourceUnit) : Type 0 where

@@ -23,7 +23,7 @@ use crate::faults::{
     is_difference, lower, power_fault, set_fault, value_fault, zero_fault,
 };
 use crate::unit::Unit;
-use rv_statement::{Choice, Setting, StatementKind, Width};
+use rv_statement::{Choice, Setting, StatementKind, Statements, Width};
 use rv_text::{Expr, SourceCode};
 use rv_unit_tables::{
     Section, SectionOffset, byte_alignment, power_alignment, strings_size, values_size,
@@ -340,8 +340,9 @@ impl<'a> Unit<'a> {
         let places = self.places();
         let mut labels: usize = 0;
         let mut depth: usize = 0;
+        let mut room = Statements::room();
         for index in 0..statements.len() {
-            let statement = &statements[index];
+            let statement = (&*statements).read(index, &mut room);
             let place = places[index];
             match self.fault(ordinal_of(index), place, labels, depth, &statement.kind) {
                 Some(code) => return Some((code, statement.line)),

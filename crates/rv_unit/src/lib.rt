@@ -4,7 +4,8 @@
 //! faulty label, directive or misplaced instruction: clauses `good` and `refuses` of its contract say that it refuses
 //! exactly the sources for which `rv_unit_laws`'s `first_fault` finds one, and names that. `Scope` goes over the
 //! statements one by one and tells what a name means in each (`meaning`, `value`) and where it is defined (`definition`);
-//! `Unit::options_at` gives the options of `.option` in which each stands.
+//! `Unit::options_at` gives the options of `.option` in which each stands. An [`Item`] is where a statement stands in an
+//! object.
 //!
 //! It knows no text, no instruction, no address and no other source.
 //!
@@ -21,10 +22,12 @@
 
 mod check;
 mod faults;
+mod item;
 mod names;
 mod scope;
 mod unit;
 
+pub use item::Item;
 pub use rv_unit_tables::{
     Assignment, Binding, Definition, Extent, LONGEST_SECTION, Options, Section, SectionOffset,
     SectionType, byte_alignment, padding, power_alignment, strings_size, values_size,

@@ -1,15 +1,15 @@
 //! A source's statements with what they define.
 
-ghost use Rattle.std.specs.Prelude.{◌≡◌, ◌<◌, ◌≤◌, Some, None, length, map, option_map, IfOk, IfErr, IfSome, IfNone};
+ghost use Rattle.std.specs.Prelude.{◌≡◌, ◌<◌, ◌≤◌, Some, None, length, option_map, IfOk, IfErr, IfSome, IfNone};
 ghost use Rattle.rv_text_laws.specs.Codes.{limit};
 ghost use Rattle.rv_statement.specs.Limits.{most_statements};
-ghost use Rattle.rv_statement.specs.View.{statement_of};
+ghost use Rattle.rv_statement.specs.Statements.{statements_of};
 ghost use Rattle.rv_unit_laws.specs.Faults.{first_fault};
 ghost use Rattle.rv_unit_laws.specs.Tables.{tables, assigned_ever};
 ghost use Rattle.rv_unit_tables.specs.Options.{options_of};
 ghost use Rattle.rv_unit_tables.specs.Tables.{tables_of, assignment_of};
 
-use rv_statement::{MOST_STATEMENTS, Statement};
+use rv_statement::{MOST_STATEMENTS, Statements};
 use rv_text::{SourceCode, SourceFault};
 use rv_unit_tables::{Assignment, Binding, Extent, Options, SectionOffset, Tables};
 use std::alloc::{AllocError, Global};
@@ -17,25 +17,26 @@ use std::alloc::{AllocError, Global};
 /// A source's statements, where and in which options they stand, its sections and its names.
 #[derive(Drop)]
 pub struct Unit<'a> {
-    pub(crate) statements: Vec<Statement<'a>>,
+    pub(crate) statements: Statements<'a>,
     pub(crate) places: Vec<SectionOffset>,
     pub(crate) options: Vec<Options>,
     pub(crate) tables: Tables<'a>,
     /// No more than a source may have.
-    pub ghost few: { length statements.items ≤ most_statements },
+    pub ghost few: { length (statements_of statements) ≤ most_statements },
 }
 
 /// The line of the first statement that is too many.
-fn line_past_most(statements: &[Statement<'_>]) -> Option<u32>
+fn line_past_most(statements: &Statements<'_>) -> Option<u32>
     ensures past { IfSome result
-        (λ line. first_fault (map statement_of statements.now)
+        (λ line. first_fault (statements_of statements.now)
         ≡ Some (record { code = limit; line = line })) }
-    ensures few { IfNone result (length statements.now ≤ most_statements) }
+    ensures few { IfNone result (length (statements_of statements.now) ≤ most_statements) }
 {
     if statements.len() <= MOST_STATEMENTS {
         return None;
     }
-    Some(statements[MOST_STATEMENTS].line)
+    let mut room = Statements::room();
+    Some((&*statements).read(MOST_STATEMENTS, &mut room).line)
 }
 
 impl<'a> Unit<'a> {
@@ -43,12 +44,12 @@ impl<'a> Unit<'a> {
 
     /// The statements with their offsets, their sections and their names; or that there are too many of them, or the
     /// first faulty label or directive, or instruction outside code, at the line of its statement.
-    pub fn build(alloc: Global, statements: Vec<Statement<'a>>) -> Result<Unit<'a>, SourceFault>
+    pub fn build(alloc: Global, statements: Statements<'a>) -> Result<Unit<'a>, SourceFault>
         ensures filled { IfOk result (λ u. IsFilled u) }
         ensures same { IfOk result (λ u. u.statements ≡ statements.entry) }
         ensures good { IfOk result (λ u. first_fault (said u) ≡ None) }
         ensures refuses { IfErr result
-            (λ e. NamesFirst e (map statement_of (statements.entry).items)) }
+            (λ e. NamesFirst e (statements_of statements.entry)) }
     {
         if let Some(line) = line_past_most(&statements) {
             return Err(SourceFault::At {
@@ -64,8 +65,8 @@ impl<'a> Unit<'a> {
     }
 
     /// The statements with their offsets, their sections and their names.
-    fn fill(alloc: Global, statements: Vec<Statement<'a>>) -> Result<Unit<'a>, AllocError>
-        requires { length statements.items ≤ most_statements }
+    fn fill(alloc: Global, statements: Statements<'a>) -> Result<Unit<'a>, AllocError>
+        requires { length (statements_of statements) ≤ most_statements }
         ensures filled { IfOk result (λ u. IsFilled u) }
         ensures same { IfOk result (λ u. u.statements ≡ statements.entry) }
     {
@@ -80,10 +81,10 @@ impl<'a> Unit<'a> {
     }
 
     /// The statements.
-    pub fn statements(&self) -> &[Statement<'a>]
-        ensures { result.now ≡ (self.now).statements.items }
+    pub fn statements(&self) -> &Statements<'a>
+        ensures { result.now ≡ (self.now).statements }
     {
-        self.statements.as_slice()
+        &self.statements
     }
 
     /// The section and the offset of each statement.

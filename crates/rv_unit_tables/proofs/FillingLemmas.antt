@@ -1,8 +1,6 @@
 -- Tables that are filled statement by statement.
 
-use Rattle.std.proofs.Common.{◌≡◌, ℕ, suc, ◌+◌, ◌<◌, List, [], ◌∷◌, ◌++◌, length, map, drop, get_or, refl, sym, ap, ◌∙◌, subst, arith, append_assoc, append-nil}
-use Rattle.std.specs.List.{drop-map}
-use Rattle.std.proofs.Math.Seq.{drop-cons}
+use Rattle.std.proofs.Common.{◌≡◌, ℕ, suc, ◌+◌, List, [], ◌∷◌, ◌++◌, refl, sym, ap, ◌∙◌, subst, arith, append_assoc, append-nil}
 use Rattle.rv_statement.specs.Statement.{Statement}
 use Rattle.rv_unit_laws.specs.Options.{Options}
 use Rattle.rv_unit_laws.specs.Tables.{Tables, SectionOffset, at_start, after, after_all, tables, stood, places, places_from, options_from, all_options}
@@ -49,9 +47,3 @@ options_more t u done s rest more all so_far new whole is changed added =
 
 pub options_whole : (t : Tables) (done : ℕ) (rest all : List Statement) (so_far : List Options) → so_far ++ options_from t (done + 1) rest ≡ all_options all → rest ≡ [] → so_far ≡ all_options all
 options_whole t done rest all so_far whole is = sym (append-nil so_far) ∙ sym (ap (λ r. so_far ++ options_from t (done + 1) r) is) ∙ whole
-
--- the next of a list that was mapped
-pub drop_next : {A B : Type 0} (f : A → B) (d : A) (xs : List A) (i : ℕ) → i < length xs → drop i (map f xs) ≡ f (get_or xs i d) ∷ drop (i + 1) (map f xs)
-drop_next f d xs i h =
-    drop-map f i xs ∙ ap (λ r. map f r) (drop-cons xs i d h) ∙ ap (λ r. f (get_or xs i d) ∷ r) (sym (drop-map f (suc i) xs))
-    ∙ ap (λ n. f (get_or xs i d) ∷ drop n (map f xs)) (let e : suc i ≡ i + 1 = omega arith in e)

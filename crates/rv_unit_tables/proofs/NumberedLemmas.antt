@@ -1,14 +1,15 @@
 -- Numeric labels by their numbers, and in the order of their ordinals: one more, and what is found.
 
-use Rattle.std.proofs.Common.{◌≡◌, ℕ, ◌-◌, ◌<◌, Bool, true, false, cond, ◌&&◌, ◌==◌, nat_lt, List, [], ◌∷◌, ◌++◌, length, map, filter, refl, sym, ap, ◌∙◌, arith, Option, Some, option_map}
-use Rattle.std.specs.Prelude.{reverse, slice_get, if◌then◌else◌}
-use Rattle.std.specs.Option.{option_map_or, option_or}
-use Rattle.std.specs.declared.vec.Vec.{Vec}
+use Rattle.std.proofs.Common.{◌≡◌, ℕ, suc, ◌+◌, ◌-◌, ◌<◌, ◌≤◌, Bool, true, false, cond, ◌&&◌, ◌==◌, nat_lt, List, [], ◌∷◌, ◌++◌, length, map, filter, refl, sym, ap, ◌∙◌, arith, Option, Some, option_map}
+use Rattle.std.specs.Prelude.{reverse, slice_get, unwrap_or, if◌then◌else◌}
+use Rattle.std.specs.Option.{option_copied}
+use Rattle.std.specs.Borrow.{Bor}
 use Rattle.std.specs.List.{find, list_all}
 use Rattle.std.specs.List.Sorted.{IsNonDecreasingBy}
 use Rattle.std.specs.Map.{lookup}
 use Rattle.std.proofs.lemmas.Bool.{eqb-true, eq-eqb, ltb-true, le-ltb, and_parts}
-use Rattle.std.proofs.lemmas.List.{map-append, reverse-append, reverse-reverse}
+use Rattle.std.proofs.lemmas.List.{length-map, map-append, reverse-append, reverse-reverse}
+use Rattle.std.proofs.lemmas.Option.{slice_get-map}
 use Rattle.indexmap.specs.IndexMap.{insert_entry}
 use Rattle.rv_text_laws.specs.Bytes.{value}
 use Rattle.rv_unit_laws.specs.Tables as laws
@@ -16,7 +17,7 @@ use Rattle.rv_unit_laws.proofs.BeforeLemmas.{falls}
 use Rattle.rv_unit_tables.specs.declared.number.Number.{Number}
 use Rattle.rv_unit_tables.specs.declared.tables.NumericLabel.{NumericLabel}
 use Rattle.rv_unit_tables.specs.Tables.{numeric_label_at, numeric_labels_of, put_in_order, put_all_in_order, numeric_labels_in}
-use Rattle.rv_unit_tables.proofs.OrderedLemmas.{last_more, filter_reversed, map_reversed, rises_of, all_kept, rising, or_map}
+use Rattle.rv_unit_tables.proofs.OrderedLemmas.{from_back, filter_reversed, map_reversed, rises_of, all_kept, rising}
 
 -- ---- those of a number, of which the latest is last, where all of them stand with the latest first
 
@@ -52,18 +53,8 @@ find_first {Y} q (y ∷ ys) = by (q y) (find_first q ys)
     by true rest = refl
     by false rest = rest
 
-first_or : {Y : Type 0} (ys : List Y) (z : Y) → slice_get (ys ++ z ∷ []) 0 ≡ option_or (slice_get ys 0) (Some z)
-first_or [] z = refl
-first_or (y ∷ ys) z = refl
-
 last_first : {X Y : Type 0} (g : X → Y) (xs : List X) → option_map g (slice_get xs (length xs - 1)) ≡ slice_get (reverse (map g xs)) 0
-last_first g [] = refl
-last_first g (x ∷ xs) =
-    ap (λ n. option_map g (slice_get (x ∷ xs) n)) (let e : length (x ∷ xs) - 1 ≡ length xs = omega arith in e)
-    ∙ ap (option_map g) (last_more x xs)
-    ∙ or_map g (slice_get xs (length xs - 1)) x
-    ∙ ap (λ o. option_or o (Some (g x))) (last_first g xs)
-    ∙ sym (ap (λ l. slice_get l 0) (reverse-append (g x ∷ []) (map g xs)) ∙ first_or (reverse (map g xs)) (g x))
+last_first g xs = sym (from_back (map g xs) ∙ ap (λ n. slice_get (map g xs) (n - 1)) (length-map xs g) ∙ slice_get-map g xs (length xs - 1))
 
 falls_kept : {Y : Type 0} (at : Y → ℕ) (q : Y → Bool) (ys : List Y) → falls at ys ≡ true → falls at (filter q ys) ≡ true
 falls_kept at q [] h = refl
@@ -148,14 +139,14 @@ put_latest x ms others h =
 abbrev pub same : Number → Number → Bool
 same a b = value 10 a.digits.now == value 10 b.digits.now
 
-pub added : {Z : Type 0} (es : List (Number × Vec NumericLabel Z)) (k : Number) (x : NumericLabel) (none some : Vec NumericLabel Z)
-    → some.items ≡ option_map_or (λ v. v.items) (lookup (same k) es) [] ++ x ∷ []
+pub added : (es : List (Number × List NumericLabel)) (k : Number) (x : NumericLabel) (none some : List NumericLabel)
+    → some ≡ unwrap_or (lookup (same k) es) [] ++ x ∷ []
     → list_all (λ (m : laws.NumericLabel). nat_lt m.ordinal x.ordinal) (numeric_labels_in es) ≡ true
     → numeric_labels_in (insert_entry same (insert_entry same es k none) k some) ≡ numeric_label_at (value 10 k.digits.now) x ∷ numeric_labels_in es
 added [] k x none some is h =
     ap (λ b. numeric_labels_in (if b then (k, some) ∷ [] else (k, none) ∷ (k, some) ∷ [])) (eq-eqb (value 10 k.digits.now) (value 10 k.digits.now) refl)
     ∙ ap (λ l. put_all_in_order (map (numeric_label_at (value 10 k.digits.now)) l) []) is
-added {Z} (e ∷ es) k x none some is h = by (same k e.0) refl (λ more. added es k x none some more both.1)
+added (e ∷ es) k x none some is h = by (same k e.0) refl (λ more. added es k x none some more both.1)
   where
     number : ℕ
     number = value 10 k.digits.now
@@ -170,19 +161,19 @@ added {Z} (e ∷ es) k x none some is h = by (same k e.0) refl (λ more. added e
     both = and_parts (list_all (earlier x.ordinal) (numeric_labels_of e)) (list_all (earlier x.ordinal) others) (sym (all_put_all (earlier x.ordinal) (numeric_labels_of e) others) ∙ h)
 
     by : (b : Bool) → same k e.0 ≡ b
-        → (some.items ≡ option_map_or (λ v. v.items) (lookup (same k) es) [] ++ x ∷ [] → numeric_labels_in (insert_entry same (insert_entry same es k none) k some) ≡ numeric_label_at number x ∷ others)
+        → (some ≡ unwrap_or (lookup (same k) es) [] ++ x ∷ [] → numeric_labels_in (insert_entry same (insert_entry same es k none) k some) ≡ numeric_label_at number x ∷ others)
         → numeric_labels_in (insert_entry same (insert_entry same (e ∷ es) k none) k some) ≡ numeric_label_at number x ∷ put_all_in_order (numeric_labels_of e) others
     by true t rest =
         ap (λ b. numeric_labels_in (insert_entry same (if b then (e.0, none) ∷ es else e ∷ insert_entry same es k none) k some)) t
         ∙ ap (λ b. numeric_labels_in (if b then (e.0, some) ∷ es else (e.0, none) ∷ insert_entry same es k some)) t
-        ∙ ap (λ l. put_all_in_order (map (numeric_label_at own) l) others) (is ∙ ap (λ b. option_map_or (λ v. v.items) (cond b (Some e.1) (lookup (same k) es)) [] ++ x ∷ []) t)
-        ∙ ap (λ l. put_all_in_order l others) (map-append (numeric_label_at own) e.1.items (x ∷ []))
+        ∙ ap (λ l. put_all_in_order (map (numeric_label_at own) l) others) (is ∙ ap (λ b. unwrap_or (cond b (Some e.1) (lookup (same k) es)) [] ++ x ∷ []) t)
+        ∙ ap (λ l. put_all_in_order l others) (map-append (numeric_label_at own) e.1 (x ∷ []))
         ∙ put_latest (numeric_label_at own x) (numeric_labels_of e) others h
         ∙ ap (λ n. numeric_label_at n x ∷ put_all_in_order (numeric_labels_of e) others) (sym (eqb-true number own t))
     by false t rest =
         ap (λ b. numeric_labels_in (insert_entry same (if b then (e.0, none) ∷ es else e ∷ insert_entry same es k none) k some)) t
         ∙ ap (λ b. numeric_labels_in (if b then (e.0, some) ∷ insert_entry same es k none else e ∷ insert_entry same (insert_entry same es k none) k some)) t
-        ∙ ap (put_all_in_order (numeric_labels_of e)) (rest (is ∙ ap (λ b. option_map_or (λ v. v.items) (cond b (Some e.1) (lookup (same k) es)) [] ++ x ∷ []) t))
+        ∙ ap (put_all_in_order (numeric_labels_of e)) (rest (is ∙ ap (λ b. unwrap_or (cond b (Some e.1) (lookup (same k) es)) [] ++ x ∷ []) t))
         ∙ put_all_behind (numeric_label_at number x) (numeric_labels_of e) others both.0
 
 pub indexed_later : (key n : ℕ) (x : NumericLabel) (old new : List NumericLabel) (all more : List laws.NumericLabel)
@@ -202,3 +193,57 @@ indexed_later key n x old new all more adds first kept =
         ∙ ap (λ l. numeric_label_at n x ∷ l) kept
         ∙ ap (λ k. numeric_label_at k x ∷ rest) (sym (eqb-true key n e))
     by false e = kept
+
+-- ---- what a map keeps in lists
+
+-- one more after those of its key
+pub added_to : {X : Type 0} (c : Bool) (pushed : List X) (others : Option (List X)) (before : List X) (x : X) → (c ≡ true → pushed ≡ before ++ x ∷ []) → (c ≡ false → unwrap_or others [] ≡ before)
+    → unwrap_or (cond c (Some pushed) others) [] ≡ (cond c (before ++ x ∷ []) before)
+added_to true pushed others before x is same = is refl
+added_to false pushed others before x is same = same refl
+
+-- what the map gives
+pub numbered_with : {X : Type 0} (r : Option (Bor (List X))) (found : Option (List X)) (now : List X) → option_copied r ≡ found → unwrap_or (option_copied r) [] ≡ now → now ≡ unwrap_or found []
+numbered_with r found now is shows = sym shows ∙ ap (λ o. unwrap_or o []) is
+
+-- ---- how many there are
+
+few_fall : {Y : Type 0} (at : Y → ℕ) (ys : List Y) (o : ℕ) → falls at ys ≡ true → list_all (λ y. nat_lt (at y) o) ys ≡ true → length ys ≤ o
+few_fall at [] o fall low = omega arith
+few_fall at (y ∷ ys) o fall low =
+    let both = and_parts (list_all (λ z. nat_lt (at z) (at y)) ys) (falls at ys) fall in
+    let less : at y < o = ltb-true (at y) o (and_parts (nat_lt (at y) o) (list_all (λ z. nat_lt (at z) o) ys) low).0 in
+    let rest : length ys ≤ at y = few_fall at ys (at y) both.1 both.0 in
+    omega arith
+
+count_put : (m : laws.NumericLabel) (others : List laws.NumericLabel) → length (put_in_order m others) ≡ suc (length others)
+count_put m [] = refl
+count_put m (x ∷ xs) = by (nat_lt x.ordinal m.ordinal) (count_put m xs)
+  where
+    by : (b : Bool) → length (put_in_order m xs) ≡ suc (length xs) → length (if b then m ∷ x ∷ xs else x ∷ put_in_order m xs) ≡ suc (suc (length xs))
+    by true rest = refl
+    by false rest = ap suc rest
+
+count_put_all : (ms others : List laws.NumericLabel) → length (put_all_in_order ms others) ≡ length ms + length others
+count_put_all [] others = omega arith
+count_put_all (m ∷ ms) others = omega (arith, count_put m (put_all_in_order ms others), count_put_all ms others)
+
+few_of : (test : Number → Bool) (es : List (Number × List NumericLabel)) → length (unwrap_or (lookup test es) []) ≤ length (numeric_labels_in es)
+few_of test [] = omega arith
+few_of test (e ∷ es) = by (test e.0) (few_of test es)
+  where
+    all : length (put_all_in_order (numeric_labels_of e) (numeric_labels_in es)) ≡ length e.1 + length (numeric_labels_in es)
+    all = count_put_all (numeric_labels_of e) (numeric_labels_in es) ∙ ap (λ n. n + length (numeric_labels_in es)) (length-map e.1 (numeric_label_at (value 10 e.0.digits.now)))
+
+    by : (b : Bool) → length (unwrap_or (lookup test es) []) ≤ length (numeric_labels_in es)
+        → length (unwrap_or (cond b (Some e.1) (lookup test es)) []) ≤ length (put_all_in_order (numeric_labels_of e) (numeric_labels_in es))
+    by true rest = omega (arith, all)
+    by false rest = omega (arith, all, rest)
+
+-- a number has no more than there are ordinals before the next
+pub few : (test : Number → Bool) (es : List (Number × List NumericLabel)) (o end : ℕ) → falls (λ (m : laws.NumericLabel). m.ordinal) (numeric_labels_in es) ≡ true → list_all (λ (m : laws.NumericLabel). nat_lt m.ordinal o) (numeric_labels_in es) ≡ true → o < end
+    → length (unwrap_or (lookup test es) []) < end
+few test es o end fall low inside =
+    let one : length (unwrap_or (lookup test es) []) ≤ length (numeric_labels_in es) = few_of test es in
+    let all : length (numeric_labels_in es) ≤ o = few_fall (λ (m : laws.NumericLabel). m.ordinal) (numeric_labels_in es) o fall low in
+    omega arith

@@ -31,6 +31,17 @@ pub last_more : {X : Type 0} (x : X) (xs : List X) → slice_get (x ∷ xs) (len
 last_more x [] = refl
 last_more x (y ∷ ys) = sym (ap (λ n. option_or (slice_get (y ∷ ys) n) (Some x)) (let e : length (y ∷ ys) - 1 ≡ length ys = omega arith in e) ∙ some_last x y ys)
 
+first_or : {Y : Type 0} (ys : List Y) (z : Y) → slice_get (ys ++ z ∷ []) 0 ≡ option_or (slice_get ys 0) (Some z)
+first_or [] z = refl
+first_or (y ∷ ys) z = refl
+
+-- the last is the first from the back
+pub from_back : {X : Type 0} (xs : List X) → slice_get (reverse xs) 0 ≡ slice_get xs (length xs - 1)
+from_back [] = refl
+from_back (x ∷ xs) =
+    ap (λ l. slice_get l 0) (reverse-append (x ∷ []) xs) ∙ first_or (reverse xs) x ∙ ap (λ o. option_or o (Some x)) (from_back xs)
+    ∙ sym (ap (slice_get (x ∷ xs)) (let e : length (x ∷ xs) - 1 ≡ length xs = omega arith in e) ∙ last_more x xs)
+
 pub last_found : {X Y : Type 0} (f : X → Y) (q : Y → Bool) (xs : List X) → option_map f (slice_get (filter (λ x. q (f x)) xs) (length (filter (λ x. q (f x)) xs) - 1)) ≡ find q (reverse (map f xs))
 last_found f q [] = refl
 last_found {X} {Y} f q (x ∷ xs) = by (q (f x)) (last_found f q xs) ∙ sym (ap (find q) (reverse-append (f x ∷ []) (map f xs)) ∙ find-append q (reverse (map f xs)) (f x ∷ []))

@@ -1,4 +1,5 @@
 pub mod Sections
 pub mod Options
+pub mod NumericLabels
 pub mod Tables
 pub mod Mixed

@@ -32,8 +32,8 @@ numeric_label_at number m =
     record { number = number; ordinal = m.ordinal; place = offset_of m.place }
 
 -- the numeric labels of a number
-abbrev pub numeric_labels_of : {Z : Type 0} → Number × Vec NumericLabel Z → List laws.NumericLabel
-numeric_labels_of e = map (numeric_label_at (value 10 e.0.digits.now)) e.1.items
+abbrev pub numeric_labels_of : Number × List NumericLabel → List laws.NumericLabel
+numeric_labels_of e = map (numeric_label_at (value 10 e.0.digits.now)) e.1
 
 -- a numeric label among others, the latest first: before those that are earlier
 abbrev pub put_in_order : laws.NumericLabel → List laws.NumericLabel → List laws.NumericLabel
@@ -48,8 +48,7 @@ put_all_in_order [] others = others
 put_all_in_order (m ∷ ms) others = put_in_order m (put_all_in_order ms others)
 
 -- those of all numbers, the latest first
-abbrev pub numeric_labels_in : {Z : Type 0} → List (Number × Vec NumericLabel Z) →
-    List laws.NumericLabel
+abbrev pub numeric_labels_in : List (Number × List NumericLabel) → List laws.NumericLabel
 numeric_labels_in [] = []
 numeric_labels_in (e ∷ es) = put_all_in_order (numeric_labels_of e) (numeric_labels_in es)
 
@@ -77,11 +76,9 @@ tables_of b = record {
 }
 
 -- the numeric labels of a number, the latest last
-abbrev pub numbered_at : {Z S : Type 0} → IndexMap Number (Vec NumericLabel Z) S → ℕ →
-    List NumericLabel
+abbrev pub numbered_at : {S : Type 0} → IndexMap Number (List NumericLabel) S → ℕ → List NumericLabel
 numbered_at numbered number =
-    option_map_or (λ labels. labels.items)
-    (get_by (λ (k : Number). number == value 10 k.digits.now) numbered) []
+    unwrap_or (get_by (λ (k : Number). number == value 10 k.digits.now) numbered) []
 
 -- the assignments of a name
 abbrev pub assignments_at : {Z S : Type 0} → IndexMap (Bor (List ℕ)) (Vec Assignment Z) S →

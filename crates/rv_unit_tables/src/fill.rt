@@ -14,7 +14,8 @@ ghost use Rattle.rv_text.specs.Expr.{tree_of_expr};
 ghost use Rattle.rv_text.specs.Eval.{meaning_of, value_told, IsOutcome};
 ghost use Rattle.rv_statement.specs.Limits.{most_statements};
 ghost use Rattle.rv_statement.specs.Statement.{Aligns_to_power, Aligns_to_bytes, Zeros};
-ghost use Rattle.rv_statement.specs.View.{statement_kind, opening_of, statement_of};
+ghost use Rattle.rv_statement.specs.Statements.{statements_of};
+ghost use Rattle.rv_statement.specs.View.{statement_kind, opening_of};
 ghost use Rattle.rv_unit_laws.specs.Bindings.{bound_by};
 ghost use Rattle.rv_unit_laws.specs.Sections.{entered_by};
 ghost use Rattle.rv_unit_laws.specs.Tables as laws;
@@ -28,7 +29,7 @@ use crate::options::Options;
 use crate::section::Section;
 use crate::section_offset::SectionOffset;
 use crate::tables::{Assignment, Tables};
-use rv_statement::{Opening, Setting, Statement, StatementKind};
+use rv_statement::{Opening, Setting, StatementKind, Statements};
 use rv_text::{Expr, Meaning, SourceFault, Symbol, Value};
 use std::alloc::{AllocError, Global};
 
@@ -289,12 +290,14 @@ impl<'a> Tables<'a> {
     }
 
     /// The bindings of names after all statements.
-    fn bind_names(&mut self, statements: &[Statement<'a>]) -> Result<(), AllocError>
+    fn bind_names(&mut self, statements: &Statements<'a>) -> Result<(), AllocError>
         ensures tables { OnOk result (tables_of self.new
-            ≡ laws.bound_tables (map statement_of statements.now) (tables_of self.old)) }
+            ≡ laws.bound_tables (statements_of statements.now) (tables_of self.old)) }
         ensures indexed { OnOk result (IsIndexed self.old → IsIndexed self.new) }
     {
-        for statement in statements {
+        let mut room = Statements::room();
+        for index in 0..statements.len() {
+            let statement = (&*statements).read(index, &mut room);
             self.bind_by(&statement.kind)?;
         }
         Ok(())
@@ -304,57 +307,53 @@ impl<'a> Tables<'a> {
     fn stand_all(
         &mut self,
         alloc: Global,
-        statements: &[Statement<'a>],
+        statements: &Statements<'a>,
     ) -> Result<Filled, AllocError>
-        requires { length statements.now ≤ most_statements }
+        requires { length (statements_of statements.now) ≤ most_statements }
         ensures tables { OnOk result
-            (tables_of self.old ≡ laws.at_start (map statement_of statements.now) →
+            (tables_of self.old ≡ laws.at_start (statements_of statements.now) →
             IsIndexed self.old →
-            tables_of self.new ≡ laws.tables (map statement_of statements.now)) }
+            tables_of self.new ≡ laws.tables (statements_of statements.now)) }
         ensures indexed { OnOk result
-            (tables_of self.old ≡ laws.at_start (map statement_of statements.now) →
+            (tables_of self.old ≡ laws.at_start (statements_of statements.now) →
             IsIndexed self.old → IsIndexed self.new) }
         ensures places { IfOk result
-            (λ filled. tables_of self.old ≡ laws.at_start (map statement_of statements.now) →
+            (λ filled. tables_of self.old ≡ laws.at_start (statements_of statements.now) →
             IsIndexed self.old →
-            map offset_of filled.places.items ≡ laws.places (map statement_of statements.now)) }
+            map offset_of filled.places.items ≡ laws.places (statements_of statements.now)) }
         ensures options { IfOk result
-            (λ filled. tables_of self.old ≡ laws.at_start (map statement_of statements.now) →
+            (λ filled. tables_of self.old ≡ laws.at_start (statements_of statements.now) →
             IsIndexed self.old
             → map options_of filled.options.items
-            ≡ laws.all_options (map statement_of statements.now)) }
+            ≡ laws.all_options (statements_of statements.now)) }
     {
         let mut places = Vec::with_capacity(alloc, statements.len())?;
         let mut options = Vec::with_capacity(alloc, statements.len())?;
-        let mut ordinal: u32 = 0;
-        for statement in statements {
-            ordinal += 1;
+        let mut room = Statements::room();
+        for index in 0..statements.len() {
+            let statement = (&*statements).read(index, &mut room);
             options.push(self.options)?;
-            let place = self.stand(ordinal, &statement.kind)?;
+            let place = self.stand(index as u32 + 1, &statement.kind)?;
             places.push(place)?;
         }
         Ok(Filled { places, options })
     }
 
     /// What all statements change from the start on, and where each stands, in which options.
-    pub fn fill(
-        &mut self,
-        alloc: Global,
-        statements: &[Statement<'a>],
-    ) -> Result<Filled, AllocError>
-        requires { length statements.now ≤ most_statements }
+    pub fn fill(&mut self, alloc: Global, statements: &Statements<'a>) -> Result<Filled, AllocError>
+        requires { length (statements_of statements.now) ≤ most_statements }
         ensures tables { OnOk result
             (tables_of self.old ≡ laws.at_start [] → IsIndexed self.old →
-            tables_of self.new ≡ laws.tables (map statement_of statements.now)) }
+            tables_of self.new ≡ laws.tables (statements_of statements.now)) }
         ensures indexed { OnOk result
             (tables_of self.old ≡ laws.at_start [] → IsIndexed self.old → IsIndexed self.new) }
         ensures places { IfOk result
             (λ filled. tables_of self.old ≡ laws.at_start [] → IsIndexed self.old →
-            map offset_of filled.places.items ≡ laws.places (map statement_of statements.now)) }
+            map offset_of filled.places.items ≡ laws.places (statements_of statements.now)) }
         ensures options { IfOk result
             (λ filled. tables_of self.old ≡ laws.at_start [] → IsIndexed self.old
             → map options_of filled.options.items
-            ≡ laws.all_options (map statement_of statements.now)) }
+            ≡ laws.all_options (statements_of statements.now)) }
     {
         self.bind_names(statements)?;
         self.stand_all(alloc, statements)

@@ -23,6 +23,7 @@ mod assignments;
 mod bindings;
 mod fill;
 mod number;
+mod numbered;
 mod numeric_labels;
 mod options;
 mod section;

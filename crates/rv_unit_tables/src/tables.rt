@@ -24,7 +24,8 @@ ghost use Rattle.rv_unit_tables.specs.Tables.{tables_of, label_at, numeric_label
 use crate::assignments::{add_assigned, latest_before};
 use crate::bindings::{bind_all, weak_after};
 use crate::number::Number;
-use crate::numeric_labels::{add_numbered, first_after, last_before};
+use crate::numbered::add_numbered;
+use crate::numeric_labels::NumericLabels;
 use crate::options::Options;
 use crate::section::{Extent, Section};
 use crate::section_offset::SectionOffset;
@@ -82,7 +83,7 @@ pub struct Tables<'a> {
     pub(crate) current: u32,
     pub(crate) labels: IndexMap<&'a [u8], Label>,
     /// The numeric labels of each number, in their order.
-    pub(crate) numbered: IndexMap<Number<'a>, Vec<NumericLabel>>,
+    pub(crate) numbered: IndexMap<Number<'a>, NumericLabels>,
     /// The assignments in their order, and those of each name.
     pub assignments: Vec<Assignment<'a>>,
     pub(crate) by_name: IndexMap<&'a [u8], Vec<Assignment<'a>>>,
@@ -242,7 +243,7 @@ impl<'a> Tables<'a> {
             (tables_of self.now).numeric_labels }
     {
         match self.numbered.get(Number { digits }) {
-            Some(numeric_labels) => numeric_labels.as_slice().last().copied(),
+            Some(numeric_labels) => numeric_labels.last(),
             None => None,
         }
     }
@@ -255,7 +256,7 @@ impl<'a> Tables<'a> {
             (digits_value 10 digits.now) }
     {
         match self.numbered.get(Number { digits }) {
-            Some(numeric_labels) => last_before(numeric_labels.as_slice(), ordinal),
+            Some(numeric_labels) => numeric_labels.last_before(ordinal),
             None => None,
         }
     }
@@ -268,7 +269,7 @@ impl<'a> Tables<'a> {
             (digits_value 10 digits.now) }
     {
         match self.numbered.get(Number { digits }) {
-            Some(numeric_labels) => first_after(numeric_labels.as_slice(), ordinal),
+            Some(numeric_labels) => numeric_labels.first_after(ordinal),
             None => None,
         }
     }

@@ -23,7 +23,7 @@ relocations-requires-clause-inside c =
 
 pub rows-requires : goal.rows-requires
 rows-requires c =
-    subst (λ n. n < 2 ^ 32) (sym (ap length c.as_slice-6.ensures.value ∙ items_count (said c.args.unit) c.args.draft c.requires.draft)) c.requires.draft.few
+    subst (λ n. n < 2 ^ 32) (sym (items_count (said c.args.unit) c.args.draft c.requires.draft)) c.requires.draft.few
 
 pub sections-requires-clause-makeable : goal.sections-requires-clause-makeable
 sections-requires-clause-makeable c =
@@ -60,7 +60,7 @@ invariant_of-result c =
     c.in_ok-sections.ensures ∙ ap (λ es. sections_by es c.as_slice-5.result.now d.sections.items lists) c.sections-extents.ensures
     ∙ ap (λ ns. sections_by u.tables.extents.items ns d.sections.items lists) c.as_slice-5.ensures.value in
     let rows = c.in_ok-rows.rows.items in
-    let listed_rows : rows ≡ rows_from 1 d.items.items = c.in_ok-rows.ensures.made ∙ ap (rows_from 1) c.as_slice-6.ensures.value in
+    let listed_rows : rows ≡ rows_from 1 d.items.items = c.in_ok-rows.ensures.made in
     record {
       indexed = indexed u d x c.requires.filled c.requires.good c.requires.kept c.requires.draft c.requires.table lists counted listed sections rows made listed_rows;
       defined = defined u d x c.requires.filled c.requires.good c.requires.kept c.requires.draft c.requires.table lists counted listed sections rows made listed_rows;
@@ -86,5 +86,5 @@ returns c =
     c.in_ok-sections.ensures ∙ ap (λ es. sections_by es c.as_slice-5.result.now d.sections.items lists) c.sections-extents.ensures
     ∙ ap (λ ns. sections_by u.tables.extents.items ns d.sections.items lists) c.as_slice-5.ensures.value in
     let rows = c.in_ok-rows.rows.items in
-    let listed_rows : rows ≡ rows_from 1 d.items.items = c.in_ok-rows.ensures.made ∙ ap (rows_from 1) c.as_slice-6.ensures.value in
+    let listed_rows : rows ≡ rows_from 1 d.items.items = c.in_ok-rows.ensures.made in
     is_object u d x c.requires.filled c.requires.good c.requires.kept c.requires.draft c.requires.table lists counted listed sections rows made listed_rows

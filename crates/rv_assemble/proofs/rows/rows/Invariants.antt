@@ -1,10 +1,15 @@
-use Rattle.std.proofs.Common.{◌≡◌, ◌++◌, ◌+◌, true, drop}
+use Rattle.std.proofs.Common.{◌≡◌, ◌++◌, ◌<◌, ◌^◌, true, length, reverse, vec_len}
 use Rattle.rv_object.specs.Valid.{are_counted}
 use Rattle.rv_assemble.specs.Making.{rows_from}
 use Rattle.rv_assemble.proofs.rows.rows.Given as goal
 
--- the rows so far, and those of what is left, are all rows
-abbrev pub invariant-loop-index : goal.invariant-loop-index
-invariant-loop-index l =
-    (l.rows.items ++ rows_from (l.index + 1) (drop l.index l.items) ≡ rows_from 1 l.items)
-    × (are_counted l.rows.items ≡ true)
+-- the rows of the items that are left, and those so far, from the back, are all rows
+abbrev pub invariant-loop-item : goal.invariant-loop-item
+invariant-loop-item l = record {
+  whole : rows_from 1 l.items.items ++ reverse l.rows.items ≡ rows_from 1 l.fn.items.items;
+  few : length l.items.items < 2 ^ 32;
+  counted : are_counted l.rows.items ≡ true;
+}
+
+abbrev pub decreases-loop-item : goal.decreases-loop-item
+decreases-loop-item l = vec_len l.items

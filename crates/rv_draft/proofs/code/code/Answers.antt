@@ -1,7 +1,8 @@
-use Rattle.std.proofs.Common.{◌≡◌, suc, ◌+◌, ◌<◌, ◌≤◌, [], ◌∷◌, ◌++◌, length, map, take, drop, get_or, sym, ap, subst, ◌∙◌, true, Err, arith}
-use Rattle.std.specs.Prelude.{slice_index, slice_index_or, IfOk}
+use Rattle.std.proofs.Common.{◌≡◌, suc, ◌+◌, ◌<◌, ◌≤◌, [], ◌∷◌, ◌++◌, length, map, take, drop, get_or, sym, ap, subst, ◌∙◌, true, Some, Err, arith}
+use Rattle.std.specs.Prelude.{slice_get, slice_index, slice_index_or, IfOk}
 use Rattle.std.proofs.lemmas.Result.{err_from_is_err_and}
 use Rattle.std.proofs.lemmas.List.{length-map}
+use Rattle.rv_statement.specs.Statements.{statements_of}
 use Rattle.rv_statement.specs.View.{statement_of}
 use Rattle.rv_unit_tables.specs.declared.section_offset.SectionOffset.{SectionOffset}
 use Rattle.rv_unit.specs.Unit.{said, IsFilled}
@@ -27,37 +28,41 @@ loop-index-init c = (c.new-scope.ensures.unit, c.new-scope.ensures.start, c.in_o
 
 pub bounds-places-index : goal.bounds-places-index
 bounds-places-index c =
+    let u = c.args.unit.now in
     let i = c.loop-index.index in
-    let inside = subst (λ l. i < length l) c.statements-statements.ensures c.loop-index-test.true in
-    let inside' = subst (λ n. i < n) (sym (places_count c.args.unit.now c.requires.filled)) inside in
+    let inside : i < length (said u) = subst (λ n. i < n) (c.len-index-end.ensures ∙ ap (λ l. length (statements_of l)) c.statements-statements.ensures) c.loop-index-test.true in
+    let inside' = subst (λ n. i < n) (sym (places_count u c.requires.filled)) inside in
     subst (λ l. i < length l) (sym c.places-places.ensures) inside'
+
+pub read-requires : goal.read-requires
+read-requires c = subst (λ n. c.loop-index.index < n) c.len-index-end.ensures c.loop-index-test.true
 
 pub add-requires : goal.add-requires
 add-requires c =
     let u = c.args.unit.now in
     let i = c.loop-index.index in
-    let x = c.index-statements-index.result in
+    let x = statement_of c.read.result.now in
     let p : SectionOffset = slice_index_or c.places-places.result.now i (record { section = 0; offset = 0 }) in
-    let inside = subst (λ l. i < length l) c.statements-statements.ensures c.loop-index-test.true in
-    let is : x ≡ get_or u.statements.items i x = c.index-statements-index.is ∙ ap (λ l. get_or l i x) c.statements-statements.ensures in
-    let at : StandsAt u i x p = stands_at u i x x (record { section = 0; offset = 0 }) p c.requires.filled inside is (ap (λ l. get_or l i (record { section = 0; offset = 0 })) c.places-places.ensures) in
-    let stands = got_inside (map extent_section u.tables.extents.items) p.section (located_at (said u) i (statement_of x)).home at.home in
-    let within = subst (λ n. i < n) (sym (length-map u.statements.items statement_of)) inside in
-    let on : c.rvc-compressed.result ≡ (located_at (said u) i (statement_of x)).options.rvc =
-    c.rvc-compressed.ensures ∙ ap (λ (o : Options). o.rvc) (c.options_at.ensures c.requires.filled within) in
+    let inside : i < length (said u) = subst (λ n. i < n) (c.len-index-end.ensures ∙ ap (λ l. length (statements_of l)) c.statements-statements.ensures) c.loop-index-test.true in
+    let is : slice_get (said u) i ≡ Some x = subst (λ l. slice_get (statements_of l) i ≡ Some x) c.statements-statements.ensures c.read.ensures in
+    let at : StandsAt u i x p = stands_at u i x (record { section = 0; offset = 0 }) p c.requires.filled is (ap (λ l. get_or l i (record { section = 0; offset = 0 })) c.places-places.ensures) in
+    let stands = got_inside (map extent_section u.tables.extents.items) p.section (located_at (said u) i x).home at.home in
+    let on : c.rvc-compressed.result ≡ (located_at (said u) i x).options.rvc =
+    c.rvc-compressed.ensures ∙ ap (λ (o : Options). o.rvc) (c.options_at.ensures c.requires.filled inside) in
     let all = located_from 1 1 (at_start (said u)) (said u) in
-    let told = size_here (tables (said u)) all c.args.layout.now.sizes.items i (located_at (said u) i (statement_of x)) (drop (i + 1) all) c.requires.sizes at.next in
+    let told = size_here (tables (said u)) all c.args.layout.now.sizes.items i (located_at (said u) i x) (drop (i + 1) all) c.requires.sizes at.next in
     record {
       asked =
-          subst (λ n. MayHave c.rvc-compressed.result (statement_of x).kind n) (sym c.size-wanted.ensures)
-          (subst (λ b. MayHave b (statement_of x).kind (slice_index c.args.layout.now.sizes.items i)) (sym on) told.offered);
+          subst (λ n. MayHave c.rvc-compressed.result x.kind n) (sym c.size-wanted.ensures)
+          (subst (λ b. MayHave b x.kind (slice_index c.args.layout.now.sizes.items i)) (sym on) told.offered);
       section = subst (λ n. p.section < n) (length-map u.tables.extents.items extent_section ∙ sym c.loop-index.invariant.3) stands;
     }
 
 pub size-wanted-requires : goal.size-wanted-requires
 size-wanted-requires c =
+    let u = c.args.unit.now in
     let i = c.loop-index.index in
-    let inside = subst (λ l. i < length l) c.statements-statements.ensures c.loop-index-test.true in
+    let inside : i < length (said u) = subst (λ n. i < n) (c.len-index-end.ensures ∙ ap (λ l. length (statements_of l)) c.statements-statements.ensures) c.loop-index-test.true in
     subst (λ n. i < n) (sym c.requires.count) inside
 
 pub extent_at-extent-requires : goal.extent_at-extent-requires
@@ -65,7 +70,7 @@ extent_at-extent-requires c =
     let u = c.args.unit.now in
     let i = c.loop-index.index in
     let p : SectionOffset = slice_index_or c.places-places.result.now i (record { section = 0; offset = 0 }) in
-    let inside = subst (λ l. i < length l) c.statements-statements.ensures c.loop-index-test.true in
+    let inside : i < length (said u) = subst (λ n. i < n) (c.len-index-end.ensures ∙ ap (λ l. length (statements_of l)) c.statements-statements.ensures) c.loop-index-test.true in
     let stands : p.section < length u.tables.extents.items =
     place_inside u i (record { section = 0; offset = 0 }) p c.requires.filled inside (ap (λ l. get_or l i (record { section = 0; offset = 0 })) c.places-places.ensures) in
     subst (λ l. p.section < length l) (sym c.sections-extents.ensures) stands
@@ -74,24 +79,23 @@ pub loop-index-preserved : goal.loop-index-preserved
 loop-index-preserved c =
     let u = c.args.unit.now in
     let i = c.loop-index.index in
-    let x = c.index-statements-index.result in
+    let x = statement_of c.read.result.now in
     let p : SectionOffset = slice_index_or c.places-places.result.now i (record { section = 0; offset = 0 }) in
-    let inside = subst (λ l. i < length l) c.statements-statements.ensures c.loop-index-test.true in
-    let is : x ≡ get_or u.statements.items i x = c.index-statements-index.is ∙ ap (λ l. get_or l i x) c.statements-statements.ensures in
-    let at : StandsAt u i x p = stands_at u i x x (record { section = 0; offset = 0 }) p c.requires.filled inside is (ap (λ l. get_or l i (record { section = 0; offset = 0 })) c.places-places.ensures) in
+    let inside : i < length (said u) = subst (λ n. i < n) (c.len-index-end.ensures ∙ ap (λ l. length (statements_of l)) c.statements-statements.ensures) c.loop-index-test.true in
+    let is : slice_get (said u) i ≡ Some x = subst (λ l. slice_get (statements_of l) i ≡ Some x) c.statements-statements.ensures c.read.ensures in
+    let at : StandsAt u i x p = stands_at u i x (record { section = 0; offset = 0 }) p c.requires.filled is (ap (λ l. get_or l i (record { section = 0; offset = 0 })) c.places-places.ensures) in
     let e = c.extent_at-extent.result in
     let there : IsExtentAt u.tables.extents.items p.section e = subst (λ l. IsExtentAt l p.section e) c.sections-extents.ensures c.extent_at-extent.ensures in
-    let within = subst (λ n. i < n) (sym (length-map u.statements.items statement_of)) inside in
     let rvc = c.rvc-compressed.result in
     let same = c.loop-index.invariant.0 in
     let filled = subst IsFilled (sym same) c.requires.filled in
-    let faults = faults_in (tables (said u)) (i + 1) (offset_of p) (statement_of x) in
+    let faults = faults_in (tables (said u)) (i + 1) (offset_of p) x in
     let known = faults_there u i x p at in
-    let on : rvc ≡ (located_at (said u) i (statement_of x)).options.rvc =
-    c.rvc-compressed.ensures ∙ ap (λ (o : Options). o.rvc) (c.options_at.ensures c.requires.filled within) in
+    let on : rvc ≡ (located_at (said u) i x).options.rvc =
+    c.rvc-compressed.ensures ∙ ap (λ (o : Options). o.rvc) (c.options_at.ensures c.requires.filled inside) in
     let t = tables (said u) in
     let all = located_from 1 1 (at_start (said u)) (said u) in
-    let st = located_at (said u) i (statement_of x) in
+    let st = located_at (said u) i x in
     let sizes = c.args.layout.now.sizes.items in
     let asked = c.size-wanted.result in
     let lengths = code_lengths t all sizes in
@@ -100,13 +104,13 @@ loop-index-preserved c =
     let here : slice_index lengths i ≡ wanted = length_there t all sizes i st (drop (i + 1) all) c.requires.sizes at.next in
     let long : i < length lengths = subst (λ n. i < n) (sym (lengths_count t all sizes c.requires.sizes ∙ c.requires.count)) inside in
     let next : suc i ≡ i + 1 = omega arith in
-    let first : IsAdded c.loop-index.coder c.add.new.self p.section e.section.executable faults (λ e. value_of t true (i + 1) (offset_of p) e) rvc asked (statement_of x) =
-    subst (λ w. IsAdded c.loop-index.coder c.add.new.self p.section e.section.executable (faults_in (tables (said w)) (i + 1) (offset_of p) (statement_of x)) (λ e. value_of (tables (said w)) true (i + 1) (offset_of p) e) rvc asked (statement_of x)) same
+    let first : IsAdded c.loop-index.coder c.add.new.self p.section e.section.executable faults (λ e. value_of t true (i + 1) (offset_of p) e) rvc asked x =
+    subst (λ w. IsAdded c.loop-index.coder c.add.new.self p.section e.section.executable (faults_in (tables (said w)) (i + 1) (offset_of p) x) (λ e. value_of (tables (said w)) true (i + 1) (offset_of p) e) rvc asked x) same
     (c.in_ok-add.ensures i filled c.loop-index.invariant.1) in
-    let added : IsAdded c.loop-index.coder c.add.new.self p.section e.section.executable faults (λ e. value_of t true (i + 1) (offset_of p) e) rvc wanted (statement_of x) =
-    added_as c.loop-index.coder c.add.new.self p.section e.section.executable faults (λ e. value_of t true (i + 1) (offset_of p) e) rvc asked wanted (statement_of x)
-    (λ near. c.size-wanted.ensures ∙ sym (near_same t st rvc st.home.executable (slice_index sizes i) (statement_of x).kind near)) first in
-    let within' = subst (λ w. i < length (said w)) (sym same) within in (
+    let added : IsAdded c.loop-index.coder c.add.new.self p.section e.section.executable faults (λ e. value_of t true (i + 1) (offset_of p) e) rvc wanted x =
+    added_as c.loop-index.coder c.add.new.self p.section e.section.executable faults (λ e. value_of t true (i + 1) (offset_of p) e) rvc asked wanted x
+    (λ near. c.size-wanted.ensures ∙ sym (near_same t st rvc st.home.executable (slice_index sizes i) x.kind near)) first in
+    let within' = subst (λ w. i < length (said w)) (sym same) inside in (
       ap (λ b. b.now) c.pass.ensures.unit ∙ same,
       c.pass.ensures.passes i within' c.loop-index.invariant.1,
       code_more u i wanted x p rvc e.section.executable c.loop-index.coder c.add.new.self faults at c.loop-index.invariant.2 known on (code_there u i x p e at there) added,
@@ -119,21 +123,20 @@ pub returns-in_err-add-clause-code : goal.returns-in_err-add-clause-code
 returns-in_err-add-clause-code c =
     let u = c.args.unit.now in
     let i = c.loop-index.index in
-    let x = c.index-statements-index.result in
+    let x = statement_of c.read.result.now in
     let p : SectionOffset = slice_index_or c.places-places.result.now i (record { section = 0; offset = 0 }) in
-    let inside = subst (λ l. i < length l) c.statements-statements.ensures c.loop-index-test.true in
-    let is : x ≡ get_or u.statements.items i x = c.index-statements-index.is ∙ ap (λ l. get_or l i x) c.statements-statements.ensures in
-    let at : StandsAt u i x p = stands_at u i x x (record { section = 0; offset = 0 }) p c.requires.filled inside is (ap (λ l. get_or l i (record { section = 0; offset = 0 })) c.places-places.ensures) in
+    let inside : i < length (said u) = subst (λ n. i < n) (c.len-index-end.ensures ∙ ap (λ l. length (statements_of l)) c.statements-statements.ensures) c.loop-index-test.true in
+    let is : slice_get (said u) i ≡ Some x = subst (λ l. slice_get (statements_of l) i ≡ Some x) c.statements-statements.ensures c.read.ensures in
+    let at : StandsAt u i x p = stands_at u i x (record { section = 0; offset = 0 }) p c.requires.filled is (ap (λ l. get_or l i (record { section = 0; offset = 0 })) c.places-places.ensures) in
     let e = c.extent_at-extent.result in
     let there : IsExtentAt u.tables.extents.items p.section e = subst (λ l. IsExtentAt l p.section e) c.sections-extents.ensures c.extent_at-extent.ensures in
-    let within = subst (λ n. i < n) (sym (length-map u.statements.items statement_of)) inside in
     let rvc = c.rvc-compressed.result in
     let same = c.loop-index.invariant.0 in
     let filled = subst IsFilled (sym same) c.requires.filled in
-    let faults = faults_in (tables (said u)) (i + 1) (offset_of p) (statement_of x) in
+    let faults = faults_in (tables (said u)) (i + 1) (offset_of p) x in
     let known = faults_there u i x p at in
     let wrong =
-    subst (λ w. Adds c.loop-index.coder c.add.new.self p.section e.section.executable (faults_in (tables (said w)) (i + 1) (offset_of p) (statement_of x)) (λ e. value_of (tables (said w)) true (i + 1) (offset_of p) e) rvc c.size-wanted.result (statement_of x) (Err c.in_err-add.field-0.0)) same
+    subst (λ w. Adds c.loop-index.coder c.add.new.self p.section e.section.executable (faults_in (tables (said w)) (i + 1) (offset_of p) x) (λ e. value_of (tables (said w)) true (i + 1) (offset_of p) e) rvc c.size-wanted.result x (Err c.in_err-add.field-0.0)) same
     (c.in_err-add.ensures i filled c.loop-index.invariant.1) in
     let found = err_from_is_err_and c.from_residual-in_err-add.result c.from_residual-in_err-add.ensures.1 in
     rw (found.1, found.2)
@@ -143,13 +146,13 @@ pub returns-clause-code : goal.returns-clause-code
 returns-clause-code c =
     let u = c.args.unit.now in
     let i = c.loop-index.index in
-    let past = subst (λ l. length l ≤ i) c.statements-statements.ensures c.loop-index-test.false in
+    let past : length (said u) ≤ i = subst (λ n. n ≤ i) (c.len-index-end.ensures ∙ ap (λ l. length (statements_of l)) c.statements-statements.ensures) c.loop-index-test.false in
     let t = tables (said u) in
     let all = located_from 1 1 (at_start (said u)) (said u) in
     let sizes = c.args.layout.now.sizes.items in
     let lengths = code_lengths t all sizes in
     let told : bytes_of_sizes c.loop-index.coder.sizes.items ≡ lengths = c.loop-index.invariant.4 ∙ take_past lengths i (subst (λ n. n ≤ i) (sym (lengths_count t all sizes c.requires.sizes ∙ c.requires.count)) past) in
-    code_whole (said u) lengths i c.loop-index.coder c.finish.result (stated_none (said u) i (subst (λ n. n ≤ i) (sym (length-map u.statements.items statement_of)) past)) c.loop-index.invariant.2 c.requires.least
+    code_whole (said u) lengths i c.loop-index.coder c.finish.result (stated_none (said u) i past) c.loop-index.invariant.2 c.requires.least
     (λ t all so_far. subst (λ l. IsAllCode t all l c.finish.result) told (c.finish.ensures.code t all so_far))
 
 pub returns-clause-count : goal.returns-clause-count

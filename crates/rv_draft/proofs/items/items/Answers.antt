@@ -1,7 +1,8 @@
-use Rattle.std.proofs.Common.{◌≡◌, ◌+◌, ◌<◌, ◌≤◌, ◌^◌, ℕ, ◌∷◌, [], true, false, length, drop, get_or, sym, ap, subst, ◌∙◌, arith, length-append}
-use Rattle.std.specs.Prelude.{slice_index, slice_index_or, ◌&&◌}
-use Rattle.std.proofs.lemmas.List.{drop_more, length-map, length-set, at_drop_all}
-use Rattle.rv_statement.specs.View.{statement_of, statement_kind}
+use Rattle.std.proofs.Common.{◌≡◌, ◌+◌, ◌<◌, ◌≤◌, ◌^◌, ℕ, ◌∷◌, [], true, false, Some, length, drop, get_or, reverse, sym, ap, subst, ◌∙◌, arith, length-append}
+use Rattle.std.specs.Prelude.{slice_get, slice_index, slice_index_or, ◌&&◌}
+use Rattle.std.proofs.lemmas.List.{reverse-reverse, length-set, at_drop_all}
+use Rattle.rv_statement.specs.Statements.{statements_of}
+use Rattle.rv_statement.specs.View.{statement_of}
 use Rattle.rv_unit_tables.specs.declared.section_offset.SectionOffset.{SectionOffset}
 use Rattle.rv_unit.specs.Unit.{said, passed, IsFilled}
 use Rattle.rv_unit_tables.specs.Sections.{offset_of}
@@ -13,11 +14,11 @@ use Rattle.rv_draft.specs.Sized.{IsSized, bytes_of_sizes, size_bytes}
 use Rattle.rv_layout.specs.Code.{IsExtentAt}
 use Rattle.rv_draft.specs.Measured.{HasRoom}
 use Rattle.rv_layout.proofs.StandingLemmas.{StandsAt, stands_at, places_count, located_at}
-use Rattle.rv_layout.proofs.LeftLemmas.{left_at}
+use Rattle.rv_draft.proofs.TakenLemmas.{some_left, rest_is, next_is, mapped_next}
 use Rattle.rv_draft.proofs.ItemizedLemmas.{item_at, room_at, sized_at, grown_by, low_by}
 use Rattle.rv_layout.proofs.ExtentsLemmas.{stands_inside, place_inside}
 use Rattle.rv_draft.proofs.RoomyLemmas.{err_always}
-use Rattle.rv_draft.proofs.RoomsLemmas.{rooms_begin, rooms_more, roomy_now}
+use Rattle.rv_draft.proofs.RoomsLemmas.{drop_none, rooms_begin, rooms_more, roomy_now}
 use Rattle.rv_draft.proofs.SoFarItemsLemmas.{AreItemsSoFar, items_begin, items_more, items_all}
 use Rattle.rv_draft.proofs.SoFarSizedLemmas.{AreSizedSoFar, IsSizedAt, sized_begin, sized_more, sized_all}
 use Rattle.rv_draft.proofs.items.items.Goals as goal
@@ -32,18 +33,20 @@ loop-index-init c =
       items =
           subst (λ l. AreItemsSoFar ss 0 (λ j. slice_index c.in_ok-ends.ends.items j) l) (sym c.in_ok-items.ensures.items)
           (items_begin ss (λ j. slice_index c.in_ok-ends.ends.items j) none);
-      sized = subst (λ l. AreSizedSoFar (tables ss) ss c.args.sizes.now 0 l) (sym c.in_ok-items.ensures.items) (sized_begin (tables ss) ss c.args.sizes.now);
+      sized = subst (λ l. AreSizedSoFar (tables ss) ss c.args.sizes.items 0 l) (sym c.in_ok-items.ensures.items) (sized_begin (tables ss) ss c.args.sizes.items);
+      left = ap reverse c.reverse.ensures.items ∙ reverse-reverse c.args.sizes.items ∙ sym (drop_none c.args.sizes.items);
       sections = c.in_ok-ends.ensures.count ∙ ap length c.sections-extents.ensures;
       count = ap length c.in_ok-items.ensures.items;
-      room = λ good sizes. rooms_begin ss c.args.sizes.now (λ j. slice_index c.in_ok-ends.ends.items j) sizes none;
+      room = λ good sizes. rooms_begin ss c.args.sizes.items (λ j. slice_index c.in_ok-ends.ends.items j) sizes none;
       low = λ j. subst (λ n. n ≤ 2 ^ 28) (sym (none j)) (omega arith);
     }
 
 pub bounds-places-index : goal.bounds-places-index
 bounds-places-index c =
+    let u = c.args.unit.now in
     let i = c.loop-index.index in
-    let inside = subst (λ l. i < length l) c.statements-statements.ensures c.loop-index-test.true in
-    let inside' = subst (λ n. i < n) (sym (places_count c.args.unit.now c.requires.filled)) inside in
+    let inside : i < length (said u) = subst (λ n. i < n) (c.len-index-end.ensures ∙ ap (λ l. length (statements_of l)) c.statements-statements.ensures) c.loop-index-test.true in
+    let inside' = subst (λ n. i < n) (sym (places_count u c.requires.filled)) inside in
     subst (λ l. i < length l) (sym c.places-places.ensures) inside'
 
 pub extent_at-extent-requires : goal.extent_at-extent-requires
@@ -51,7 +54,7 @@ extent_at-extent-requires c =
     let u = c.args.unit.now in
     let i = c.loop-index.index in
     let p : SectionOffset = slice_index_or c.places-places.result.now i (record { section = 0; offset = 0 }) in
-    let inside = subst (λ l. i < length l) c.statements-statements.ensures c.loop-index-test.true in
+    let inside : i < length (said u) = subst (λ n. i < n) (c.len-index-end.ensures ∙ ap (λ l. length (statements_of l)) c.statements-statements.ensures) c.loop-index-test.true in
     let stands : p.section < length u.tables.extents.items =
     place_inside u i (record { section = 0; offset = 0 }) p c.requires.filled inside (ap (λ l. get_or l i (record { section = 0; offset = 0 })) c.places-places.ensures) in
     subst (λ l. p.section < length l) (sym c.sections-extents.ensures) stands
@@ -61,10 +64,20 @@ end-offset-requires c =
     let u = c.args.unit.now in
     let i = c.loop-index.index in
     let p : SectionOffset = slice_index_or c.places-places.result.now i (record { section = 0; offset = 0 }) in
-    let inside = subst (λ l. i < length l) c.statements-statements.ensures c.loop-index-test.true in
+    let inside : i < length (said u) = subst (λ n. i < n) (c.len-index-end.ensures ∙ ap (λ l. length (statements_of l)) c.statements-statements.ensures) c.loop-index-test.true in
     let stands : p.section < length u.tables.extents.items =
     place_inside u i (record { section = 0; offset = 0 }) p c.requires.filled inside (ap (λ l. get_or l i (record { section = 0; offset = 0 })) c.places-places.ensures) in
     subst (λ l. p.section < length l) (sym c.as_slice.ensures.value) (subst (λ n. p.section < n) (sym c.loop-index.invariant.sections) stands)
+
+pub take_size-code-requires : goal.take_size-code-requires
+take_size-code-requires c =
+    let u = c.args.unit.now in
+    let i = c.loop-index.index in
+    let inside : i < length (said u) = subst (λ n. i < n) (c.len-index-end.ensures ∙ ap (λ l. length (statements_of l)) c.statements-statements.ensures) c.loop-index-test.true in
+    some_left c.args.sizes.items c.loop-index.sizes.items i (subst (λ n. i < n) (sym c.requires.sizes) inside) c.loop-index.invariant.left
+
+pub read-statement-requires : goal.read-statement-requires
+read-statement-requires c = subst (λ n. c.loop-index.index < n) c.len-index-end.ensures c.loop-index-test.true
 
 pub next_item-requires : goal.next_item-requires
 next_item-requires c =
@@ -76,7 +89,7 @@ grow-requires-clause-section c =
     let u = c.args.unit.now in
     let i = c.loop-index.index in
     let p : SectionOffset = slice_index_or c.places-places.result.now i (record { section = 0; offset = 0 }) in
-    let inside = subst (λ l. i < length l) c.statements-statements.ensures c.loop-index-test.true in
+    let inside : i < length (said u) = subst (λ n. i < n) (c.len-index-end.ensures ∙ ap (λ l. length (statements_of l)) c.statements-statements.ensures) c.loop-index-test.true in
     let stands : p.section < length u.tables.extents.items =
     place_inside u i (record { section = 0; offset = 0 }) p c.requires.filled inside (ap (λ l. get_or l i (record { section = 0; offset = 0 })) c.places-places.ensures) in
     let ends = c.loop-index.ends.items in
@@ -93,28 +106,30 @@ returns-in_err-item-clause-refuses c =
     let inv = c.loop-index.invariant in
     let ends = c.loop-index.ends.items in
     let before = λ (j : ℕ). slice_index ends j in
-    let x = c.index-statements-index.result in
+    let x = statement_of c.read-statement.result.now in
     let p : SectionOffset = slice_index_or c.places-places.result.now i (record { section = 0; offset = 0 }) in
-    let inside = subst (λ l. i < length l) c.statements-statements.ensures c.loop-index-test.true in
-    let is : x ≡ get_or u.statements.items i x = c.index-statements-index.is ∙ ap (λ l. get_or l i x) c.statements-statements.ensures in
-    let at : StandsAt u i x p = stands_at u i x x (record { section = 0; offset = 0 }) p c.requires.filled inside is (ap (λ l. get_or l i (record { section = 0; offset = 0 })) c.places-places.ensures) in
-    let own : CodeSize = slice_index_or c.args.sizes.now i (record { padding = 0; bytes = 0; instructions = 0 }) in
-    let size_left : drop i c.args.sizes.now ≡ own ∷ drop (i + 1) c.args.sizes.now = drop_more c.args.sizes.now i (record { padding = 0; bytes = 0; instructions = 0 }) (subst (λ n. i < n) (sym c.requires.sizes) inside) in
-    let sized_is : drop i (bytes_of_sizes c.args.sizes.now) ≡ size_bytes own ∷ drop (i + 1) (bytes_of_sizes c.args.sizes.now) =
-    left_at size_bytes c.args.sizes.now i (record { padding = 0; bytes = 0; instructions = 0 }) (subst (λ n. i < n) (sym c.requires.sizes) inside) in
+    let inside : i < length (said u) = subst (λ n. i < n) (c.len-index-end.ensures ∙ ap (λ l. length (statements_of l)) c.statements-statements.ensures) c.loop-index-test.true in
+    let is : slice_get (said u) i ≡ Some x = subst (λ l. slice_get (statements_of l) i ≡ Some x) c.statements-statements.ensures c.read-statement.ensures in
+    let at : StandsAt u i x p = stands_at u i x (record { section = 0; offset = 0 }) p c.requires.filled is (ap (λ l. get_or l i (record { section = 0; offset = 0 })) c.places-places.ensures) in
+    let sizes = c.args.sizes.items in
+    let own : CodeSize = c.take_size-code.result in
+    let taken = c.take_size-code.new.sizes.items in
+    let known : i < length sizes = subst (λ n. i < n) (sym c.requires.sizes) inside in
+    let sized_is : drop i (bytes_of_sizes sizes) ≡ size_bytes own ∷ drop (i + 1) (bytes_of_sizes sizes) =
+    mapped_next sizes c.loop-index.sizes.items taken i own known inv.left c.take_size-code.ensures size_bytes in
     let same = inv.unit in
     let filled = subst IsFilled (sym same) c.requires.filled in
     let e = c.extent_at-extent.result in
     let there : IsExtentAt u.tables.extents.items p.section e = subst (λ l. IsExtentAt l p.section e) c.sections-extents.ensures c.extent_at-extent.ensures in
     let offset : slice_index ends p.section ≡ c.end-offset.result = sym (c.end-offset.ensures ∙ ap (λ l. slice_index l p.section) c.as_slice.ensures.value) in
     err_always c.from_residual-in_err-item.result (λ y good sizes.
-    absurd (c.in_err-item.ensures.refuses i filled inv.scope (subst (λ w. offset_of p ≡ stood (passed (said w) i) (i + 1) (statement_kind x.kind)) (sym same) at.place)
+    absurd (c.in_err-item.ensures.refuses i filled inv.scope (subst (λ w. offset_of p ≡ stood (passed (said w) i) (i + 1) x.kind) (sym same) at.place)
     (subst
-    (λ w. is_placed (passed (said w) i) (i + 1) (statement_kind x.kind) ≡ true → HasRoom (λ t. value_of (tables (said w)) true (i + 1) (offset_of p) t) e.section.executable e.alignment c.end-offset.result own (statement_kind x.kind))
+    (λ w. is_placed (passed (said w) i) (i + 1) x.kind ≡ true → HasRoom (λ t. value_of (tables (said w)) true (i + 1) (offset_of p) t) e.section.executable e.alignment c.end-offset.result own x.kind)
     (sym same)
     (λ placed.
-    subst (λ n. HasRoom (λ t. value_of (tables ss) true (i + 1) (offset_of p) t) e.section.executable e.alignment n own (statement_kind x.kind)) offset
-    (room_at u i x p e own before _ c.requires.filled at there (roomy_now ss i (statement_of x) at.here good c.args.sizes.now own sized_is before inv.low (inv.room good sizes) placed))))))
+    subst (λ n. HasRoom (λ t. value_of (tables ss) true (i + 1) (offset_of p) t) e.section.executable e.alignment n own x.kind) offset
+    (room_at u i x p e own before _ c.requires.filled at there (roomy_now ss i x at.here good c.args.sizes.items own sized_is before inv.low (inv.room good sizes) placed))))))
 
 pub loop-index-preserved : goal.loop-index-preserved
 loop-index-preserved c =
@@ -125,18 +140,20 @@ loop-index-preserved c =
     let ends = c.loop-index.ends.items in
     let before = λ (j : ℕ). slice_index ends j in
     let behind = λ (j : ℕ). slice_index c.grow.new.ends.items j in
-    let x = c.index-statements-index.result in
+    let x = statement_of c.read-statement.result.now in
     let p : SectionOffset = slice_index_or c.places-places.result.now i (record { section = 0; offset = 0 }) in
-    let inside = subst (λ l. i < length l) c.statements-statements.ensures c.loop-index-test.true in
-    let is : x ≡ get_or u.statements.items i x = c.index-statements-index.is ∙ ap (λ l. get_or l i x) c.statements-statements.ensures in
-    let at : StandsAt u i x p = stands_at u i x x (record { section = 0; offset = 0 }) p c.requires.filled inside is (ap (λ l. get_or l i (record { section = 0; offset = 0 })) c.places-places.ensures) in
-    let own : CodeSize = slice_index_or c.args.sizes.now i (record { padding = 0; bytes = 0; instructions = 0 }) in
-    let size_left : drop i c.args.sizes.now ≡ own ∷ drop (i + 1) c.args.sizes.now = drop_more c.args.sizes.now i (record { padding = 0; bytes = 0; instructions = 0 }) (subst (λ n. i < n) (sym c.requires.sizes) inside) in
-    let sized_is : drop i (bytes_of_sizes c.args.sizes.now) ≡ size_bytes own ∷ drop (i + 1) (bytes_of_sizes c.args.sizes.now) =
-    left_at size_bytes c.args.sizes.now i (record { padding = 0; bytes = 0; instructions = 0 }) (subst (λ n. i < n) (sym c.requires.sizes) inside) in
+    let inside : i < length (said u) = subst (λ n. i < n) (c.len-index-end.ensures ∙ ap (λ l. length (statements_of l)) c.statements-statements.ensures) c.loop-index-test.true in
+    let is : slice_get (said u) i ≡ Some x = subst (λ l. slice_get (statements_of l) i ≡ Some x) c.statements-statements.ensures c.read-statement.ensures in
+    let at : StandsAt u i x p = stands_at u i x (record { section = 0; offset = 0 }) p c.requires.filled is (ap (λ l. get_or l i (record { section = 0; offset = 0 })) c.places-places.ensures) in
+    let sizes = c.args.sizes.items in
+    let own : CodeSize = c.take_size-code.result in
+    let taken = c.take_size-code.new.sizes.items in
+    let known : i < length sizes = subst (λ n. i < n) (sym c.requires.sizes) inside in
+    let sized_is : drop i (bytes_of_sizes sizes) ≡ size_bytes own ∷ drop (i + 1) (bytes_of_sizes sizes) =
+    mapped_next sizes c.loop-index.sizes.items taken i own known inv.left c.take_size-code.ensures size_bytes in
     let same = inv.unit in
     let filled = subst IsFilled (sym same) c.requires.filled in
-    let within = subst (λ w. i < length (said w)) (sym same) (subst (λ n. i < n) (sym (length-map u.statements.items statement_of)) inside) in
+    let within = subst (λ w. i < length (said w)) (sym same) inside in
     let e = c.extent_at-extent.result in
     let there : IsExtentAt u.tables.extents.items p.section e = subst (λ l. IsExtentAt l p.section e) c.sections-extents.ensures c.extent_at-extent.ensures in
     let y = c.in_ok-item.item in
@@ -144,15 +161,15 @@ loop-index-preserved c =
     let section : y.section ≡ p.section = told.section in
     let offset : y.offset ≡ slice_index ends p.section = told.offset ∙ c.end-offset.ensures ∙ ap (λ l. slice_index l p.section) c.as_slice.ensures.value in
     let room : y.section < length ends = subst (λ n. n < length ends) (sym section) (subst (λ n. p.section < n) (sym inv.sections) (stands_inside u i x p at)) in
-    let shown : y.shown ≡ (is_placed (passed ss i) (i + 1) (statement_kind x.kind) && e.section.loaded) =
-    subst (λ w. y.shown ≡ (is_placed (passed (said w) i) (i + 1) (statement_kind x.kind) && e.section.loaded)) same (told.shown i filled inv.scope (subst (λ w. offset_of p ≡ stood (passed (said w) i) (i + 1) (statement_kind x.kind)) (sym same) at.place)) in
-    let here = subst (λ w. offset_of p ≡ stood (passed (said w) i) (i + 1) (statement_kind x.kind)) (sym same) at.place in
-    let absent : is_placed (passed ss i) (i + 1) (statement_kind x.kind) ≡ false → y.bytes ≡ 0 =
-    subst (λ w. is_placed (passed (said w) i) (i + 1) (statement_kind x.kind) ≡ false → y.bytes ≡ 0) same (told.absent i filled inv.scope here) in
-    let one : IsItem (located_at ss i (statement_of x)) before y = item_at u i x p e before y at there section offset told.line shown absent in
-    let sized : IsSizedAt (tables ss) ss i (statement_of x) own y =
+    let shown : y.shown ≡ (is_placed (passed ss i) (i + 1) x.kind && e.section.loaded) =
+    subst (λ w. y.shown ≡ (is_placed (passed (said w) i) (i + 1) x.kind && e.section.loaded)) same (told.shown i filled inv.scope (subst (λ w. offset_of p ≡ stood (passed (said w) i) (i + 1) x.kind) (sym same) at.place)) in
+    let here = subst (λ w. offset_of p ≡ stood (passed (said w) i) (i + 1) x.kind) (sym same) at.place in
+    let absent : is_placed (passed ss i) (i + 1) x.kind ≡ false → y.bytes ≡ 0 =
+    subst (λ w. is_placed (passed (said w) i) (i + 1) x.kind ≡ false → y.bytes ≡ 0) same (told.absent i filled inv.scope here) in
+    let one : IsItem (located_at ss i x) before y = item_at u i x p e before y at there section offset told.line shown absent in
+    let sized : IsSizedAt (tables ss) ss i x own y =
     sized_at u i x p e own y c.requires.filled at there section
-    (subst (λ w. is_placed (passed (said w) i) (i + 1) (statement_kind x.kind) ≡ true → IsSized (λ t. value_of (tables (said w)) true (i + 1) (offset_of p) t) e.section.executable y e.alignment own (statement_kind x.kind)) same (told.sized i filled inv.scope here)) in
+    (subst (λ w. is_placed (passed (said w) i) (i + 1) x.kind ≡ true → IsSized (λ t. value_of (tables (said w)) true (i + 1) (offset_of p) t) e.section.executable y e.alignment own x.kind) same (told.sized i filled inv.scope here)) in
     let at_end : y.offset ≡ slice_index ends y.section = offset ∙ ap (λ n. slice_index ends n) (sym section) in
     let grows : (j : ℕ) → behind j ≡ grown before y j = λ j. ap (λ l. slice_index l j) c.grow.ensures ∙ grown_by ends y j room at_end in
     record {
@@ -160,13 +177,14 @@ loop-index-preserved c =
       scope = c.pass.ensures.passes i within inv.scope;
       items =
           subst (λ l. AreItemsSoFar ss (i + 1) behind l) (sym c.in_ok-push.ensures.items)
-          (items_more ss i (statement_of x) before behind c.loop-index.items.items y at.here one grows inv.items);
+          (items_more ss i x before behind c.loop-index.items.items y at.here one grows inv.items);
       sized =
-          subst (λ l. AreSizedSoFar (tables ss) ss c.args.sizes.now (i + 1) l) (sym c.in_ok-push.ensures.items)
-          (sized_more (tables ss) ss c.args.sizes.now i (statement_of x) own c.loop-index.items.items y at.here size_left sized inv.sized);
+          subst (λ l. AreSizedSoFar (tables ss) ss c.args.sizes.items (i + 1) l) (sym c.in_ok-push.ensures.items)
+          (sized_more (tables ss) ss c.args.sizes.items i x own c.loop-index.items.items y at.here (next_is sizes c.loop-index.sizes.items taken i own known inv.left c.take_size-code.ensures) sized inv.sized);
+      left = rest_is sizes c.loop-index.sizes.items taken i own known inv.left c.take_size-code.ensures;
       sections = ap length c.grow.ensures ∙ length-set ends y.section (y.offset + y.bytes) ∙ inv.sections;
       count = ap length c.in_ok-push.ensures.items ∙ length-append c.loop-index.items.items (y ∷ []) ∙ ap (λ n. n + 1) inv.count;
-      room = λ good sizes. rooms_more ss i (statement_of x) at.here good c.args.sizes.now own sized_is before inv.low (inv.room good sizes) y one sized behind grows;
+      room = λ good sizes. rooms_more ss i x at.here good c.args.sizes.items own sized_is before inv.low (inv.room good sizes) y one sized behind grows;
       low = λ j. subst (λ l. slice_index l j ≤ 2 ^ 28) (sym c.grow.ensures) (low_by ends y.section (y.offset + y.bytes) j room told.fits inv.low);
     }
 
@@ -174,17 +192,17 @@ pub returns-clause-items : goal.returns-clause-items
 returns-clause-items c =
     let u = c.args.unit.now in
     let i = c.loop-index.index in
-    let past = subst (λ l. length l ≤ i) c.statements-statements.ensures c.loop-index-test.false in
-    let none = at_drop_all (λ l. l) (said u) i (subst (λ n. n ≤ i) (sym (length-map u.statements.items statement_of)) past) in
+    let past : length (said u) ≤ i = subst (λ n. n ≤ i) (c.len-index-end.ensures ∙ ap (λ l. length (statements_of l)) c.statements-statements.ensures) c.loop-index-test.false in
+    let none = at_drop_all (λ l. l) (said u) i past in
     items_all (said u) i (λ j. slice_index c.loop-index.ends.items j) c.loop-index.items.items none c.loop-index.invariant.items
 
 pub returns-clause-sized : goal.returns-clause-sized
 returns-clause-sized c =
     let u = c.args.unit.now in
     let i = c.loop-index.index in
-    let past = subst (λ l. length l ≤ i) c.statements-statements.ensures c.loop-index-test.false in
-    let none = at_drop_all (λ l. l) (said u) i (subst (λ n. n ≤ i) (sym (length-map u.statements.items statement_of)) past) in
-    sized_all (tables (said u)) (said u) c.args.sizes.now i c.loop-index.items.items none c.loop-index.invariant.sized
+    let past : length (said u) ≤ i = subst (λ n. n ≤ i) (c.len-index-end.ensures ∙ ap (λ l. length (statements_of l)) c.statements-statements.ensures) c.loop-index-test.false in
+    let none = at_drop_all (λ l. l) (said u) i past in
+    sized_all (tables (said u)) (said u) c.args.sizes.items i c.loop-index.items.items none c.loop-index.invariant.sized
 
 pub returns-clause-low : goal.returns-clause-low
 returns-clause-low c = c.loop-index.invariant.low

@@ -1,8 +1,9 @@
 use Rattle.rv_layout.proofs.SeenLemmas.{MeasuredTo, SeenThere, measured_begin, measured_more, measured_whole}
 use Rattle.std.proofs.Common.{rules, [], ◌++◌, ◌∷◌, arith}
-use Rattle.std.proofs.Common.{◌≡◌, ◌+◌, ◌^◌, ◌<◌, ◌≤◌, length, get_or, sym, ap, subst, ◌∙◌}
-use Rattle.std.specs.Prelude.{slice_index_or}
-use Rattle.std.proofs.lemmas.List.{length-map, length_push}
+use Rattle.std.proofs.Common.{◌≡◌, ◌+◌, ◌^◌, ◌<◌, ◌≤◌, length, get_or, sym, ap, subst, ◌∙◌, Some}
+use Rattle.std.specs.Prelude.{slice_get, slice_index_or}
+use Rattle.std.proofs.lemmas.List.{length_push}
+use Rattle.rv_statement.specs.Statements.{statements_of}
 use Rattle.rv_statement.specs.View.{statement_of}
 use Rattle.rv_unit_tables.specs.declared.section_offset.SectionOffset.{SectionOffset}
 use Rattle.rv_unit.specs.Unit.{said, IsFilled}
@@ -20,9 +21,10 @@ loop-index-init c =
 
 pub bounds-places-index : goal.bounds-places-index
 bounds-places-index c =
+    let u = c.args.unit.now in
     let i = c.loop-index.index in
-    let inside = subst (λ l. i < length l) c.statements-statements.ensures c.loop-index-test.true in
-    let inside' = subst (λ n. i < n) (sym (places_count c.args.unit.now c.requires)) inside in
+    let inside : i < length (said u) = subst (λ n. i < n) (c.len-index-end.ensures ∙ ap (λ s. length (statements_of s)) c.statements-statements.ensures) c.loop-index-test.true in
+    let inside' = subst (λ n. i < n) (sym (places_count u c.requires)) inside in
     subst (λ l. i < length l) (sym c.places-places.ensures) inside'
 
 pub extent_at-extent-requires : goal.extent_at-extent-requires
@@ -30,17 +32,20 @@ extent_at-extent-requires c =
     let u = c.args.unit.now in
     let i = c.loop-index.index in
     let p : SectionOffset = slice_index_or c.places-places.result.now i (record { section = 0; offset = 0 }) in
-    let inside = subst (λ l. i < length l) c.statements-statements.ensures c.loop-index-test.true in
+    let inside : i < length (said u) = subst (λ n. i < n) (c.len-index-end.ensures ∙ ap (λ s. length (statements_of s)) c.statements-statements.ensures) c.loop-index-test.true in
     let stands : p.section < length u.tables.extents.items =
     place_inside u i (record { section = 0; offset = 0 }) p c.requires inside (ap (λ l. get_or l i (record { section = 0; offset = 0 })) c.places-places.ensures) in
     subst (λ l. p.section < length l) (sym c.sections-extents.ensures) stands
+
+pub read-statement-requires : goal.read-statement-requires
+read-statement-requires c = subst (λ n. c.loop-index.index < n) c.len-index-end.ensures c.loop-index-test.true
 
 pub push-requires : goal.push-requires
 push-requires c =
     let u = c.args.unit.now in
     let i = c.loop-index.index in
-    let inside : i < length u.statements.items = subst (λ l. i < length l) c.statements-statements.ensures c.loop-index-test.true in
-    let few : length u.statements.items ≤ 2 ^ 22 = u.few in
+    let inside : i < length (said u) = subst (λ n. i < n) (c.len-index-end.ensures ∙ ap (λ s. length (statements_of s)) c.statements-statements.ensures) c.loop-index-test.true in
+    let few : length (said u) ≤ 2 ^ 22 = u.few in
     let far : length c.loop-index.items ≡ i = c.loop-index.invariant.3 in
     omega arith
 
@@ -48,25 +53,24 @@ pub loop-index-preserved : goal.loop-index-preserved
 loop-index-preserved c =
     let u = c.args.unit.now in
     let i = c.loop-index.index in
-    let x = c.index-statements-index.result in
+    let x = statement_of c.read-statement.result.now in
     let p : SectionOffset = slice_index_or c.places-places.result.now i (record { section = 0; offset = 0 }) in
-    let inside = subst (λ l. i < length l) c.statements-statements.ensures c.loop-index-test.true in
-    let is : x ≡ get_or u.statements.items i x = c.index-statements-index.is ∙ ap (λ l. get_or l i x) c.statements-statements.ensures in
-    let at : StandsAt u i x p = stands_at u i x x (record { section = 0; offset = 0 }) p c.requires inside is (ap (λ l. get_or l i (record { section = 0; offset = 0 })) c.places-places.ensures) in
-    let within = subst (λ n. i < n) (sym (length-map u.statements.items statement_of)) inside in
+    let inside : i < length (said u) = subst (λ n. i < n) (c.len-index-end.ensures ∙ ap (λ s. length (statements_of s)) c.statements-statements.ensures) c.loop-index-test.true in
+    let is : slice_get (said u) i ≡ Some x = subst (λ s. slice_get (statements_of s) i ≡ Some x) c.statements-statements.ensures c.read-statement.ensures in
+    let at : StandsAt u i x p = stands_at u i x (record { section = 0; offset = 0 }) p c.requires is (ap (λ l. get_or l i (record { section = 0; offset = 0 })) c.places-places.ensures) in
     let rvc = c.rvc-compressed.result in
     let same = c.loop-index.invariant.0 in
     let filled = subst IsFilled (sym same) c.requires in
-    let on : rvc ≡ (located_at (said u) i (statement_of x)).options.rvc =
-    c.rvc-compressed.ensures ∙ ap (λ (o : Options). o.rvc) (c.options_at.ensures c.requires within) in
+    let on : rvc ≡ (located_at (said u) i x).options.rvc =
+    c.rvc-compressed.ensures ∙ ap (λ (o : Options). o.rvc) (c.options_at.ensures c.requires inside) in
     let e = c.extent_at-extent.result in
     let there : IsExtentAt u.tables.extents.items p.section e = subst (λ l. IsExtentAt l p.section e) c.sections-extents.ensures c.extent_at-extent.ensures in
-    let seen : SeenThere u (i + 1) (offset_of p) p.section u.places.items e.section.executable rvc (statement_of x) c.seen.result =
-    subst (λ w. SeenThere w (i + 1) (offset_of p) p.section u.places.items e.section.executable rvc (statement_of x) c.seen.result) same
-    (subst (λ l. SeenThere c.loop-index.scope.unit.now (i + 1) (offset_of p) p.section l e.section.executable rvc (statement_of x) c.seen.result) c.places-places.ensures
+    let seen : SeenThere u (i + 1) (offset_of p) p.section u.places.items e.section.executable rvc x c.seen.result =
+    subst (λ w. SeenThere w (i + 1) (offset_of p) p.section u.places.items e.section.executable rvc x c.seen.result) same
+    (subst (λ l. SeenThere c.loop-index.scope.unit.now (i + 1) (offset_of p) p.section l e.section.executable rvc x c.seen.result) c.places-places.ensures
     (c.seen.ensures i filled c.loop-index.invariant.1)) in
     let more : c.push.new.self ≡ c.loop-index.items ++ c.seen.result ∷ [] = search rules in
-    let within' = subst (λ w. i < length (said w)) (sym same) within in (
+    let within' = subst (λ w. i < length (said w)) (sym same) inside in (
       ap (λ b. b.now) c.pass.ensures.unit ∙ same,
       c.pass.ensures.passes i within' c.loop-index.invariant.1,
       measured_more u i x p rvc e.section.executable c.loop-index.items c.push.new.self c.seen.result c.requires at on (code_there u i x p e at there) seen c.loop-index.invariant.2 more,
@@ -77,5 +81,5 @@ pub returns : goal.returns
 returns c =
     let u = c.args.unit.now in
     let i = c.loop-index.index in
-    let past = subst (λ l. length l ≤ i) c.statements-statements.ensures c.loop-index-test.false in
-    measured_whole (said u) i c.loop-index.items (stated_none (said u) i (subst (λ n. n ≤ i) (sym (length-map u.statements.items statement_of)) past)) c.loop-index.invariant.2
+    let past : length (said u) ≤ i = subst (λ n. n ≤ i) (c.len-index-end.ensures ∙ ap (λ s. length (statements_of s)) c.statements-statements.ensures) c.loop-index-test.false in
+    measured_whole (said u) i c.loop-index.items (stated_none (said u) i past) c.loop-index.invariant.2

@@ -1,10 +1,10 @@
-use Rattle.std.proofs.Common.{◌∙◌, sym, arith, map}
+use Rattle.std.proofs.Common.{◌∙◌, sym, arith}
 use Rattle.rv_lexer.specs.Token.{token_of}
 use Rattle.rv_lexer.specs.Cursor.{left}
 use Rattle.rv_parse_laws.proofs.ProgressLemmas.{push_end, statement_shorter}
 use Rattle.std.proofs.lemmas.Result.{err_from_is_err_and}
 use Rattle.rv_parse.proofs.StatementsLemmas.{statements_push, counted_push, behind, left_is, statements_end, refuses_here}
-use Rattle.rv_statement.specs.View.{statement_of}
+use Rattle.rv_statement.specs.Statements.{statements_of}
 use Rattle.rv_parse.specs.Opened.{is_had}
 use Rattle.rv_parse.proofs.OpenedLemmas.{knows_push}
 use Rattle.rv_parse.proofs.source.statements.Goals as goal
@@ -18,16 +18,16 @@ loop-cursor-preserved-then-is_end c = record {
 }
 
 pub loop-cursor-smaller : goal.loop-cursor-smaller
-loop-cursor-smaller c = statement_shorter (map statement_of c.loop-cursor.statements.items) _ _ _ (c.in_ok-statement.ensures.read (map statement_of c.loop-cursor.statements.items) c.loop-cursor.invariant.knows)
+loop-cursor-smaller c = statement_shorter (statements_of c.loop-cursor.statements) _ _ _ (c.in_ok-statement.ensures.read (statements_of c.loop-cursor.statements) c.loop-cursor.invariant.knows)
 
 pub loop-cursor-preserved : goal.loop-cursor-preserved
 loop-cursor-preserved c = record {
-  says = statements_push _ (token_of c.loop-cursor.cursor.next) (left c.loop-cursor.cursor) (behind c.loop-cursor.cursor) _ c.in_ok-statement.statement c.loop-cursor.statements.items _
-      c.loop-cursor.invariant.says (left_is c.loop-cursor.cursor) (c.in_ok-statement.ensures.read (map statement_of c.loop-cursor.statements.items) c.loop-cursor.invariant.knows) c.in_ok-statement.ensures.line c.in_ok-push.ensures.items;
-  counted = counted_push c.in_ok-statement.statement c.loop-cursor.statements.items _ _ c.loop-cursor.invariant.counted c.in_ok-push.ensures.items;
+  says = statements_push _ (token_of c.loop-cursor.cursor.next) (left c.loop-cursor.cursor) (behind c.loop-cursor.cursor) _ c.in_ok-statement.statement (statements_of c.loop-cursor.statements) _
+      c.loop-cursor.invariant.says (left_is c.loop-cursor.cursor) (c.in_ok-statement.ensures.read (statements_of c.loop-cursor.statements) c.loop-cursor.invariant.knows) c.in_ok-statement.ensures.line c.in_ok-push.ensures;
+  counted = counted_push c.in_ok-statement.statement (statements_of c.loop-cursor.statements) _ _ c.loop-cursor.invariant.counted c.in_ok-push.ensures;
   within = omega (arith, c.in_ok-statement.ensures.room);
-  knows = knows_push c.add.new.self.set c.loop-cursor.statements.items _ c.in_ok-statement.statement
-      (c.in_ok-add.ensures (λ n. is_had (map statement_of c.loop-cursor.statements.items) n) c.loop-cursor.invariant.knows) c.in_ok-push.ensures.items;
+  knows = knows_push c.add.new.self.set (statements_of c.loop-cursor.statements) _ c.in_ok-statement.statement
+      (c.in_ok-add.ensures (λ n. is_had (statements_of c.loop-cursor.statements) n) c.loop-cursor.invariant.knows) c.in_ok-push.ensures;
 }
 
 pub returns-clause-says : goal.returns-clause-says
@@ -37,4 +37,4 @@ pub returns-in_err-statement-clause-refuses : goal.returns-in_err-statement-clau
 returns-in_err-statement-clause-refuses c =
     let p = err_from_is_err_and c.from_residual.result c.from_residual.ensures.1 in
     rw (p.1, p.2) (refuses_here _ c.loop-cursor.cursor _ _ _ c.loop-cursor.invariant.says (sym c.is_end.ensures ∙ c.if-is_end.false) c.loop-cursor.invariant.counted
-    (c.in_err-statement.ensures.stops (map statement_of c.loop-cursor.statements.items) c.loop-cursor.invariant.knows c.loop-cursor.invariant.within))
+    (c.in_err-statement.ensures.stops (statements_of c.loop-cursor.statements) c.loop-cursor.invariant.knows c.loop-cursor.invariant.within))

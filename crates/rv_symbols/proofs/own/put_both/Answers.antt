@@ -1,4 +1,4 @@
-use Rattle.std.proofs.Common.{ℕ, List, [], ◌∷◌, ◌++◌, map, ap, ◌∙◌, append_assoc}
+use Rattle.std.proofs.Common.{◌≡◌, ℕ, List, [], ◌∷◌, ◌++◌, map, ap, ◌∙◌, append_assoc, arith}
 use Rattle.std.specs.Prelude.{◌&&◌, ◌||◌, not, if◌then◌else◌}
 use Rattle.std.specs.HashSet.{contains}
 use Rattle.rv_object.specs.declared.symbol.Definition.TheVariants.{InSection}
@@ -24,3 +24,9 @@ pub returns-clause-seen : goal.returns-clause-seen
 returns-clause-seen c = λ laid s h at q.
     c.in_ok-put_unnamed.ensures.seen q
     ∙ ap (λ p. contains same_place c.args.seen.now q || c.args.meant && same_place p q) (c.here.ensures laid s h at)
+
+pub returns-clause-low : goal.returns-clause-low
+returns-clause-low c = λ laid s h at.
+    let is : c.here.result.1 ≡ s.offset = ap (λ (p : ℕ × ℕ). p.1) (c.here.ensures laid s h at) in
+    let fits = c.here.type_inv.1 in
+    omega (arith, is, fits)

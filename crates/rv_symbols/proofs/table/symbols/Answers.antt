@@ -1,12 +1,12 @@
-use Rattle.std.proofs.Math.Facts.{Fits-lt-pow}
 use Rattle.rv_symbols.proofs.OrderedLemmas.{rises_from}
-use Rattle.rv_symbols.proofs.AllLemmas.{numbered, offset_low}
+use Rattle.rv_symbols.proofs.AllLemmas.{numbered}
 use Rattle.rv_symbols.proofs.table.symbols.Goals as goal
 use Rattle.std.proofs.Common.{◌≡◌, ℕ, List, [], ◌++◌, length, map, sym, ap, ◌∙◌, subst, arith, append_assoc}
 use Rattle.std.specs.Prelude.{option_map}
 use Rattle.rv_statement.specs.View.{now_of}
 use Rattle.rv_unit_laws.specs.Tables.{Tables, at_start, tables}
 use Rattle.rv_unit.specs.Unit.{said, definition_of, IsFilled}
+use Rattle.rv_unit.specs.Items.{offsets_of}
 use Rattle.rv_source_laws.specs.Located.{located_from}
 use Rattle.rv_object.specs.declared.symbol.Definition.TheVariants.{Undefined}
 use Rattle.rv_object.specs.Object.{Symbol}
@@ -23,8 +23,8 @@ use Rattle.rv_symbols.specs.Found.{definition_in, Rises, AreMarks}
 
 pub numbers-requires-clause-few : goal.numbers-requires-clause-few
 numbers-requires-clause-few c =
-    let marked : length c.as_slice-2.result.now ≡ length c.args.offsets.now = ap length c.as_slice-2.ensures.value ∙ c.in_ok-meant.ensures.len in
-    let stand : length c.in_ok-source.source.offsets.now ≡ length c.args.offsets.now = ap length c.in_ok-source.ensures.offsets in
+    let marked : length c.as_slice-2.result.now ≡ length c.args.items.now = ap length c.as_slice-2.ensures.value ∙ c.in_ok-meant.ensures.len in
+    let stand : length c.in_ok-source.source.items.now ≡ length c.args.items.now = ap length c.in_ok-source.ensures.items in
     let own = ap length c.as_slice-4.ensures.value in
     let defined = c.in_ok-symbols.ensures.few in
     let missing = c.in_ok-missing.ensures.few in
@@ -43,15 +43,15 @@ returns c = λ laid w.
       filled = subst IsFilled (sym unit) c.requires.filled;
       firsts = subst (λ v. AreFirsts x.firsts.ordinals (tables (said v)).assignments) (sym unit) (c.in_ok-source.ensures.firsts c.requires.filled);
       located = w.located ∙ ap (λ v. located_from 1 1 (at_start (said v)) (said v)) (sym unit);
-      at = w.at ∙ sym c.in_ok-source.ensures.offsets;
+      at = w.at ∙ ap offsets_of (sym c.in_ok-source.ensures.items);
     } in
     let same : tables_of x ≡ t = ap (λ v. tables (said v)) unit in
     let rises : Rises 1 (length ss) rs = subst (Rises 1 (length ss)) w.named (rises_from t 1 (length ss) (at_start ss) ss laid w.located (omega arith)) in
     let defs : map (option_map definition_of) c.in_ok-definitions.definitions.items ≡ map (definition_in t) rs = c.in_ok-definitions.ensures.found c.requires.filled rises in
     let meant = c.in_ok-meant.meant.items in
-    let marks : AreMarks t rs meant (length c.args.offsets.now) = c.in_ok-meant.ensures.marks t (ap (map (option_map definition_of)) c.as_slice.ensures.value ∙ defs) in
+    let marks : AreMarks t rs meant (length c.args.items.now) = c.in_ok-meant.ensures.marks t (ap (map (option_map definition_of)) c.as_slice.ensures.value ∙ defs) in
     let marked : AreMarks t (references t laid) meant (length meant) =
-    subst (λ n. AreMarks t (references t laid) meant n) (sym c.in_ok-meant.ensures.len) (subst (λ l. AreMarks t l meant (length c.args.offsets.now)) (sym w.named) marks) in
+    subst (λ n. AreMarks t (references t laid) meant n) (sym c.in_ok-meant.ensures.len) (subst (λ l. AreMarks t l meant (length c.args.items.now)) (sym w.named) marks) in
     let those : AreMarks (tables_of x) (references (tables_of x) laid) c.as_slice-2.result.now (length c.as_slice-2.result.now) =
     subst (λ (v : Tables). AreMarks v (references v laid) c.as_slice-2.result.now (length c.as_slice-2.result.now)) (sym same)
     (subst (λ l. AreMarks t (references t laid) l (length l)) (sym c.as_slice-2.ensures.value) marked) in
@@ -72,5 +72,5 @@ returns c = λ laid w.
           ∙ ap (λ l. map (λ (r : SymbolUse). number_by (own_symbols t laid) l laid r.symbol (definition_in t r)) rs) (names ∙ ap (missing_names t) (sym w.named)));
       numbered =
           subst (λ l. AllByRecursion (IsNumbered t laid (number_in t laid) (symbols_of t laid)) l) w.named
-          (numbered ss laid w.located (subst (AreMeant t) (sym w.named) c.requires.meant) c.requires.good c.requires.names (subst AreShown (sym w.named) c.requires.shown) (offset_low c.args.offsets.now laid w.at (λ i. Fits-lt-pow (c.type_inv.offsets i))));
+          (numbered ss laid w.located (subst (AreMeant t) (sym w.named) c.requires.meant) c.requires.good c.requires.names (subst AreShown (sym w.named) c.requires.shown) (c.in_ok-symbols.ensures.low laid h));
     }

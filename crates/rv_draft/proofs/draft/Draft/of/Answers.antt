@@ -1,7 +1,6 @@
-use Rattle.std.proofs.Common.{◌≡◌, ◌≤◌, ◌^◌, List, [], ◌∷◌, length, sym, ap, subst, ◌∙◌, arith}
+use Rattle.std.proofs.Common.{◌≤◌, ◌^◌, List, [], ◌∷◌, length, sym, ap, subst, ◌∙◌, arith}
 use Rattle.std.proofs.lemmas.Result.{err_from_is_err_and}
 use Rattle.std.proofs.lemmas.List.{length-map}
-use Rattle.rv_statement.specs.View.{statement_of}
 use Rattle.rv_unit_tables.specs.Sections.{extent_section}
 use Rattle.rv_unit_tables.proofs.LookupsLemmas.{sections_are}
 use Rattle.rv_unit_laws.proofs.FewLemmas.{few as few_of}
@@ -13,8 +12,6 @@ use Rattle.rv_draft.specs.declared.draft.Draft.{Draft}
 use Rattle.rv_draft.specs.DataParts.{AreMade, HaveCode, IsData}
 use Rattle.rv_draft.specs.Lengths.{code_lengths}
 use Rattle.rv_draft.specs.Draft.{IsRefused}
-use Rattle.rv_draft.specs.Sized.{AreSized, bytes_of_sizes}
-use Rattle.rv_assemble_laws.specs.Refusals.{size_fault_from}
 use Rattle.rv_draft.proofs.CodeLengthsLemmas.{least_lengths, lengths_of_sizes}
 use Rattle.rv_draft.proofs.DraftedLemmas.{is_draft}
 use Rattle.rv_draft.proofs.MadeLemmas.{made_all}
@@ -33,16 +30,15 @@ pub data-requires-clause-few : goal.data-requires-clause-few
 data-requires-clause-few c =
     let u = c.args.unit.now in
     let few : length (said u) ≤ 2 ^ 22 = few_of (said u) c.requires.good in
-    let count : length (said u) ≡ length u.statements.items = length-map u.statements.items statement_of in
-    omega (arith, few, count)
+    omega (arith, few)
 
 pub items-requires-clause-sizes : goal.items-requires-clause-sizes
 items-requires-clause-sizes c =
     let u = c.args.unit.now in
     let ss = said u in
     let code = c.in_ok-code.code in
-    ap length c.as_slice-sizes.ensures.value ∙ sizes_count (tables ss) (located (ss ∷ [])) _ code.sections.items code.sizes.items c.in_ok-code.ensures.code
-    ∙ ap length (one_file ss) ∙ stated_length 1 1 (at_start ss) ss ∙ length-map u.statements.items statement_of
+    sizes_count (tables ss) (located (ss ∷ [])) _ code.sections.items code.sizes.items c.in_ok-code.ensures.code
+    ∙ ap length (one_file ss) ∙ stated_length 1 1 (at_start ss) ss
 
 pub returns-in_err-items-clause-refuses : goal.returns-in_err-items-clause-refuses
 returns-in_err-items-clause-refuses c =
@@ -50,9 +46,7 @@ returns-in_err-items-clause-refuses c =
     let code = c.in_ok-code.code in
     let whole = c.in_ok-code.ensures.code in
     let short = sizes_short (tables ss) (located (ss ∷ [])) _ code.sections.items code.sizes.items whole in
-    let memory =
-    c.in_err-items.ensures.refuses c.requires.good
-    (ap (λ l. size_fault_from (λ j. 0) (located (ss ∷ [])) (bytes_of_sizes l)) c.as_slice-sizes.ensures.value ∙ short) in
+    let memory = c.in_err-items.ensures.refuses c.requires.good short in
     let found = err_from_is_err_and c.from_residual-in_err-items.result c.from_residual-in_err-items.ensures.1 in
     rw (found.1, found.2) (subst (λ e. IsRefused ss e) (sym memory) tt)
 
@@ -62,9 +56,8 @@ data-requires-clause-made c =
     let t = tables ss in
     let all = located_from 1 1 (at_start ss) ss in
     let code = c.in_ok-code.code in
-    let sized = subst (λ l. AreSized t 1 (at_start ss) ss c.in_ok-items.items.items l) c.as_slice-sizes.ensures.value c.in_ok-items.ensures.sized in
     subst (AreMade t all) (sym c.as_slice.ensures.value)
-    (made_all ss (code_lengths t all c.in_ok-layout.layout.sizes.items) code.sections.items code.sizes.items c.in_ok-items.items.items c.in_ok-code.ensures.code sized
+    (made_all ss (code_lengths t all c.in_ok-layout.layout.sizes.items) code.sections.items code.sizes.items c.in_ok-items.items.items c.in_ok-code.ensures.code c.in_ok-items.ensures.sized
     (lengths_of_sizes t all c.in_ok-layout.layout.sizes.items c.in_ok-layout.ensures.sizes))
 
 pub returns-clause-draft : goal.returns-clause-draft
@@ -78,10 +71,10 @@ returns-clause-draft c =
     is_draft ss _ c.in_ok-code.code.sections.items c.in_ok-code.code.sizes.items d
     (record {
       good = c.requires.good;
-      wide = all_wide u.statements.items;
+      wide = all_wide u.statements;
       whole = c.in_ok-code.ensures.code;
       items = c.in_ok-items.ensures.items;
-      sized = subst (λ l. AreSized (tables ss) 1 (at_start ss) ss c.in_ok-items.items.items l) c.as_slice-sizes.ensures.value c.in_ok-items.ensures.sized;
+      sized = c.in_ok-items.ensures.sized;
       low = c.in_ok-items.ensures.low;
       figures = subst (λ is. (codes : List (List Coded)) → HaveCode ss is codes → IsData ss is codes c.in_ok-code.code.sections.items found.sections.items found.fields.items) c.as_slice.ensures.value c.in_ok-filled.ensures.data;
       least = least_lengths ss c.in_ok-layout.layout.sizes.items c.requires.good c.in_ok-layout.ensures.sizes c.in_ok-layout.ensures.least;

@@ -1,8 +1,5 @@
-use Rattle.std.proofs.Common.{◌+◌, ◌*◌, ◌≤◌, length, sym, subst, ◌∙◌}
-use Rattle.std.proofs.lemmas.List.{length-map}
-use Rattle.rv_layout_laws.specs.Branches.{branches, IsLeastGood}
+use Rattle.std.proofs.Common.{length, sym, subst}
 use Rattle.rv_sizes.specs.Passes.{IsInput}
-use Rattle.rv_statement.specs.View.{statement_of}
 use Rattle.rv_unit.specs.Unit.{said}
 use Rattle.rv_layout.proofs.InputLemmas.{measured_input}
 use Rattle.rv_layout.proofs.SeenLemmas.{measured_count, measured_least, measured_lengths, measured_rounds}
@@ -12,7 +9,6 @@ pub returns-clause-count : goal.returns-clause-count
 returns-clause-count c =
     measured_count (said c.args.unit.now) c.in_ok-items.items c.in_ok-found.found.sizes.items c.in_ok-items.ensures
     c.in_ok-found.ensures.least
-    ∙ length-map c.args.unit.now.statements.items statement_of
 
 pub returns-clause-least : goal.returns-clause-least
 returns-clause-least c =

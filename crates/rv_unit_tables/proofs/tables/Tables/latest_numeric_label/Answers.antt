@@ -1,25 +1,24 @@
-use Rattle.std.proofs.Common.{◌∙◌, ◌-◌, ◌==◌, ap, refl, sym, [], length, option_map}
-use Rattle.std.specs.Prelude.{slice_get}
-use Rattle.std.specs.Option.{option_map_or, option_copied}
+use Rattle.std.proofs.Common.{◌∙◌, ◌-◌, ◌==◌, ap, [], length, option_map}
+use Rattle.std.specs.Prelude.{slice_get, unwrap_or}
+use Rattle.std.specs.Option.{option_copied}
 use Rattle.rv_text_laws.specs.Bytes.{value}
 use Rattle.rv_unit_laws.specs.Tables as laws
 use Rattle.rv_unit_tables.specs.Tables.{numbered_at, numeric_label_at, numeric_labels_in}
-use Rattle.rv_unit_tables.proofs.NumberedLemmas.{latest_kept}
-use Rattle.rv_unit_tables.proofs.OrderedLemmas.{assigned_at}
+use Rattle.rv_unit_tables.proofs.NumberedLemmas.{latest_kept, numbered_with}
 use Rattle.rv_unit_tables.proofs.tables.Tables.latest_numeric_label.Goals as goal
 
 pub returns-in-Some : goal.returns-in-Some
 returns-in-Some c = λ i.
     let n = value 10 c.args.digits.now in
     let b = c.args.self.now in
-    let kept = assigned_at c.get.result _ (numbered_at b.numbered n) c.as_slice.result.now c.get.ensures.value refl (ap (λ o. option_map_or (λ v. v.items) (option_copied o) []) c.in-Some.is ∙ sym c.as_slice.ensures.value) in
-    ap (option_map (numeric_label_at n)) (c.copied.ensures ∙ c.last.ensures.value ∙ ap (λ l. slice_get l (length l - 1)) kept)
+    let kept = numbered_with c.get.result _ c.in-Some.numeric_labels.now c.get.ensures.value (ap (λ o. unwrap_or (option_copied o) []) c.in-Some.is) in
+    ap (option_map (numeric_label_at n)) (c.last.ensures ∙ ap (λ l. slice_get l (length l - 1)) kept)
     ∙ latest_kept (numeric_label_at n) (λ (m : laws.NumericLabel). m.number == n) (numbered_at b.numbered n) (numeric_labels_in b.numbered.entries) (i.numbered c.args.digits.now)
 
 pub returns-in-None : goal.returns-in-None
 returns-in-None c = λ i.
     let n = value 10 c.args.digits.now in
     let b = c.args.self.now in
-    let kept = assigned_at c.get.result _ (numbered_at b.numbered n) [] c.get.ensures.value refl (ap (λ o. option_map_or (λ v. v.items) (option_copied o) []) c.in-None.is) in
+    let kept = numbered_with c.get.result _ [] c.get.ensures.value (ap (λ o. unwrap_or (option_copied o) []) c.in-None.is) in
     ap (λ l. option_map (numeric_label_at n) (slice_get l (length l - 1))) kept
     ∙ latest_kept (numeric_label_at n) (λ (m : laws.NumericLabel). m.number == n) (numbered_at b.numbered n) (numeric_labels_in b.numbered.entries) (i.numbered c.args.digits.now)

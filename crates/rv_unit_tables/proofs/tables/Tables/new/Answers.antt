@@ -27,6 +27,6 @@ returns-clause-indexed c = record {
   assignments = λ name. ap (λ es. option_map_or (λ v. v.items) (lookup (λ (k : Bor (List _)). bytes_eq name k.now) es) []) c.new-4.ensures.empty ∙ sym (ap (filter (λ (g : Assignment). bytes_eq g.name.now name)) c.new-3.ensures.items);
   weak = λ name none. ap (λ es. is_weak (unwrap_or (lookup (λ (k : Bor (List _)). bytes_eq name k.now) es) Local)) c.new-6.ensures.empty;
   numbered = λ digits.
-      ap (λ es. reverse (map (numeric_label_at (value 10 digits)) (option_map_or (λ v. v.items) (lookup (λ (k : Number). value 10 digits == value 10 k.digits.now) es) []))) c.new-2.ensures.empty
+      ap (λ es. reverse (map (numeric_label_at (value 10 digits)) (unwrap_or (lookup (λ (k : Number). value 10 digits == value 10 k.digits.now) es) []))) c.new-2.ensures.empty
       ∙ sym (ap (λ es. filter (λ (m : NumericLabel). m.number == value 10 digits) (numeric_labels_in es)) c.new-2.ensures.empty);
 }

@@ -1,13 +1,13 @@
-use Rattle.std.proofs.Common.{◌∙◌, ◌==◌, ap, refl, subst, sym, [], nat_lt, option_map}
+use Rattle.std.proofs.Common.{◌∙◌, ◌==◌, ap, subst, sym, [], nat_lt, option_map}
 use Rattle.std.specs.List.{find}
 use Rattle.std.specs.List.Sorted.{IsNonDecreasingBy}
-use Rattle.std.specs.Option.{option_map_or, option_copied}
+use Rattle.std.specs.Prelude.{unwrap_or}
+use Rattle.std.specs.Option.{option_copied}
 use Rattle.rv_text_laws.specs.Bytes.{value}
 use Rattle.rv_unit_laws.specs.Tables as laws
 use Rattle.rv_unit_tables.specs.declared.tables.NumericLabel.{NumericLabel}
 use Rattle.rv_unit_tables.specs.Tables.{numbered_at, numeric_label_at, numeric_labels_in}
-use Rattle.rv_unit_tables.proofs.NumberedLemmas.{after_kept, kept_rise}
-use Rattle.rv_unit_tables.proofs.OrderedLemmas.{assigned_at}
+use Rattle.rv_unit_tables.proofs.NumberedLemmas.{after_kept, kept_rise, numbered_with}
 use Rattle.rv_unit_tables.proofs.tables.Tables.numeric_label_after.Goals as goal
 
 pub returns-in-Some : goal.returns-in-Some
@@ -17,7 +17,7 @@ returns-in-Some c = λ i o h.
     let q = λ (m : laws.NumericLabel). m.number == n in
     let found = numbered_at b.numbered n in
     let all = numeric_labels_in b.numbered.entries in
-    let kept = assigned_at c.get.result _ found c.as_slice.result.now c.get.ensures.value refl (ap (λ o. option_map_or (λ v. v.items) (option_copied o) []) c.in-Some.is ∙ sym c.as_slice.ensures.value) in
+    let kept = numbered_with c.get.result _ c.in-Some.numeric_labels.now c.get.ensures.value (ap (λ o. unwrap_or (option_copied o) []) c.in-Some.is) in
     let rise = kept_rise (numeric_label_at n) (λ (m : laws.NumericLabel). m.ordinal) q found all h.numeric_labels_fall (i.numbered c.args.digits.now) in
     ap (option_map (numeric_label_at n))
     (c.first_after.ensures (subst (λ l. IsNonDecreasingBy (λ (m : NumericLabel). m.ordinal) l) (sym kept) rise)
@@ -31,6 +31,6 @@ returns-in-None c = λ i o h.
     let q = λ (m : laws.NumericLabel). m.number == n in
     let found = numbered_at b.numbered n in
     let all = numeric_labels_in b.numbered.entries in
-    let kept = assigned_at c.get.result _ found [] c.get.ensures.value refl (ap (λ o. option_map_or (λ v. v.items) (option_copied o) []) c.in-None.is) in
+    let kept = numbered_with c.get.result _ [] c.get.ensures.value (ap (λ o. unwrap_or (option_copied o) []) c.in-None.is) in
     ap (λ l. option_map (numeric_label_at n) (find (λ (m : NumericLabel). nat_lt c.args.ordinal m.ordinal) l)) kept
     ∙ after_kept (numeric_label_at n) (λ (m : laws.NumericLabel). nat_lt c.args.ordinal m.ordinal) q found all (i.numbered c.args.digits.now)

@@ -1,6 +1,6 @@
 -- What is done and what the rest changes make up the whole.
 use Rattle.std.proofs.Common.{◌≡◌, ◌+◌, ◌++◌, map, drop}
-use Rattle.rv_statement.specs.View.{statement_of}
+use Rattle.rv_statement.specs.Statements.{statements_of}
 use Rattle.rv_unit_laws.specs.Tables.{at_start, options_from, all_options}
 use Rattle.rv_unit_tables.specs.Options.{options_of}
 use Rattle.rv_unit_tables.specs.Sections.{offset_of}
@@ -8,9 +8,8 @@ use Rattle.rv_unit_tables.specs.Tables.{tables_of, IsIndexed}
 use Rattle.rv_unit_tables.proofs.FillingLemmas.{FillsTo}
 use Rattle.rv_unit_tables.proofs.tables.Tables.stand_all.Given as goal
 
-abbrev pub invariant-loop-statement : goal.invariant-loop-statement
-invariant-loop-statement l =
-    (l.ordinal ≡ l.statement-index)
-    × (tables_of l.fn.self ≡ at_start (map statement_of l.statements) → IsIndexed l.fn.self → FillsTo (tables_of l.self) l.ordinal (drop l.statement-index (map statement_of l.statements)) (map statement_of l.statements) (map offset_of l.places.items))
-    × (tables_of l.fn.self ≡ at_start (map statement_of l.statements) → IsIndexed l.fn.self → IsIndexed l.self)
-    × (tables_of l.fn.self ≡ at_start (map statement_of l.statements) → IsIndexed l.fn.self → map options_of l.options.items ++ options_from (tables_of l.self) (l.ordinal + 1) (drop l.statement-index (map statement_of l.statements)) ≡ all_options (map statement_of l.statements))
+abbrev pub invariant-loop-index : goal.invariant-loop-index
+invariant-loop-index l =
+    (tables_of l.fn.self ≡ at_start (statements_of l.statements) → IsIndexed l.fn.self → FillsTo (tables_of l.self) l.index (drop l.index (statements_of l.statements)) (statements_of l.statements) (map offset_of l.places.items))
+    × (tables_of l.fn.self ≡ at_start (statements_of l.statements) → IsIndexed l.fn.self → IsIndexed l.self)
+    × (tables_of l.fn.self ≡ at_start (statements_of l.statements) → IsIndexed l.fn.self → map options_of l.options.items ++ options_from (tables_of l.self) (l.index + 1) (drop l.index (statements_of l.statements)) ≡ all_options (statements_of l.statements))
