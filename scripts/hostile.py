@@ -487,9 +487,10 @@ def read_by(words, at):
 
 
 def own_bytes(words, at):
-    """The bytes of the program that a call made or loaded, of its map, and of the objects that a build makes first."""
+    """The bytes of the program that a call made or loaded, of its map, and of the objects that a build makes first, also
+    where `run` is given a source."""
     made = sum((at / it).stat().st_size for it in outputs(words) if (at / it).exists())
-    if words[0] in ("build", "map") and (at / "obj").exists():
+    if words[0] in ("build", "map", "run") and (at / "obj").exists():
         made += words.count("file") * (at / "obj").stat().st_size
     for path in read_by(words, at):
         file = path.read_bytes()[:LARGEST]
