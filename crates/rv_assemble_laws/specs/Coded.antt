@@ -1,5 +1,5 @@
--- The code of a statement: its base instructions, in their least bytes where no operand is open, and
--- else in those that the kinds of its open fields say (RISC-V Assembly Programmer's Manual,
+-- The code of a statement: its base instructions, in their least bytes where no operand is open,
+-- and else in those that the kinds of its open fields say (RISC-V Assembly Programmer's Manual,
 -- "pseudoinstructions"; Unprivileged ISA 20191213, chapter 16).
 
 use Rattle.std.specs.Prelude.{◌≡◌, ℕ, Bool, true, false, ◌&&◌, ⊤, List, [], ◌∷◌, ◌++◌, flat_map, length, sum_by, Option, Some}
@@ -28,8 +28,8 @@ constants v e = constant_of (v e)
 -- ---- code
 
 -- the bytes of a part with its operands in range: an instruction in the form of a parcel that is
--- named, if one is, else in its least form where it may be compressed; one with an open field, which
--- holds 0, in the form of the field's kind
+-- named, if one is, else in its least form where it may be compressed; one with an open field,
+-- which holds 0, in the form of the field's kind
 abbrev pub IsCodedPart : Option Compressed → Bool → Part → List ℕ → Type 0
 IsCodedPart named compressed (Closed i) bytes =
     IsValid i × IsLeastAs named compressed i (length bytes)

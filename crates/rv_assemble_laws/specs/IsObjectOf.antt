@@ -70,14 +70,16 @@ abbrev pub IsNumbered : Tables → List LaidStatement → Numbering → List Sym
 IsNumbered t all number symbols r =
     StandsFor t all r.ordinal r.symbol (slice_get symbols (number r.ordinal r.symbol))
 
-abbrev pub ArePartsNumbered : Tables → List LaidStatement → Numbering → List Symbol → List Part → Type 0
+abbrev pub ArePartsNumbered : Tables → List LaidStatement → Numbering → List Symbol → List Part →
+    Type 0
 ArePartsNumbered t all number symbols ps =
     AllByRecursion (λ p. AllByRecursion (IsNumbered t all number symbols) (references_in p)) ps
 
 -- the section of an index, with its statements, where these are all statements and symbols of the
 -- source
-pub record IsSectionOf (t : Tables) (all : List LaidStatement) (number : Numbering) (symbols : List Symbol)
-    (index : ℕ) (section : SourceSection) (laid : List LaidStatement) (x : Section) : Type 0 where
+pub record IsSectionOf (t : Tables) (all : List LaidStatement) (number : Numbering)
+    (symbols : List Symbol) (index : ℕ) (section : SourceSection) (laid : List LaidStatement)
+    (x : Section) : Type 0 where
   pub name : x.name ≡ section.name
   pub loaded : x.loaded ≡ section.loaded
   pub executable : x.executable ≡ section.executable
@@ -98,13 +100,14 @@ pub record IsSectionOf (t : Tables) (all : List LaidStatement) (number : Numberi
   pub numbered : section.loaded ≡ true → ArePartsNumbered t all number symbols (parts t laid)
   -- the sizes of its statements
   pub sizes : AllByRecursion
-      (λ s. s.located.placed ≡ true → HasSize (expression_value t s.located) s x.alignment s.located.kind) laid
+      (λ s. s.located.placed ≡ true →
+      HasSize (expression_value t s.located) s x.alignment s.located.kind) laid
   pub fields : AllByRecursion (λ p. IsTemplate p.template) (parts t laid)
   -- a section of code is not too long
   pub short : section.executable ≡ true → end_of 0 laid ≤ longest_section
 
-abbrev pub AreSectionsOf : Tables → List LaidStatement → Numbering → List Symbol → ℕ → List SourceSection →
-    List Section → Type 0
+abbrev pub AreSectionsOf : Tables → List LaidStatement → Numbering → List Symbol → ℕ →
+    List SourceSection → List Section → Type 0
 AreSectionsOf t all number symbols index [] [] = ⊤
 AreSectionsOf t all number symbols index [] (x ∷ xs) = ⊥
 AreSectionsOf t all number symbols index (section ∷ sections) [] = ⊥

@@ -51,8 +51,8 @@ templates t s (Instruction mnemonic operands) =
     coded_templates (part_fields t v s.located)
     (unwrap_or (code (constants v) s.located.options.rvc s.bytes mnemonic operands) []) s.coded
 templates t s (Directs directive) =
-    contribution_templates s.located.home.executable s.located.ordinal (expression_value t s.located)
-    (contribution directive) s.bytes
+    contribution_templates s.located.home.executable s.located.ordinal
+    (expression_value t s.located) (contribution directive) s.bytes
 
 abbrev pub parts_of : Tables → LaidStatement → List Part
 parts_of t s = map (part_of s.located.ordinal) (templates t s s.located.kind)

@@ -59,7 +59,8 @@ grown before section bytes j = if j == section then before j + bytes else before
 
 -- the first statement whose end passes the longest section, where so many bytes stand before in
 -- each section
-abbrev pub size_fault_from : (before : ℕ → ℕ) → List Located → (sizes : List ℕ) → Option StatementFault
+abbrev pub size_fault_from : (before : ℕ → ℕ) → List Located → (sizes : List ℕ) →
+    Option StatementFault
 size_fault_from before (s ∷ ss) (bytes ∷ sizes) =
     at_line s.line
     (if nat_lt longest_section (before s.section + bytes) then Some limit else None)

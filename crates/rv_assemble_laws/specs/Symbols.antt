@@ -45,7 +45,8 @@ assigned_definition laid (Some a) = elim a.meaning [
 ]
 
 -- what a statement defines: a label its own place, `.set` what the name has last
-abbrev pub statement_definition : Tables → List LaidStatement → LaidStatement → StatementKind → Defined
+abbrev pub statement_definition : Tables → List LaidStatement → LaidStatement → StatementKind →
+    Defined
 statement_definition t laid s (Directs (Sets name e)) =
     assigned_definition laid (assigned_ever t.assignments name)
 statement_definition t laid s _ = InSection s.located.section s.offset
@@ -53,8 +54,8 @@ statement_definition t laid s _ = InSection s.located.section s.offset
 abbrev pub local_symbol : List ℕ → Defined → Symbol
 local_symbol name d = record { name = name; binding = Local; definition = d }
 
--- the binding in an object of what other files can mean; a name without a definition is theirs, also
--- where the source makes it local
+-- the binding in an object of what other files can mean; a name without a definition is theirs,
+-- also where the source makes it local
 abbrev pub outer_binding : SourceBinding → Binding
 outer_binding source.Local = Global
 outer_binding source.Global = Global
@@ -107,7 +108,8 @@ abbrev pub are_together : LaidStatement → LaidStatement → Bool
 are_together s q = (s.located.section == q.located.section) && (s.offset == q.offset)
 
 -- a symbol without a name stands where a reference means a statement, one for each place
-abbrev pub unnamed_symbols : Tables → List SymbolUse → List LaidStatement → LaidStatement → List Symbol
+abbrev pub unnamed_symbols : Tables → List SymbolUse → List LaidStatement → LaidStatement →
+    List Symbol
 unnamed_symbols t rs before s =
     if is_meant t rs s && not (list_any (λ q. are_together s q && is_meant t rs q) before)
     then local_symbol [] (InSection s.located.section s.offset) ∷ []
@@ -129,7 +131,8 @@ named_symbols t laid s =
     (map (λ name. local_symbol name (statement_definition t laid s s.located.kind))
     (names_where (λ b. not (is_shared b)) t s.located))
 
-abbrev pub local_symbols : Tables → List LaidStatement → List LaidStatement → List LaidStatement → List Symbol
+abbrev pub local_symbols : Tables → List LaidStatement → List LaidStatement → List LaidStatement →
+    List Symbol
 local_symbols t laid before [] = []
 local_symbols t laid before (s ∷ rest) =
     unnamed_symbols t (references t laid) before s ++ (named_symbols t laid s
@@ -198,8 +201,8 @@ abbrev pub IsDefinedBy : List LaidStatement → Primary → Option Definition �
 IsDefinedBy laid q (Some d) x = IsOwn laid d x
 IsDefinedBy laid q None x = IsOuter q x
 
--- the symbol that a statement of this ordinal means by a name, `.` or a numeric reference: it is weak
--- where another file's definition may be meant
+-- the symbol that a statement of this ordinal means by a name, `.` or a numeric reference:
+-- it is weak where another file's definition may be meant
 abbrev pub StandsFor : Tables → List LaidStatement → ℕ → Primary → Option Symbol → Type 0
 StandsFor t laid ordinal q None = ⊥
 StandsFor t laid ordinal q (Some x) =

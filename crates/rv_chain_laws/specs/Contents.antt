@@ -49,8 +49,8 @@ abbrev pub HasSizes : Option Compressed → Bool → List Part → StatementKind
 HasSizes named rvc ps (Directs directive) lines = ArePadding lines
 HasSizes named rvc ps kind lines = AreSized named (rvc && are_closed ps) ps lines
 
--- the bytes of a line: the parcel that is named, if one is, else the word of its instruction, or the
--- parcel that is chosen for it
+-- the bytes of a line: the parcel that is named, if one is, else the word of its instruction,
+-- or the parcel that is chosen for it
 abbrev pub IsEncoded : Option Compressed → Line → List ℕ → Type 0
 IsEncoded named l bytes = IsEncodedAs named l.instruction l.bytes bytes
 

@@ -52,8 +52,8 @@ RunsAgree sources map image =
 abbrev pub rvc_flag : Bool → ℕ
 rvc_flag is_set = if is_set then 1 else 0
 
--- what the texts of the sources, the text's start, whether calls are shortened, whether sections are
--- collected, the bytes of the executable and those of the map have to do with one another
+-- what the texts of the sources, the text's start, whether calls are shortened, whether sections
+-- are collected, the bytes of the executable and those of the map have to do with one another
 pub record TheHeadline (texts : List (List ℕ)) (text_start : ℕ) (relax gc : Bool)
     (executable map_bytes : List ℕ) : Type 0 where
   pub sources : List (List Statement)

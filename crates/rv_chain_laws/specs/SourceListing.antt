@@ -38,7 +38,8 @@ line_text l =
     hexadecimal l.address ++ codes ": " ++ text_of l.address (format_of l.instruction) ++ 10 ∷ []
 
 -- `@ FILE LINE ORDINAL`, and the base instructions that stand for the statement, one after another
--- over its row, each of its least bytes where it may be compressed, and of two where it names a parcel
+-- over its row, each of its least bytes where it may be compressed,
+-- and of two where it names a parcel
 pub record IsEntry (p : Program) (s : Mapped) (text : List ℕ) : Type 0 where
   pub ps : List Part
   pub are_parts : parts p s ≡ Some ps

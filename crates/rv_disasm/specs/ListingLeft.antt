@@ -11,4 +11,5 @@ use Rattle.rv_disasm.specs.Listing.{row_text}
 -- the text of the rows that have not been added
 abbrev pub listing_left : Reader Spells StandsFor → ListedRows → List ℕ
 listing_left reader listed =
-    flat_map (row_text reader (map segment_of listed.segments.now)) (drop listed.added listed.rows.items)
+    flat_map (row_text reader (map segment_of listed.segments.now))
+    (drop listed.added listed.rows.items)

@@ -59,8 +59,8 @@ raw_lines before after =
 abbrev pub is_executable : Segment → Bool
 is_executable s = has_flag s.flags Execute
 
--- the image has one executable segment. Its bytes are instructions, one after another, each of which
--- a source can write, and one of them is at the entry
+-- the image has one executable segment. Its bytes are instructions, one after another, each of
+-- which a source can write, and one of them is at the entry
 pub record IsRawListing (image : Image) (text : List ℕ) : Type 0 where
   pub segment : Segment
   pub alone : filter is_executable image.segments ≡ segment ∷ []

@@ -21,8 +21,9 @@ use Rattle.rv_draft.specs.declared.code.Coder.{Coder}
 use Rattle.rv_draft.specs.declared.code.SectionCode.{SectionCode}
 use Rattle.rv_draft.specs.declared.item.CodeSize.{CodeSize}
 
--- a statement without faults as code, in a section of code or not, by the values of its expressions,
--- where compressed code is on or off, and so many bytes are wanted of one with several forms
+-- a statement without faults as code, in a section of code or not,
+-- by the values of its expressions, where compressed code is on or off,
+-- and so many bytes are wanted of one with several forms
 pub record IsAdded (old new : Coder) (section : ℕ) (executable : Bool) (faults : List ℕ)
     (v : Expression → values.Value) (rvc : Bool) (wanted : ℕ) (s : Statement) : Type 0 where
   pub sound : faults ≡ []
@@ -76,7 +77,8 @@ pub record IsWhole (t : Tables) (all : List Located) (lengths : List ℕ) (secti
   pub told : bytes_of_codes t all codes ≡ lengths
 
 -- a section of code becomes too long, and this is where
-pub record IsLong (t : Tables) (all : List Located) (lengths : List ℕ) (f : StatementFault) : Type 0 where
+pub record IsLong (t : Tables) (all : List Located) (lengths : List ℕ) (f : StatementFault) :
+    Type 0 where
   pub faults : code_fault_from t all ≡ None
   pub sizes : List ℕ
   pub are_sizes : AreCodeSizes t all sizes
@@ -95,8 +97,8 @@ IsAllCode t all lengths (Err OutOfMemory) = Unit {0}
 abbrev pub IsCodeFault : List Statement → StatementFault → Type 0
 IsCodeFault ss f = (code_fault ss ≡ Some f) ⊎ ((code_fault ss ≡ None) × IsTooLong ss f)
 
--- the code of a source by the least lengths, or the first fault of its code and of the sizes of code; memory may run
--- out
+-- the code of a source by the least lengths, or the first fault of its code and of the sizes of
+-- code; memory may run out
 abbrev pub IsSourceCode : List Statement → List ℕ → Result SectionCode SourceFault → Type 0
 IsSourceCode ss lengths (Ok c) =
     IsWhole (tables ss) (located (ss ∷ [])) lengths c.sections.items c.sizes.items

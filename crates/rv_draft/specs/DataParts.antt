@@ -86,7 +86,8 @@ open_fields t s =
 
 -- the bytes of data that statements have in a section
 abbrev pub data_bytes : Tables → ℕ → List LaidStatement → List ℕ
-data_bytes t section laid_statements = flat_map part_bytes (flat_map (data_parts t) (laid_in section laid_statements))
+data_bytes t section laid_statements =
+    flat_map part_bytes (flat_map (data_parts t) (laid_in section laid_statements))
 
 -- the laid statements of a source with these items and this code
 abbrev pub laid_statements : List Statement → List Item → List (List Coded) → List LaidStatement
@@ -124,7 +125,8 @@ AreMade t ss is = ⊤
 -- contribute, make up the whole
 pub record IsDataTo (ss : List Statement) (is : List Item) (codes : List (List Coded))
     (start : List (Vec ℕ)) (i : ℕ) (sections : List (Vec ℕ)) (found : List OpenField) : Type 0 where
-  pub bytes : (j : ℕ) → bytes_in sections j ++ data_bytes (tables ss) j (drop i (laid_statements ss is []))
+  pub bytes : (j : ℕ) →
+      bytes_in sections j ++ data_bytes (tables ss) j (drop i (laid_statements ss is []))
       ≡ bytes_in start j ++ data_bytes (tables ss) j (laid_statements ss is [])
   pub fields : map field_of found
       ++ flat_map (open_fields (tables ss)) (drop i (laid_statements ss is codes))

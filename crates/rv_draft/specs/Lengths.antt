@@ -12,7 +12,8 @@ use Rattle.rv_layout.specs.Measure.{HasLength}
 -- a statement without forms of several lengths has so many bytes of code and padding
 abbrev pub HasLengthAt : Tables → Located → ℕ → Type 0
 HasLengthAt t s bytes =
-    HasLength (λ e. expression_value t s e) s.options.rvc (code_faults_at t s) (padding_at t s) s.kind bytes
+    HasLength (λ e. expression_value t s e) s.options.rvc (code_faults_at t s) (padding_at t s)
+    s.kind bytes
 
 -- and each may be asked to be so long
 pub record IsLength (t : Tables) (s : Located) (bytes : ℕ) : Type 0 where

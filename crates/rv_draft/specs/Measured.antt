@@ -28,7 +28,8 @@ stretch offset bytes = record {
 abbrev pub IsSize : (Expression → Value) → Bool → ℕ → ℕ → CodeSize → StatementKind → ℕ → Type 0
 IsSize v executable begins offset size (Label name) bytes = bytes ≡ 0
 IsSize v executable begins offset size (Numbered number) bytes = bytes ≡ 0
-IsSize v executable begins offset size (Instruction mnemonic operands) bytes = bytes ≡ size_bytes size
+IsSize v executable begins offset size (Instruction mnemonic operands) bytes =
+    bytes ≡ size_bytes size
 IsSize v executable begins offset size (Directs directive) bytes =
     IsSizedDirective v executable size (stretch offset bytes) begins directive
 

@@ -14,7 +14,8 @@ pub use Rattle.rv_draft.specs.Code.{bytes_of_sizes, size_bytes, size_instruction
 -- the padding of an alignment, in a section that asks for a multiple of it: in code that of its
 -- size as code, in data up to the multiple
 abbrev pub IsItemPadded : Bool → CodeSize → Item → ℕ → Option ℕ → Type 0
-IsItemPadded true size i begins alignment = (i.bytes ≡ size_bytes size) × IsMultiple alignment begins
+IsItemPadded true size i begins alignment =
+    (i.bytes ≡ size_bytes size) × IsMultiple alignment begins
 IsItemPadded false size i begins alignment =
     (i.bytes ≡ padding alignment i.offset) × IsMultiple alignment begins
 
@@ -47,7 +48,8 @@ IsSized v executable i begins size (Numbered number) =
 IsSized v executable i begins size (Instruction mnemonic operands) =
     (i.bytes ≡ size_bytes size) × (i.instructions ≡ size_instructions size)
 IsSized v executable i begins size (Directs directive) =
-    (i.instructions ≡ size_instructions size) × IsSizedDirective v executable size i begins directive
+    (i.instructions ≡ size_instructions size)
+    × IsSizedDirective v executable size i begins directive
 
 -- the size of the first statement's code, and those after it, where there are some
 abbrev pub first_size : List CodeSize → CodeSize
@@ -62,7 +64,8 @@ other_sizes (size ∷ sizes) = sizes
 -- the statement
 abbrev pub AreSized : Tables → ℕ → Tables → List Statement → List Item → List CodeSize → Type 0
 AreSized all k t (s ∷ ss) (i ∷ is) sizes =
-    ((located_now 1 k t s).placed ≡ true → IsSized (λ e. expression_value all (located_now 1 k t s) e)
+    ((located_now 1 k t s).placed ≡ true →
+    IsSized (λ e. expression_value all (located_now 1 k t s) e)
     (located_now 1 k t s).home.executable i (alignment_at all i.section) (first_size sizes) s.kind)
     × AreSized all (suc k) (after t k s.kind) ss is (other_sizes sizes)
 AreSized all k t ss is sizes = ⊤

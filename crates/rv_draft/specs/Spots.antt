@@ -85,8 +85,8 @@ pub record IsAtSpot (spot : Spot) (index : ℕ) (says : StatementKind) (choices 
 abbrev pub HasBytesOf : List Coded → Item → StatementKind → Type 0
 HasBytesOf coded x kind = HasBytes coded x.bytes kind
 
--- the statement that is next there, which says this, has code of so many bytes, without a fault, and
--- may be asked for it
+-- the statement that is next there, which says this, has code of so many bytes, without a fault,
+-- and may be asked for it
 pub record IsMadeAt (spot : Spot) (says : StatementKind) (rvc : Bool) (bytes : ℕ) : Type 0 where
   pub index : ℕ
   pub filled : IsFilled spot.scope.now.unit.now

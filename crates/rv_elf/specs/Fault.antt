@@ -4,7 +4,7 @@ use Rattle.std.specs.Prelude.{ℕ, List, Option, Some, None, codes}
 use Rattle.rv_elf.specs.declared.fault.FileFault.{FileFault}
 use Rattle.rv_elf.specs.declared.fault.FileFault.TheVariants.{Truncated, BadMagic, WrongClass, WrongMachine, BadTable, BadString, BadIndex, Overlap, UnsupportedRelocation, UnsupportedSection, NotExecutable, Dynamic, MemoryLimit, NotObject, OutOfMemory}
 
--- F1 to F14; none for want of memory
+-- the number after the `F` (from 1); none for want of memory
 abbrev pub number_of : FileFault → Option ℕ
 number_of Truncated = Some 1
 number_of BadMagic = Some 2

@@ -44,8 +44,10 @@ table_tests file = (nat_le shn_loreserve (section_count file), BadTable)
       BadTable,
     )
     ∷ (not (names_section file == 0) && nat_le (section_count file) (names_section file), BadTable)
-    ∷ (is_past file (number_in e_phoff 0 file) (program_header_size * program_count file), Truncated)
-    ∷ (is_past file (number_in e_shoff 0 file) (section_header_size * section_count file), Truncated)
+    ∷
+    (is_past file (number_in e_phoff 0 file) (program_header_size * program_count file), Truncated)
+    ∷
+    (is_past file (number_in e_shoff 0 file) (section_header_size * section_count file), Truncated)
     ∷ []
 
 -- all that a view of a file is tested for

@@ -21,8 +21,8 @@ use Rattle.rv_elf.specs.Sections.{before_zero, string_at}
 
 -- a field whose bytes stand in those of a record, which stand at a place of a file
 field_there : (f : at.Field) (number place : ℕ) (file bytes : List ℕ) → drop place file ≡ bytes →
-    drop f.offset bytes ≡ at.bytes_of f number ++ drop (f.offset + f.width) bytes → number < 256 ^ f.width →
-    at.number_in f place file ≡ number
+    drop f.offset bytes ≡ at.bytes_of f number ++ drop (f.offset + f.width) bytes →
+    number < 256 ^ f.width → at.number_in f place file ≡ number
 unfolding at.number_in
 field_there f number place file bytes here cut fits =
     ap (little_number f.width) (sym (drop-drop f.offset place file) ∙ ap (drop f.offset) here ∙ cut)
@@ -44,7 +44,8 @@ pub record FitsFileHeader (h : FileHeader) : Type 0 where
   pub e_shnum : h.e_shnum < 2 ^ 16
   pub e_shstrndx : h.e_shstrndx < 2 ^ 16
 
-pub file_header_again : (h : FileHeader) (rest : List ℕ) → FitsFileHeader h → file_header_in (file_header_bytes h ++ rest) ≡ h
+pub file_header_again : (h : FileHeader) (rest : List ℕ) → FitsFileHeader h →
+    file_header_in (file_header_bytes h ++ rest) ≡ h
 unfolding file_header_bytes
 file_header_again h rest fits =
     let bytes = file_header_bytes h ++ rest in
@@ -58,11 +59,14 @@ file_header_again h rest fits =
       e_shoff = field_there at.e_shoff h.e_shoff 0 bytes bytes whole refl fits.e_shoff i;
       e_flags = field_there at.e_flags h.e_flags 0 bytes bytes whole refl fits.e_flags i;
       e_ehsize = field_there at.e_ehsize h.e_ehsize 0 bytes bytes whole refl fits.e_ehsize i;
-      e_phentsize = field_there at.e_phentsize h.e_phentsize 0 bytes bytes whole refl fits.e_phentsize i;
+      e_phentsize =
+          field_there at.e_phentsize h.e_phentsize 0 bytes bytes whole refl fits.e_phentsize i;
       e_phnum = field_there at.e_phnum h.e_phnum 0 bytes bytes whole refl fits.e_phnum i;
-      e_shentsize = field_there at.e_shentsize h.e_shentsize 0 bytes bytes whole refl fits.e_shentsize i;
+      e_shentsize =
+          field_there at.e_shentsize h.e_shentsize 0 bytes bytes whole refl fits.e_shentsize i;
       e_shnum = field_there at.e_shnum h.e_shnum 0 bytes bytes whole refl fits.e_shnum i;
-      e_shstrndx = field_there at.e_shstrndx h.e_shstrndx 0 bytes bytes whole refl fits.e_shstrndx i;
+      e_shstrndx =
+          field_there at.e_shstrndx h.e_shstrndx 0 bytes bytes whole refl fits.e_shstrndx i;
     })
 
 -- the numbers of a program header fit their fields
@@ -76,7 +80,8 @@ pub record FitsProgramHeader (h : ProgramHeader) : Type 0 where
   pub p_memsz : h.p_memsz < 2 ^ 64
   pub p_align : h.p_align < 2 ^ 64
 
-pub program_header_there : (h : ProgramHeader) (place : ℕ) (file rest : List ℕ) → FitsProgramHeader h → drop place file ≡ program_header_bytes h ++ rest →
+pub program_header_there : (h : ProgramHeader) (place : ℕ) (file rest : List ℕ) →
+    FitsProgramHeader h → drop place file ≡ program_header_bytes h ++ rest →
     program_header_at place file ≡ h
 unfolding program_header_bytes
 program_header_there h place file rest fits here =
@@ -111,7 +116,8 @@ pub record FitsSectionHeader (h : SectionHeader) : Type 0 where
   pub sh_addralign : h.sh_addralign < 2 ^ 64
   pub sh_entsize : h.sh_entsize < 2 ^ 64
 
-pub section_header_there : (h : SectionHeader) (place : ℕ) (file rest : List ℕ) → FitsSectionHeader h → drop place file ≡ section_header_bytes h ++ rest →
+pub section_header_there : (h : SectionHeader) (place : ℕ) (file rest : List ℕ) →
+    FitsSectionHeader h → drop place file ≡ section_header_bytes h ++ rest →
     section_header_at place file ≡ h
 unfolding section_header_bytes
 section_header_there h place file rest fits here =
@@ -125,8 +131,10 @@ section_header_there h place file rest fits here =
       sh_size = field_there at.sh_size h.sh_size place file bytes here refl fits.sh_size i;
       sh_link = field_there at.sh_link h.sh_link place file bytes here refl fits.sh_link i;
       sh_info = field_there at.sh_info h.sh_info place file bytes here refl fits.sh_info i;
-      sh_addralign = field_there at.sh_addralign h.sh_addralign place file bytes here refl fits.sh_addralign i;
-      sh_entsize = field_there at.sh_entsize h.sh_entsize place file bytes here refl fits.sh_entsize i;
+      sh_addralign =
+          field_there at.sh_addralign h.sh_addralign place file bytes here refl fits.sh_addralign i;
+      sh_entsize =
+          field_there at.sh_entsize h.sh_entsize place file bytes here refl fits.sh_entsize i;
     })
 
 pub section_header_again : (h : SectionHeader) (before after : List ℕ) → FitsSectionHeader h →
@@ -144,8 +152,8 @@ pub record FitsSymbol (h : Symbol) : Type 0 where
   pub st_value : h.st_value < 2 ^ 64
   pub st_size : h.st_size < 2 ^ 64
 
-pub symbol_there : (h : Symbol) (place : ℕ) (file rest : List ℕ) → FitsSymbol h → drop place file ≡ symbol_bytes h ++ rest →
-    symbol_at place file ≡ h
+pub symbol_there : (h : Symbol) (place : ℕ) (file rest : List ℕ) → FitsSymbol h →
+    drop place file ≡ symbol_bytes h ++ rest → symbol_at place file ≡ h
 unfolding symbol_bytes
 symbol_there h place file rest fits here =
     let bytes = symbol_bytes h ++ rest in
@@ -171,13 +179,15 @@ pub record FitsRela (h : Rela) : Type 0 where
   pub r_sym : h.r_sym < 2 ^ 32
   pub r_addend : FitsSigned w64 h.r_addend
 
-pub rela_there : (h : Rela) (place : ℕ) (file rest : List ℕ) → FitsRela h → drop place file ≡ rela_bytes h ++ rest →
-    rela_at place file ≡ h
+pub rela_there : (h : Rela) (place : ℕ) (file rest : List ℕ) → FitsRela h →
+    drop place file ≡ rela_bytes h ++ rest → rela_at place file ≡ h
 unfolding rela_bytes
 rela_there h place file rest fits here =
     let bytes = rela_bytes h ++ rest in
     let addend : cast_signed w64 (at.number_in at.r_addend place file) ≡ h.r_addend =
-    ap (cast_signed w64) (field_there at.r_addend (cast_unsigned w64 h.r_addend) place file bytes here refl (of_z_fits w64 h.r_addend fits.r_addend).fits)
+    ap (cast_signed w64)
+    (field_there at.r_addend (cast_unsigned w64 h.r_addend) place file bytes here refl
+    (of_z_fits w64 h.r_addend fits.r_addend).fits)
     ∙ to_z-of_z w64 h.r_addend fits.r_addend in
     (λ i. record {
       r_offset = field_there at.r_offset h.r_offset place file bytes here refl fits.r_offset i;
@@ -193,13 +203,16 @@ rela_again h before after fits =
     (drop_at before (rela_bytes h ++ after) (length before) refl)
 
 -- a name without a zero byte, and what follows the zero byte after it
-name_ends : (name after : List ℕ) → list_any (λ byte. byte == 0) name ≡ false → before_zero (name ++ (0 ∷ after)) ≡ Some name
+name_ends : (name after : List ℕ) → list_any (λ byte. byte == 0) name ≡ false →
+    before_zero (name ++ (0 ∷ after)) ≡ Some name
 name_ends [] after none = refl
 name_ends (byte ∷ name) after none =
     let parts = or_parts (byte == 0) (list_any (λ byte. byte == 0) name) none in
-    (λ i. cond (parts.0 i) (Some []) (option_map (λ rest. byte ∷ rest) (name_ends name after parts.1 i)))
+    (λ i. cond (parts.0 i) (Some [])
+    (option_map (λ rest. byte ∷ rest) (name_ends name after parts.1 i)))
 
 pub string_again : (before name after : List ℕ) → list_any (λ byte. byte == 0) name ≡ false →
     string_at (before ++ (name ++ (0 ∷ after))) (length before) ≡ Some name
 string_again before name after none =
-    ap before_zero (drop_at before (name ++ (0 ∷ after)) (length before) refl) ∙ name_ends name after none
+    ap before_zero (drop_at before (name ++ (0 ∷ after)) (length before) refl)
+    ∙ name_ends name after none

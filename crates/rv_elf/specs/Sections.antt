@@ -33,11 +33,13 @@ records record_at size (suc count) place bytes =
 -- all program headers and all section headers, in the order of the file
 abbrev pub program_headers : List ℕ → List ProgramHeader
 program_headers file =
-    records program_header_at program_header_size (program_count file) (number_in e_phoff 0 file) file
+    records program_header_at program_header_size (program_count file)
+    (number_in e_phoff 0 file) file
 
 abbrev pub section_headers : List ℕ → List SectionHeader
 section_headers file =
-    records section_header_at section_header_size (section_count file) (number_in e_shoff 0 file) file
+    records section_header_at section_header_size (section_count file)
+    (number_in e_shoff 0 file) file
 
 -- the header of the section of an index, from 0
 abbrev pub section_header_of : List ℕ → ℕ → SectionHeader
@@ -73,7 +75,8 @@ section_of file i = contents_of file (section_header_of file i)
 -- the bytes before the first zero byte; none where there is no zero byte
 abbrev pub before_zero : List ℕ → Option (List ℕ)
 before_zero [] = None
-before_zero (byte ∷ bytes) = if byte == 0 then Some [] else option_map (λ name. byte ∷ name) (before_zero bytes)
+before_zero (byte ∷ bytes) =
+    if byte == 0 then Some [] else option_map (λ name. byte ∷ name) (before_zero bytes)
 
 -- the string at an offset of a string table
 abbrev pub string_at : List ℕ → ℕ → Option (List ℕ)

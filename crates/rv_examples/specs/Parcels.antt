@@ -1,5 +1,5 @@
--- Worked parcels: statements that name one, their bytes, and a program with one where compressed code
--- is off.
+-- Worked parcels: statements that name one, their bytes, and a program with one where compressed
+-- code is off.
 
 use Rattle.std.specs.Prelude.{ℕ, List, [], ◌∷◌, codes}
 use Rattle.rv_compress.specs.declared.parcel.ParcelOperation.{ParcelOperation}

@@ -39,7 +39,8 @@ abbrev pub base_record : ℕ → HexRecord
 base_record upper = record { kind = 4; offset = 0; bytes = pair upper }
 
 abbrev pub start_record : ℕ → HexRecord
-start_record entry = record { kind = 5; offset = 0; bytes = pair (entry / 65536) ++ pair (entry % 65536) }
+start_record entry =
+    record { kind = 5; offset = 0; bytes = pair (entry / 65536) ++ pair (entry % 65536) }
 
 abbrev pub end_record : HexRecord
 end_record = record { kind = 1; offset = 0; bytes = [] }

@@ -40,7 +40,8 @@ program_tests file before p = (is_past file p.p_offset p.p_filesz, Truncated)
     ∷ (if is_load p then segment_tests before p else [])
 
 -- one program header after the other
-abbrev pub programs_tests : List ℕ → List ProgramHeader → List ProgramHeader → List (Bool × FileFault)
+abbrev pub programs_tests : List ℕ → List ProgramHeader → List ProgramHeader →
+    List (Bool × FileFault)
 programs_tests file before [] = []
 programs_tests file before (p ∷ ps) =
     program_tests file before p ++ programs_tests file (before ++ p ∷ []) ps

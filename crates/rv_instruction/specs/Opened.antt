@@ -52,4 +52,5 @@ are_free (Some parts) = are_closed parts
 
 -- the code of such a statement leaves no field open, whatever its names stand for
 abbrev pub LeavesNone : StatementKind → Type 0
-LeavesNone kind = (v : Constants) (rvc : Bool) (bytes : ℕ) → are_free (parts_of v rvc bytes kind) ≡ true
+LeavesNone kind =
+    (v : Constants) (rvc : Bool) (bytes : ℕ) → are_free (parts_of v rvc bytes kind) ≡ true

@@ -1,4 +1,5 @@
--- The options of an assembler that ask for what `rv as` can do (GNU assembler manual, RISC-V options).
+-- The options of an assembler that ask for what `rv as` can do
+-- (GNU assembler manual, RISC-V options).
 
 use Rattle.std.specs.Prelude.{ℕ, List, [], ◌∷◌, codes}
 

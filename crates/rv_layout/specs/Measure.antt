@@ -52,7 +52,8 @@ HasLength v rvc faults beside kind bytes =
 -- a statement that is no branch, jump or call has the bytes of its code, its padding or its data
 abbrev pub HasSizeAt : Tables → Located → ℕ → Type 0
 HasSizeAt t s bytes =
-    HasLength (λ e. expression_value t s e) s.options.rvc (code_faults_at t s) (beside_at t s) s.kind bytes
+    HasLength (λ e. expression_value t s e) s.options.rvc (code_faults_at t s) (beside_at t s)
+    s.kind bytes
 
 -- of statements, one after the other
 abbrev pub HaveSizes : Tables → List Located → List ℕ → Type 0

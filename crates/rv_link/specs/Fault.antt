@@ -10,7 +10,7 @@ use Rattle.rv_placement.specs.declared.fault.PlacementFault.TheVariants as place
 use Rattle.rv_link.specs.declared.fault.LinkFault.{LinkFault}
 use Rattle.rv_link.specs.declared.fault.LinkFault.TheVariants.{Overflow, OddTarget, DanglingPcrel, AlignmentShort, Undefined, Duplicate, EntryMissing, ImageTooLarge, BadTextStart, TooManyFiles, OutOfMemory}
 
--- L1 to L10; none for want of memory
+-- the number after the `L` (from 1); none for want of memory
 abbrev pub number_of : LinkFault → Option ℕ
 number_of Overflow = Some 1
 number_of OddTarget = Some 2

@@ -34,7 +34,8 @@ input_of f x = input_at (objects_of f) x.file x.index (short_section_of x.sectio
 pub record IsInput (os : List Object) (p : Placement) (x : Input) : Type 0 where
   pub stands : section_at os x.file x.index ≡ Some (short_section_of x.section.now)
   pub start : starts_of p (x.file + 1) x.index ≡ x.placed.now.start
-  pub planned : moves_of x.placed.now.plan ≡ moves x.placed.now.start (short_section_of x.section.now)
+  pub planned : moves_of x.placed.now.plan
+      ≡ moves x.placed.now.start (short_section_of x.section.now)
   pub room : IsTrue (list_all has_room (moves_of x.placed.now.plan))
 
 abbrev pub IsInputOf : Fixed → Input → Type 0

@@ -110,8 +110,8 @@ IsUnlinked os start OddTarget = IsUnapplied os start OddTarget
 IsUnlinked os start DanglingPcrel = IsUnapplied os start DanglingPcrel
 IsUnlinked os start OutOfMemory = ⊤
 
--- objects have no program, as what collection and relaxation leave of them cannot be linked; where no
--- run can begin, collection leaves no reference, and so the missing entry comes first
+-- objects have no program, as what collection and relaxation leave of them cannot be linked;
+-- where no run can begin, collection leaves no reference, and so the missing entry comes first
 pub record HasNoProgram (os : List Object) (start : ℕ) (relax gc : Bool) (fault : LinkFault) :
     Type 0 where
   pub drops : List SectionId

@@ -1,4 +1,5 @@
--- What stands before and behind a relocation, among those of a section in the order of their places.
+-- What stands before and behind a relocation,
+-- among those of a section in the order of their places.
 
 use Rattle.std.specs.Prelude.{◌≡◌, ℕ, ◌+◌, ◌≤◌, ◌==◌, Bool, ◌&&◌, nat_lt, max, ⊤, List, [], ◌∷◌, Option, Some, None, count_by, option_map, if◌then◌else◌}
 use Rattle.std.specs.List.{find}

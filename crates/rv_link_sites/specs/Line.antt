@@ -90,7 +90,8 @@ starts_of os = starts_from os (inputs goes_to_text os)
 abbrev pub section_starts : List Object → InputSection → List Bool
 section_starts os i = if goes_to_text i.section then text_starts os i else []
 
-abbrev pub object_starts : List Object → (file : ℕ) → Object → (index : ℕ) → List Section → List Bool
+abbrev pub object_starts : List Object → (file : ℕ) → Object → (index : ℕ) → List Section →
+    List Bool
 object_starts os file o index [] = []
 object_starts os file o index (s ∷ ss) =
     section_starts os (input file o index s) ++ object_starts os file o (suc index) ss

@@ -47,8 +47,10 @@ pub record IsGiven (t : Text) (i : Input) : Type 0 where
 
 -- what may change of a section lies in it
 pub record IsLying (s : Section) (r : Relocation) : Type 0 where
-  pub padding : has_padding r ≡ true → (full_padding r ≤ 4094) × (r.place + full_padding r ≤ size_of s.contents)
-  pub call : is_call r.kind ≡ true → (r.place + 8 ≤ length (stored s.contents)) × (r.place + 8 ≤ size_of s.contents)
+  pub padding : has_padding r ≡ true →
+      (full_padding r ≤ 4094) × (r.place + full_padding r ≤ size_of s.contents)
+  pub call : is_call r.kind ≡ true →
+      (r.place + 8 ≤ length (stored s.contents)) × (r.place + 8 ≤ size_of s.contents)
 
 -- its words, its target and the symbols of its object allow that a call is shortened
 abbrev pub can_shorten : List Object → InputSection → Relocation → Bool

@@ -26,7 +26,8 @@ input_of ended ends left = record { ended = ended; ends = ends; left = left }
 pub record HasRead (s t : Input) (read : List ℕ) : Type 0 where
   pub takes : Consumes s.left t.left read
   pub none : s.ended ≡ true → read ≡ []
-  pub noted : ((t.ended ≡ s.ended) × (t.ends ≡ s.ends)) ⊎ ((s.ended ≡ false) × ((t.ended ≡ true) × (t.ends ≢ s.ends)))
+  pub noted : ((t.ended ≡ s.ended) × (t.ends ≡ s.ends))
+      ⊎ ((s.ended ≡ false) × ((t.ended ≡ true) × (t.ends ≢ s.ends)))
 
 -- the hart after a step has written at least this
 abbrev pub Writes : Next → List ℕ → Type 0

@@ -1,5 +1,5 @@
--- The names that every file can mean, as a map shows them (gABI, "Symbol Table"), and those that the
--- linker gives.
+-- The names that every file can mean, as a map shows them (gABI, "Symbol Table"), and those
+-- that the linker gives.
 
 use Rattle.std.specs.Prelude.{◌≡◌, ℕ, ◌+◌, Bool, false, ⊤, List, [], ◌∷◌, Option, Some, None, option_map, codes, bytes_eq}
 use Rattle.std.specs.List.{find, list_any}

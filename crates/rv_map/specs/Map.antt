@@ -12,8 +12,8 @@ pub record Global : Type 0 where
   pub name : List ℕ
   pub address : ℕ
 
--- regions and gaps from their start on and below their end; the sections that collection dropped, by
--- file and number; the rows by file and ordinal
+-- regions and gaps from their start on and below their end; the sections that collection dropped,
+-- by file and number; the rows by file and ordinal
 pub record Map : Type 0 where
   pub text : Region
   pub rodata : Region

@@ -1,5 +1,5 @@
--- The region of memory to which a section goes, by its flags ALLOC, EXECINSTR and WRITE and by whether
--- it has bytes in files (gABI, "Special Sections").
+-- The region of memory to which a section goes, by its flags ALLOC, EXECINSTR and WRITE
+-- and by whether it has bytes in files (gABI, "Special Sections").
 
 use Rattle.std.specs.Prelude.{Bool, not, ◌&&◌}
 

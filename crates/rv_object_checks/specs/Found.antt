@@ -1,4 +1,5 @@
--- What is looked up in a file once: its sections by their indices, and which of them an object keeps.
+-- What is looked up in a file once: its sections by their indices,
+-- and which of them an object keeps.
 
 use Rattle.std.specs.Prelude.{ℕ, zero, suc, List, [], ◌∷◌, map, Option, Some, None}
 use Rattle.std.specs.List.{find}

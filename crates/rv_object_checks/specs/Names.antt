@@ -1,4 +1,5 @@
--- The strings of a table of names, which of them a map can show, and the names of a file's sections.
+-- The strings of a table of names, which of them a map can show,
+-- and the names of a file's sections.
 
 use Rattle.std.specs.Prelude.{ℕ, suc, ◌^◌, ◌==◌, Bool, false, not, List, [], ◌∷◌, Option, None, Some, if◌then◌else◌}
 use Rattle.rv_elf.specs.Sections.{names_section, section_of}
@@ -19,7 +20,8 @@ abbrev pub can_show : Option (List ℕ) → Bool
 can_show None = false
 can_show (Some name) = is_name name
 
--- the names of a file's sections; where no section has them each offset has a name, and that is empty
+-- the names of a file's sections; where no section has them each offset has a name,
+-- and that is empty
 abbrev pub names_table : List ℕ → List ℕ
 names_table file = if names_section file == 0 then [] else section_of file (names_section file)
 

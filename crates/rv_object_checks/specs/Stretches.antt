@@ -1,5 +1,5 @@
--- What relocations hold of the bytes of a section of code: their paddings and their fields, as stretches of
--- bytes. Each is a pair of numbers, its first byte and the end behind its last.
+-- What relocations hold of the bytes of a section of code: their paddings and their fields,
+-- as stretches of bytes. Each is a pair of numbers, its first byte and the end behind its last.
 
 use Rattle.std.specs.Prelude.{◌≡◌, ℕ, ◌+◌, ◌<◌, Bool, true, not, ◌&&◌, nat_le, nat_lt, List, [], ◌∷◌}
 use Rattle.std.specs.List.{list_all, list_any}
@@ -51,7 +51,8 @@ pads_in a b r = is_align r.kind && holds_in a b r
 abbrev pub fills_in : ℕ → ℕ → Relocation → Bool
 fills_in a b r = not (is_align r.kind) && holds_in a b r
 
--- these stretches are the paddings, by their ends, and the fields, by their starts, of the relocations
+-- these stretches are the paddings, by their ends, and the fields, by their starts,
+-- of the relocations
 pub record AreHeld (paddings fields : List (ℕ × ℕ)) (rs : List Relocation) : Type 0 where
   pub padded : (a b : ℕ) → a < b → list_any (ends_in a b) paddings ≡ list_any (pads_in a b) rs
   pub filled : (a b : ℕ) → a < b → list_any (starts_in a b) fields ≡ list_any (fills_in a b) rs

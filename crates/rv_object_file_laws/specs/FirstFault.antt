@@ -102,14 +102,16 @@ is_misplaced h before (Some r) = not (fits_inside (extent_of h) r)
     || not (is_padding (is_executable h) (extent_of h) r)
     || (is_executable h && list_any (λ q. not (are_apart q r)) before)
 
-unfoldable pub relocation_tests : SectionHeader → ℕ → List Relocation → Rela → List (Bool × FileFault)
+unfoldable pub relocation_tests : SectionHeader → ℕ → List Relocation → Rela →
+    List (Bool × FileFault)
 relocation_tests h symbols before r = (is_misplaced h before (relocation_in r), BadTable)
     ∷ (not (r.r_sym == 0) && nat_le symbols r.r_sym, BadIndex)
     ∷ (is_none (kind_numbered r.r_type), UnsupportedRelocation r.r_type)
     ∷ []
 
 -- relocations of a section with this header, one after the other
-abbrev pub relocations_tests : SectionHeader → ℕ → List Relocation → List Rela → List (Bool × FileFault)
+abbrev pub relocations_tests : SectionHeader → ℕ → List Relocation → List Rela →
+    List (Bool × FileFault)
 relocations_tests h symbols before [] = []
 relocations_tests h symbols before (r ∷ rs) =
     relocation_tests h symbols before r
@@ -134,7 +136,8 @@ rela_tests file before h =
 abbrev pub records_tests : List ℕ → List FileSection → SectionHeader → List (Bool × FileFault)
 records_tests file before h =
     if is_symbol_table h
-    then flat_map (symbol_tests file (section_of file h.sh_link)) (drop 1 (symbols_in (contents_of file h)))
+    then flat_map (symbol_tests file (section_of file h.sh_link))
+    (drop 1 (symbols_in (contents_of file h)))
     else if is_rela h then rela_tests file before h
     else if is_rows file h then flat_map (row_tests file) (rows_in (contents_of file h))
     else []

@@ -1,6 +1,6 @@
 -- The file of an object (System V gABI, "ELF Header", "Sections", "String Table", "Symbol Table",
--- "Relocation"; this project's order of sections): the header; the contents of the sections, each at
--- a multiple of 8; and the section headers.
+-- "Relocation"; this project's order of sections): the header; the contents of the sections,
+-- each at a multiple of 8; and the section headers.
 
 use Rattle.std.specs.Prelude.{ℕ, suc, ◌+◌, ◌-◌, ◌*◌, ◌≤◌, ◌<◌, ◌^◌, ◌==◌, Bool, not, List, [], ◌∷◌, ◌++◌, length, replicate, map, flat_map, filter, codes, bytes_eq, if◌then◌else◌, Option, Some, None}
 use Rattle.std.specs.List.{list_any}
@@ -120,8 +120,10 @@ relocations_bytes rs = flat_map (λ r. rela_bytes (rela_of r)) rs
 -- one for each section that has relocations; the first section has index 1
 abbrev pub rela_pieces : ℕ → ℕ → List Section → List Piece
 rela_pieces symtab index [] = []
-rela_pieces symtab index (s ∷ ss) = if length s.relocations == 0 then rela_pieces symtab (suc index) ss
-    else table_piece (codes ".rela" ++ s.name) sht_rela (relocations_bytes s.relocations) symtab index 8 rela_size
+rela_pieces symtab index (s ∷ ss) =
+    if length s.relocations == 0 then rela_pieces symtab (suc index) ss
+    else table_piece (codes ".rela" ++ s.name) sht_rela (relocations_bytes s.relocations) symtab
+    index 8 rela_size
     ∷ rela_pieces symtab (suc index) ss
 
 -- ---- rows
@@ -140,7 +142,8 @@ row_record r = record {
 abbrev pub row_pieces : List Row → List Piece
 row_pieces [] = []
 row_pieces (r ∷ rs) =
-    table_piece rows_name sht_progbits (flat_map (λ row. row_bytes (row_record row)) (r ∷ rs)) 0 0 1 0 ∷ []
+    table_piece rows_name sht_progbits (flat_map (λ row. row_bytes (row_record row)) (r ∷ rs))
+    0 0 1 0 ∷ []
 
 -- ---- symbols
 
@@ -227,7 +230,8 @@ zeros_at at = replicate (aligned 8 at - at) 0
 -- the contents from an offset on, the last up to a multiple of 8 as well
 abbrev pub contents_from : ℕ → List Piece → List ℕ
 contents_from at [] = zeros_at at
-contents_from at (p ∷ ps) = zeros_at at ++ (p.bytes ++ contents_from (aligned 8 at + length p.bytes) ps)
+contents_from at (p ∷ ps) =
+    zeros_at at ++ (p.bytes ++ contents_from (aligned 8 at + length p.bytes) ps)
 
 abbrev pub headers_offset : ℕ → List Piece → ℕ
 headers_offset at [] = aligned 8 at
@@ -276,8 +280,8 @@ file_of o = file_header_bytes (file_header_of o)
     ++ (replicate section_header_size 0
     ++ flat_map section_header_bytes (headers_from (section_names o) file_header_size (pieces o))))
 
--- what the fields of a file can hold: the indices of its sections and symbols, and the offsets of its
--- names
+-- what the fields of a file can hold: the indices of its sections and symbols, and the offsets of
+-- its names
 pub record HasFile (o : Object) : Type 0 where
   pub sections : 1 + length (pieces o) ≤ 0xFEFF
   pub symbols : 1 + length o.symbols < 2 ^ 32

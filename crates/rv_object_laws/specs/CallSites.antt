@@ -111,8 +111,8 @@ abbrev pub is_text_place : List Object → Option Place → Bool
 is_text_place os None = false
 is_text_place os (Some p) = is_in_text (home os p)
 
--- a place past its section's end moves as the end does: what moves with it, and the bytes from there
--- on to it
+-- a place past its section's end moves as the end does: what moves with it, and the bytes from
+-- there on to it
 abbrev pub moving : Option Section → ℕ → ℕ
 moving None offset = offset
 moving (Some s) offset = min offset (size_of s.contents)
@@ -121,8 +121,9 @@ abbrev pub past_end : Option Section → ℕ → ℕ
 past_end None offset = 0
 past_end (Some s) offset = offset - size_of s.contents
 
--- a call that may be shortened: it has a RELAX at its place, is `auipc` and `jalr`, leads to a place
--- in text, no symbol stands strictly inside it, and no field but its own meets its bytes
+-- a call that may be shortened: it has a RELAX at its place, is `auipc` and `jalr`,
+-- leads to a place in text, no symbol stands strictly inside it,
+-- and no field but its own meets its bytes
 abbrev pub is_permitted : List Object → InputSection → Relocation → Bool
 is_permitted os i r =
     is_call r.kind

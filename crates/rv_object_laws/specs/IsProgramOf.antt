@@ -1,5 +1,5 @@
--- The program of objects: sections are collected, calls are shortened, and what is left is linked (GNU
--- ld, "--gc-sections"; RISC-V ELF psABI, "Linker Relaxation").
+-- The program of objects: sections are collected, calls are shortened, and what is left is linked
+-- (GNU ld, "--gc-sections"; RISC-V ELF psABI, "Linker Relaxation").
 
 use Rattle.std.specs.Prelude.{ℕ, Bool, List}
 use Rattle.rv_image.specs.Linked.{Linked}
@@ -17,7 +17,8 @@ pub record Leaves (os : List Object) (relax gc : Bool) (drops : List SectionId)
   pub relaxed : Relaxes relax (without drops os) left
 
 -- the map says what was dropped
-pub record IsProgramOf (os : List Object) (text_start : ℕ) (relax gc : Bool) (l : Linked) : Type 0 where
+pub record IsProgramOf (os : List Object) (text_start : ℕ) (relax gc : Bool) (l : Linked) :
+    Type 0 where
   pub left : List Object
   pub leaves : Leaves os relax gc l.map.drops left
   pub linked : IsLinkOf left text_start l

@@ -1,6 +1,6 @@
--- Objects without the sections that collection dropped: a dropped one has no address, no relocations
--- and no rows, and what stands in it stays defined (GNU ld, "--gc-sections"; this project's profile of
--- it).
+-- Objects without the sections that collection dropped: a dropped one has no address,
+-- no relocations and no rows, and what stands in it stays defined (GNU ld, "--gc-sections";
+-- this project's profile of it).
 
 use Rattle.std.specs.Prelude.{ℕ, suc, Bool, false, not, List, [], ◌∷◌, filter, if◌then◌else◌}
 use Rattle.rv_map.specs.declared.map.SectionId.{SectionId}

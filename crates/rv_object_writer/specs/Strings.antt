@@ -12,7 +12,8 @@ terminated strings = flat_map (λ name. name ++ 0 ∷ []) strings
 
 -- a string more, unless it is there
 abbrev pub with_string : List (List ℕ) → List ℕ → List (List ℕ)
-with_string strings name = if list_any (bytes_eq name) strings then strings else strings ++ name ∷ []
+with_string strings name =
+    if list_any (bytes_eq name) strings then strings else strings ++ name ∷ []
 
 -- the offset of the string that equals a name
 abbrev pub found_in : List (List ℕ) → List ℕ → Option ℕ
@@ -23,4 +24,5 @@ found_in (s ∷ ss) name =
 -- the table has these strings, in this order
 pub record IsTable (strings : List (List ℕ)) (t : StringTable) : Type 0 where
   pub all : t.bytes.items ≡ terminated strings
-  pub found : (name : List ℕ) → get_by (λ (k : Bor (List ℕ)). bytes_eq name k.now) t.offsets ≡ found_in strings name
+  pub found : (name : List ℕ) →
+      get_by (λ (k : Bor (List ℕ)). bytes_eq name k.now) t.offsets ≡ found_in strings name

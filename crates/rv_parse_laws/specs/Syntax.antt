@@ -288,8 +288,8 @@ A_target = A_value roles.Target
 abbrev pub linked : Slot → Slots
 linked target = Chooses A_register (Takes (A_comma A_register) (last target)) (last target)
 
--- the places of a parcel's operands, by the sets of its registers: these alone, with the last one in
--- parentheses, or with what stands behind them
+-- the places of a parcel's operands, by the sets of its registers: these alone, with the last one
+-- in parentheses, or with what stands behind them
 abbrev pub registers_alone : List RegisterSet → Slots
 registers_alone [] = Stops A_register
 registers_alone (set ∷ []) = last (A_register_of set)

@@ -82,8 +82,8 @@ OffsetsAgree os kept starts new before after (i ∷ is) =
 -- ---- the law
 
 -- what a plan tells of a text is what becomes of it, where relaxation leaves these objects of its
--- own and their sections start there; the link finds its sizes apart (`kept_sizes`), and they are the
--- plan's, since there is one greatest family
+-- own and their sections start there; the link finds its sizes apart (`kept_sizes`),
+-- and they are the plan's, since there is one greatest family
 pub record IsAsLinked (os left : List Object) (p : Plan) (starts : Starts) : Type 0 where
   pub shortens : left ≡ shortened (kept_of p) os
   pub calls : call_sizes (sites_in p) (kept_of p)

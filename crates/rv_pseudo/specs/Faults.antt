@@ -1,5 +1,5 @@
--- The faults of the operand of a statement of code, as the code decides them (`InstructionFaults` has
--- them for any statement).
+-- The faults of the operand of a statement of code, as the code decides them (`InstructionFaults`
+-- has them for any statement).
 
 use Rattle.std.specs.Prelude.{ℕ, ℤ, pos, Bool, true, false, ◌&&◌, ◌||◌, ◌==◌, if◌then◌else◌, List, ◌++◌, Option, Some, None}
 use Rattle.rv_isa_laws.specs.Halves.{hi, lo}

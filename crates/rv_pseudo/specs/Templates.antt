@@ -211,7 +211,8 @@ pub record IsOne (operation : Operation) (number : ℤ) (i : Inst) : Type 0 wher
       ≡ Some (plain i ∷ [])
   pub unnamed : (e : Expression) → IsUnnamed (statement_with operation None e)
 
--- one says more than an instruction: an operation on one register may have two, and a parcel is a form
+-- one says more than an instruction: an operation on one register may have two,
+-- and a parcel is a form
 abbrev pub says_more : Plain → Bool
 says_more (plains.Unary operation rd rs) = true
 says_more (plains.Parcel operation a b) = true

@@ -1,7 +1,7 @@
 -- The faults of one instruction, by its operands and what their expressions are worth (RISC-V
 -- Unprivileged ISA 20191213, chapter 24, for ranges; RISC-V Assembly Programmer's Manual; GNU as,
--- "RISC-V-Modifiers", for parts of addresses). What has no row is refused as such, where nothing else
--- is wrong.
+-- "RISC-V-Modifiers", for parts of addresses). What has no row is refused as such,
+-- where nothing else is wrong.
 
 use Rattle.std.specs.Prelude.{ℕ, ℤ, Bool, true, false, not, ◌||◌, ◌==◌, List, [], ◌∷◌, ◌++◌, flat_map, Option, Some, is_some}
 use Rattle.rv_isa_laws.specs.Halves.{hi, lo}

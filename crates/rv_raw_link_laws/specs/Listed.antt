@@ -1,4 +1,5 @@
--- What is promised of the statements of a raw listing, and of their object: they are refused for nothing but their length.
+-- What is promised of the statements of a raw listing, and of their object:
+-- they are refused for nothing but their length.
 
 use Rattle.std.specs.Prelude.{◌≡◌, ℕ, ◌+◌, ◌≤◌, Bool, List, [], ◌∷◌, ◌++◌, length, flat_map, None}
 use Rattle.std.specs.List.{AllByRecursion}

@@ -82,8 +82,8 @@ ShortCallsReach =
     → ForEachLeft (without drops (map object_of objects)) left
     (λ before now i j. is_short_call before.kind now.kind ≡ true → IsTaken left p j now)
 
--- and so does the field of each branch and jump of sources that has a form below its largest, unless
--- its statement names it
+-- and so does the field of each branch and jump of sources that has a form below its largest,
+-- unless its statement names it
 abbrev pub ShortBranchesReach : Type 0
 ShortBranchesReach =
     (sources : List (List Statement)) (objects : List DeclaredObject) (drops : List SectionId)
@@ -94,8 +94,8 @@ ShortBranchesReach =
     → ForEachLeft (without drops (map object_of objects)) left
     (λ before now i j. is_chosen_branch sources i before ≡ true → IsTaken left p j now)
 
--- both, where what relaxation leaves of objects of sources is placed: a build has no fault at such a
--- field
+-- both, where what relaxation leaves of objects of sources is placed: a build has no fault at such
+-- a field
 abbrev pub ShortFormsReach : List (List Statement) → List Object → List Object → ℕ → Type 0
 ShortFormsReach sources os left start =
     (p : Placement) → IsPlacement left start p

@@ -8,8 +8,8 @@ use Rattle.rv_layout_laws.specs.declared.site.SiteKind.{SiteKind}
 use Rattle.rv_layout_laws.specs.declared.site.SiteKind.TheVariants.{Call, Padding}
 use Rattle.rv_layout_laws.specs.Calls.{bytes_of, is_call}
 
--- what is kept of a site that begins at a new offset: of a call its size, of a padding the least that
--- aligns its end
+-- what is kept of a site that begins at a new offset: of a call its size, of a padding the least
+-- that aligns its end
 abbrev pub kept_at : SiteKind → (sized start : ℕ) → ℕ
 kept_at (Call call) sized start = sized
 kept_at (Padding padding) sized start = aligned padding.alignment start - start

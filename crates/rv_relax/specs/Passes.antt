@@ -1,5 +1,5 @@
--- What the tables hold while a pass goes over the sites of a text: the bytes that are dropped before
--- each site, or from it on.
+-- What the tables hold while a pass goes over the sites of a text: the bytes that are dropped
+-- before each site, or from it on.
 
 use Rattle.std.specs.Prelude.{◌≡◌, ◌⊎◌, ℕ, ◌+◌, ◌-◌, ◌*◌, ◌^◌, ◌≤◌, ◌<◌, nat_le, Bool, true, false, ◌&&◌, List, [], ◌∷◌, length, set, slice_index, ℤ, ⊤, MatchBool}
 use Rattle.rv_layout_laws.specs.declared.site.Site.{Site}
@@ -46,8 +46,8 @@ drops [] kept = []
 drops (site ∷ sites) [] = []
 drops (site ∷ sites) (k ∷ kept) = (bytes_of site.kind - k) ∷ drops sites kept
 
--- sites before i have in the table what is dropped before them, those from i on what is dropped from
--- them on, and so has the end
+-- sites before i have in the table what is dropped before them, those from i on what is dropped
+-- from them on, and so has the end
 pub record IsTable (sites : List Site) (i : ℕ) (kept stands : List ℕ) : Type 0 where
   pub family : IsFamily sites kept
   pub same_length : length stands ≡ length sites + 1

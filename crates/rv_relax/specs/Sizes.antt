@@ -4,8 +4,8 @@ use Rattle.std.specs.Prelude.{◌≡◌, ℕ, Bool, true, false, List, [], ◌�
 use Rattle.rv_layout_laws.specs.declared.site.Site.{Site}
 use Rattle.rv_layout_laws.specs.Calls.{IsGreatestClosed, is_call, whole_sizes}
 
--- what is kept of the sites: where calls are relaxed the greatest sizes with which none has a shorter
--- form that reaches, else all
+-- what is kept of the sites: where calls are relaxed the greatest sizes with which none has a
+-- shorter form that reaches, else all
 abbrev pub IsPlanned : (relax : Bool) → List Site → List ℕ → Type 0
 IsPlanned true sites kept = IsGreatestClosed sites kept
 IsPlanned false sites kept = kept ≡ whole_sizes sites

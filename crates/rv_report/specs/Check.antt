@@ -10,7 +10,8 @@ abbrev pub HasFirst : Option Finding → Fault → Type 0
 HasFirst None fault = ⊥
 HasFirst (Some finding) fault = finding.fault ≡ fault
 
--- the first finding is of the fault for which a build of these texts is refused; without one they have none
+-- the first finding is of the fault for which a build of these texts is refused;
+-- without one they have none
 abbrev pub BeginsWithFaultOf : List (List ℕ) → ℕ → Bool → Bool → Option Finding → Type 0
 BeginsWithFaultOf texts start relax gc None = AreGood texts start
 BeginsWithFaultOf texts start relax gc (Some finding) =

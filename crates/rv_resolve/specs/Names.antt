@@ -67,7 +67,8 @@ pub record IsAt (os : List Object) (x : Exported) (e : Export) : Type 0 where
 abbrev pub meant_of : Export → Meant
 meant_of e = record { file = e.file - 1; definition = e.symbol.definition }
 
--- what a symbol of a file means: what its own object surely defines, else the definition of its name
+-- what a symbol of a file means: what its own object surely defines,
+-- else the definition of its name
 abbrev pub meant_by : List Object → ℕ → Symbol → Option Meant
 meant_by os file s =
     if is_sure s

@@ -15,7 +15,8 @@ use Rattle.rv_object_laws.specs.Shortened.{shortened_contents}
 
 -- ---- the cuts of a section
 
--- behind an offset and within so many bytes, a call at an even offset of which `jal` or `c.j` is left
+-- behind an offset and within so many bytes, a call at an even offset
+-- of which `jal` or `c.j` is left
 abbrev pub is_cut : (stop size : ℕ) → Move → Bool
 is_cut stop size m =
     nat_le stop m.place

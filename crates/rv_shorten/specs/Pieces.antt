@@ -1,4 +1,5 @@
--- The parts of a text that lose bytes, in the order in which they stand, and what is dropped of them before an offset.
+-- The parts of a text that lose bytes, in the order in which they stand,
+-- and what is dropped of them before an offset.
 
 use Rattle.std.specs.Prelude.{ℕ, ◌+◌, ◌-◌, min, Bool, true, ◌&&◌, ◌==◌, nat_le, List, [], ◌∷◌}
 use Rattle.rv_shorten.specs.declared.piece.Piece.{Piece}

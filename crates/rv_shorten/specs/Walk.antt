@@ -68,7 +68,8 @@ abbrev pub walked : List Object → List Site → List ℕ → List Object
 walked [] sites kept = []
 walked (o ∷ os) sites kept =
     let count = passed_all o.sections sites in
-    cut_object (object_moves o.sections sites kept) o ∷ walked os (drop count sites) (drop count kept)
+    cut_object (object_moves o.sections sites kept) o
+    ∷ walked os (drop count sites) (drop count kept)
 
 -- the sites give each section calls that may be cut
 abbrev pub AreWalked : List Object → List Site → List ℕ → Type 0

@@ -1,7 +1,8 @@
 -- Which sections of sources collection drops: those to which nothing leads from the section where a
--- run begins (GNU ld, "--gc-sections"; this project's profile of it). A section refers to the sections
--- of the labels and places that the values of its statements' expressions have, where differences that
--- are constants are numbers. No map is needed for it: no section has an address yet.
+-- run begins (GNU ld, "--gc-sections"; this project's profile of it). A section refers to the
+-- sections of the labels and places that the values of its statements' expressions have,
+-- where differences that are constants are numbers. No map is needed for it:
+-- no section has an address yet.
 
 use Rattle.std.specs.Prelude.{ℕ, suc, Bool, false, ◌&&◌, ◌||◌, ◌==◌, List, [], ◌∷◌, ◌++◌, map, Option, Some, None, option_map, option_and_then, codes, if◌then◌else◌}
 use Rattle.std.specs.List.{find, list_any}

@@ -82,7 +82,8 @@ abbrev pub IsPaddingIn : Bool → Program → Mapped → Directive → Type 0
 IsPaddingIn true p s d =
     IsRowOf (expansion p s) s.row
     × (s.row.bytes
-    ≡ (if needs_no_padding (alignment_of (λ e. form p s.located e) d) then 0 else least_padding p s d))
+    ≡ (if needs_no_padding (alignment_of (λ e. form p s.located e) d) then 0
+    else least_padding p s d))
 IsPaddingIn false p s d =
     IsTrue (has_values p s) × (s.row.bytes ≡ least_padding p s d) × (s.row.instructions ≡ 0)
 

@@ -1,7 +1,7 @@
--- The one base instruction that a statement spells by its mnemonic and its registers, with a hole for
--- the number that its other operand gives, if it has one (RISC-V Unprivileged ISA 20191213, chapter
--- 24; RISC-V Assembly Programmer's Manual, "pseudoinstructions"). No file, no field of one and no
--- linker is spoken of here.
+-- The one base instruction that a statement spells by its mnemonic and its registers,
+-- with a hole for the number that its other operand gives, if it has one (RISC-V Unprivileged ISA
+-- 20191213, chapter 24; RISC-V Assembly Programmer's Manual, "pseudoinstructions"). No file,
+-- no field of one and no linker is spoken of here.
 
 use Rattle.std.specs.Prelude.{ℕ, ℤ, pos, ◌%◌, ◌^◌, List, [], ◌∷◌, Option, Some, None, option_map}
 use Rattle.rv_isa.specs.declared.instruction.Inst.{Inst}

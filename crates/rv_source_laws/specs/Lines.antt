@@ -139,8 +139,8 @@ pair_distance p (Some m) = distance m.row.address (target p m)
 
 -- ---- the number that an operand gives its instruction
 
--- by the numbers and addresses of expressions, the distances of the upper parts that labels name, and
--- the statement's own address: a number, a half of one, a half of a distance, or a distance
+-- by the numbers and addresses of expressions, the distances of the upper parts that labels name,
+-- and the statement's own address: a number, a half of one, a half of a distance, or a distance
 abbrev pub operand_gives : (Expression → ℕ) → (Expression → ℤ) → ℕ → Option Operand → ℤ
 operand_gives v pair a (Some (Of_value e)) = signed 64 (v e)
 operand_gives v pair a (Some (Applied Hi e)) = hi (signed 64 (v e))
@@ -167,8 +167,8 @@ operand_value p s (Some (Applied Hi e)) a = signed 64 (number p s e)
 operand_value p s (Some (Applied Lo e)) a = signed 64 (number p s e)
 operand_value p s operand a = distance a (operand_number (number p s) operand)
 
--- what a field of a statement takes: what the statement's operand stands for; a low part counts from
--- the upper one, which stands first in its statement
+-- what a field of a statement takes: what the statement's operand stands for; a low part counts
+-- from the upper one, which stands first in its statement
 abbrev pub field_value : Program → Mapped → FieldValue
 field_value p s k a =
     operand_value p s (operand_of s.located.kind) (if is_low_part k then s.row.address else a)

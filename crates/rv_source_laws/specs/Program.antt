@@ -1,5 +1,5 @@
--- The statements of the sources where they stand in the map, what their names mean to all files, and
--- the values of their expressions there (Assembly Programmer's Manual; GNU as, "Symbols" and
+-- The statements of the sources where they stand in the map, what their names mean to all files,
+-- and the values of their expressions there (Assembly Programmer's Manual; GNU as, "Symbols" and
 -- "Expressions"; gABI, "Symbol Table", STB_GLOBAL and STB_WEAK).
 
 use Rattle.std.specs.Prelude.{ℕ, ◌-◌, Bool, true, false, ◌&&◌, ◌==◌, if◌then◌else◌, List, [], ◌∷◌, ◌++◌, drop, filter, flat_map, map, Option, Some, None, is_some, option_map, option_and_then, unwrap_or, not, bytes_eq, slice_index_or}

@@ -1,5 +1,5 @@
--- The names of a map: which it shows, and where a run begins (gABI, "Symbol Table"; GNU as, ".global"
--- and ".weak").
+-- The names of a map: which it shows, and where a run begins (gABI, "Symbol Table"; GNU as,
+-- ".global" and ".weak").
 
 use Rattle.std.specs.Prelude.{◌≡◌, ℕ, ◌%◌, Bool, true, false, not, ◌&&◌, List, ◌++◌, filter, flat_map, map, Option, Some, None, is_some, option_and_then, codes, if◌then◌else◌}
 use Rattle.rv_map.specs.Globals.{AreDistinct, shown, linker_symbols}

@@ -94,8 +94,8 @@ abbrev pub aim_by : Program → ℕ → Primary → Option Definition → Option
 aim_by p file q (Some d) = Some (aim file d.ordinal)
 aim_by p file q None = shared_aim p q
 
--- what a name, a numeric reference or `.` means at a statement: the sure place in its own file, else
--- the one that the name has for all files
+-- what a name, a numeric reference or `.` means at a statement: the sure place in its own file,
+-- else the one that the name has for all files
 abbrev pub aim_of : Program → Located → Primary → Option Aim
 aim_of p s q = aim_by p s.file q (sure_definition (tables_in p s.file) s.ordinal q)
 
@@ -142,7 +142,8 @@ shortenable offset (Some target) plus compressed =
       });
     } ∷ []
 
-abbrev pub call_sites : Program → List Placed → Placed → (compressed : Bool) → Option Value → List Site
+abbrev pub call_sites : Program → List Placed → Placed → (compressed : Bool) → Option Value →
+    List Site
 call_sites p text x compressed (Some (Symbolic q at plus)) =
     shortenable x.offset (option_and_then (aim_offset text) (aim_of p x.site.located q)) plus
     compressed

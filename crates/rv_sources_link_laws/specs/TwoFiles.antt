@@ -286,7 +286,8 @@ first_number ordinal _ = 1
 abbrev pub second_number : ℕ → Primary → ℕ
 second_number ordinal q = 0
 
--- text at the text's start, the other file's at a multiple of 8, data at 11000h, each file's sections after those of the file before
+-- text at the text's start, the other file's at a multiple of 8, data at 11000h,
+-- each file's sections after those of the file before
 abbrev pub starts : ℕ → ℕ → ℕ
 starts zero index = 0
 starts (suc zero) zero = 0x10000

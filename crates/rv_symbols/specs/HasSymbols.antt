@@ -19,8 +19,8 @@ pub record AreLaid (ss : List Statement) (offsets : List ℕ) (rs : List SymbolU
   pub named : references (tables ss) laid ≡ rs
 
 -- the symbols of a source's object, and for each use the index of the symbol that stands for it
-pub record HasSymbols (t : Tables) (laid : List LaidStatement) (rs : List SymbolUse) (x : SymbolTable) :
-    Type 0 where
+pub record HasSymbols (t : Tables) (laid : List LaidStatement) (rs : List SymbolUse)
+    (x : SymbolTable) : Type 0 where
   pub symbols : map symbol_of x.symbols.items ≡ symbols_of t laid
   pub number : Numbering
   pub numbers : map (λ r. number r.ordinal r.symbol) rs ≡ x.numbers.items

@@ -23,7 +23,8 @@ tables_of x = tables (said x.unit.now)
 pub record IsSource (x : Source) (laid : List LaidStatement) : Type 0 where
   pub filled : IsFilled x.unit.now
   pub firsts : AreFirsts x.firsts.ordinals (tables_of x).assignments
-  pub located : map (λ s. s.located) laid ≡ located_from 1 1 (at_start (said x.unit.now)) (said x.unit.now)
+  pub located : map (λ s. s.located) laid
+      ≡ located_from 1 1 (at_start (said x.unit.now)) (said x.unit.now)
   pub at : map (λ s. s.offset) laid ≡ offsets_of x.items.now
 
 -- the section and the offset of a statement

@@ -35,7 +35,7 @@ abbrev pub with_word : List ℕ → Option (List ℕ) → List ℕ
 with_word words None = words
 with_word words (Some word) = words ++ (codes " " ++ word)
 
--- `a.s:5: E7 BadOperands`
+-- a fault of a source, as `a.s:5: E7 BadOperands`
 abbrev pub source_text : List ℕ → SourceFault → Option (List ℕ)
 source_text name (At code line) =
     Some
@@ -49,7 +49,7 @@ kind_in (UnsupportedRelocation kind) = Some kind
 kind_in (UnsupportedSection kind) = Some kind
 kind_in _ = None
 
--- `a.o: F1 Truncated`, `a.o: F9 UnsupportedRelocation 20`
+-- a fault of a file, as `a.o: F1 Truncated` or `a.o: F9 UnsupportedRelocation 20`
 abbrev pub file_text : List ℕ → FileFault → Option (List ℕ)
 file_text name fault =
     option_map
@@ -74,7 +74,7 @@ shown_byte byte = if is_name_byte byte then byte ∷ [] else escape_of byte
 abbrev pub shown_name : List ℕ → List ℕ
 shown_name = flat_map shown_byte
 
--- `L7 EntryMissing`, `L5 Undefined f`
+-- a fault of the link, as `L7 EntryMissing` or `L5 Undefined f`
 abbrev pub link_text : LinkFault → Option (List ℕ)
 link_text fault =
     option_map

@@ -42,7 +42,8 @@ IsApart t =
     ⊎ (laws.assigned_ever t.assignments name ≡ None)
 
 -- the statement at this index from 0 has this ordinal, stands at this offset and says this
-pub record IsStatementOf (u : SourceUnit) (i o : ℕ) (p : SectionOffset) (kind : StatementKind) : Type 0 where
+pub record IsStatementOf (u : SourceUnit) (i o : ℕ) (p : SectionOffset) (kind : StatementKind) :
+    Type 0 where
   pub filled : IsFilled u
   pub within : i < length (said u)
   pub ordinal : o ≡ i + 1

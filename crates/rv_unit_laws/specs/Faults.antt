@@ -159,4 +159,5 @@ past_most (s ∷ ss) others = Some (record { code = limit; line = s.line })
 -- the first fault of a source's labels and directives; before them all, that it has too many
 -- statements
 abbrev pub first_fault : List Statement → Option StatementFault
-first_fault ss = past_most (drop most_statements ss) (first_fault_from (tables ss) (at_start ss) 1 ss)
+first_fault ss =
+    past_most (drop most_statements ss) (first_fault_from (tables ss) (at_start ss) 1 ss)

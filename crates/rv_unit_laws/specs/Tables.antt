@@ -1,10 +1,10 @@
 -- What the statements of a source define: sections with the bytes of their data, labels,
 -- assignments (GNU as, "Symbols", "Expressions" and "Pseudo Ops").
 --
--- One step a statement (`after`), and a source's tables are all steps in a row: so what stands before
--- a statement and what the whole source gives are one definition, at two lists of statements. The
--- bindings of names stand there from the start: sizes count at once, and a distance from a weak label
--- is no constant, wherever `.weak` stands.
+-- One step a statement (`after`), and a source's tables are all steps in a row: so what stands
+-- before a statement and what the whole source gives are one definition, at two lists of
+-- statements. The bindings of names stand there from the start: sizes count at once,
+-- and a distance from a weak label is no constant, wherever `.weak` stands.
 
 use Rattle.std.specs.Prelude.{ℕ, zero, suc, ◌+◌, ◌-◌, ◌*◌, ◌^◌, Bool, true, false, not, ◌&&◌, ◌||◌, ◌==◌, nat_lt, nat_le, max, List, [], ◌∷◌, ◌++◌, length, map, flat_map, reverse, Option, Some, None, is_some, slice_index_or, if◌then◌else◌}
 use Rattle.std.specs.List.{find, list_any}

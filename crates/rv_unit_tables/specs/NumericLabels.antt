@@ -1,4 +1,5 @@
--- The numeric labels of a number in little memory: their ordinals one by one, and their places run by run.
+-- The numeric labels of a number in little memory: their ordinals one by one,
+-- and their places run by run.
 
 use Rattle.std.specs.Prelude.{ℕ, suc, Bool, ◌==◌, ◌&&◌, nat_lt, nat_le, IsTrue, List, [], ◌∷◌, length, reverse}
 use Rattle.std.specs.Option.{option_map_or}
@@ -13,7 +14,8 @@ abbrev pub are_runs : List Run → ℕ → Bool
 are_runs [] count = count == 0
 are_runs (r ∷ rs) count = nat_lt r.first count && are_runs rs r.first
 
--- where the label of an index stands, by runs with the latest first: at the place of the last that does not begin after it
+-- where the label of an index stands, by runs with the latest first:
+-- at the place of the last that does not begin after it
 abbrev pub place_at : List Run → ℕ → SectionOffset
 place_at runs index =
     option_map_or (λ (r : Run). r.place) (find (λ (r : Run). nat_le r.first index) runs)

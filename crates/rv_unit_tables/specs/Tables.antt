@@ -76,7 +76,8 @@ tables_of b = record {
 }
 
 -- the numeric labels of a number, the latest last
-abbrev pub numbered_at : {S : Type 0} → IndexMap Number (List NumericLabel) S → ℕ → List NumericLabel
+abbrev pub numbered_at : {S : Type 0} → IndexMap Number (List NumericLabel) S → ℕ →
+    List NumericLabel
 numbered_at numbered number =
     unwrap_or (get_by (λ (k : Number). number == value 10 k.digits.now) numbered) []
 
